@@ -1,6 +1,6 @@
 //! Tests of books on one safe bit. What a book is asked is data, so that only one function makes a
-//! book. Each call is in a function without clauses, so that no later proof carries what the call
-//! promises.
+//! book. Each call is in a function without `ensures` clauses, so that no later proof carries what
+//! the call promises.
 
 ghost use Rattle.std.specs.Prelude.{◌<◌};
 ghost use Rattle.frames.specs.SafeBit.{safe_behaviour};
@@ -13,9 +13,8 @@ mod refusals;
 mod rows;
 
 use self::commands::go;
-use checkpoints::run::{Run, run_segment};
+use crate::charts::single::{page_of, run_of};
 use cutoff::install::Installation;
-use cutoff::plan::Job;
 use frames::safe::Safe;
 use frames::types::Step;
 use schedule_trie::limits::Limits;
@@ -25,11 +24,8 @@ use sessions::book::Book;
 use sessions::command::Command;
 use sessions::reply::Reply;
 use std::alloc::Global;
-use std::sync::Arc;
-use views::lens::Lens;
 use views::page::{Page, page_text};
 use views::query::Query;
-use views::slip::Slip;
 
 /// What a book is asked, and the expected result.
 #[derive(Clone, Copy)]
@@ -48,8 +44,8 @@ enum Ask<'a> {
     Shows(Query, &'a [u8]),
     /// A look is refused for this reason.
     Hides(Query, Refusal),
-    /// The four sessions from this number on join, and move their cursors to places 0 to 3 of a
-    /// branch.
+    /// Four sessions, numbered from this number on, join and move their cursors to places 0 to 3 of
+    /// a branch.
     GoToFourPlaces(u32, &'a Name),
     /// The cursors of the four sessions from this number on are at these places of a branch.
     AreAt(u32, &'a Name, [u32; 4]),
@@ -103,14 +99,6 @@ fn refuses_all(alloc: Global, book: &mut Book<Safe>, rows: &[(Command, Refusal)]
     true
 }
 
-/// The page of a slip.
-fn page_of(alloc: Global, slip: &Slip<Safe>) -> Result<Page, Refusal> {
-    let Ok(mut lens) = Lens::new(alloc) else {
-        return Err(Refusal::Memory);
-    };
-    slip.page(alloc, &mut lens).or(Err(Refusal::Memory))
-}
-
 /// The page of a look.
 fn page(alloc: Global, book: &mut Book<Safe>, query: Query) -> Result<Page, Refusal> {
     let slip = book.look(alloc, query)?;
@@ -138,8 +126,8 @@ fn hides(alloc: Global, book: &mut Book<Safe>, query: Query, refusal: Refusal) -
     page(alloc, book, query).err() == Some(refusal)
 }
 
-/// The four sessions from `first` on join, and move their cursors to places 0 to 3 of a branch.
-/// Returns whether all were accepted.
+/// Four sessions, numbered from `first` on, join and move their cursors to places 0 to 3 of a
+/// branch. Returns whether all were accepted.
 fn go_to_four_places(alloc: Global, book: &mut Book<Safe>, first: u32, branch: &Name) -> bool
     requires { first < 16 }
 {
@@ -202,14 +190,6 @@ fn fills(alloc: Global, book: &mut Book<Safe>, branch: &Name) -> Result<bool, Re
     let run = run_of(alloc, job)?;
     let answer = book.install(job.key, run);
     Ok(answer == Installation::Installed && jobs_left(alloc, book, branch)? == 0)
-}
-
-/// The run of a job.
-fn run_of(alloc: Global, job: &Job<Safe>) -> Result<Arc<Run<Safe>>, Refusal> {
-    let Ok(run) = run_segment(alloc, &job.entry, job.steps.as_slice()) else {
-        return Err(Refusal::Memory);
-    };
-    Arc::new(alloc, run).or(Err(Refusal::Memory))
 }
 
 /// The number of jobs in a branch's plan.

@@ -208,7 +208,7 @@ const DETACH_REPLACE: [Edit; 3] = [
     (Branch::Main, Change::Replace(1, GO_ON)),
 ];
 
-/// Whether `main` then has the new step, and one or two segments.
+/// Whether `main` has the new step after `DETACH_REPLACE`, and one or two segments.
 fn has_the_new_step(rt: &impl Abort, alloc: Global) -> Result<bool, Refusal> {
     let reported = tried(rt, alloc, &[READ, GO], &DETACH_REPLACE)?;
     let steps: &[Step] = &[READ, GO_ON];
@@ -221,7 +221,7 @@ fn detach_replace(rt: HostRuntime) {
 }
 
 /// The order in which 1,023 branches are dropped: from the first, from the last, or every seventh,
-/// round and round.
+/// counted modulo 1,023.
 #[derive(Clone, Copy)]
 enum Order {
     FromTheFirst,

@@ -6,3 +6,4 @@ mod installs;
 mod late;
 mod lenses;
 mod rows;
+pub(crate) mod single;

@@ -49,7 +49,7 @@ fn numbered(rt: &impl Abort, alloc: Global, number: u32) -> Name {
 pub(crate) enum Change {
     Insert(u32, Step),
     Replace(u32, Step),
-    /// A new branch is forked from this one: it shares this number of first cells.
+    /// A new branch is forked from this one, after this number of cells.
     Fork(u32, Branch),
     Detach,
     Drop,

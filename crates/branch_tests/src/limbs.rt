@@ -47,7 +47,7 @@ const INSERTED: [Row; 3] = [
     (b"b", 1, 3, &[GO_ON]),
 ];
 
-/// The limbs of the other two branches after `a` is then dropped.
+/// The limbs of the other two branches after the same insert and a drop of `a`.
 const DROPPED: [Row; 2] = [
     (b"main", 0, 0, &[READ, WRITE]),
     (b"b", 0, 1, &[CLEAR, GO, GO_ON]),

@@ -68,9 +68,8 @@ reported_events (s ∷ steps) (mark ∷ marks) events = events_with s mark event
 abbrev pub reported_in : Reported → List StepEvents
 reported_in t = reported_events t.steps.items t.marks.items (kept_events t.events.items)
 
--- the mark of the step s, and the events `kept` stored for it, give the step's events `one`:
--- whatever stored events follow, reading this step's events gives `one`, and leaves the events that
--- follow
+-- the step s, with its mark and its stored events `kept`, gives the events `one`: whatever stored
+-- events follow `kept`, reading this step's events gives `one`, and leaves all that follow `kept`
 abbrev pub ReportsOne : Step → Mark → List Event → StepEvents → Type 0
 ReportsOne s mark kept one = (later : List Event) → (events_with s mark (kept ++ later) ≡ one) × (left_after mark (kept ++ later) ≡ later)
 

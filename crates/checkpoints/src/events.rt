@@ -17,8 +17,9 @@ use std::marker::Model;
 /// Memory is reserved for this many events at a time, so at most this many slots stay unused.
 const MORE_EVENTS: usize = 8;
 
-/// Steps; a mark for each step: which of its events are stored, or what its only event is; and the
-/// stored events, in order. Together they give what each step recorded.
+/// Steps, a mark for each step, and the stored events, in order. A step's mark says which of the
+/// step's events are stored, or what the step's only event is. The three fields together give what
+/// each step recorded.
 #[derive(Debug, Drop)]
 pub(crate) struct Reported {
     pub(crate) steps: Vec<Step>,
@@ -155,9 +156,9 @@ impl EventWalk<'_> {
         Some(reported)
     }
 
-    /// Adds each event of the steps that are left to the end of `all`, with the index of its step;
-    /// the next step has the index `from`. Returns the index after the last step's: `from` and the
-    /// number of steps, added.
+    /// Adds to the end of `all` each event of the steps that are left, with the index of its step;
+    /// the next step has the index `from`. Returns the index that a step after all of these would
+    /// have: `from` plus the number of these steps.
     pub fn push_indexed(
         self,
         from: usize,
@@ -183,8 +184,8 @@ impl EventWalk<'_> {
     }
 }
 
-/// Adds the mark of `step`, which recorded `reported`, to `marks`, and those of the step's events
-/// that the mark doesn't determine to `events`. Memory for one more mark must be reserved.
+/// Adds to `marks` the mark of `step`, which recorded `reported`; and adds to `events` those of the
+/// step's events that the mark doesn't determine. Memory for one more mark must be reserved.
 #[inline(always)]
 pub(crate) fn push_reported(
     marks: &mut Vec<Mark>,
@@ -248,7 +249,7 @@ fn take_room(events: &mut Vec<Kept>) -> Result<(), AllocError>
     events.reserve(MORE_EVENTS)
 }
 
-/// The events of a step with this mark, and the stored events that are left after it.
+/// The events of a step with this mark, and the stored events that are left for later steps.
 #[inline(always)]
 fn split(step: Step, mark: Mark, events: &[Kept]) -> (StepEvents, &[Kept])
     ensures { (steps : List StepSpec) (marks : List MarkSpec)

@@ -85,9 +85,9 @@ impl<R: Register> Run<R> {
     }
 }
 
-/// Makes the steps of `items`, in order, from a copy of `entry`, whose register they must fit; each
-/// item has one step. Returns the run of these steps. Its entry is `entry` itself, shared. Fails
-/// only if memory runs out.
+/// Replays the steps of `items` (each item has one step), in order, from `entry`. The steps must
+/// fit the register of `entry`. Returns the run of these steps, which shares `entry` as its entry.
+/// Fails only if memory runs out.
 pub fn run_of<R: Register, S: HasStep>(
     alloc: Global,
     entry: &Arc<Config<R>>,

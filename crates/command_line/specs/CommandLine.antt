@@ -60,8 +60,7 @@ path_rule id = record (new_rule id) {
 abbrev pub save_rule : Rule
 save_rule = path_rule (codes "save")
 
--- the rules for the words of the command line, which begin after the program's name: FILE and the
--- four options
+-- the rules for the words after the program's name: FILE and the four options
 abbrev pub program : App
 program = with_rule (with_rule (with_rule (with_rule (with_rule
     (on_top (λ s. record s { no_binary_name = true }) (new_app (codes "towerbench"))) file_rule) workers_rule) cells_rule) branches_rule) save_rule
@@ -74,11 +73,12 @@ faults_of words = fault_of program words
 abbrev pub file_word : List Text → Option Text
 file_word words = first_of (codes "FILE") (matches_of program words)
 
--- the path to save to that the words give; `None` if they give none
+-- the PATH that the words give with --save; `None` if they give none
 abbrev pub save_path : List Text → Option Text
 save_path words = first_of (codes "save") (matches_of program words)
 
--- the number of the option with the name `id`: the one that the words give, or else its default
+-- the value of the option with the name `id`, which takes a number: the number that the words give,
+-- or the option's default if they give none
 abbrev pub option_number : Text → List Text → ℕ
 option_number id words = option_map_or (λ t. digits_value 10 (without_leading_plus t)) (one_of id (matches_of program words)) 0
 
@@ -90,8 +90,9 @@ options_of words = record {
   branches = option_number (codes "branches") words;
 }
 
--- The words are accepted, and give this FILE, if any, these options, and this PATH to save to, if
--- any. Each option is in its range.
+-- The words are accepted. `options` are the options that the words give, and the defaults of those
+-- that they don't give; each is in its range. `file` is the FILE that the words name, or `None` if
+-- they name none. `save` is the PATH that the words give with --save, or `None` if they give none.
 pub record Says (words : List Text) (file : Option Text) (options : Options) (save : Option Text) : Type 0 where
   pub taken : faults_of words ≡ []
   pub file_is : file ≡ file_word words
@@ -103,7 +104,8 @@ pub record Says (words : List Text) (file : Option Text) (options : Options) (sa
 abbrev pub AsksHelp : List Text → Type 0
 AsksHelp words = IsAmong DisplayHelp (faults_of words)
 
--- The words have a fault, which isn't that they ask for the help.
+-- The words have a fault whose kind isn't DisplayHelp. (DisplayHelp is the kind of a request for
+-- the help.)
 abbrev pub IsWrong : List Text → Type 0
 IsWrong words = (k : ErrorKind) × IsAmong k (faults_of words) × (k ≢ DisplayHelp)
 
@@ -115,8 +117,10 @@ Explains k (Help text) = k ≡ DisplayHelp
 Explains k (Refused text) = (k ≢ DisplayHelp) × (k ≢ OutOfMemory)
 Explains k Memory = ⊤
 
--- The outcome suits the words. It is a run with what the words give, if they are accepted; the
--- help, if they ask for it; a refusal, if they are wrong; or Memory, if memory ran out.
+-- The outcome suits the words. A run suits words that are accepted, if the run's FILE, options and
+-- PATH are those that the words give, and each option is in its range. The help suits words that
+-- ask for it. A refusal suits words that are wrong. Memory, the outcome if memory ran out, suits
+-- all words.
 abbrev pub IsAskedBy : List Text → Invocation → Type 0
 IsAskedBy words (Run file options save) = Says words (option_map (λ p. p.now) file) options (option_map (λ p. p.now) save)
 IsAskedBy words (Help text) = AsksHelp words

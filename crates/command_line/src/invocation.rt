@@ -1,4 +1,4 @@
-//! The words after the program's name.
+//! Reading the words after the program's name.
 
 ghost use Rattle.std.specs.Prelude.{◌≡◌, [], None, IfOk, false, map};
 ghost use Rattle.std.specs.String.{string_bytes};
@@ -29,8 +29,9 @@ const SAVE: &str = "save";
 /// What the words ask for.
 #[derive(Debug, Drop)]
 pub enum Invocation<'a> {
-    /// To run the program. `file` is the FILE that is named, if any; `save` is the path of the file
-    /// to which the branches are saved, if one is given.
+    /// To run the program. `file` is the FILE that the words name, or `None` if they name none.
+    /// `save` is the path of the file to which the branches are saved, or `None` if the words give
+    /// no such path.
     Run {
         file: Option<&'a str>,
         options: Options,
@@ -44,9 +45,10 @@ pub enum Invocation<'a> {
     Memory,
 }
 
-/// Reads the words after the program's name. Returns what they ask for (a run of the program, with
-/// each option in its range, or the help), why they are refused, or `Memory` if memory ran out. If
-/// there are no words, they ask for a run with the default options, without FILE and PATH.
+/// Reads the words after the program's name. If memory runs out, returns `Memory`. Otherwise
+/// returns the run of the program that the words ask for, with each option in its range, if they
+/// are accepted; the help, if they ask for it; or why they are refused, if they are wrong. If there
+/// are no words, they ask for a run with the default options, without FILE and PATH.
 pub fn parse_words<'a>(alloc: Global, words: &'a [String]) -> Invocation<'a>
     ensures asked { IsAskedBy (map string_bytes words.entry.now) result }
     ensures bare { words.entry.now ≡ [] → IsRunInvocation None default_options None result }
@@ -140,7 +142,7 @@ fn path_option<'a>(alloc: Global, id: &'a str) -> Arg<'a>
         .value_name("PATH")
 }
 
-/// The outcome for words that aren't accepted, because of this error.
+/// The outcome for words whose reading gave this error.
 fn invocation_of<'a>(alloc: Global, error: &Error) -> Invocation<'a>
     ensures { Explains (kind_of error.now) result }
 {

@@ -1,4 +1,4 @@
-//! The words after the program's name: what they ask for.
+//! What the words after the program's name ask for.
 #![tactic(auto)]
 
 mod invocation;

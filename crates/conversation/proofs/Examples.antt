@@ -2,8 +2,9 @@
 -- one that nearly does.
 use Rattle.std.proofs.Common.{ℕ, zero, suc, ◌≡◌, ◌+◌, false, List, [], ◌∷◌, ◌++◌, Some, length, drop, take, slice_index_or, ap, refl, sym, ◌∙◌, append-nil, arith}
 use Rattle.conversation.specs.declared.fault.StreamFault.TheVariants.{Read, Memory}
+use Rattle.conversation.specs.Moments.{streams}
 use Rattle.conversation.specs.Scripts.{Definition, Marks, lines_of, whole_lines, IsLineAnswer}
-use Rattle.conversation.specs.Conversations.{Answering, IsFront, WroteFront, IsAnswered, WentOut, Breaks}
+use Rattle.conversation.specs.Conversations.{Answering, IsFront, WroteFront, IsAnswered, WentOut, EndsWithFault}
 
 abbrev first : List ℕ → ℕ
 first list = slice_index_or list 0 5
@@ -42,11 +43,11 @@ WroteFront-fails h =
     let e : 97 ≡ 98 = ap first (h.1.1 ∙ ap (λ front. front ++ h.1.0) (sym front)) in omega (arith, e)
 
 -- `a` and a line end are read to the end: two lines, of which the last is empty
-IsAnswered-holds : IsAnswered counting (Some one_line) (Some []) (Some []) (Some (2 ∷ []))
+IsAnswered-holds : IsAnswered counting (streams (Some one_line) (Some [])) (streams (Some []) (Some (2 ∷ [])))
 IsAnswered-holds = record { script = one_line; marks = unmarked; read = refl; ended = refl; short = omega arith; wrote = refl }
 
 -- one of the lines wasn't answered
-IsAnswered-fails : IsAnswered counting (Some one_line) (Some []) (Some []) (Some (1 ∷ [])) → ⊥
+IsAnswered-fails : IsAnswered counting (streams (Some one_line) (Some [])) (streams (Some []) (Some (1 ∷ []))) → ⊥
 IsAnswered-fails h =
     let script : one_line ≡ h.script = h.read ∙ append-nil h.script in
     let lines : 2 ≡ length (lines_of h.script) = ap (λ s. length (lines_of s)) script in
@@ -66,13 +67,13 @@ WentOut-fails h = by h.0 (ap first h.1)
     by (suc (suc count)) e = let two_is : 2 ≡ 1 = e in omega (arith, two_is)
 
 -- a read failed after `a`, a line end and `b`: the whole line was answered
-Breaks-holds : Breaks counting Read (Some (97 ∷ 10 ∷ 98 ∷ [])) (Some []) (Some []) (Some (1 ∷ []))
-Breaks-holds =
+EndsWithFault-holds : EndsWithFault counting Read (streams (Some (97 ∷ 10 ∷ 98 ∷ [])) (Some [])) (streams (Some []) (Some (1 ∷ [])))
+EndsWithFault-holds =
     record { seen = 97 ∷ 10 ∷ 98 ∷ []; marks = unmarked; text = 1 ∷ []; read = refl; few = omega arith; wrote = refl; went = refl }
 
 -- the line that has no end was answered as well
-Breaks-fails : Breaks counting Read (Some (97 ∷ 10 ∷ 98 ∷ [])) (Some []) (Some []) (Some (2 ∷ [])) → ⊥
-Breaks-fails h =
+EndsWithFault-fails : EndsWithFault counting Read (streams (Some (97 ∷ 10 ∷ 98 ∷ [])) (Some [])) (streams (Some []) (Some (2 ∷ []))) → ⊥
+EndsWithFault-fails h =
     let seen : 97 ∷ 10 ∷ 98 ∷ [] ≡ h.seen = h.read ∙ append-nil h.seen in
     let lines : 1 ≡ length (whole_lines h.seen) = ap (λ s. length (whole_lines s)) seen in
     let wrote : 2 ≡ length (whole_lines h.seen) = ap first (h.wrote ∙ h.went) in omega (arith, lines, wrote)

@@ -2,50 +2,54 @@
 use Rattle.std.proofs.Common.{◌≡◌, ℕ, ◌+◌, ◌<◌, ◌≤◌, Bool, List, [], ◌++◌, length, take, Option, refl, sym, ap, subst, ◌∙◌, arith, append_assoc, append-nil, length-append, inl, inr}
 use Rattle.std.specs.Io.KnownBytes.{Appends, Consumes, IsAtEnd}
 use Rattle.conversation.specs.declared.fault.StreamFault.TheVariants.{Read, Write, TooLong, Memory}
+use Rattle.conversation.specs.Moments.{Streams, streams}
 use Rattle.conversation.specs.Scripts.{Definition, answers_to, IsLineAnswer}
 use Rattle.std.specs.Prelude.{⊤, IfErr, OnOk, Result, Ok, Err}
 use Rattle.std.specs.Result.{IsErr, IsErrAnd}
 use Rattle.conversation.specs.declared.fault.StreamFault.{StreamFault}
 use Rattle.conversation.specs.Answering.{HasAnswered, Reached, Finished}
-use Rattle.conversation.specs.Conversations.{Leaves, Breaks, IsFront}
+use Rattle.conversation.specs.Conversations.{Leaves, EndsWithFault, IsFront}
 use Rattle.conversation.proofs.Tellings.{ToldAll, told_start, told_whole, told_first, told_all, behind}
-use Rattle.conversation.proofs.Known.{appends_none, appends_more, consumes_start, consumes_more, consumes_kept}
+use Rattle.std.proofs.KnownBytes.{Appends-nil, Appends-trans, Consumes-nil, Consumes-trans}
 use Rattle.conversation.specs.declared.limits.TheConstants.{KEPT_BYTES, MOST_SCRIPT_BYTES}
+
+consumes_kept : (a b c : Option (List ℕ)) (s : List ℕ) → Consumes a b s → Consumes b c [] → Consumes a c s
+consumes_kept a b c s h k = subst (Consumes a c) (append-nil s) (Consumes-trans a b c s [] h k)
 
 front_behind : (text front out : List ℕ) → IsFront front out → IsFront (text ++ front) (text ++ out)
 front_behind text front out h = (h.0, ap (λ xs. text ++ xs) h.1 ∙ sym (append_assoc text front h.0))
 
 module _ {W : Type 0} (define : Definition W) (start : W) where
-  pub reached_start : (old before : Option (List ℕ)) (lines : ℕ) (line : List ℕ) → lines ≡ 0 → line ≡ [] → Reached define start old old before before 0 start lines line
-  reached_start old before lines line n l = record {
+  pub reached_start : (before : Streams) (lines : ℕ) (line : List ℕ) → lines ≡ 0 → line ≡ [] → Reached define start before before 0 start lines line
+  reached_start before lines line n l = record {
     seen = [];
     text = [];
-    read = consumes_start old;
+    read = Consumes-nil before.unread;
     counted = refl;
-    wrote = appends_none before;
+    wrote = Appends-nil before.written;
     reported = told_start define start [] start lines line [] refl refl n l refl;
   }
 
-  module _ (old now before after : Option (List ℕ)) (count : ℕ) (world : W) (lines : ℕ) (line : List ℕ) (r : Reached define start old now before after count world lines line) where
-    pub reached_at : (other : ℕ) → count ≡ other → Reached define start old now before after other world lines line
-    reached_at other e = subst (λ n. Reached define start old now before after n world lines line) e r
+  module _ (before after : Streams) (count : ℕ) (world : W) (lines : ℕ) (line : List ℕ) (r : Reached define start before after count world lines line) where
+    pub reached_at : (other : ℕ) → count ≡ other → Reached define start before after other world lines line
+    reached_at other e = subst (λ n. Reached define start before after n world lines line) e r
 
-    pub reached_kept : (next : Option (List ℕ)) → Consumes now next [] → Reached define start old next before after count world lines line
-    reached_kept next k = record { seen = r.seen; text = r.text; read = consumes_kept old now next r.seen r.read k; counted = r.counted; wrote = r.wrote; reported = r.reported }
+    pub reached_kept : (next : Option (List ℕ)) → Consumes after.unread next [] → Reached define start before (streams next after.written) count world lines line
+    reached_kept next k = record { seen = r.seen; text = r.text; read = consumes_kept before.unread after.unread next r.seen r.read k; counted = r.counted; wrote = r.wrote; reported = r.reported }
 
-    pub breaks_read : (next : Option (List ℕ)) → Consumes now next [] → count ≤ MOST_SCRIPT_BYTES → Breaks (answers_to define start) Read old next before after
-    breaks_read next k few = record {
+    pub fault_read : (next : Option (List ℕ)) → Consumes after.unread next [] → count ≤ MOST_SCRIPT_BYTES → EndsWithFault (answers_to define start) Read before (streams next after.written)
+    fault_read next k few = record {
       seen = r.seen;
       marks = r.reported.marks;
       text = r.text;
-      read = consumes_kept old now next r.seen r.read k;
+      read = consumes_kept before.unread after.unread next r.seen r.read k;
       few = omega (arith, r.counted);
       wrote = r.wrote;
       went = told_whole define start r.seen world lines line r.text r.reported;
     }
 
-    pub breaks_long : count ≤ MOST_SCRIPT_BYTES → Breaks (answers_to define start) TooLong old now before after
-    breaks_long few = record {
+    pub fault_long : count ≤ MOST_SCRIPT_BYTES → EndsWithFault (answers_to define start) TooLong before after
+    fault_long few = record {
       seen = r.seen;
       marks = r.reported.marks;
       text = r.text;
@@ -56,29 +60,29 @@ module _ {W : Type 0} (define : Definition W) (start : W) where
     }
 
     -- what was read in a turn that runs out of memory goes unanswered
-    pub breaks_memory : (next : Option (List ℕ)) (piece : List ℕ) → Consumes now next piece → count + length piece ≤ MOST_SCRIPT_BYTES
-        → Breaks (answers_to define start) Memory old next before after
-    breaks_memory next piece k few = record {
+    pub fault_memory : (next : Option (List ℕ)) (piece : List ℕ) → Consumes after.unread next piece → count + length piece ≤ MOST_SCRIPT_BYTES
+        → EndsWithFault (answers_to define start) Memory before (streams next after.written)
+    fault_memory next piece k few = record {
       seen = r.seen ++ piece;
       marks = r.reported.marks;
       text = r.text;
-      read = consumes_more old now next r.seen piece r.read k;
+      read = Consumes-trans before.unread after.unread next r.seen piece r.read k;
       few = omega (arith, r.counted, length-append r.seen piece);
       wrote = r.wrote;
       went = (length r.reported.whole, told_first define start r.seen world lines line r.text r.reported piece);
     }
 
     -- the answers of a turn, and the part of them that the writer took
-    module _ (next : Option (List ℕ)) (piece : List ℕ) (k : Consumes now next piece) (n : ℕ) (size : length piece ≡ n)
+    module _ (next : Option (List ℕ)) (piece : List ℕ) (k : Consumes after.unread next piece) (n : ℕ) (size : length piece ≡ n)
         (new_world : W) (new_lines : ℕ) (new_line out : List ℕ) (t : HasAnswered define start (r.seen ++ piece) new_world new_lines new_line (r.text ++ out)) where
-      pub reached_more : (last : Option (List ℕ)) (last_lines : ℕ) (last_line : List ℕ) → last_lines ≡ new_lines → last_line ≡ new_line → Appends after last out
-          → Reached define start old next before last (count + n) new_world last_lines last_line
+      pub reached_more : (last : Option (List ℕ)) (last_lines : ℕ) (last_line : List ℕ) → last_lines ≡ new_lines → last_line ≡ new_line → Appends after.written last out
+          → Reached define start before (streams next last) (count + n) new_world last_lines last_line
       reached_more last last_lines last_line same_lines same_line w = record {
         seen = r.seen ++ piece;
         text = r.text ++ out;
-        read = consumes_more old now next r.seen piece r.read k;
+        read = Consumes-trans before.unread after.unread next r.seen piece r.read k;
         counted = omega (arith, r.counted, size, length-append r.seen piece);
-        wrote = appends_more before after last r.text out r.wrote w;
+        wrote = Appends-trans before.written after.written last r.text out r.wrote w;
         reported = record {
           marks = t.marks;
           whole = t.whole;
@@ -91,18 +95,18 @@ module _ {W : Type 0} (define : Definition W) (start : W) where
         };
       }
 
-      pub breaks_write : (last : Option (List ℕ)) (front : List ℕ) → IsFront front out → Appends after last front → count + n ≤ MOST_SCRIPT_BYTES
-          → Breaks (answers_to define start) Write old next before last
-      breaks_write last front f w few =
+      pub fault_write : (last : Option (List ℕ)) (front : List ℕ) → IsFront front out → Appends after.written last front → count + n ≤ MOST_SCRIPT_BYTES
+          → EndsWithFault (answers_to define start) Write before (streams next last)
+      fault_write last front f w few =
           let h = front_behind r.text front out f in
           let all = told_whole define start (r.seen ++ piece) new_world new_lines new_line (r.text ++ out) t in
           record {
             seen = r.seen ++ piece;
             marks = t.marks;
             text = r.text ++ front;
-            read = consumes_more old now next r.seen piece r.read k;
+            read = Consumes-trans before.unread after.unread next r.seen piece r.read k;
             few = omega (arith, r.counted, size, length-append r.seen piece);
-            wrote = appends_more before after last r.text front r.wrote w;
+            wrote = Appends-trans before.written after.written last r.text front r.wrote w;
             went = inl (h.0, sym all ∙ h.1);
           }
 
@@ -121,7 +125,7 @@ module _ {W : Type 0} (define : Definition W) (start : W) where
 
     -- the end: the last line is answered too
     module _ (reads_front : (memory : Bool) (number : ℕ) (line : List ℕ) (w : W) → define memory number (take KEPT_BYTES line) w ≡ define memory number line w)
-        (ended : IsAtEnd now) (short : count < MOST_SCRIPT_BYTES) (new_world : W) (sent out : List ℕ) (none : sent ≡ []) (a : IsLineAnswer define (lines + 1) line world new_world sent out) where
+        (ended : IsAtEnd after.unread) (short : count < MOST_SCRIPT_BYTES) (new_world : W) (sent out : List ℕ) (none : sent ≡ []) (a : IsLineAnswer define (lines + 1) line world new_world sent out) where
       onto : IsLineAnswer define (lines + 1) line world new_world r.text (r.text ++ out)
       onto =
           let b = behind define (lines + 1) line world new_world sent out r.text a in
@@ -130,7 +134,7 @@ module _ {W : Type 0} (define : Definition W) (start : W) where
       all : ToldAll define start r.seen new_world (lines + 1) (r.text ++ out)
       all = told_all define reads_front start r.seen world lines line r.text r.reported new_world (r.text ++ out) onto
 
-      pub all_answered : (last : Option (List ℕ)) → Appends after last out → Leaves define start new_world old now before last
+      pub all_answered : (last : Option (List ℕ)) → Appends after.written last out → Leaves define start new_world before (streams after.unread last)
       all_answered last w = record {
         answered =
             record {
@@ -139,13 +143,13 @@ module _ {W : Type 0} (define : Definition W) (start : W) where
               read = r.read;
               ended = ended;
               short = omega (arith, r.counted);
-              wrote = subst (λ xs. Appends before last xs) all.same_text (appends_more before after last r.text out r.wrote w);
+              wrote = subst (λ xs. Appends before.written last xs) all.same_text (Appends-trans before.written after.written last r.text out r.wrote w);
             };
         left = all.same_world;
       }
 
-      pub breaks_last : (last : Option (List ℕ)) (front : List ℕ) → IsFront front out → Appends after last front → Breaks (answers_to define start) Write old now before last
-      breaks_last last front f w =
+      pub fault_last : (last : Option (List ℕ)) (front : List ℕ) → IsFront front out → Appends after.written last front → EndsWithFault (answers_to define start) Write before (streams after.unread last)
+      fault_last last front f w =
           let h = front_behind r.text front out f in
           record {
             seen = r.seen;
@@ -153,21 +157,21 @@ module _ {W : Type 0} (define : Definition W) (start : W) where
             text = r.text ++ front;
             read = r.read;
             few = omega (arith, r.counted);
-            wrote = appends_more before after last r.text front r.wrote w;
+            wrote = Appends-trans before.written after.written last r.text front r.wrote w;
             went = inr (ended, (h.0, sym all.same_text ∙ h.1));
           }
 
   -- an end with and without a fault, clause by clause
-  module _ (old now before after : Option (List ℕ)) (left : W) where
+  module _ (before after : Streams) (left : W) where
     abbrev IsEnd : Result ⊤ StreamFault → Type 0
-    IsEnd r = record { done : OnOk r (Leaves define start left old now before after); fault : IfErr r (λ e. Breaks (answers_to define start) e old now before after) }
+    IsEnd r = record { done : OnOk r (Leaves define start left before after); fault : IfErr r (λ e. EndsWithFault (answers_to define start) e before after) }
 
-    pub finished : (r : Result ⊤ StreamFault) → Finished define start old now before after left r → IsEnd r
+    pub finished : (r : Result ⊤ StreamFault) → Finished define start before after left r → IsEnd r
     finished (Ok done) h = record { done = h; fault = tt }
     finished (Err e) h = record { done = tt; fault = h }
 
     -- if a call has the fault e, the conversation ends with that fault
-    pub broken : (r : Result ⊤ StreamFault) (e : StreamFault) (Is : StreamFault → Type 0) → IsErr r → IsErrAnd r Is → ((x : StreamFault) → Is x → x ≡ e)
-        → Breaks (answers_to define start) e old now before after → IsEnd r
-    broken (Ok done) e Is h k same b = absurd k
-    broken (Err x) e Is h k same b = record { done = tt; fault = subst (λ f. Breaks (answers_to define start) f old now before after) (sym (same x k)) b }
+    pub ends_with_fault : (r : Result ⊤ StreamFault) (e : StreamFault) (Is : StreamFault → Type 0) → IsErr r → IsErrAnd r Is → ((x : StreamFault) → Is x → x ≡ e)
+        → EndsWithFault (answers_to define start) e before after → IsEnd r
+    ends_with_fault (Ok done) e Is h k same b = absurd k
+    ends_with_fault (Err x) e Is h k same b = record { done = tt; fault = subst (λ f. EndsWithFault (answers_to define start) f before after) (sym (same x k)) b }

@@ -1,11 +1,12 @@
 -- How far a conversation has got: what was read, and which answers were written.
-use Rattle.std.specs.Prelude.{ℕ, ◌≡◌, ◌+◌, ◌-◌, ◌≤◌, List, ◌∷◌, [], ◌++◌, Option, Some, None, Result, Ok, Err, ⊤, All, false, take, length}
-use Rattle.std.specs.Io.KnownBytes.{Appends, Consumes, IsAtEnd}
+use Rattle.std.specs.Prelude.{ℕ, ◌≡◌, ◌+◌, ◌-◌, List, ◌∷◌, [], ◌++◌, Result, Ok, Err, ⊤, All, false, take, length}
+use Rattle.std.specs.Io.KnownBytes.{Appends, Consumes}
 use Rattle.conversation.specs.declared.converse.Conversation.{Conversation}
 use Rattle.conversation.specs.declared.fault.StreamFault.{StreamFault}
 use Rattle.conversation.specs.declared.limits.TheConstants.{KEPT_BYTES}
+use Rattle.conversation.specs.Moments.{Streams}
 use Rattle.conversation.specs.Scripts.{Definition, Marks, lines_of, after_lines, answers_to, is_line_end}
-use Rattle.conversation.specs.Conversations.{Leaves, Breaks}
+use Rattle.conversation.specs.Conversations.{Leaves, EndsWithFault}
 
 -- The whole lines (those that end with an LF) of the bytes `seen` were answered, from the opening
 -- world `start` on: `lines` is their number, `text` has their answers, and `world` is the world
@@ -33,30 +34,30 @@ AnswersFurther {W} define old before new after piece = (start : W) (seen front :
 abbrev pub HasNoEnd : List ℕ → Type 0
 HasNoEnd bytes = All (λ b. is_line_end b ≡ false) bytes
 
--- what is kept of a line once more bytes of it are read, if `line` was kept before: as many more as
--- there is room for in KEPT_BYTES
+-- what is kept of a line after its next bytes, `bytes`, are read: `line`, which was kept before,
+-- and then the first of these bytes, up to KEPT_BYTES in all
 abbrev pub kept_with : List ℕ → List ℕ → List ℕ
 kept_with line bytes = line ++ take (KEPT_BYTES - length line) bytes
 
--- Since the start, when the reader had `old` left and the writer had `before`, `count` bytes were
--- read, and the answers to their whole lines were written; now the reader has `now` left, and the
--- writer has `after`. The other arguments are what these lines left, as in `HasAnswered`.
-pub record Reached {W : Type 0} (define : Definition W) (start : W) (old now before after : Option (List ℕ)) (count : ℕ) (world : W) (lines : ℕ) (line : List ℕ) : Type 0 where
+-- Since the start, when the streams held `before`, `count` bytes were read, and the answers to
+-- their whole lines were written; the streams now hold `after`. `world`, `lines` and `line` are as
+-- in `HasAnswered`.
+pub record Reached {W : Type 0} (define : Definition W) (start : W) (before after : Streams) (count : ℕ) (world : W) (lines : ℕ) (line : List ℕ) : Type 0 where
   pub seen : List ℕ
   pub text : List ℕ
-  pub read : Consumes old now seen
+  pub read : Consumes before.unread after.unread seen
   pub counted : length seen ≡ count
-  pub wrote : Appends before after text
+  pub wrote : Appends before.written after.written text
   pub reported : HasAnswered define start seen world lines line text
 
 -- the result of answering one more piece of a script: all bytes read so far are answered, as
 -- `Reached` says; or there was a fault
-abbrev pub TurnsTo : {W : Type 0} → Definition W → W → Option (List ℕ) → Option (List ℕ) → Option (List ℕ) → Option (List ℕ) → ℕ → W → ℕ → List ℕ → Result ⊤ StreamFault → Type 0
-TurnsTo define start old now before after count world lines line (Ok done) = Reached define start old now before after count world lines line
-TurnsTo define start old now before after count world lines line (Err e) = Breaks (answers_to define start) e old now before after
+abbrev pub TurnsTo : {W : Type 0} → Definition W → W → Streams → Streams → ℕ → W → ℕ → List ℕ → Result ⊤ StreamFault → Type 0
+TurnsTo define start before after count world lines line (Ok done) = Reached define start before after count world lines line
+TurnsTo define start before after count world lines line (Err e) = EndsWithFault (answers_to define start) e before after
 
 -- the result at the end of a conversation: the whole script is answered, and leaves `world`; or
 -- there was a fault
-abbrev pub Finished : {W : Type 0} → Definition W → W → Option (List ℕ) → Option (List ℕ) → Option (List ℕ) → Option (List ℕ) → W → Result ⊤ StreamFault → Type 0
-Finished define start old now before after world (Ok done) = Leaves define start world old now before after
-Finished define start old now before after world (Err e) = Breaks (answers_to define start) e old now before after
+abbrev pub Finished : {W : Type 0} → Definition W → W → Streams → Streams → W → Result ⊤ StreamFault → Type 0
+Finished define start before after world (Ok done) = Leaves define start world before after
+Finished define start before after world (Err e) = EndsWithFault (answers_to define start) e before after

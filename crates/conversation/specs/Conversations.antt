@@ -4,6 +4,7 @@ use Rattle.std.specs.Io.KnownBytes.{Appends, Consumes, IsAtEnd}
 use Rattle.conversation.specs.declared.fault.StreamFault.{StreamFault}
 use Rattle.conversation.specs.declared.fault.StreamFault.TheVariants.{Read, Write, TooLong, Memory}
 use Rattle.conversation.specs.declared.limits.TheConstants.{MOST_SCRIPT_BYTES}
+use Rattle.conversation.specs.Moments.{Streams}
 use Rattle.conversation.specs.Scripts.{Definition, Marks, after_lines, answers_to, lines_of, whole_lines}
 
 -- how scripts are answered: a function from a script's lines, and marks of those that were refused
@@ -20,19 +21,18 @@ abbrev pub WroteFront : Option (List ℕ) → Option (List ℕ) → List ℕ →
 WroteFront before after bytes = (front : List ℕ) × IsFront front bytes × Appends before after front
 
 -- A script of fewer than MOST_SCRIPT_BYTES bytes was read to its end, and the answers to all its
--- lines were written. The reader had `old` left and has `now`; the writer had `before` and has
--- `after`.
-pub record IsAnswered (answering : Answering) (old now before after : Option (List ℕ)) : Type 0 where
+-- lines were written. `before` and `after` are what the streams held before and after this.
+pub record IsAnswered (answering : Answering) (before after : Streams) : Type 0 where
   pub script : List ℕ
   pub marks : Marks
-  pub read : Consumes old now script
-  pub ended : IsAtEnd now
+  pub read : Consumes before.unread after.unread script
+  pub ended : IsAtEnd after.unread
   pub short : length script < MOST_SCRIPT_BYTES
-  pub wrote : Appends before after (answering (lines_of script) marks)
+  pub wrote : Appends before.written after.written (answering (lines_of script) marks)
 
 -- A whole script was read and answered, and its lines turned the world `start` into `world`.
-pub record Leaves {W : Type 0} (define : Definition W) (start world : W) (old now before after : Option (List ℕ)) : Type 0 where
-  pub answered : IsAnswered (answers_to define start) old now before after
+pub record Leaves {W : Type 0} (define : Definition W) (start world : W) (before after : Streams) : Type 0 where
+  pub answered : IsAnswered (answers_to define start) before after
   pub left : world ≡ (after_lines define start (lines_of answered.script) answered.marks).world
 
 -- The text that was written by the time of a fault, if the bytes `seen` were read. After a failed
@@ -41,19 +41,20 @@ pub record Leaves {W : Type 0} (define : Definition W) (start world : W) (old no
 -- write: a prefix of the answers to the whole lines, or, at the script's end, a prefix of the
 -- answers to all lines. Such a prefix may end within an answer.
 abbrev pub WentOut : StreamFault → Answering → Marks → List ℕ → Option (List ℕ) → List ℕ → Type 0
-WentOut Read answering marks seen now text = text ≡ answering (whole_lines seen) marks
-WentOut TooLong answering marks seen now text = text ≡ answering (whole_lines seen) marks
-WentOut Write answering marks seen now text =
-    IsFront text (answering (whole_lines seen) marks) ⊎ (IsAtEnd now × IsFront text (answering (lines_of seen) marks))
-WentOut Memory answering marks seen now text = (count : ℕ) × (text ≡ answering (take count (whole_lines seen)) marks)
+WentOut Read answering marks seen unread text = text ≡ answering (whole_lines seen) marks
+WentOut TooLong answering marks seen unread text = text ≡ answering (whole_lines seen) marks
+WentOut Write answering marks seen unread text =
+    IsFront text (answering (whole_lines seen) marks) ⊎ (IsAtEnd unread × IsFront text (answering (lines_of seen) marks))
+WentOut Memory answering marks seen unread text = (count : ℕ) × (text ≡ answering (take count (whole_lines seen)) marks)
 
 -- A conversation ended with this fault. At most MOST_SCRIPT_BYTES bytes, `seen`, were read, and
--- `text` was written: a prefix of the answers, as `WentOut` says for this fault.
-pub record Breaks (answering : Answering) (fault : StreamFault) (old now before after : Option (List ℕ)) : Type 0 where
+-- `text` was written: a prefix of the answers, as `WentOut` says for this fault. `before` and
+-- `after` are what the streams held before and after the conversation.
+pub record EndsWithFault (answering : Answering) (fault : StreamFault) (before after : Streams) : Type 0 where
   pub seen : List ℕ
   pub marks : Marks
   pub text : List ℕ
-  pub read : Consumes old now seen
+  pub read : Consumes before.unread after.unread seen
   pub few : length seen ≤ MOST_SCRIPT_BYTES
-  pub wrote : Appends before after text
-  pub went : WentOut fault answering marks seen now text
+  pub wrote : Appends before.written after.written text
+  pub went : WentOut fault answering marks seen after.unread text

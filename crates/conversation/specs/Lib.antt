@@ -1,3 +1,4 @@
 pub mod Scripts
+pub mod Moments
 pub mod Conversations
 pub mod Answering

@@ -10,8 +10,8 @@ pub record Answered (W : Type 0) : Type 0 where
   pub world : W
   pub text : List ℕ
 
--- how one line is answered, given whether the line was refused memory, the line's number, its
--- bytes, and the world that it finds
+-- how one line is answered, given whether the line was refused memory (whether memory ran out for
+-- what the line asks for), the line's number, its bytes, and the world that it finds
 abbrev pub Definition : Type 0 → Type 0
 Definition W = Bool → ℕ → List ℕ → W → Answered W
 
@@ -79,7 +79,7 @@ pub record IsLineAnswer {W : Type 0} (define : Definition W) (number : ℕ) (lin
 -- What the closure that answers lines has to do. Suppose that nobody else changes what lines see,
 -- and that a call returns Ok. Then the call has answered its line as `define` says, either for a
 -- line that was refused memory or for one that wasn't: it has added the answer's text to `out`, and
--- left the answer's world. After the call, too, nobody else changes what lines see.
+-- left the world that `define` gives. After the call, too, nobody else changes what lines see.
 abbrev pub AnswersBy : {A W : Type 0} → (A → Type 0) → Definition W → (A → W) → (MutBor A → ℕ → Bor (List ℕ) → MutBor (Vec ℕ) → Result ⊤ AllocError → MutBor A → MutBor (Vec ℕ) → Type 0) → Type 0
 AnswersBy {A} alone define world post = (state : MutBor A) (number : ℕ) (line : Bor (List ℕ)) (out : MutBor (Vec ℕ)) (left : MutBor A) (added : MutBor (Vec ℕ)) → post state number line out (Ok tt) left added
     → alone state.now → IsLineAnswer define number line.now (world state.now) (world left.now) out.now.items added.now.items × alone left.now

@@ -5,7 +5,7 @@ ghost use Rattle.conversation.specs.Scripts.{Definition};
 ghost use Rattle.conversation.specs.declared.limits.TheConstants.{KEPT_BYTES};
 
 /// The state that is passed to the closure which answers a script's lines. For contracts, this
-/// trait also defines how each line is answered, and what it does to the state.
+/// trait also defines how each line is answered, and what the line does to the state.
 pub trait Answers {
     /// The type of the world in a state.
     ghost Worlds: { Type 0 };
@@ -13,7 +13,7 @@ pub trait Answers {
     /// The world in a state: what lines see and change.
     ghost world: { Self → Worlds };
 
-    /// Whether nobody else changes what lines see.
+    /// Whether nobody else changes what lines see, so that it changes only through this state.
     ghost alone: { Self → Type 0 };
 
     /// The world that each line leaves, and the answer to the line.

@@ -4,9 +4,10 @@
 ghost use Rattle.std.specs.Prelude.{◌≡◌, ◌++◌, ◌∷◌, [], ◌<◌, ◌≤◌, ◌+◌, ◌^◌, ℕ, List, Option, OnOk, OnErr, IfOk, IfErr, IfSome, MatchOption, length, take};
 ghost use Rattle.std.specs.Io.KnownBytes.{Appends, Consumes, IsAtEnd};
 ghost use Rattle.conversation.specs.declared.limits.TheConstants.{KEPT_BYTES, MOST_SCRIPT_BYTES};
+ghost use Rattle.conversation.specs.Moments.{Streams, streams};
 ghost use Rattle.conversation.specs.Scripts.{answers_to, AnswersBy, IsLineAnswer};
 ghost use Rattle.conversation.specs.Answering.{HasNoEnd, kept_with, AnswersFurther, Reached, TurnsTo, Finished};
-ghost use Rattle.conversation.specs.Conversations.{Leaves, Breaks, WroteFront};
+ghost use Rattle.conversation.specs.Conversations.{Leaves, EndsWithFault, WroteFront};
 
 use crate::answering::Answers;
 use crate::fault::StreamFault;
@@ -45,8 +46,8 @@ impl Conversation {
         }
     }
 
-    /// Adds the answers to the lines that end in a piece of the script, and writes none of them.
-    /// Keeps the bytes after these lines, up to `KEPT_BYTES` of a line in all.
+    /// Answers the lines that end in a piece of the script: adds the answers to `out`, and writes
+    /// none of them. Of the line that hasn't ended yet, keeps at most the first `KEPT_BYTES` bytes.
     fn take<A: Answers, F: Fn(&mut A, u32, &[u8], &mut Vec<u8>) -> Result<(), AllocError>>(
         &mut self,
         answers: &mut A,
@@ -70,8 +71,8 @@ impl Conversation {
         self.keep(rest)
     }
 
-    /// Adds the answer to the line that ends with the bytes `end`. If no byte of the line was kept
-    /// before, the line isn't copied.
+    /// Answers the line that ends with the bytes `end`, and adds the answer to `out`. If no byte of
+    /// the line was kept before, the line isn't copied.
     fn answer_line<A: Answers, F: Fn(&mut A, u32, &[u8], &mut Vec<u8>) -> Result<(), AllocError>>(
         &mut self,
         answers: &mut A,
@@ -99,7 +100,7 @@ impl Conversation {
         self.end_line(answers, answer)
     }
 
-    /// Adds the answer to the kept line, which ends here.
+    /// Answers the kept line, which has ended, and adds the answer to `out`.
     fn end_line<A: Answers, F: Fn(&mut A, u32, &[u8], &mut Vec<u8>) -> Result<(), AllocError>>(
         &mut self,
         answers: &mut A,
@@ -176,11 +177,11 @@ impl Conversation {
         ensures lines { self.new.lines ≤ self.old.lines + length piece.now }
         ensures alone { A.alone answers.old → OnOk result (A.alone answers.new) }
         ensures turned { A.alone answers.old
-            → (start : A.Worlds) (old now next before : Option (List ℕ)) (count : ℕ)
-            → Consumes now next piece.now → count + length piece.now ≤ MOST_SCRIPT_BYTES
-            → Reached A.define start old now before (W.contents writer.old)
+            → (start : A.Worlds) (before : Streams) (unread next : Option (List ℕ)) (count : ℕ)
+            → Consumes unread next piece.now → count + length piece.now ≤ MOST_SCRIPT_BYTES
+            → Reached A.define start before (streams unread (W.contents writer.old))
             count (A.world answers.old) self.old.lines self.old.line.items
-            → TurnsTo A.define start old next before (W.contents writer.new)
+            → TurnsTo A.define start before (streams next (W.contents writer.new))
             (count + length piece.now) (A.world answers.new) self.new.lines self.new.line.items
             result }
     {
@@ -206,11 +207,11 @@ impl Conversation {
         requires answers { AnswersBy A.alone A.define A.world (F.post answer.now) }
         ensures alone { A.alone answers.old → OnOk result (A.alone answers.new) }
         ensures ended { A.alone answers.old
-            → (start : A.Worlds) (old now before : Option (List ℕ)) (count : ℕ)
-            → count < MOST_SCRIPT_BYTES → IsAtEnd now
-            → Reached A.define start old now before (W.contents writer.old) count
+            → (start : A.Worlds) (before : Streams) (unread : Option (List ℕ)) (count : ℕ)
+            → count < MOST_SCRIPT_BYTES → IsAtEnd unread
+            → Reached A.define start before (streams unread (W.contents writer.old)) count
             (A.world answers.old) self.old.lines self.old.line.items
-            → Finished A.define start old now before (W.contents writer.new)
+            → Finished A.define start before (streams unread (W.contents writer.new))
             (A.world answers.new) result }
     {
         let Ok(()) = self.end_line(answers, answer) else {
@@ -271,13 +272,13 @@ pub fn converse<
     requires answers { AnswersBy A.alone A.define A.world (F.post answer.now) }
     ensures done { A.alone answers.old → OnOk result (Leaves A.define
         (A.world answers.old) (A.world answers.new)
-        (R.remaining reader.old) (R.remaining reader.new)
-        (W.contents writer.old) (W.contents writer.new)) }
+        (streams (R.remaining reader.old) (W.contents writer.old))
+        (streams (R.remaining reader.new) (W.contents writer.new))) }
     ensures alone { A.alone answers.old → OnOk result (A.alone answers.new) }
-    ensures fault { A.alone answers.old → IfErr result (λ e. Breaks
+    ensures fault { A.alone answers.old → IfErr result (λ e. EndsWithFault
         (answers_to A.define (A.world answers.old)) e
-        (R.remaining reader.old) (R.remaining reader.new)
-        (W.contents writer.old) (W.contents writer.new)) }
+        (streams (R.remaining reader.old) (W.contents writer.old))
+        (streams (R.remaining reader.new) (W.contents writer.new))) }
 {
     let mut conversation = Conversation::new(alloc);
     let mut buffer = [0; PIECE_BYTES];

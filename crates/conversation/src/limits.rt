@@ -6,6 +6,6 @@ pub const MOST_SCRIPT_BYTES: u32 = 1 << 24;
 /// The most reads that a script may take.
 pub const MOST_READS: u32 = 1 << 25;
 
-/// At most this many bytes of a line are kept: one more than the longest command has, so that what
-/// is kept of a longer line is also too long.
+/// At most this many bytes of a line are kept: one more than a line with a command may have, so
+/// that a line that is too long for a command is still too long when only these bytes are kept.
 pub const KEPT_BYTES: usize = 256;

@@ -10,8 +10,8 @@ pub record KeepsBeginning {R P : Type 0} (old new : Charted R P) : Type 0 where
   pub start : new.start ≡ old.start
   pub value : new.value ≡ old.value
 
--- an edit is refused, and the chart doesn't change; e is the first reason that the edit, the
--- branches and the limits give, or Memory, if the edit allocates and they give none
+-- an edit is refused, and the chart doesn't change; e is the first reason that holds against the
+-- edit (`WhyRefused`), or Memory if no reason holds and the edit allocates
 pub record IsUneditedChart {R P : Type 0} (old new : Charted R P) (edit : Edit) (e : Refusal) : Type 0 where
   pub why : WhyRefused edit (edited old.cut.limits (forest old.cut) edit) e
   pub unchanged : new ≡ old

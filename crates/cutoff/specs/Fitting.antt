@@ -24,7 +24,7 @@ pub record RunPart (R P : Type 0) : Type 0 where
   pub run : SegmentRun R P
   pub count : ℕ
 
--- a run fits a segment with these steps, which replay reaches at c: the run has these steps, and
+-- `run` fits a segment with these steps, which begins at c: the run has the same steps, and also
 -- begins at c; registers are compared by E
 pub record RunFits {R P : Type 0} (E : R → R → Bool) (c : Configuration R P) (segment : List Step) (run : SegmentRun R P) : Type 0 where
   pub steps : run.steps ≡ segment
@@ -49,12 +49,12 @@ module _ {R P : Type 0} where
   reached cut place [] = []
   reached cut place (k ∷ ks) = if nat_eq place 0 then [] else k ∷ reached cut (place - length (steps_at cut k)) ks
 
-  -- the segment k, which replay reaches at c, has a stored run that fits it
+  -- the segment k, which begins at c, has a stored run that fits it
   abbrev pub Fits : (R → R → Bool) → Cut (StoredRun R P) → Configuration R P → ℕ → Type 0
   Fits E cut c k = MatchOption (run_at cut k) ⊥ (RunFits E c (steps_at cut k))
 
--- settling the segment k at c replays n steps: none if its stored run fits there, and that run,
--- `run`, then stays; otherwise all of the segment's steps
+-- settling the segment k at c replays n steps: none if the segment's stored run fits there, and
+-- `run` is then that stored run; otherwise all of the segment's steps
 abbrev pub IsWork : {R P : Type 0} → (R → R → Bool) → Cut (StoredRun R P) → Configuration R P → ℕ → SegmentRun R P → ℕ → Type 0
 IsWork E old c k run n = (Fits E old c k × (run_at old k ≡ Some run) × (n ≡ 0)) ⊎ ((Fits E old c k → ⊥) × (n ≡ length (steps_at old k)))
 
@@ -77,12 +77,12 @@ module _ {R P : Type 0} (E : R → R → Bool) (b : Behaviour P) (old : Cut (Sto
       (here : ℕ) × (below : ℕ) × (n ≡ here + below) × IsSettledAt E old new c place k part here
       × Settles new (replayed b c (steps_at old k)) (place - length (steps_at old k)) ks parts below
 
-  -- the segment k, which replay reaches at c, now has a stored run that fits it
+  -- the segment k, which begins at c, now has a stored run that fits it
   abbrev pub HasFitting : Cut (StoredRun R P) → Configuration R P → ℕ → Type 0
   HasFitting new c k = (run : SegmentRun R P) × (run_at new k ≡ Some run) × RunFits E c (steps_at old k) run
 
-  -- the segment k is one of these, of which the first begins at c; no stored run fitted k, and a
-  -- run that fits it is now stored
+  -- k is one of these segments, of which the first begins at c; no stored run fitted k, and a run
+  -- that fits k is now stored
   abbrev pub IsFilled : Cut (StoredRun R P) → Configuration R P → List ℕ → ℕ → Type 0
   IsFilled new c [] k = ⊥
   IsFilled new c (j ∷ js) k =

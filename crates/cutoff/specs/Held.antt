@@ -68,9 +68,9 @@ abbrev pub KeepsOrFills : {R P : Type 0} → (R → R → Bool) → (R → Behav
 KeepsOrFills E is old new name place =
     KeepsRuns old.cut new.cut (IsFilled E (is old.start.register) old.cut new.cut old.start (reached_by old.cut name place))
 
--- the result of a settle of the named branch's first `place` cells: `parts` are the stored runs of
--- their segments, which fit, each with how many of its steps count, `place` in all; and n steps
--- were replayed
+-- the result of a settle of the named branch's first `place` cells. `parts` are the runs now stored
+-- in the segments that have at least one of these cells, in order. Each run fits its segment, and
+-- comes with how many of its steps count; `place` steps count in all. n steps were replayed
 pub record IsSettled {R P : Type 0} (E : R → R → Bool) (b : Behaviour P) (old new : Charted R P) (name : List ℕ) (place : ℕ) (parts : List (RunPart R P)) (n : ℕ) : Type 0 where
   pub settles : Settles E b old.cut new.cut old.start place (reached_by old.cut name place) parts n
   pub sum : counted parts ≡ place
@@ -81,7 +81,7 @@ last_part [] = None
 last_part (part ∷ []) = Some part
 last_part (part ∷ next ∷ parts) = last_part (next ∷ parts)
 
--- the result of a settle of the named branch's first `place` cells that returns only the last part,
--- `last`, or `None` if there are no parts; n steps were replayed
+-- the result of a settle of the named branch's first `place` cells, if only the last part is
+-- returned: `last` is that part, or `None` if there are no parts; n steps were replayed
 abbrev pub IsSettledLast : {R P : Type 0} → (R → R → Bool) → Behaviour P → Charted R P → Charted R P → List ℕ → ℕ → Option (RunPart R P) → ℕ → Type 0
 IsSettledLast {R} {P} E b old new name place last n = (parts : List (RunPart R P)) × IsSettled E b old new name place parts n × (last_part parts ≡ last)

@@ -12,12 +12,13 @@ abbrev pub without_register : {R P : Type 0} → Configuration R P → Configura
 without_register c = record { register = tt; memory = c.memory; running = c.running; stopped = c.stopped }
 
 -- `number` is `None`, or the number of a run with the exit c; `exits` has, at each index, the exit
--- of the run with that number
+-- of the run whose number is that index
 abbrev pub IsExitOf : {P : Type 0} → List (Configuration ⊤ P) → Option ℕ → Configuration ⊤ P → Type 0
 IsExitOf exits number c = MatchOption number ⊤ (λ a. slice_get exits a ≡ Some c)
 
--- the stored run s begins with a register equal to h (by E), and has its segment's steps; `exits`
--- has its exit at its number, if it has one, and its entry at its link, if it has one
+-- the stored run s begins with a register equal to h (by E), and has its segment's steps; the item
+-- of `exits` at the run's number, if any, is the run's exit, and the item at the run's link, if
+-- any, is the run's entry
 pub record IsStored {R P : Type 0} (E : R → R → Bool) (h : R) (exits : List (Configuration ⊤ P)) (segment : List Step) (s : StoredRun R P) : Type 0 where
   pub own : E s.run.entry.register h ≡ true
   pub covers : s.run.steps ≡ segment
@@ -31,8 +32,8 @@ IsTruePiece E h exits None = ⊤
 IsTruePiece E h exits (Some p) = MatchOption p.note ⊤ (IsStored E h exits (map step_of p.slots))
 
 -- the numbers below `next` were given to runs, whose exits are `exits`; each stored run begins with
--- a register equal to h, and has its segment's steps, and a number and link that agree with
--- `exits`, if any; and `above` is `None`, or the number of a run with the exit c
+-- a register equal to h, and has its segment's steps; each such run's number and link, if any,
+-- agree with `exits` (`IsStored`); and `above` is `None`, or the number of a run with the exit c
 pub record IsLinked {R P : Type 0} (E : R → R → Bool) (h : R) (next : ℕ) (above : Option ℕ) (c : Configuration ⊤ P) (cut : Cut (StoredRun R P)) : Type 0 where
   pub exits : List (Configuration ⊤ P)
   pub as_many : length exits ≡ next

@@ -23,7 +23,7 @@ key_of job = job.key
 abbrev pub keys_of : Strand → List ℕ
 keys_of s = s.keys
 
--- the job of the segment k, which replay reaches at `end`; no job if the key is `None`
+-- the job of the segment k, which begins at `end`; no job if the key is `None`
 abbrev pub job_of : {R P : Type 0} → Cut (StoredRun R P) → Option ℕ → Configuration R P → Option (Planned R P)
 job_of cut None end = None
 job_of cut (Some k) end = Some (record { key = k; entry = end; steps = steps_at cut k })
@@ -34,9 +34,9 @@ with_job jobs None = jobs
 with_job jobs (Some job) = if has job.key (map key_of jobs) then jobs else jobs ++ job ∷ []
 
 module _ {R P : Type 0} (E : R → R → Bool) (b : Behaviour P) (cut : Cut (StoredRun R P)) where
-  -- `missed` is the first of these segments that no stored run fits, and `end` is the configuration
-  -- that replay from c reaches at its start; if stored runs fit them all, `missed` is `None`, and
-  -- replay reaches `end` after them all
+  -- `missed` is the first of these segments that no stored run fits, and replay from c reaches
+  -- `end` at the start of `missed`; if stored runs fit all these segments, `missed` is `None`, and
+  -- replay reaches `end` after all of them
   abbrev pub Descends : Configuration R P → List ℕ → Option ℕ → Configuration R P → Type 0
   Descends c [] missed end = (missed ≡ None) × SameConfiguration E end c
   Descends c (k ∷ ks) missed end =
@@ -57,16 +57,17 @@ module _ {R P : Type 0} (E : R → R → Bool) (b : Behaviour P) (cut : Cut (Sto
       ((key ≡ k) × RunFits E c (steps_at cut k) run)
       ⊎ ((key ≡ k → ⊥) × Fits E cut c k × FitsDown key run (replayed b c (steps_at cut k)) ks)
 
-  -- `jobs` are `done`, followed by a job for each of these paths, in order: for its first segment
-  -- that no stored run fits, unless there is none or it has a job already; the first segment of
-  -- each path begins at c
+  -- each of these paths begins at c; `jobs` are `done`, followed by a job for each path's first
+  -- segment that no stored run fits, in the order of the paths; no job is added for a path without
+  -- such a segment, or for a segment that has a job already
   abbrev pub Plans : Configuration R P → List (Planned R P) → List (List ℕ) → List (Planned R P) → Type 0
   Plans c done [] jobs = jobs ≡ done
   Plans c done (keys ∷ paths) jobs =
       (missed : Option ℕ) × (end : Configuration R P) × Descends c keys missed end × Plans c (with_job done (job_of cut missed end)) paths jobs
 
--- `jobs` are a chart's plan: the job of the named branch's first segment that no stored run fits,
--- then that of each branch in the order they were made, without a second job for any segment
+-- `jobs` are a chart's plan: for each branch, a job for its first segment that no stored run fits.
+-- The named branch's job, if it has one, comes first, then the jobs of the others in the order the
+-- branches were made; no segment has two jobs
 abbrev pub IsPlan : {R P : Type 0} → (R → R → Bool) → Behaviour P → Charted R P → List ℕ → List (Planned R P) → Type 0
 IsPlan E b c name jobs = Plans E b c.cut c.start [] (keys_named c.cut name ∷ map keys_of c.cut.strands) jobs
 

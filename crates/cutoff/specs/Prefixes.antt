@@ -26,8 +26,8 @@ abbrev pub exit_or_start : {R P : Type 0} → Cut (StoredRun R P) → Configurat
 exit_or_start cut start key = exit_or start (run_named cut key)
 
 module _ {R P : Type 0} (E : R → R → Bool) (is : R → Behaviour P) (cut : Cut (StoredRun R P)) where
-  -- the segment k, which replay reaches at c, has a stored run that fits it; the run is true, for
-  -- the register of its entry
+  -- the segment k, which begins at c, has a stored run that fits it; the run is true, for the
+  -- register of its entry
   pub record HasTrueRun (c : Configuration R P) (k : ℕ) : Type 0 where
     pub stored : StoredRun R P
     pub noted : note_of (piece_at cut.pieces k) ≡ Some stored
@@ -48,7 +48,7 @@ module _ {R P : Type 0} (E : R → R → Bool) (is : R → Behaviour P) (cut : C
 
   module _ (start : Configuration R P) where
     -- true runs that fit are stored at these keys, from the first down to `last`, and replay
-    -- reaches the last one's exit; if `last` is `None`, no run is needed
+    -- reaches the exit of the run stored at `last`; if `last` is `None`, no run is needed
     abbrev pub RunsTo : Option ℕ → List ℕ → Type 0
     RunsTo last keys = RunsDown (is start.register) start (keys_to keys last) (exit_or_start cut start last)
 
@@ -77,8 +77,8 @@ AreKeysAfter cut key front last left =
     ((last ≡ front) ⊎ (last ≡ None))
     × ((i : ℕ) → has key (keys_in cut.strands i) ≡ true → HasClimbedTo (keys_in cut.strands i) last × (keys_up_to key (keys_in cut.strands i) ≡ keys_to (keys_in cut.strands i) last ++ left))
 
--- `key` is the last of these keys; all cells of the segments before it and `count` cells of its own
--- are `place` cells together
+-- `key` is the last of these keys; `place` is `count` plus the number of cells of all segments
+-- before `key`
 pub record EndsIn {T : Type 0} (cut : Cut T) (key count place : ℕ) (keys : List ℕ) : Type 0 where
   pub front : List ℕ
   pub is : keys ≡ front ++ key ∷ []

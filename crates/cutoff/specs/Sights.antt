@@ -22,14 +22,14 @@ abbrev pub sight_of : Bool → Sight
 sight_of true = Fit
 sight_of false = Unfit
 
--- `fits` is known to say whether stored runs fit down to a key: it is true if there is no key;
--- otherwise it is true and the key is marked, or it is what a visit has found there
+-- `fits` is a plan's answer to whether stored runs fit down to a key; if there is no key, `fits` is
+-- true; otherwise `fits` is true and the key is marked, or `fits` is what a visit of the key found
 abbrev pub IsKnownAt : Option ℕ → List Sight → Option ℕ → Bool → Type 0
 IsKnownAt mark seen None fits = fits ≡ true
 IsKnownAt mark seen (Some k) fits = ((mark ≡ Some k) × (fits ≡ true)) ⊎ (sight_at seen k ≡ sight_of fits)
 
--- `left` are the last keys of a branch, none of which was visited; `fits` is known to say whether
--- stored runs fit down to the key right above them, and is true if there is no such key
+-- `left` are the last keys of a branch, none of which the plan has visited; `fits` is the plan's
+-- answer to whether stored runs fit down to the key right above them (true if there is no such key)
 pub record IsUnseenPart (mark : Option ℕ) (seen : List Sight) (keys : List ℕ) (fits : Bool) (left : List ℕ) : Type 0 where
   pub above : Option ℕ
   pub reached : HasClimbedTo keys above
@@ -42,8 +42,8 @@ abbrev pub IsAbove : {T : Type 0} → Cut T → ℕ → Option ℕ → Type 0
 IsAbove cut key above = (i : ℕ) (front back : List ℕ) → keys_in cut.strands i ≡ front ++ key ∷ back → above ≡ last_of front
 
 module _ {R P : Type 0} (E : R → R → Bool) (is : R → Behaviour P) (cut : Cut (StoredRun R P)) where
-  -- the result of a look at the segment k, which begins at c: if it is true, a run that fits is
-  -- stored there, and the jobs stay; if it is false, none is, and the segment's job is added
+  -- the answer to whether a run that fits is stored in the segment k, which begins at c: if true,
+  -- there is such a run, and the jobs stay; if false, there is none, and k's job is added
   abbrev pub LooksBelow : Configuration R P → ℕ → Bool → List (Planned R P) → List (Planned R P) → Type 0
   LooksBelow c k true old new = HasTrueRun E is cut c k × (new ≡ old)
   LooksBelow c k false old new = (Fits E cut c k → ⊥) × (new ≡ old ++ record { key = k; entry = c; steps = steps_at cut k } ∷ [])
@@ -54,43 +54,43 @@ module _ {R P : Type 0} (E : R → R → Bool) (is : R → Behaviour P) (cut : C
     MissesPlanned jobs keys =
         (m : ℕ) × (end : Configuration R P) × Descends E (is start.register) cut start keys (Some m) end × (has m (map key_of jobs) ≡ true)
 
-    -- whether stored runs fit down to `last`, on each branch with this key: if true, they do; if
-    -- false, they don't, and the first segment that none fits has a job; `None` is above the first
-    -- segment of each branch
+    -- the answer to whether stored runs fit down to the key `last` is right on each branch that has
+    -- `last` (`None` is the place above all segments; every branch has it). If the answer is false,
+    -- the first segment that no stored run fits has a job
     abbrev pub IsSeen : List (Planned R P) → Option ℕ → Bool → Type 0
     IsSeen jobs last true = (i : ℕ) → HasClimbedTo (keys_in cut.strands i) last → RunsTo E is cut start last (keys_in cut.strands i)
     IsSeen jobs last false = (i : ℕ) → HasClimbedTo (keys_in cut.strands i) last → MissesPlanned jobs (keys_to (keys_in cut.strands i) last)
 
-    -- what a plan has found at the key k is right: after `Fit`, stored runs fit down to k; after
-    -- `Unfit`, they don't, and the first segment that none fits has a job; `Unseen` means that k
-    -- has no job
+    -- what a plan has found at the key k is right: if it is `Fit`, stored runs fit down to k; if it
+    -- is `Unfit`, they don't, and the first segment that no stored run fits has a job; if it is
+    -- `Unseen`, k has no job
     abbrev pub IsSight : List (Planned R P) → ℕ → Sight → Type 0
     IsSight jobs k Unseen = has k (map key_of jobs) ≡ false
     IsSight jobs k Fit = IsSeen jobs (Some k) true
     IsSight jobs k Unfit = IsSeen jobs (Some k) false
 
-    -- what a plan has found at each key is right: after `Fit`, stored runs fit down to it; after
-    -- `Unfit`, they don't, and the first segment that none fits has a job; an `Unseen` key has no
-    -- job
+    -- what a plan has found at each key is right: if it is `Fit`, stored runs fit down to that key;
+    -- if it is `Unfit`, they don't, and the first segment that no stored run fits has a job; if it
+    -- is `Unseen`, that key has no job
     abbrev pub AreSeen : List Sight → List (Planned R P) → Type 0
     AreSeen seen jobs = (k : ℕ) → IsSight jobs k (sight_at seen k)
 
-    -- one of these segments is the first that no stored run fits; `jobs` are `old` with its job,
-    -- which was added if it wasn't there
+    -- one of these segments is the first that no stored run fits; `jobs` are `old`, with that
+    -- segment's job added if the segment had none
     abbrev pub AddsMissed : List (Planned R P) → List (Planned R P) → List ℕ → Type 0
     AddsMissed old jobs keys =
         (m : ℕ) × (end : Configuration R P) × Descends E (is start.register) cut start keys (Some m) end × (has m (map key_of jobs) ≡ true)
         × (jobs ≡ with_job old (job_of cut (Some m) end))
 
-    -- A walk down each branch with the key `last` has reached it, and has found whether stored runs
-    -- fit down to it. If true, they do, and no job was added. If false, they don't, and the first
-    -- segment that none fits has a job, which was added if it wasn't there.
+    -- A walk down each branch with the key `last` has reached this key, and has found whether
+    -- stored runs fit down to it. If true, they do, and no job was added. If false, they don't, and
+    -- the job of the first segment that no stored run fits was added if that segment had none.
     abbrev pub HasDescended : List (Planned R P) → List (Planned R P) → Option ℕ → Bool → Type 0
     HasDescended old jobs last true = IsSeen jobs last true × (jobs ≡ old)
     HasDescended old jobs last false = (i : ℕ) → HasClimbedTo (keys_in cut.strands i) last → AddsMissed old jobs (keys_to (keys_in cut.strands i) last)
 
     -- A walk has reached the key right above `key` (`None` if there is none). If `fits` is true,
-    -- stored runs fit down to it, and no job was added. If false, they don't, and the first segment
-    -- that none fits has a job, which was added if it wasn't there.
+    -- stored runs fit down to that upper key, and no job was added. If `fits` is false, they don't,
+    -- and the job of the first segment that no stored run fits was added if that segment had none.
     abbrev pub HasDescendedAbove : List (Planned R P) → List (Planned R P) → ℕ → Bool → Type 0
     HasDescendedAbove old jobs key fits = (above : Option ℕ) → IsAbove cut key above → HasDescended old jobs above fits

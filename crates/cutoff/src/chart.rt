@@ -211,10 +211,10 @@ impl<R: Register> Chart<R> {
     }
 
     /// Settles a branch's first `place` cells: replays the whole of each segment that has one of
-    /// these cells and no stored run that fits, and stores the new run. Returns, for all segments
-    /// that have one of these cells, the runs now stored there, which fit, each with how many of
-    /// its steps are steps of these cells. Also returns how many steps were replayed in all.
-    /// Nothing else changes.
+    /// these cells and no stored run that fits, and stores the new run. Returns the run now stored
+    /// in each segment that has one of these cells. All these runs fit, and each comes with how
+    /// many of its steps are steps of these cells. Also returns how many steps were replayed in
+    /// all. Nothing else changes.
     ///
     /// # Errors
     ///
@@ -250,8 +250,8 @@ impl<R: Register> Chart<R> {
 
     /// For each branch, a job for its first segment that no stored run fits: the segment's key, the
     /// configuration that replay reaches at its start, and its steps. The job of the named branch
-    /// comes first, then those of all branches in the order they were made; no segment has two
-    /// jobs. There are no jobs if stored runs fit all segments.
+    /// comes first, then those of the other branches in the order they were made; no segment has
+    /// two jobs. There are no jobs if stored runs fit all segments.
     ///
     /// # Errors
     ///
@@ -271,9 +271,10 @@ impl<R: Register> Chart<R> {
         Ok(jobs)
     }
 
-    /// Stores `run`, which was made outside the chart, in the segment `key`, and returns Installed,
-    /// if the run fits there and stored runs fit all segments above. Otherwise changes nothing, and
-    /// returns Gone if there is no such segment, else Stale. Never allocates.
+    /// Stores `run`, which was made outside the chart, in the segment `key`, if there is such a
+    /// segment, the run fits it, and stored runs fit all segments above it; then returns Installed.
+    /// Otherwise changes nothing, and returns Gone if there is no such segment, else Stale. Never
+    /// allocates.
     pub fn install(&mut self, key: SegKey, run: Arc<Run<R>>) -> Installation
         ensures { Installs R.PartialEq.eq (R.behaviour self.old.start.register) self.old self.new
             key

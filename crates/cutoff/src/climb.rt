@@ -1,5 +1,6 @@
-//! A climb up a branch, from one of its segments to the first. It finds whether stored runs fit all
-//! these segments, and whether the last of them ends at a given configuration. It changes nothing.
+//! A climb up a branch, from one of its segments towards the first. It finds whether stored runs
+//! fit all segments from the first down to the one at which the climb began, and the run stored in
+//! that one ends at a given configuration. It changes nothing.
 
 ghost use Rattle.std.specs.Prelude.{◌≡◌, ◌≤◌, ◌+◌, ℕ, None, true, length};
 ghost use Rattle.schedule_trie.specs.Cut.{keys_in, line, piece_at, IsCut};
@@ -15,10 +16,11 @@ use frames::register::Register;
 use schedule_trie::trie::{SegKey, Trie};
 
 /// Whether stored runs fit all segments from a branch's first down to `last`, and the run in `last`
-/// ends at `config`; if `last` is `None`, whether `config` equals `start`. Climbs from `last` at
-/// most up to the marked segment, down to which stored runs are known to fit. Compares each run's
-/// exit with the entry of the run below it, and the lowest run's exit with `config`. Never
-/// allocates.
+/// ends at `config`; if `last` is `None`, whether `config` equals `start`. Climbs from `last`:
+/// tests whether the exit of its run is `config`, and whether the exit of each higher run is the
+/// entry of the run right below. Stops after the test of the marked segment's run, because stored
+/// runs are known to fit down to that segment. If the climb doesn't meet the marked segment, also
+/// tests whether the first run's entry is `start`. Never allocates.
 pub(crate) fn comes_down<R: Register>(
     trie: &Trie<Stored<R>>,
     start: &Config<R>,

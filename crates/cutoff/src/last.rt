@@ -1,5 +1,6 @@
-//! Settling a branch's first cells, if only the last of their stored runs is needed. Segments that
-//! stored runs are already known to fit aren't visited.
+//! Settling a branch's first cells for a caller that needs only the last of their stored runs.
+//! If some of these cells are in the marked segment, the segments above it aren't visited: stored
+//! runs are already known to fit them.
 
 ghost use Rattle.std.specs.Prelude.{◌≡◌, ◌≤◌, ℕ, None, Some, true, IfOk, OnOk, OnErr, length};
 ghost use Rattle.std.specs.Arc.{arc_value};
@@ -22,9 +23,9 @@ use schedule_trie::trie::{SegKey, Trie};
 use std::alloc::{AllocError, Global};
 use std::sync::Arc;
 
-/// The result of settling a branch's first cells, if only the last of their stored runs is needed.
-/// `len` is the branch's length. `part` is that last run, with how many of its steps are steps of
-/// these cells; `None` if no cell was settled. `replayed` is how many steps were replayed.
+/// The result of settling a branch's first cells, with only the last of their stored runs. `len` is
+/// the branch's length. `part` is that run, with how many of its steps are steps of these cells;
+/// `None` if no cell was settled. `replayed` is how many steps were replayed.
 #[derive(Drop)]
 pub struct Last<R: Register> {
     pub len: u32,
@@ -147,9 +148,9 @@ fn settle_after<R: Register>(
     Ok(settled.replayed())
 }
 
-/// Settles the segments `rest.keys`, and then those below `rest.hung` down to `key`. Stops as soon
-/// as `rest.hung` or a segment below it isn't replayed: the runs that hang from it then still fit.
-/// Returns how many steps were replayed.
+/// Settles the segments `rest.keys`, and then those below `rest.hung` down to `key`. Stops once
+/// `rest.hung` or a segment below it needs no replay: the runs stored below that segment, down to
+/// `key`, then still fit. Returns how many steps were replayed.
 fn settle_rest<R: Register>(
     alloc: Global,
     trie: &mut Trie<Stored<R>>,

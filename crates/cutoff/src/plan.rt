@@ -52,10 +52,10 @@ struct Planning<R: Register> {
     seen: Vec<Sight>,
 }
 
-/// For each branch, a job for its first segment that no stored run fits: first that of the branch
-/// at `index`, then those of all branches in order; no segment has two jobs. Each segment is
-/// visited at most once. On a branch that has the marked segment, only segments below that one are
-/// visited.
+/// For each branch, a job for its first segment that no stored run fits. The job of the branch at
+/// `index`, if it has one, comes first, then the jobs of the other branches in order. No segment
+/// has two jobs. Each segment is visited at most once. To plan for a branch that has the marked
+/// segment, only segments below the marked one are visited.
 pub(crate) fn plan_all<R: Register>(
     alloc: Global,
     trie: &Trie<Stored<R>>,
@@ -117,9 +117,9 @@ fn plan_branch<R: Register>(
     Ok(())
 }
 
-/// Climbs from the end of a branch to the first segment that is marked or was visited. Returns
-/// whether stored runs fit down to that segment, and the keys of the branch's segments below it, in
-/// order. If there is no such segment, returns true and all keys of the branch.
+/// Climbs from the last segment of a branch until it meets a segment that is marked or was visited.
+/// Returns whether stored runs fit down to that segment, and the keys of the branch's segments
+/// below that one, in order. If it meets no such segment, returns true and all keys of the branch.
 fn unseen_keys<R: Register>(
     alloc: Global,
     trie: &Trie<Stored<R>>,

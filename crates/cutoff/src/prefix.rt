@@ -1,6 +1,7 @@
-//! The first segments of a branch, those that stored runs are known to fit, found by a climb from
-//! one of its segments. A run hangs from the run right above it if its link is that run's number:
-//! it then begins at that run's exit.
+//! A climb up a branch from one of its segments. Of that segment and those above it, the climb
+//! finds the lowest one down to which, from the branch's first segment on, stored runs are known to
+//! fit. A run hangs from the run right above it if the lower run's link is the upper run's number:
+//! the lower run then begins at the upper run's exit.
 
 ghost use Rattle.std.specs.Prelude.{◌≡◌, ℕ, None, Some, true, IfOk};
 ghost use Rattle.std.specs.Bool.{Decides};
@@ -19,9 +20,9 @@ use std::alloc::{AllocError, Global};
 
 /// What is left to settle of a branch down to one of its segments, the target. Stored runs are
 /// known to fit from the first segment down to `front`; if `front` is `None`, no run is known to
-/// fit. `keys` are, in order, the segments below `front` (if `front` is `None`, from the branch's
-/// first one on) down to `hung`. Below `hung`, down to the target, each run hangs from the one
-/// right above it: it begins at that run's exit.
+/// fit. `keys` has the keys of the segments below `front`, down to `hung`, in order. If `front` is
+/// `None`, these begin with the branch's first segment. Each segment below `hung`, down to the
+/// target, has a run that hangs from the run right above: it begins at the upper run's exit.
 #[derive(Drop)]
 pub(crate) struct Rest {
     pub(crate) front: Option<SegKey>,
@@ -63,9 +64,10 @@ fn known_prefix<R: Register>(
     None
 }
 
-/// The highest segment such that each run below it, down to `key`, hangs from the one right above
-/// it; `key` itself if its run hangs from none. Compares only numbers, and climbs at most up to the
-/// mark.
+/// Climbs from `key` as long as the run of the segment reached hangs from the run right above, and
+/// returns the segment at which the climb ends. Also stops at the marked segment. Returns `key`
+/// itself if that segment is marked, has no stored run, or has a run that hangs from none. Compares
+/// only numbers.
 fn hung_from<R: Register>(trie: &Trie<Stored<R>>, mark: Option<SegKey>, key: SegKey) -> SegKey
     requires linked { (start : Configuration R R.Pending) × (next : ℕ)
         × IsLinked R.PartialEq.eq start.register next None (without_register start) trie.now }

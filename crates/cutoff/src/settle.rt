@@ -191,8 +191,8 @@ fn exit_or_start<R: Register>(
 }
 
 /// Settles the segments of a branch in order, until its first `place` cells are settled. `keys` are
-/// all the branch's keys. Returns the runs of these segments, each with how many of its steps are
-/// steps of these cells. Also returns how many steps were replayed in all.
+/// all the branch's keys. Returns the runs of the settled segments, each with how many of its steps
+/// are steps of these cells. Also returns how many steps were replayed in all.
 pub(crate) fn settle_along<R: Register>(
     alloc: Global,
     trie: &mut Trie<Stored<R>>,

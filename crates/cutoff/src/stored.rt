@@ -16,9 +16,9 @@ use std::marker::Model;
 use std::sync::Arc;
 
 /// A run's number, and its link (the number of the run at whose exit it begins), if it has them.
-/// `Own` has the number alone, `Linked` the link alone. Two fields of type `Option` would make a
-/// segment a word larger in memory; at the present size a climb finds a segment with one
-/// multiplication.
+/// `Own` has the number alone, `Linked` the link alone. With two fields of type `Option` instead of
+/// this type, each segment would be one machine word larger. The present size lets a climb find a
+/// segment in memory with one multiplication.
 #[derive(Clone, Copy)]
 pub(crate) enum Numbers {
     Neither,

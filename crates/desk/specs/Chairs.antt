@@ -55,12 +55,12 @@ module _ {R P : Type 0} where
     pub reported : w.reported ≡ v.reported
 
   module _ (is : R → Behaviour P) (first : Held R P) where
-    -- A command changes a chair's view from v to w. It leaves a legal history: the history found,
-    -- followed, if the reply is logged, by this call with its reply under the chair's number. In w
-    -- the chair has seen the history left, whose length the receipt has, and the call is its own.
-    -- The reply is what the command gets in the world after the history found, or Memory. It is
-    -- LogFull only if the history found is as long as the limit, and Memory only if that history is
-    -- shorter.
+    -- A command changes a chair's view from v to w. If the reply is logged, the call is added with
+    -- its reply, under the chair's number, to the history found and to the chair's own calls. The
+    -- resulting history is legal; in w the chair has seen it, and the receipt has its length. The
+    -- reply is what the command gets in the world after the history found, or Memory. The reply is
+    -- LogFull only if the history found is as long as the limit, and Memory only if the history
+    -- found is shorter than the limit.
     pub record Received (who : ℕ) (guard : Option ℕ) (command : Command) (v w : View (Item R P)) (receipt : Receipt) : Type 0 where
       pub found : List Entry
       pub finds : Finds v found
@@ -77,7 +77,7 @@ module _ {R P : Type 0} where
 
     -- A reading is a call that changes no history; it changes a chair's view from v to w. It finds
     -- a legal history; `says`, which is about the answer, holds of this history's length and the
-    -- world after it. In w the chair has seen this history; it has made no call.
+    -- world after it. In w the chair has seen this history, and has the same calls as in v.
     pub record Reads (says : ℕ → World P → Type 0) (v w : View (Item R P)) : Type 0 where
       pub found : List Entry
       pub finds : Finds v found
@@ -94,7 +94,7 @@ module _ {R P : Type 0} where
     Looked query v w answer = Reads (λ n world. (answer.at ≡ n) × IsAnswer world query answer.result) v w
 
     -- a save is a reading: it describes by limbs the branches of the world after the history that
-    -- it finds, and reports that history's length; or it is refused as Memory
+    -- it finds, and reports that history's length; or it is refused, and the refusal is Memory
     abbrev pub SavedFrom : View (Item R P) → View (Item R P) → Result Saved Refusal → Type 0
     SavedFrom v w result = Reads (λ n world. IsSaving n world result) v w
 

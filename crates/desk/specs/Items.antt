@@ -1,4 +1,4 @@
--- The list that a desk's journal is in contracts: the opening, then the logged calls.
+-- In contracts, a desk's journal is a list of items: the opening, then the logged calls.
 use Rattle.std.specs.Prelude.{ℕ, List, [], ◌∷◌, map}
 use Rattle.sessions.specs.declared.log.Entry.{Entry}
 use Rattle.sessions.specs.Held.{Held}
@@ -6,8 +6,8 @@ use Rattle.desk.specs.declared.item.Item.{Item}
 use Rattle.desk.specs.declared.item.Item.TheVariants.{Opening, Call}
 
 module _ {R P : Type 0} where
-  -- the number of the share under which an item was made: the calling chair's number, which is the
-  -- least of its shares; for the opening 16, which is no share's number
+  -- the number of the share under which an item was made; for a call, the calling chair's number,
+  -- which is the least of that chair's shares; for the opening, 16, which is no share's number
   abbrev pub made_under : Item R P → ℕ
   made_under (Opening first) = 16
   made_under (Call e) = e.chair

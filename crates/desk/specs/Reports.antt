@@ -12,8 +12,8 @@ IsSum r = r.planned ≡ r.installed + r.stale + r.gone + r.memory
 abbrev pub no_jobs : Report
 no_jobs = record { planned = 0; installed = 0; stale = 0; gone = 0; memory = 0 }
 
--- the report r with one more planned job, whose run was installed, stale or gone; `None` if the job
--- ran out of memory
+-- the report r with one more planned job; the first argument says whether the job's run was
+-- installed, stale or gone, and is `None` if the job ran out of memory
 abbrev pub report_with : Option Installation → Report → Report
 report_with (Some Installed) r = record { planned = r.planned + 1; installed = r.installed + 1; stale = r.stale; gone = r.gone; memory = r.memory }
 report_with (Some Stale) r = record { planned = r.planned + 1; installed = r.installed; stale = r.stale + 1; gone = r.gone; memory = r.memory }

@@ -1,5 +1,5 @@
--- What each kind of work that a chair does while it has a desk's turn guarantees of its answer, and
--- of the journal's list before and after the work.
+-- The work that a chair does while it has a desk's turn: what each kind of work guarantees of its
+-- answer, and of the journal's list before and after the work.
 use Rattle.std.specs.Prelude.{ℕ, ◌<◌, ◌≡◌, ◌⊎◌, List, Option, Some, IsSome, Result, Ok, Err, IfOk, length}
 use Rattle.frames.specs.Behaviour.{Behaviour}
 use Rattle.schedule_trie.specs.declared.refusal.Refusal.{Refusal}

@@ -55,14 +55,14 @@ pub struct Desk<R: Register> {
 }
 
 impl<R: Register> Desk<R> {
-    /// Opens a desk, with one chair that holds all 16 shares; its history is empty. The desk's one
-    /// branch, `main`, has these steps, each of which has to fit the register. The register's
-    /// initial value is `value`, which has to be one of its values. The limits have to be in their
-    /// ranges.
+    /// Opens a desk, with one chair that holds all 16 shares. The desk's history is empty. The
+    /// desk's one branch, `main`, has these steps, each of which has to fit the register. The
+    /// register's initial value is `value`, which has to be one of its values. The limits have to
+    /// be in their ranges.
     ///
     /// # Errors
     ///
-    /// Full if there are more steps than the limits allow cells; Memory if memory runs out.
+    /// Full if there are more steps than the limit of cells; Memory if memory runs out.
     pub fn open(
         alloc: Global,
         register: R,
@@ -101,18 +101,18 @@ impl<R: Register> Desk<R> {
         Ok((Desk { turn, first }, chair))
     }
 
-    /// Opens a desk, with one chair that holds all 16 shares; its history is empty. Each limb
-    /// describes a branch of the desk: its name, how many cells it shares with which earlier
+    /// Opens a desk, with one chair that holds all 16 shares. The desk's history is empty. Each
+    /// limb describes a branch of the desk: its name, how many cells it shares with which earlier
     /// branch, and its own steps. There has to be at least one limb. The limbs have to be lawful:
-    /// the names are well-formed and all different, and a limb shares no cells, or the first cells
-    /// of an earlier branch, the last of which is one of that branch's own. The steps have to fit
-    /// the register. The register's initial value is `value`, which has to be one of its values.
-    /// The limits have to be in their ranges.
+    /// the names are well-formed and all different, and a limb either shares no cells (and its
+    /// `from` is 0), or shares an earlier branch's first cells, the last of which is one of that
+    /// branch's own cells. The steps have to fit the register. The register's initial value is
+    /// `value`, which has to be one of its values. The limits have to be in their ranges.
     ///
     /// # Errors
     ///
-    /// Full if the limbs have more cells than the limits allow; TooManyBranches if there are more
-    /// limbs than the limits allow branches; Memory if memory runs out.
+    /// Full if the limbs have more own steps in total than the limit of cells; else TooManyBranches
+    /// if there are more limbs than the limit of branches; Memory if memory runs out.
     pub fn open_limbs(
         alloc: Global,
         register: R,
@@ -137,13 +137,13 @@ impl<R: Register> Desk<R> {
         Desk::over(alloc, book)
     }
 
-    /// Waits for the turn, and answers a command of session `who`. The history that it finds begins
-    /// with what the chair had seen. The reply is the one that the command gets after this history,
-    /// or Memory; if a guard `if_at` is given and differs from the edit count, the command is
-    /// refused. The command is logged with its reply under the chair's number, unless the reply is
-    /// LogFull (the log is as long as the limit) or Memory; then neither the log nor what commands
-    /// see is changed. Afterwards the chair has seen the history found, followed by this call if it
-    /// was logged.
+    /// Waits for the turn, and answers a command of session `who`. The history that the call finds
+    /// begins with what the chair had seen. The reply is the one that the command gets after this
+    /// history, or Memory; if a guard `if_at` is given and differs from the edit count, the command
+    /// is refused. If the reply is LogFull (the log is as long as the limit) or Memory, the command
+    /// isn't logged, and what commands see doesn't change. Otherwise the command is logged with its
+    /// reply, under the chair's number. Afterwards the chair has seen the history found, followed
+    /// by this call if the call was logged.
     pub fn act<W: Wait>(
         &self,
         rt: &W,
@@ -168,12 +168,13 @@ impl<R: Register> Desk<R> {
         self.turn.with(rt, chair, &mut act)
     }
 
-    /// Waits for the turn and looks. The answer is the page that the query asks for, or why the
-    /// look is refused (there is no such branch or place, or the session whose cursor it asks for
-    /// doesn't exist or hasn't joined), or Memory; and how long the history is. The page is made
-    /// once the turn is free again, but shows what the look found, whatever the lens (a cache)
-    /// holds. On a regular or an atomic register the page shows no stray read. Afterwards the chair
-    /// has seen the history that the look found; the look adds no call to it.
+    /// Waits for the turn and looks. The answer has the page that the query asks for, or why the
+    /// look is refused (there is no such branch or place, or the query is for the cursor of a
+    /// session that doesn't exist or hasn't joined), or Memory. The answer also has the length of
+    /// the history that the look found. The page is made after the turn is given back, but shows
+    /// what the look found, whatever the lens (a cache) holds. On a regular or an atomic register
+    /// the page shows no stray read. Afterwards the chair has seen the history that the look found;
+    /// the look adds no call to this history.
     pub fn look<W: Wait>(
         &self,
         rt: &W,
@@ -198,7 +199,8 @@ impl<R: Register> Desk<R> {
 
     /// Reads how long the history is now, without waiting. The length is at least that of what the
     /// chair has seen, and at least each length that the chair has read before. The chair has seen
-    /// no more of the history than before.
+    /// no more of the history than before. (The length in the chair's view also counts the opening,
+    /// hence the 1.)
     pub fn news(&self, chair: &mut Chair<R>) -> u64
         requires { IsChairOf R.behaviour self.now chair.old }
         ensures chair { IsChairOf R.behaviour self.now chair.new }
@@ -209,10 +211,10 @@ impl<R: Register> Desk<R> {
         self.turn.news(chair) - 1
     }
 
-    /// Makes a new chair of this desk. It gets `shares` of the shares of `chair` (at least one, and
-    /// fewer than `chair` has), and the calls made under them. `chair` keeps its least share, which
-    /// is its number, and gives the next least ones. Both chairs have then seen what `chair` had
-    /// seen.
+    /// Makes a new chair of this desk. The new chair gets `shares` of the shares of `chair` (at
+    /// least one, and fewer than `chair` has), and the calls made under them. `chair` keeps its
+    /// least share, whose number is also the chair's number. Of its other shares, it gives away the
+    /// `shares` least ones. Both chairs have then seen what `chair` had seen.
     pub fn split(&self, chair: &mut Chair<R>, shares: u32) -> Chair<R>
         requires desk { IsChairOf R.behaviour self.now chair.old }
         requires some { 0 < shares }
@@ -229,9 +231,9 @@ impl<R: Register> Desk<R> {
         self.turn.split(chair, shares)
     }
 
-    /// Takes over the shares and calls of another chair of this desk, and reads the history's
-    /// length. Of the histories that the two chairs had seen, one is a prefix of the other; this
-    /// chair has then seen the longer.
+    /// Moves the shares and calls of `other`, another chair of this desk, to `chair`, and reads the
+    /// history's length. Of the histories that the two chairs had seen, the longer begins with the
+    /// shorter; `chair` has then seen the longer.
     pub fn join(&self, chair: &mut Chair<R>, other: Chair<R>)
         requires { IsChairOf R.behaviour self.now chair.old × IsChairOf R.behaviour self.now other }
         ensures chair { IsChairOf R.behaviour self.now chair.new }
@@ -259,7 +261,7 @@ impl<R: Register> Desk<R> {
     }
 }
 
-/// Makes the page of a slip (what a look found), once the turn is free. If the look is refused,
+/// Makes the page of a slip (what a look found), without holding the turn. If the look is refused,
 /// returns that refusal; if memory runs out, Memory.
 fn paged<R: Register>(
     alloc: Global,

@@ -1,4 +1,4 @@
-//! Fills: several threads replay segments that no stored run fits, while the desk's lock is free,
+//! Fills: several threads replay segments that no stored run fits, without holding the desk's lock,
 //! and the runs are stored before looks need them.
 
 ghost use Rattle.std.specs.Prelude.{◌≡◌, ◌≤◌, IfOk};
@@ -50,12 +50,12 @@ where
     R::Pending: Send + Sync,
 {
     /// Stores runs (replayed segments) for segments that no stored run fits, in at most 64 rounds.
-    /// A round has three parts: a plan lists jobs, each of which is a segment to replay, beginning
-    /// with that of `branch`; the caller and up to `thieves` other threads (at most 4) run the jobs
-    /// while the turn is free; then the runs are installed. The fill ends early if a plan has no
-    /// job, if all jobs of a round run out of memory, or if a later plan finds no such branch. It
-    /// adds no call to the history. Afterwards the chair has seen at least the history that the
-    /// first plan found. The report counts how the jobs ended.
+    /// A round has three parts: a plan lists jobs (segments to replay), and begins with the job of
+    /// `branch` if there is one; the caller and up to `thieves` other threads (at most 4) run the
+    /// jobs without holding the turn; then the runs are installed. The fill ends early if a plan
+    /// has no job, if all jobs of a round run out of memory, or if a later plan finds no such
+    /// branch. The fill adds no call to the history. Afterwards the chair has seen at least the
+    /// history that the first plan found. The report counts how the jobs ended.
     ///
     /// # Errors
     ///
@@ -80,11 +80,9 @@ where
         self.fill_with(rt, alloc, chair, branch, thieves, &NoGate)
     }
 
-    /// Stores runs for segments that no stored run fits, as `fill` does: in rounds, each of which
-    /// plans jobs (segments to replay), runs them while the turn is free, and installs their runs.
-    /// Here the thread that is about to run a job first offers it to the gate, while the turn is
-    /// free. The gate may wait, and may take the turn with another chair. The fill adds no call to
-    /// the history. The report counts how the jobs ended.
+    /// Does what `fill` does. Also, before a thread runs a job, it offers the job to `gate`; it
+    /// doesn't hold the turn then. The gate may wait, and may take the turn with another chair. The
+    /// fill itself adds no call to the history. The report counts how the jobs ended.
     ///
     /// # Errors
     ///
@@ -159,7 +157,7 @@ where
         Ok(report)
     }
 
-    /// Runs these jobs while the turn is free, and then installs their runs.
+    /// Runs these jobs without holding the turn, and then installs their runs.
     fn round<W: Threads + Wait + Sync, G: Gate<W> + Sync>(
         &self,
         filling: &Filling<'_, W, G>,

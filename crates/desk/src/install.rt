@@ -15,9 +15,9 @@ use sessions::book::Book;
 use std::sync::Arc;
 use turn::Work;
 
-/// The work that installs a job's run: it stores the run, if the job's segment, which has this key,
-/// is still there, the run fits it, and stored runs fit all segments above. `run` is `None` if the
-/// job ran out of memory; then nothing is done.
+/// The work that installs a job's run. It stores the run if the job's segment, which has the key
+/// `key`, is still there, and the run fits this segment, and stored runs fit all segments above it.
+/// If the job ran out of memory, `run` is `None`, and the work does nothing.
 #[derive(Drop)]
 pub(crate) struct Install<R: Register> {
     pub(crate) key: SegKey,

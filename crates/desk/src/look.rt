@@ -10,7 +10,7 @@ use views::query::Query;
 use views::slip::Slip;
 
 /// The work that looks. It returns the history's length, and either a slip (what the look found,
-/// from which the page is made once the turn is free) or why the look is refused.
+/// from which the page is made after the turn is given back) or why the look is refused.
 #[derive(Drop)]
 pub(crate) struct Look {
     pub(crate) alloc: Global,

@@ -15,8 +15,8 @@ use sessions::book::Book;
 use std::alloc::Global;
 use turn::Work;
 
-/// The work that lists the jobs of a fill's round, which are segments to replay: first the job of
-/// `branch`, then those of other branches.
+/// The work that lists the jobs (segments to replay) of a fill's round. The job of `branch`, if it
+/// has one, comes first, then the jobs of the other branches.
 #[derive(Drop)]
 pub(crate) struct Plan<'a> {
     pub(crate) alloc: Global,
@@ -37,8 +37,8 @@ impl<R: Register> Work<Journal<R>> for Plan<'_> {
     }
 }
 
-/// For each branch of a book, a job for its first segment that no stored run fits. The branch
-/// called `branch` comes first, and no segment has two jobs.
+/// For each branch of a book, a job for its first segment that no stored run fits. The job of the
+/// branch called `branch`, if it has one, comes first. No segment has two jobs.
 fn jobs_left<R: Register>(
     alloc: Global,
     book: &Book<R>,

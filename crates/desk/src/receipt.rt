@@ -5,8 +5,8 @@ use schedule_trie::refusal::Refusal;
 use sessions::reply::Reply;
 use views::page::Page;
 
-/// The answer to a command: its reply, and as `at` the length of the history when the turn was
-/// given back, which counts the command if it was logged.
+/// The answer to a command: its reply; and `at`, the length of the history when the turn was given
+/// back. This length counts the command if the command was logged.
 #[derive(Clone, Copy, Debug, PartialEq, Eq)]
 pub struct Receipt {
     pub at: u64,

@@ -13,8 +13,8 @@ pub struct Report {
     pub planned: u64,
     /// How many jobs gave a run that was installed.
     pub installed: u64,
-    /// How many runs weren't installed because they didn't fit, or because no stored run fitted
-    /// some segment above theirs.
+    /// How many runs weren't installed because they didn't fit, or because a segment above theirs
+    /// had no stored run that fitted.
     pub stale: u64,
     /// How many runs weren't installed because their segment no longer existed.
     pub gone: u64,

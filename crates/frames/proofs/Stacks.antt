@@ -23,7 +23,7 @@ use Rattle.frames.specs.Configuration.{Acted, initial_configuration, running_at,
 use Rattle.frames.specs.Parked.{IsConfiguration, IsFlat, idle, marks_of, parked_configuration, stacks_of}
 use Rattle.frames.specs.Flat.{FramesGivePoint, Acts, IsReached, running_from, running_of, stack_of}
 use Rattle.frames.specs.laws.Steps.{initial_keeps, put_keeps}
-use Rattle.frames.specs.laws.Flat.{set_running, length_running, none_running, slot_point, parked_eq, parked_decides, tells_slot}
+use Rattle.frames.specs.laws.Flat.{set_running, length_running, none_running, slot_point, parked_eq, parked_decides, slot_by_frames}
 
 module _ {R P : Type 0} (b : Behaviour P) (Holds : Memory → Type 0) (Reaches : ℕ → Op → P → Type 0) (find : ℕ → List Frame → Option P)
     (lawful : IsLawful b Holds Reaches) (tell : FramesGivePoint b Reaches find)
@@ -43,7 +43,7 @@ module _ {R P : Type 0} (b : Behaviour P) (Holds : Memory → Type 0) (Reaches :
       set_running find 0 stacks who stack
       ∙ ap (λ n. set (running_from find 0 stacks) who (running_of (find n) stack)) (zero-add who)
       ∙ ap (λ x. set (running_from find 0 stacks) who (running_of (find who) x)) is
-      ∙ ap (λ x. set (running_from find 0 stacks) who x) (tells_slot b Reaches find tell who slot there)
+      ∙ ap (λ x. set (running_from find 0 stacks) who x) (slot_by_frames b Reaches find tell who slot there)
 
   module _ (who : ℕ) (done : Acted P) (told : StepEvents) (stack : List Frame) (m' : Memory) (acts : Acts b done told stack m') (there : IsReached Reaches who done.running) where
     -- putting in the new stack and memory gives the configuration after the step's effect

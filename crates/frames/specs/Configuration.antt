@@ -37,9 +37,9 @@ is_stopped p c = slice_index_or c.stopped p false
 abbrev pub initial_configuration : {R P : Type 0} → Behaviour P → R → ℕ → Configuration R P
 initial_configuration b r v = record { register = r; memory = b.initial v; running = replicate b.processes None; stopped = replicate b.processes false }
 
--- Whether a step fits the register. An invocation fits if its process may do its operation (for a
--- write, with its value). A bit action fits if its process exists and the choice is 0 or 1. A stop
--- fits if its process exists.
+-- Whether a step fits the register. An invocation fits if its operation fits its process; for a
+-- write, this can depend on the value. A bit action fits if its process exists and the choice is 0
+-- or 1. A stop fits if its process exists.
 abbrev pub fits_step : {P : Type 0} → Behaviour P → Step → Bool
 fits_step b s = step_fits (roles_of b) s
 
@@ -113,9 +113,9 @@ acting_unless false b s running m = acting b s running m
 abbrev pub acted_on : {R P : Type 0} → Behaviour P → Configuration R P → Step → Acted P
 acted_on b c s = acting_unless (is_stopped (process_of s) c) b s (running_at (process_of s) c) c.memory
 
--- Whether a step is enabled if its process hasn't stopped, given the process's pending operation,
--- if any. An invocation needs an idle process, a bit action needs a pending operation, and a stop
--- is always enabled.
+-- Whether a step of a process that hasn't stopped is enabled, given the process's pending
+-- operation, if any. An invocation needs an idle process, a bit action needs a pending operation,
+-- and a stop is always enabled.
 abbrev pub is_ready : {P : Type 0} → Step → Option (Running P) → Bool
 is_ready (step.Write p v) running = is_none running
 is_ready (step.Read p) running = is_none running
@@ -136,14 +136,15 @@ events_of b c s = (acted_on b c s).events
 abbrev pub put_acted : {R P : Type 0} → ℕ → Acted P → Configuration R P → Configuration R P
 put_acted p done c = record c { memory = done.memory; running = slice_set c.running p done.running }
 
--- A step of process p has this effect: it records these events, and `next` is the configuration
--- after it. c is the configuration before the step, but with the stop marks after it.
+-- A step of process p has the effect `done`: the step records the events `reported`, and `next` is
+-- the configuration after the step. c is the configuration before the step, but with the stop marks
+-- as they are after the step.
 pub record Did {R P : Type 0} (p : ℕ) (done : Acted P) (c : Configuration R P) (reported : StepEvents) (next : Configuration R P) : Type 0 where
   pub events : reported ≡ done.events
   pub after : next ≡ put_acted p done c
 
--- the stop marks, which say of each process whether it has stopped, after a step: a stop marks its
--- process, and any other step leaves them as they were
+-- The stop marks after a step; each says whether a process has stopped. A stop marks its process as
+-- stopped, and any other step leaves the marks as they were.
 abbrev pub marked : Step → List Bool → List Bool
 marked (step.Write p v) stopped = stopped
 marked (step.Read p) stopped = stopped

@@ -14,8 +14,8 @@ use Rattle.frames.specs.declared.types.Op.TheVariants as op
 use Rattle.frames.specs.declared.running.Running.{Running}
 use Rattle.frames.specs.Configuration.{Configuration}
 
--- two configurations are equal: the test E finds their registers equal, and they have the same
--- memory, pending operations and stop marks
+-- two configurations are equal: the test E finds their registers equal, and the configurations
+-- have the same memory, pending operations and stop marks
 pub record SameConfiguration {R P : Type 0} (E : R → R → Bool) (a b : Configuration R P) : Type 0 where
   pub register : E a.register b.register ≡ true
   pub memory : a.memory ≡ b.memory

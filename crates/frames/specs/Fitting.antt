@@ -23,9 +23,9 @@ process_of (step.Read p) = p
 process_of (step.Go p c) = p
 process_of (step.Stop p) = p
 
--- Whether a step fits a register with these roles. An invocation fits if its process may do its
--- operation (for a write, with its value). A bit action fits if its process exists and the choice
--- is 0 or 1. A stop fits if its process exists.
+-- Whether a step fits a register with these roles. An invocation fits if its operation fits its
+-- process; for a write, this can depend on the value. A bit action fits if its process exists and
+-- the choice is 0 or 1. A stop fits if its process exists.
 abbrev pub step_fits : Roles → Step → Bool
 step_fits roles (step.Write p v) = roles.suits p (op.Write v)
 step_fits roles (step.Read p) = roles.suits p op.Read

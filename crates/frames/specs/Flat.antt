@@ -63,7 +63,7 @@ pub record HasFramesFrom {P : Type 0} (frames : P → List Frame) (Reaches : ℕ
   pub reached : Reaches who o p
   pub there : drop first stack ≡ frames p
 
--- State `next` of process `who`'s operation o is pending at a point that the process can reach in
+-- Process `who`'s operation o is in state `next`: pending at a point that the process can reach in
 -- o, or ended with an outcome that suits o. `given` is that outcome, or `None` if o hasn't ended;
 -- and `stack` has just the operation's frames (none if it has ended).
 pub record HasReached {P : Type 0} (b : Behaviour P) (Reaches : ℕ → Op → P → Type 0) (who : ℕ) (o : Op) (given : Option Outcome) (stack : List Frame) (next : Next P) : Type 0 where
@@ -77,8 +77,8 @@ abbrev pub IsPointByFrames : {P : Type 0} → (P → List Frame) → (ℕ → Op
 IsPointByFrames frames Reaches who stack (Some p) = (o : Op) × (Reaches who o p × (stack ≡ frames p))
 IsPointByFrames {P} frames Reaches who stack None = (o : Op) (p : P) → Reaches who o p → stack ≢ frames p
 
--- The frames of a pending operation determine it: `find` gives its point from them, and the
--- outermost frame has the operation. From no frames `find` gives `None`.
+-- The frames of a pending operation determine the operation and its point: the outermost frame has
+-- the operation, and `find` gives the point from the frames. From no frames `find` gives `None`.
 pub record FramesGivePoint {P : Type 0} (b : Behaviour P) (Reaches : ℕ → Op → P → Type 0) (find : ℕ → List Frame → Option P) : Type 0 where
   pub point : (who : ℕ) (o : Op) (p : P) → Reaches who o p → find who (b.frames p) ≡ Some p
   pub op : (who : ℕ) (o : Op) (p : P) → Reaches who o p → outermost (b.frames p) ≡ Some o
@@ -105,8 +105,9 @@ abbrev pub stack_of : {P : Type 0} → Behaviour P → Option (Running P) → Li
 stack_of b None = []
 stack_of b (Some r) = b.frames r.point
 
--- A step has this effect and records these events. `left` are the frames of its process's pending
--- operation afterwards (none if the process is idle), and `after` is the memory afterwards.
+-- A step has the effect `done` and records the events `reported`. After the step, `left` has just
+-- the frames of its process's pending operation (none if the process is idle), and `after` is the
+-- memory.
 pub record Acts {P : Type 0} (b : Behaviour P) (done : Acted P) (reported : StepEvents) (left : List Frame) (after : Memory) : Type 0 where
   pub events : reported ≡ done.events
   pub stack : left ≡ stack_of b done.running

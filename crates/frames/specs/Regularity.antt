@@ -36,8 +36,8 @@ in_progress (Some v) = v ∷ []
 abbrev pub overlapped : ℕ → Known → List ℕ
 overlapped p k = drop (reading p k).since k.returned ++ in_progress k.writing
 
--- If a read returns in this event, `Says` holds of it. `Says` is given what is known as the read
--- returns, the read's process, and its value.
+-- If a read returns in this event, `Says` holds of the read. `Says` is given what is known when the
+-- read returns, the read's process, and the read's value.
 abbrev pub OnReturn : (Known → ℕ → ℕ → Type 0) → Known → Event → Type 0
 OnReturn Says k (Got p v) = Says k p v
 OnReturn Says k (Invoke p o) = ⊤
@@ -65,7 +65,7 @@ NotStray k p v = judged k p v ≢ Stray
 
 -- Only process 0 writes, and only the others read. On every list of fitting steps, from every
 -- initial value, no operation is refused, and each returned read satisfies `Says`, which is given
--- what is known as the read returns, the read's process, and its value.
+-- what is known when the read returns, the read's process, and the read's value.
 pub record AlwaysReads {P : Type 0} (b : Behaviour P) (Says : Known → ℕ → ℕ → Type 0) : Type 0 where
   pub one_writer : HasOneWriter b
   pub refuses_none : (value : ℕ) (steps : List Step) → value < b.values → AllFit b steps → NoneRefused (recorded b value steps)
@@ -98,8 +98,8 @@ pub record IsNumber (value : ℕ) (k : Known) (p v n : ℕ) : Type 0 where
   pub value_of : slice_index_or (by_number value k) n value ≡ v
 
 -- Each read that returns in these events can be assigned the number of a write, as `IsNumber` says.
--- Each number is at least `floor`, and at least that of each read that returns earlier in these
--- events. k is what is known before the events.
+-- Each number is at least `floor`, and at least the number of each read that returns earlier in
+-- these events. k is what is known before the events.
 abbrev pub Numbered : ℕ → ℕ → Known → List (ℕ × Event) → Type 0
 Numbered value floor k [] = ⊤
 Numbered value floor k (e ∷ es) = (n : ℕ) × ((floor ≤ n) × (OnReturn (λ k p v. IsNumber value k p v n) k e.1 × Numbered value n (after k e.1) es))

@@ -31,7 +31,8 @@ safe_suits who op.Read = who == 1
 abbrev pub safe_initial : ℕ → Memory
 safe_initial v = record { cells = idle_cell (bit_of v) ∷ []; words = [] }
 
--- an invocation makes no action on the cell yet, so that the memory stays as it was
+-- the effect of an invocation: the operation is pending before its start action, and the memory
+-- stays as it was
 abbrev pub safe_begins : ℕ → Op → Memory → Begun SafePoint
 safe_begins who (op.Write v) m = record { next = Pending (at.WriteStart (bit_of v)); memory = m }
 safe_begins who op.Read m = record { next = Pending at.ReadStart; memory = m }
@@ -88,8 +89,8 @@ safe_behaviour = record {
   acts = safe_acts;
 }
 
--- the points that a process can reach in an operation: process 0 those of a write of 0 or 1, with
--- that bit, and process 1 those of a read
+-- the points that a process can reach in an operation: process 0 can reach those of a write of 0 or
+-- 1, with that bit, and process 1 can reach those of a read
 abbrev pub SafeReaches : ℕ → Op → SafePoint → Type 0
 SafeReaches who (op.Write v) (at.WriteStart bit) = (who ≡ 0) × (v < 2) × (bit ≡ bit_of v)
 SafeReaches who (op.Write v) (at.WriteEnd bit) = (who ≡ 0) × (v < 2) × (bit ≡ bit_of v)

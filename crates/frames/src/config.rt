@@ -147,8 +147,9 @@ impl<R: Register> Config<R> {
         &self.store
     }
 
-    /// Whether the step fits. An invocation fits if its operation fits its process. A bit action
-    /// fits if its process exists and the choice is 0 or 1. A stop fits if its process exists.
+    /// Whether the step fits the register. An invocation fits if its operation fits its process. A
+    /// bit action fits if its process exists and the choice is 0 or 1. A stop fits if its process
+    /// exists.
     pub fn fits(&self, step: Step) -> bool
         ensures { result ≡ fits_step (R.behaviour self.now.register) step }
     {
@@ -177,8 +178,8 @@ impl<R: Register> Config<R> {
         Some(frames.to_stack(alloc))
     }
 
-    /// The next bit action of process `p`, and its cell's number in the store; `None` if `p` is
-    /// idle or doesn't exist.
+    /// The next bit action of process `p`; the action's `cell` is the cell's number in the store.
+    /// `None` if `p` is idle or doesn't exist.
     pub fn action(&self, p: u32) -> Option<Action>
         ensures { result ≡ option_map (λ r. (R.behaviour self.now.register).acts r.point)
             (running_at p self.now) }
@@ -235,7 +236,7 @@ impl<R: Register> Config<R> {
         self.processes[who as usize].stopped
     }
 
-    /// Makes the step, without a test whether its process has stopped.
+    /// Makes the step, without testing whether its process has stopped.
     #[inline(always)]
     fn act(&mut self, step: Step) -> StepEvents
         requires { fits_step (R.behaviour self.old.register) step ≡ true }

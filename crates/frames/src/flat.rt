@@ -19,7 +19,7 @@ pub fn frame_at(stack: &Stack, index: usize) -> Frame
     stack.as_slice()[index]
 }
 
-/// Fills the array beyond the last frame.
+/// The frame that fills the array of a new `FlatStack`.
 const BLANK: Frame = Frame {
     layer: FrameLayer::Safe,
     op: Op::Read,
@@ -154,7 +154,7 @@ impl FlatStack {
         self.count = count + 1;
     }
 
-    /// Pushes `frames` after the others, in order; these and the others must be at most 8 together.
+    /// Pushes `frames` after the others, in order; the stack must have at most 8 frames afterwards.
     pub fn extend(&mut self, frames: &[Frame])
         requires { length self.old + length frames.now ≤ STACK_FRAMES }
         ensures { self.new ≡ self.old ++ frames.now }
@@ -166,12 +166,12 @@ impl FlatStack {
 
     /// Keeps the first `count` frames and drops the rest; `count` is at most the number of frames.
     #[inline(always)]
-    pub fn leave(&mut self, count: usize)
+    pub fn truncate(&mut self, count: usize)
         requires { count ≤ length self.old }
         ensures { self.new ≡ take count self.old }
     {
-        // no test at run time: if several layers drop their frames in one action, the compiler can
-        // then set the count just once
+        // proved, not tested at run time, so that the compiler can set the count just once if
+        // several layers drop their frames in one action
         prove!(count <= self.count);
         self.count = count;
     }

@@ -3,7 +3,8 @@
 /// The least number of values that a layer can have.
 pub const LEAST_VALUES: u32 = 2;
 
-/// The most values of a unary number, and the most codes of a stamped register or a matrix.
+/// The most values that a unary number can have, and the most codes that a stamped register or a
+/// matrix can have.
 pub const MOST_VALUES: u32 = 512;
 
 /// The most readers that a register with one writer can have.

@@ -1,4 +1,4 @@
-//! The calls of a register that has a store to itself, and so lies at `ORIGIN`.
+//! Functions for a register that has a store to itself, and so lies at `ORIGIN`.
 
 ghost use Rattle.std.specs.Prelude.{◌≡◌, ℕ, ◌<◌, [], true, Option, Some, None, IfOk};
 ghost use Rattle.frames.specs.declared.types.Op.{Op};
@@ -16,8 +16,8 @@ use std::alloc::{AllocError, Global};
 /// The first place in a store: cell 0 and word 0.
 pub const ORIGIN: Place = Place { cell: 0, word: 0 };
 
-/// A new store with just the cells and words of `register`, which holds the initial value `value`,
-/// one of its values. `AllocError` if memory runs out.
+/// A new store with just the cells and words of `register`. The register holds the initial value
+/// `value`, which must be one of the register's values. `AllocError` if memory runs out.
 pub fn store_of<R: Register>(alloc: Global, register: &R, value: u32) -> Result<Store, AllocError>
     requires { value < (R.behaviour register.now).values }
     ensures { IfOk result (λ store. store ≡ (R.behaviour register.now).initial value) }
@@ -52,8 +52,8 @@ pub fn begin_own<R: Register>(
 /// Process `who` makes its next bit action on a register that has the store to itself. Before the
 /// call the stack has just the frames of `who`'s pending operation; afterwards it has the new
 /// frames, or none if the operation has ended. `choice` is what a hit read of a bit gives. Returns
-/// the outcome if the operation has ended; and, if the action ended a hit read, its bit and the
-/// value that it gave.
+/// the outcome if the operation has ended; and, if the action ended a hit read, the bit that was
+/// read and the value that the read gave.
 #[inline(always)]
 pub fn go_own<R: Register>(
     register: &R,

@@ -23,8 +23,8 @@ pub const MOST_CELLS: u32 = 4096;
 /// The most words that a register can have.
 pub const MOST_WORDS: u32 = 65_536;
 
-/// A register's behaviour, without its calls. A type that is generic over registers needs only
-/// this.
+/// A register's behaviour; the functions that carry it out are in `Register`. A type that is
+/// generic over registers can require just this trait, if it needs nothing else of them.
 pub trait Behaves {
     /// A point that a pending operation is at, between two bit actions.
     type Pending: Copy + PartialEq;
@@ -84,8 +84,8 @@ pub trait Register: Behaves + Copy + Eq {
             (part at (Self.behaviour self.now).size store.old)).memory store.old };
 
     /// A pending operation makes its next bit action; `choice` is what a hit read of a bit gives.
-    /// Returns the operation's state after the action; and, if a hit read has ended, its bit,
-    /// numbered in the store, and the value that it gave.
+    /// Returns the operation's state after the action; and, if the action ended a hit read, the bit
+    /// that was read, by its number in the store, and the value that the read gave.
     fn go(
         &self,
         store: &mut Store,
@@ -118,7 +118,7 @@ pub trait Register: Behaves + Copy + Eq {
         ensures { result ≡ placed_action at ((Self.behaviour self.now).acts pending.now) };
 
     /// The point of process `who`'s pending operation, read from the frames from index `first` on;
-    /// `None` if `who` can't have an operation with these frames pending.
+    /// `None` if `who` can have no pending operation with these frames.
     fn pending(&self, stack: &Stack, first: usize, who: u32) -> Option<Self::Pending>
         ensures { IsPointByFrames (Self.behaviour self.now).frames (Reaches self.now) who
             (drop first stack.now.items) result };
@@ -155,9 +155,9 @@ pub trait Register: Behaves + Copy + Eq {
 
     /// Process `who`'s pending operation, whose frames are those of the stack from index `first`
     /// on, makes its next bit action; `choice` is what a hit read of a bit gives. The frames are
-    /// replaced by the operation's new frames, or dropped if it ends. Returns its outcome if it
-    /// ends; and, if a hit read has ended, its bit, numbered in the store, and the value that it
-    /// gave.
+    /// replaced by the operation's new frames, or dropped if the operation ends. Returns the
+    /// outcome if the operation ends; and, if the action ended a hit read, the bit that was read,
+    /// by its number in the store, and the value that the read gave.
     fn go_on(
         &self,
         store: &mut Store,
@@ -188,11 +188,11 @@ pub trait Register: Behaves + Copy + Eq {
             (part at (Self.behaviour self.now).size store.old)).chosen }
     {
         let alloc = store.allocator();
-        let Some(point) = self.pending(&stack.to_stack(alloc), first, who) else {
+        let Some(point) = self.pending_on(alloc, stack, first, who) else {
             unreachable!();
         };
         let turned = self.go(store, at, point, choice);
-        stack.leave(first);
+        stack.truncate(first);
         let end = match turned.next {
             Next::Pending(next) => {
                 self.lay(alloc, &next, stack);
@@ -207,7 +207,7 @@ pub trait Register: Behaves + Copy + Eq {
     }
 
     /// The point of process `who`'s pending operation, read from the stack's frames from index
-    /// `first` on; `None` if `who` can't have an operation with these frames pending.
+    /// `first` on; `None` if `who` can have no pending operation with these frames.
     fn pending_on(
         &self,
         alloc: Global,
@@ -247,7 +247,7 @@ pub trait Register: Behaves + Copy + Eq {
     {
         match end {
             Some(outcome) => Next::Done(outcome),
-            None => match self.pending(&stack.to_stack(alloc), 0, who) {
+            None => match self.pending_on(alloc, stack, 0, who) {
                 Some(point) => Next::Pending(point),
                 None => unreachable!(),
             },
@@ -261,7 +261,7 @@ pub trait Register: Behaves + Copy + Eq {
         ensures { (op : Op) × Reaches self.now result op pending.now }
     {
         for who in 0..self.processes() {
-            if let Some(point) = self.pending(&stack.to_stack(alloc), 0, who) {
+            if let Some(point) = self.pending_on(alloc, stack, 0, who) {
                 if point == *pending {
                     return who;
                 }
@@ -270,7 +270,7 @@ pub trait Register: Behaves + Copy + Eq {
         unreachable!()
     }
 
-    // The frames of a pending operation determine its point and the operation.
+    // The frames of a pending operation determine the operation and its point.
     ghost reports: { (r : Self) → FramesGivePoint (Self.behaviour r) (Reaches r) (point r) };
 
     ghost lawful: { (r : Self) → IsLawful (Self.behaviour r) (Holds r) (Reaches r) };

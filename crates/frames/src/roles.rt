@@ -36,16 +36,16 @@ impl<R: Register> HasRoles for R {
     }
 }
 
-/// Whether a step fits a register that has the roles of `whose`. An invocation fits if its process
-/// may do its operation (for a write, with its value). A bit action fits if its process exists and
-/// the choice is 0 or 1. A stop fits if its process exists.
-pub fn step_fits<T: HasRoles>(whose: &T, step: Step) -> bool
-    ensures { result ≡ step_fits (T.roles whose.now) step }
+/// Whether a step fits a register that has the roles of `whose`. An invocation fits if its
+/// operation fits its process; for a write, this can depend on the value. A bit action fits if its
+/// process exists and the choice is 0 or 1. A stop fits if its process exists.
+pub fn step_fits<T: HasRoles>(register: &T, step: Step) -> bool
+    ensures { result ≡ step_fits (T.roles register.now) step }
 {
     match step {
-        Step::Write { p, v } => whose.suits(p, Op::Write(v)),
-        Step::Read { p } => whose.suits(p, Op::Read),
-        Step::Go { p, c } => u64::from(p) < whose.process_count() && c < 2,
-        Step::Stop { p } => u64::from(p) < whose.process_count(),
+        Step::Write { p, v } => register.suits(p, Op::Write(v)),
+        Step::Read { p } => register.suits(p, Op::Read),
+        Step::Go { p, c } => u64::from(p) < register.process_count() && c < 2,
+        Step::Stop { p } => u64::from(p) < register.process_count(),
     }
 }

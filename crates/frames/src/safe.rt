@@ -31,8 +31,8 @@ pub enum SafePoint {
 pub struct Safe;
 
 impl Safe {
-    /// The point that process `who` can reach in an operation and whose only frame is `frame`;
-    /// `None` if there is no such point.
+    /// The point whose only frame is `frame`, if process `who` can reach such a point in an
+    /// operation; else `None`.
     fn point_in(&self, frame: Frame, who: u32) -> Option<SafePoint>
         ensures { IsPointByFrames safe_behaviour.frames SafeReaches who (frame ∷ []) result }
     {
@@ -53,7 +53,7 @@ impl Behaves for Safe {
 
 impl Register for Safe {
     ghost use Rattle.std.specs.Prelude.{refl};
-    ghost use Rattle.frames.specs.laws.Safe.{safe_lawful, safe_tells, point_decides};
+    ghost use Rattle.frames.specs.laws.Safe.{safe_lawful, safe_frames_give_point, point_decides};
     ghost use Rattle.frames.specs.declared.safe.SafePoint.TheVariants.{WriteStart, WriteEnd, ReadStart, ReadEnd};
 
     ghost Holds = { λ _. HasSize safe_behaviour.size };
@@ -211,7 +211,7 @@ impl Register for Safe {
             }
             SafePoint::WriteEnd(_) => {
                 store.end_write(at.cell);
-                stack.leave(first);
+                stack.truncate(first);
                 Progress {
                     end: Some(Outcome::Written),
                     chosen: None,
@@ -228,7 +228,7 @@ impl Register for Safe {
             SafePoint::ReadEnd => {
                 let hit = store.cell(at.cell).hit;
                 let value = store.end_read(at.cell, choice);
-                stack.leave(first);
+                stack.truncate(first);
                 Progress {
                     end: Some(Outcome::Value(u32::from(value))),
                     chosen: if hit { Some((at.cell, value)) } else { None },
@@ -237,7 +237,7 @@ impl Register for Safe {
         }
     }
 
-    ghost reports = { λ _. safe_tells };
+    ghost reports = { λ _. safe_frames_give_point };
 
     ghost lawful = { λ _. safe_lawful };
 

@@ -50,7 +50,7 @@ impl Step {
     }
 }
 
-/// A step, or an item of a schedule that holds a step.
+/// A step, or a schedule's item that holds a step.
 pub trait HasStep: Copy {
     ghost use Rattle.frames.specs.declared.types.Step.{Step};
 
@@ -97,15 +97,15 @@ pub enum Next<P> {
 }
 
 /// The result of a bit action: `end` is the operation's outcome, or `None` if it is still pending;
-/// `chosen` is the bit and the value given if the action ended a hit read, and else `None`.
+/// `chosen` is the bit and the value of the hit read that the action ended, if any, else `None`.
 #[derive(Clone, Copy, Debug, PartialEq, Eq)]
 pub struct Progress {
     pub end: Option<Outcome>,
     pub chosen: Option<(u32, bool)>,
 }
 
-/// The result of a bit action: `next` is the operation's state after it; `chosen` is the bit and
-/// the value given if the action ended a hit read of a bit, and else `None`.
+/// The result of a bit action: `next` is the operation's state after the action; `chosen` is the
+/// bit and the value of the hit read that the action ended, if any, else `None`.
 #[derive(Clone, Copy, Debug, PartialEq, Eq)]
 pub struct Turned<P> {
     pub next: Next<P>,
@@ -138,7 +138,7 @@ pub enum Event {
     Void(u32, Reason),
     /// A process stops.
     Stop(u32),
-    /// A hit read of a bit ended: the second number is the bit, the `bool` the value that it gave.
+    /// A hit read of a bit ended; the second number is the bit, and the `bool` the read's value.
     Chosen(u32, u32, bool),
 }
 
@@ -181,7 +181,8 @@ pub enum FrameLayer {
 
 /// One layer's share of a pending operation. `op` is the operation on that layer. `i` says which
 /// part (a register that the layer uses) is at work; for a safe bit, it is 0 before the start
-/// action and 1 after it. `x` is a code. Each of `i` and `x` is 0 if the layer doesn't need it.
+/// action and 1 after it. `x` is the code being written or, while a matrix reads a column, the
+/// greatest code read so far, at first 0. Each of `i` and `x` is 0 if the layer doesn't need it.
 #[derive(Clone, Copy, Debug, PartialEq, Eq, Default)]
 pub struct Frame {
     pub layer: FrameLayer,

@@ -7,7 +7,7 @@ use Rattle.std.proofs.lemmas.Grind.{get_or-set_at}
 use Rattle.safe_bit.specs.Memory.{Memory, word_at, with_word}
 use Rattle.safe_bit.specs.Parts.{part, with_part, HasSize}
 use Rattle.safe_bit.specs.laws.Parts.{same_memory, part-with_part, part-with_part_beside, LiesIn-of_size}
-use Rattle.safe_bit.specs.laws.Windows.{get_or-splice_after, window-set_behind}
+use Rattle.safe_bit.specs.laws.Windows.{get_or-splice_after, window-set_after}
 use Rattle.frames.specs.declared.types.Op.{Op}
 use Rattle.frames.specs.declared.types.Next.{Next}
 use Rattle.frames.specs.declared.types.Next.TheVariants.{Pending, Done}
@@ -96,7 +96,7 @@ module _ {Task P : Type 0} (l : LayerOver Task P) where
       → part (part_place l.below.size k) l.below.size (with_word (own_words l.table l.below.size + i) x m) ≡ part (part_place l.below.size k) l.below.size m
   part-with_word m i x k h lk =
       let lies = LiesIn-of_size (layer_size l.table l.below.size) (part_place l.below.size k) l.below.size m h.size (part_within l.table l.below.size k lk) in
-      same_memory _ _ refl (window-set_behind (k * l.below.size.word) l.below.size.word (own_words l.table l.below.size + i) x m.words lies.words
+      same_memory _ _ refl (window-set_after (k * l.below.size.word) l.below.size.word (own_words l.table l.below.size + i) x m.words lies.words
       (let r = row_fits k l.table.parts l.below.size.word lk in omega arith))
 
   pub part_beside : (n m : Memory) (j k : ℕ) → LayerHolds l.table l.below l.Holds m → j < l.table.parts → k < l.table.parts → HasSize l.below.size n → (k ≡ j → ⊥)

@@ -17,7 +17,7 @@ use Rattle.layers.specs.Sound.{LayerReaches}
 use Rattle.layers.specs.InPlace.{own, LayerLies}
 use Rattle.layers.specs.Flat.{task_frames, cut_where_ended}
 use Rattle.layers.specs.laws.Nested.{asks_fit}
-use Rattle.layers.specs.laws.Flat.{part_leaves, index_there, behind_there, front_there}
+use Rattle.layers.specs.laws.Flat.{part_leaves, index_there, drop_one_more, front_there}
 use Rattle.layers.specs.laws.InPlace.{part_holds, part_inside, asked_next, asked_memory, pushed_next, pushed_chosen, pushed_memory}
 use Rattle.layers.specs.laws.Over.{LayerOver}
 
@@ -74,7 +74,7 @@ module _ {Task P : Type 0} (l : LayerOver Task P) (at : Place) (m : Memory) (lie
       (on : HasFramesFrom (layered l.table l.below).frames (LayerReaches l.table l.MayBeAt l.Reaches) who first stack o (record { task = task; below = p })) where
     -- the part's frames follow the layer's own
     pub part_stands : HasFramesFrom l.below.frames l.Reaches a.who (first + 1) stack a.op p
-    part_stands = record { reached = rw e on.reached.below; there = behind_there first stack (l.below.frames p) (l.table.frame task) on.there }
+    part_stands = record { reached = rw e on.reached.below; there = drop_one_more first stack (l.below.frames p) (l.table.frame task) on.there }
 
     -- the bit that the part's bit action chooses is the layer's
     pub part_chooses : (chosen : Option (ℕ × Bool)) → (HasFramesFrom l.below.frames l.Reaches a.who (first + 1) stack a.op p → chosen ≡ placed_bit q (l.below.goes p choice (part q l.below.size m)).chosen)

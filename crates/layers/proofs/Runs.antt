@@ -25,9 +25,9 @@ use Rattle.layers.specs.InPlace.{own, LayerLies}
 use Rattle.layers.specs.Flat.{task_frames, cut_where_ended}
 use Rattle.layers.specs.laws.Flat.{parts_there, index_there}
 use Rattle.layers.specs.laws.InPlace.{own_with}
-use Rattle.layers.specs.laws.Settled.{settled_stands, settled_holds, settled_in_place, advance_settled}
+use Rattle.layers.specs.laws.Settled.{settled_is_reached, settled_holds, settled_in_place, advance_settled}
 use Rattle.layers.specs.laws.Nested.{rest_sound}
-use Rattle.layers.specs.laws.Running.{push_holds, push_stands, follow_well, ask_holds, ask_stands, run_well, put_again, lies_after}
+use Rattle.layers.specs.laws.Running.{push_holds, push_is_reached, follow_well, ask_holds, ask_is_reached, run_well, put_again, lies_after}
 use Rattle.layers.specs.laws.Over.{LayerOver}
 
 -- an outcome, or none, after which no program goes on: the part waits, or is spent
@@ -120,7 +120,7 @@ module _ {Task P : Type 0} (l : LayerOver Task P) (at : Place) where
     pub settles_stands : ContinuationIsSound (l.MayBeAt who o) (Answers l.table.values o) c1
     settles_stands =
         subst (ContinuationIsSound (l.MayBeAt who o) (Answers l.table.values o)) (sym ec)
-        (settled_stands l.table (l.MayBeAt who o) (Answers l.table.values o) (own_words l.table l.below.size) p (own l.table l.below at m) sound words_inside lies.holds.words)
+        (settled_is_reached l.table (l.MayBeAt who o) (Answers l.table.values o) (own_words l.table l.below.size) p (own l.table l.below at m) sound words_inside lies.holds.words)
 
     pub settles_lies : LayerLies l.table l.below l.Holds at m1
     settles_lies = lies_after l at m lies _ m1 em settled_well
@@ -186,7 +186,7 @@ module _ {Task P : Type 0} (l : LayerOver Task P) (at : Place) where
       pub asked_answers : (outcome : Outcome) → given ≡ Some outcome → Answers l.below.values (l.table.asks task).op outcome
       asked_answers outcome e =
           subst (ReachedOrAnswered (l.Reaches (l.table.asks task).who (l.table.asks task).op) (Answers l.below.values (l.table.asks task).op)) (done_of _ outcome (sym lands.answer ∙ e))
-          (ask_stands l come.who come.op task (own l.table l.below at m) come.lies.holds task_stands)
+          (ask_is_reached l come.who come.op task (own l.table l.below at m) come.lies.holds task_stands)
 
       -- a part that has ended leaves the frames that were below its own
       pub asked_leaves : (outcome : Outcome) → given ≡ Some outcome → left ≡ stack
@@ -306,7 +306,7 @@ module _ {Task P : Type 0} (l : LayerOver Task P) {at : Place} {m : Memory} (lie
           let there = stands_at o n on in (
             there.reached.may_be_at,
             subst (ReachedOrAnswered (l.Reaches (l.table.asks task).who (l.table.asks task).op) (Answers l.below.values (l.table.asks task).op)) ended_so
-                (push_stands l who o task n.below choice (own l.table l.below at m) lies.holds there.reached.may_be_at there.reached.below),
+                (push_is_reached l who o task n.below choice (own l.table l.below at m) lies.holds there.reached.may_be_at there.reached.below),
           )
 
       ended_left : take first still ≡ take first stack

@@ -1,5 +1,5 @@
--- Short names for the contracts of the calls that run a layer in place: for the layer, for its own
--- memory at a place in a store, and for the effect of its programs on that memory.
+-- Short names, used in the contracts of the calls that run a layer in place: for the layer, for its
+-- own memory at a place in a store, and for the effect of its programs on that memory.
 use Rattle.std.specs.Prelude.{ℕ, [], ◌∷◌, List, Bool}
 use Rattle.std.specs.declared.cmp.PartialEq as comparison
 use Rattle.safe_bit.specs.declared.Place.{Place}
@@ -40,8 +40,8 @@ module _ {L S Task P : Type 0} {R : rules.Ghosts L Task} {E : comparison.Ghosts 
   abbrev pub own_memory : Place → Memory → Memory
   own_memory at m = own table_of below_of at m
 
-  -- the index, in the layer's memory, of the first of its own words, which follow all words of its
-  -- parts
+  -- the index in the layer's memory of the layer's first own word; the own words follow all words
+  -- of the parts
   abbrev pub first_own_word : ℕ
   first_own_word = nested.own_words table_of below_of.size
 
@@ -50,8 +50,8 @@ module _ {L S Task P : Type 0} {R : rules.Ghosts L Task} {E : comparison.Ghosts 
   abbrev pub Holds : (Memory → Type 0) → Memory → Type 0
   Holds Kept m = LayerHolds table_of below_of Kept m
 
-  -- the layer lies at place `at` in memory m: its memory there is inside m, ends below 2^32, and
-  -- satisfies `Holds`, if `Kept` is what each part's memory has to satisfy
+  -- the layer lies at place `at` in memory m: the layer's memory there is inside m, ends below
+  -- 2^32, and satisfies `Holds Kept`; `Kept` is what each part's memory has to satisfy
   abbrev pub Lies : (Memory → Type 0) → Place → Memory → Type 0
   Lies Kept at m = LayerLies table_of below_of Kept at m
 
@@ -74,8 +74,8 @@ module _ {L S Task P : Type 0} {R : rules.Ghosts L Task} {E : comparison.Ghosts 
   IsInTask MayBeAt Reaches who first stack o task p =
       HasFramesFrom behaviour.frames (LayerReaches table_of MayBeAt Reaches) who first stack o (record { task = task; below = p })
 
-  -- for some process and some operation of it, the continuation is a task that the process can be
-  -- in, or an end that suits the operation
+  -- for some process and some operation, the continuation is a task that the process can be in
+  -- during this operation, or an end with an outcome that suits this operation
   abbrev pub ContinuesWell : (ℕ → Op → Task → Type 0) → Continuation Task → Type 0
   ContinuesWell MayBeAt c = (who : ℕ) × ((o : Op) × ContinuationIsSound (MayBeAt who o) (Answers table_of.values o) c)
 
@@ -83,8 +83,8 @@ module _ {L S Task P : Type 0} {R : rules.Ghosts L Task} {E : comparison.Ghosts 
   abbrev pub EndsTask : Task → Outcome → Type 0
   EndsTask task outcome = Answers below_of.values (table_of.asks task).op outcome
 
-  -- what the invocation of the operation that a task asks for leads to: the part's point or
-  -- outcome, and the layer's memory with the part's changes
+  -- the result of invoking the operation that a task asks for: the part's point or outcome, and the
+  -- layer's memory with the part's changes
   abbrev pub asked_part : Task → Memory → Begun P
   asked_part task m = asked below_of (table_of.asks task) m
 

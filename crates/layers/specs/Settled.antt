@@ -29,8 +29,8 @@ abbrev pub ContinuationIsSound : {Task : Type 0} → (Task → Type 0) → (Outc
 ContinuationIsSound MayBeAt Answer (continuation.Asks task) = MayBeAt task
 ContinuationIsSound MayBeAt Answer (continuation.Ends o) = Answer o
 
--- an upper bound on the number of tasks that an operation still begins from a continuation on, if
--- `left` gives an upper bound on the number of tasks that can follow a task
+-- an upper bound on the number of tasks that an operation can still begin once its program has run
+-- to a continuation, if `left` gives an upper bound on the number of tasks that can follow a task
 abbrev pub tasks_left : {Task : Type 0} → (Task → ℕ) → Continuation Task → ℕ
 tasks_left left (continuation.Asks task) = left task + 1
 tasks_left left (continuation.Ends o) = 0

@@ -1,5 +1,5 @@
-//! What a construction provides: its parts, which are registers below it, its own words of memory,
-//! and the programs of its operations.
+//! What a construction provides: its parts (the registers below it), its own words of memory, and
+//! the programs of its operations.
 
 ghost use Rattle.std.specs.Prelude.{◌≡◌, ℕ, ◌<◌, ◌≤◌, ◌+◌, ◌^◌, Bool, true, length};
 ghost use Rattle.std.specs.Bool.{Decides};
@@ -14,8 +14,8 @@ use crate::nested::{Ask, Continuation};
 use frames::types::{Frame, Op, Outcome};
 use safe_bit::Store;
 
-/// The sizes of a construction: its numbers of parts, own words, values and processes, and the
-/// numbers of values and processes (`inner_`) that each part, a register below, has to have.
+/// The sizes of a construction: how many parts, own words, values and processes it has, and how
+/// many values (`inner_values`) and processes (`inner_processes`) each part has to have.
 #[derive(Clone, Copy, Debug, PartialEq, Eq)]
 pub struct Shape {
     pub parts: u32,
@@ -26,9 +26,9 @@ pub struct Shape {
     pub inner_processes: u32,
 }
 
-/// What contracts need of a construction: the type of its tasks, and its table, which is its rules:
-/// its parts, own words and programs. The type `Layered` requires only this trait; the calls of
-/// `Layered` require `Construction`.
+/// What contracts need of a construction: the type of its tasks, and the table of its rules, which
+/// says what its parts, own words and programs are. The type `Layered` requires only this trait;
+/// the calls of `Layered` require `Construction`.
 pub trait Rules {
     /// A task: a point in a program at which a part works on an operation.
     type Task: Copy + PartialEq;
@@ -37,9 +37,10 @@ pub trait Rules {
     ghost table: { Self → Table Self.Task };
 }
 
-/// A construction of a register from registers below it, whichever these are. The calls of this
-/// trait run its programs between two operations of parts; of a store, they read and set only the
-/// construction's own words.
+/// A construction of a register from registers below it. Of each register below, it requires only
+/// the right numbers of values and processes, which `shape` returns. The calls `start` and `after`
+/// run a program of the construction to its next task or its end. Both calls are given the whole
+/// store, but they read and set only the construction's own words in it.
 pub trait Construction: Rules + Copy + Eq {
     // Which tasks a process can be in during an operation.
     ghost MayBeAt: { Self → ℕ → Op → Self.Task → Type 0 };
@@ -57,7 +58,7 @@ pub trait Construction: Rules + Copy + Eq {
         ensures inner_values { result.inner_values ≡ (Self.table self.now).inner_values }
         ensures inner_processes { result.inner_processes ≡ (Self.table self.now).inner_processes };
 
-    /// Whether operation `op` fits process `who`.
+    /// Whether process `who` may make operation `op`.
     fn fits(&self, who: u32, op: Op) -> bool
         ensures { result ≡ (Self.table self.now).suits who op };
 
@@ -84,8 +85,8 @@ pub trait Construction: Rules + Copy + Eq {
         ensures memory { store.new
             ≡ (settled base ((Self.table self.now).program who op) store.old).memory };
 
-    /// Runs the program on after task `task` has ended with `outcome`, and returns its next task or
-    /// its end.
+    /// Continues the program after task `task` has ended with `outcome`, and returns the program's
+    /// next task or its end.
     fn after(
         &self,
         store: &mut Store,
@@ -114,8 +115,8 @@ pub trait Construction: Rules + Copy + Eq {
         requires may_be_at { (who : ℕ) × ((op : Op) × MayBeAt self.now who op task) }
         ensures { result ≡ (Self.table self.now).frame task };
 
-    /// The task that process `who` is in, if this is the layer's own frame of its operation; if the
-    /// process can't have this frame, any task.
+    /// The task that process `who` is in, if `frame` is the layer's own frame of the process's
+    /// operation; any task, if the process can't have this frame.
     fn find(&self, who: u32, frame: Frame) -> Self::Task
         ensures { result ≡ (Self.table self.now).find who frame };
 

@@ -78,7 +78,8 @@ pub(crate) fn pending_on<L: Construction, S: Register>(
     Some(Nested { task, below: point })
 }
 
-/// The task that the layer's own frame describes; `None` if process `who` can't be in it.
+/// The task that has the frame `frame`, and that process `who` can be in during the frame's
+/// operation. `None` if there is no such task.
 fn task_at<L: Construction>(layer: &L, who: u32, frame: Frame) -> Option<L::Task>
     ensures { IsTaskByFrame (L.table layer.now) (L.MayBeAt layer.now) who frame result }
 {
@@ -148,8 +149,8 @@ impl<L: Construction, S: Register> Layered<L, S> {
         store.numbered();
     }
 
-    /// Does nothing. Its contract states `Lies` at `at`: the layer's memory there, which is inside
-    /// the store and satisfies `Holds`, also ends below 2^32.
+    /// Does nothing. Its contract states: if the layer's memory begins at `at`, lies inside the
+    /// store, and satisfies `Holds`, then it also ends below 2^32. These facts together are `Lies`.
     #[inline]
     pub(crate) fn lies(&self, store: &Store, at: Place)
         requires inside { LiesIn at (behaviour self.now).size store.now }
@@ -246,8 +247,8 @@ impl<L: Construction, S: Register> Layered<L, S> {
             .go_on(store, place, ask.who, stack, first + 1, choice)
     }
 
-    /// Runs the program of process `who`'s operation `op` from its beginning to its first task or
-    /// its end, and returns this.
+    /// Runs the program of process `who`'s operation `op` from the beginning, and returns the first
+    /// task or the end that the program reaches.
     #[inline(always)]
     pub(crate) fn start(
         &self,
@@ -267,7 +268,8 @@ impl<L: Construction, S: Register> Layered<L, S> {
         self.layer.start(store, base, who, op)
     }
 
-    /// Runs the program on to its next task or its end, after task `task` has ended with `outcome`.
+    /// Continues the program after task `task` has ended with `outcome`, and returns the program's
+    /// next task or its end.
     #[inline]
     fn after(
         &self,
@@ -291,9 +293,9 @@ impl<L: Construction, S: Register> Layered<L, S> {
         self.layer.after(store, base, task, outcome)
     }
 
-    /// Runs the layer's operation on from `continuation`, a task to be begun or an end. Returns the
-    /// operation's outcome if it ends; if it waits for a bit action, pushes its frames onto the
-    /// stack, and returns `None`.
+    /// Continues the layer's operation from `continuation`, which is a task to begin or an end. If
+    /// the operation ends, returns its outcome; if it waits for a bit action, pushes its frames
+    /// onto the stack, and returns `None`.
     #[inline(always)]
     pub(crate) fn run(
         &self,
@@ -323,9 +325,9 @@ impl<L: Construction, S: Register> Layered<L, S> {
         }
     }
 
-    /// Runs the layer's operation on, after the part of `task` has ended its own operation with
-    /// `outcome`. Returns the layer's outcome if its operation ends; if it waits for a bit action,
-    /// pushes its frames onto the stack, and returns `None`.
+    /// Continues the layer's operation after `task` has ended with `outcome`. If the layer's
+    /// operation ends, returns its outcome; if it waits for a bit action, pushes its frames onto
+    /// the stack, and returns `None`.
     #[inline(always)]
     pub(crate) fn follow(
         &self,
@@ -358,11 +360,12 @@ fn close(stack: &mut FlatStack, first: usize, end: Option<Outcome>)
     ensures { stack.new ≡ cut_where_ended first end stack.old }
 {
     if end.is_some() {
-        stack.leave(first);
+        stack.truncate(first);
     }
 }
 
-/// Whether the outcome says that a part is spent. After such an outcome no program goes on.
+/// Whether the outcome of a part's operation is `Spent`. If it is, the layer's operation is spent
+/// too, and its program doesn't go on.
 #[inline]
 fn is_spent(outcome: Outcome) -> bool
     ensures goes_on { result ≡ false → IsNotSpent outcome }

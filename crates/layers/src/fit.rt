@@ -13,8 +13,9 @@ use thiserror::Error;
 /// Why a layer can't be built on the register below.
 #[derive(Clone, Copy, Debug, PartialEq, Eq, Error)]
 pub enum LayerError {
-    /// A limit is broken, or the register below doesn't have the processes, the values or the depth
-    /// that the layer needs.
+    /// One of the layer's numbers (of values, of processes and so on) is outside its limits; or the
+    /// register below doesn't have the values and processes that the parts need; or the register
+    /// below has depth 8, so that no frame is left for the layer.
     #[error("1 BadSize")]
     BadSize,
     /// The layer would have more than 4,096 cells or 65,536 words.

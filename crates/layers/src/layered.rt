@@ -1,4 +1,4 @@
-//! One register type for every layer: a construction over the register below.
+//! The one register type of all layers. A layer is a construction over the register below.
 
 ghost use Rattle.std.specs.Prelude.{◌≡◌, MatchResult, IfOk, Some, None};
 ghost use Rattle.layers.specs.Nested.{layered};
@@ -41,11 +41,12 @@ impl<L: Rules + Copy, S: Behaves + Copy> Clone for Layered<L, S> {
 impl<L: Rules + Copy, S: Behaves + Copy> Copy for Layered<L, S> {}
 
 impl<L: Construction, S: Register> Layered<L, S> {
-    /// Makes a layer: the construction `layer` over parts that are registers like `below`. Its
-    /// field `below` is this register, and it behaves as the definition `layered` says. Refused as
-    /// `BadSize` if the layer has fewer than 2 values or doesn't have 2 to 5 processes, or if the
-    /// register below has depth 8 or doesn't have the values and processes that the parts need;
-    /// otherwise refused as `TooManyBits` if there would be more than 4,096 cells or 65,536 words.
+    /// Makes a layer: the construction `layer` over parts that are registers like `below`. The
+    /// layer's field `below` is the given register, and the layer behaves as the definition
+    /// `layered` says. Refused as `BadSize` if the layer has fewer than 2 values or doesn't have 2
+    /// to 5 processes, or if the register below has depth 8 or doesn't have the values and
+    /// processes that the parts need; otherwise refused as `TooManyBits` if there would be more
+    /// than 4,096 cells or 65,536 words.
     pub fn over(below: S, layer: L) -> Result<Layered<L, S>, LayerError>
         ensures refused { MatchResult result (λ _. refusal_below (L.table layer) (S.behaviour below)
             ≡ None) (λ e. refusal_below (L.table layer) (S.behaviour below) ≡ Some e) }
@@ -75,7 +76,7 @@ impl<L: Rules, S: Behaves> Behaves for Layered<L, S> {
 impl<L: Construction, S: Register> Register for Layered<L, S> {
     ghost use Rattle.layers.specs.Sound.{LayerHolds, LayerReaches};
     ghost use Rattle.layers.specs.Flat.{layered_point};
-    ghost use Rattle.layers.specs.laws.Flat.{layered_tells, points_alike};
+    ghost use Rattle.layers.specs.laws.Flat.{layered_frames_give_point, points_alike};
     ghost use Rattle.layers.specs.laws.Over.{over};
     ghost use Rattle.layers.specs.laws.Layered.{layer_lawful};
     ghost use Rattle.layers.specs.laws.Equality.{nested_decides, layered_alike, both_true};
@@ -168,6 +169,10 @@ impl<L: Construction, S: Register> Register for Layered<L, S> {
         drive::pending_on(&self.layer, &self.below, alloc, stack, first, who)
     }
 
+    fn lay(&self, alloc: Global, pending: &Self::Pending, stack: &mut FlatStack) {
+        drive::lay(&self.layer, &self.below, alloc, pending, stack);
+    }
+
     #[inline]
     fn begin_on(
         &self,
@@ -200,7 +205,7 @@ impl<L: Construction, S: Register> Register for Layered<L, S> {
         };
         // the task is found a second time, so that it needn't be kept while the part goes on
         let ended = self.layer.find(who, stack.frame(first));
-        stack.leave(first);
+        stack.truncate(first);
         let end = self.follow(store, at, ended, outcome, stack);
         Progress {
             end,
@@ -208,7 +213,7 @@ impl<L: Construction, S: Register> Register for Layered<L, S> {
         }
     }
 
-    ghost reports = { λ r. layered_tells (over (S.lawful r.below) (L.sound r.layer) r.fit) (S.point r.below) (S.reports r.below) };
+    ghost reports = { λ r. layered_frames_give_point (over (S.lawful r.below) (L.sound r.layer) r.fit) (S.point r.below) (S.reports r.below) };
 
     ghost lawful = { λ r. layer_lawful (over (S.lawful r.below) (L.sound r.layer) r.fit) };
 

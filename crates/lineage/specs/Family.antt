@@ -46,7 +46,7 @@ above_key key new k = if nat_eq key k then new ∷ k ∷ [] else k ∷ []
 abbrev pub divided_keys : ℕ → ℕ → List ℕ → List ℕ
 divided_keys key new keys = flat_map (above_key key new) keys
 
--- whether the key k of a path stays when `key` is taken out: it does unless it is `key`
+-- whether the key k of a path stays when `key` is taken out: true unless k is `key`
 abbrev pub other_key : ℕ → ℕ → Bool
 other_key key k = not (nat_eq key k)
 
@@ -65,8 +65,9 @@ module _ {X : Type 0} where
     pub here : item_at new key ≡ Some item
     pub others : (k : ℕ) → k ≢ key → item_at new k ≡ item_at old k
 
-  -- A path is added last, and the items don't change. If a key is given, the new path is the
-  -- beginning, down to this key, of each path that has the key. If not, the new path is empty.
+  -- A path is added at the end of the list of paths, and the items don't change. If a key is given,
+  -- the new path is the beginning, down to this key, of each path that has the key. If not, the new
+  -- path is empty.
   pub record IsForked (old new : Family X) (key : Option ℕ) : Type 0 where
     pub path : List ℕ
     pub paths : new.paths ≡ old.paths ++ path ∷ []
@@ -75,8 +76,8 @@ module _ {X : Type 0} where
     pub items : new.items ≡ old.items
 
   -- a new item, whose key is `fresh`, is put right above `key` in each path that has `key`. Then a
-  -- path is added last: it ends with `fresh`, and before that has the keys that are before `fresh`
-  -- in those paths. No other item changes.
+  -- path is added at the end of the list of paths: its keys are those before `fresh` in the paths
+  -- that have `key`, and then `fresh`. No other item changes.
   pub record IsForkedAbove (old new : Family X) (key fresh : ℕ) (item : X) : Type 0 where
     pub path : List ℕ
     pub paths : new.paths ≡ map (divided_keys key fresh) old.paths ++ path ∷ []
@@ -88,8 +89,8 @@ module _ {X : Type 0} where
     pub kept : (i k : ℕ) → has k (path_in new i) ≡ true → item_at new k ≡ item_at old k
     pub gone : (k : ℕ) → ((i : ℕ) → has k (path_in new i) ≡ false) → item_at new k ≡ None
 
-  -- the path at an index has these items, which are new, instead of its own; each item that is then
-  -- on no path is gone, and all other items and paths are unchanged
+  -- the path at an index has these items, all of them new, instead of its old ones; each item that
+  -- is then on no path is gone, and all other items and paths are unchanged
   pub record IsExchanged (old new : Family X) (path : ℕ) (items : List X) : Type 0 where
     pub keys : List ℕ
     pub paths : new.paths ≡ slice_set old.paths path keys

@@ -21,8 +21,8 @@ abbrev pub is_above : ℕ → Option (Option ℕ) → Bool
 is_above k None = false
 is_above k (Some next) = is_key k next
 
--- what a link becomes when `key` is taken out: `above`, the link of `key`, if it was to `key`;
--- otherwise it stays
+-- a link once `key` is taken out: a link to `key` becomes `above`, which is the link of `key`; any
+-- other link stays
 abbrev pub past : ℕ → Option ℕ → Option ℕ → Option ℕ
 past key above None = None
 past key above (Some k) = if nat_eq key k then above else Some k
@@ -49,7 +49,7 @@ module _ {X : Type 0} where
   abbrev pub above_node : List (Option (Node X)) → ℕ → Option (Option ℕ)
   above_node s k = above_in (node_at s k)
 
-  -- the key `at`, the key that it links to, and so on: at most as many keys as s is long, and no
+  -- the key `at`, the key that it links to, and so on, but at most `length s` keys; stops before a
   -- key without a node
   abbrev pub keys_up : List (Option (Node X)) → Option ℕ → List ℕ
   keys_up s at = climb (above_node s) (length s) at
@@ -88,8 +88,8 @@ module _ {X : Type 0} where
   less_one None = None
   less_one (Some n) = if nat_le n.holders 1 then None else Some (node n.item n.above (n.holders - 1))
 
-  -- the key whose node loses a holder next, after a node lost one: the link of the node if that was
-  -- its last holder, so that the node is dropped; otherwise None
+  -- when this node loses a holder, the key whose node loses a holder next: this node's link if the
+  -- holder was its last, so that this node is dropped; otherwise None
   abbrev pub next_up : Option (Node X) → Option ℕ
   next_up None = None
   next_up (Some n) = if nat_le n.holders 1 then n.above else None
@@ -100,8 +100,9 @@ module _ {X : Type 0} where
   past_node key above None = None
   past_node key above (Some n) = Some (node n.item (past key above n.above) n.holders)
 
-  -- a node; if the first argument is true, a node that links to it is taken out: it loses this
-  -- holder, and gets the `others` holders of the node taken out
+  -- this node once another node is taken out: if the first argument is true, the other node linked
+  -- to this node, so this node loses one holder and gets the `others` holders of the other node; if
+  -- it is false, this node is unchanged
   abbrev pub passed_on : Bool → ℕ → Option (Node X) → Option (Node X)
   passed_on b others None = None
   passed_on false others (Some n) = Some n
@@ -128,10 +129,10 @@ module _ {X : Type 0} where
     pub counted : (k : ℕ) (n : Node X) → node_at s k ≡ Some n → n.holders ≡ holders_of s tips k
     pub few : length tips + count_by is_some s < 2 ^ 64
 
-  -- The state while nodes of a dropped path are released, the next of which is the one at `at`.
-  -- That node counts one holder too many, and it and the nodes above it may be on no path.
+  -- The state while nodes of a dropped path are released; the node at `at` is the next of them.
+  -- That node counts one holder too many, and that node and the nodes above it may be on no path.
   -- Otherwise nodes and tips are as `IsSoundFamily` says. Each node that is left has the item and
-  -- the link that it had at first.
+  -- the link that it has in `first`.
   pub record IsReleasing (first s : List (Option (Node X))) (tips : List (Option ℕ)) (at : Option ℕ) : Type 0 where
     pub ends : (i : ℕ) → Ends (above_node s) (tip_at tips i)
     pub going : Ends (above_node s) at
@@ -140,8 +141,9 @@ module _ {X : Type 0} where
     pub few : length tips + count_by is_some s < 2 ^ 64
     pub stays : Stays first s
 
-  -- a path of new nodes with these items is added last, and all other nodes and paths are
-  -- unchanged; s and t are the nodes before and after, `tips` and `new` the tips
+  -- a path of new nodes with these items is added at the end of the list of paths, and all other
+  -- nodes and paths are unchanged; s and `tips` are the nodes and tips before, t and `new` those
+  -- after
   pub record IsPutLast (s t : List (Option (Node X))) (tips new : List (Option ℕ)) (items : List X) : Type 0 where
     pub sound : IsSoundFamily t new
     pub tip : Option ℕ

@@ -64,8 +64,8 @@ impl<X: Drop> Lineage<X> {
         self.tips.len()
     }
 
-    /// How many items there is memory for, counting those that exist. The key of each item is less
-    /// than this number.
+    /// The number of items that there is memory for, including those that exist. The key of each
+    /// item is less than this number.
     pub fn room(&self) -> usize
         ensures { (k : ℕ) → result ≤ k → item_at self.now k ≡ None }
     {
@@ -96,7 +96,7 @@ impl<X: Drop> Lineage<X> {
         tip_at(&self.tips, path)
     }
 
-    /// Replaces the item at a key, which has to have one, and returns the old item. Nothing else
+    /// Replaces the item at `key`, which has to exist, and returns the old item. Nothing else
     /// changes. Never allocates.
     pub fn replace(&mut self, key: Key, item: X) -> X
         requires { IsSome (item_at self.old key) }
@@ -107,8 +107,8 @@ impl<X: Drop> Lineage<X> {
         mem::replace(&mut self.nodes[key].item, item)
     }
 
-    /// A mutable borrow of the item at a key, which has to have one. Writing to it changes that
-    /// item alone.
+    /// A mutable borrow of the item at `key`, which has to exist. A write through the borrow
+    /// changes that item alone.
     pub fn item_mut(&mut self, key: Key) -> &mut X
         requires { IsSome (item_at self.old key) }
         ensures* writes_back { sem 𝓛

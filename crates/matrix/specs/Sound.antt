@@ -49,9 +49,9 @@ module _ (n values last : ℕ) (some : LEAST_PROCESSES ≤ n) (some_values : LEA
       let e : left ≡ n - (j + 1) = omega arith in
       ((record { own = own; same = same; process = lt; part = omega arith; code_fits = low; value_fits = fits }, row), λ outcome. ap (λ l. row_from n values p q l (j + 1) code) e)
 
-  behind_sound : (who : ℕ) (o : Op) (p : ℕ) (q : Op) (greatest : ℕ) → p ≡ who → q ≡ o → p < n → ValueFits values q → greatest < matrix_code_count n values last
+  rest_is_sound : (who : ℕ) (o : Op) (p : ℕ) (q : Op) (greatest : ℕ) → p ≡ who → q ≡ o → p < n → ValueFits values q → greatest < matrix_code_count n values last
       → Sound who o (after_column n values last p q greatest)
-  behind_sound who o p (op.Write v) greatest own same lt fits low = by_test (tag_of n values greatest == last) refl
+  rest_is_sound who o p (op.Write v) greatest own same lt fits low = by_test (tag_of n values greatest == last) refl
     where
       by_test : (end : Bool) → (tag_of n values greatest == last) ≡ end
           → Sound who o (if end then Ends (Spent spent.Matrix) else row_from n values p (op.Write v) n 0 (code_of n values (tag_of n values greatest + 1) p v))
@@ -62,11 +62,11 @@ module _ (n values last : ℕ) (some : LEAST_PROCESSES ≤ n) (some_values : LEA
           let few_tags : tag < last + 1 = tag_fits n values last greatest (omega arith) (omega arith) low in
           let before : tag < last = omega arith in
           row_sound who o p (op.Write v) n 0 (code_of n values (tag + 1) p v) (omega arith) own same lt fits (matrix_code_fits n values last tag p v before lt fits) (tag, refl)
-  behind_sound who o p op.Read greatest own same lt fits low = row_sound who o p op.Read n 0 greatest (omega arith) own same lt fits low tt
+  rest_is_sound who o p op.Read greatest own same lt fits low = row_sound who o p op.Read n 0 greatest (omega arith) own same lt fits low tt
 
   column_sound : (who : ℕ) (o : Op) (p : ℕ) (q : Op) (left j greatest : ℕ) → left + j ≡ n → p ≡ who → q ≡ o → p < n → ValueFits values q → greatest < matrix_code_count n values last
       → Sound who o (column_from n values last p q left j greatest)
-  column_sound who o p q zero j greatest here own same lt fits low = behind_sound who o p q greatest own same lt fits low
+  column_sound who o p q zero j greatest here own same lt fits low = rest_is_sound who o p q greatest own same lt fits low
   column_sound who o p q (suc left) j greatest here own same lt fits low =
       let e : left ≡ n - (j + 1) = omega arith in (
         record { own = own; same = same; process = lt; part = omega arith; code_fits = low; value_fits = fits },
@@ -96,16 +96,16 @@ module _ (n values last : ℕ) (some : LEAST_PROCESSES ≤ n) (some_values : LEA
   row_falls p q zero j code many here enough = tt
   row_falls p q (suc left) j code many here enough = omega arith
 
-  behind_falls : (p : ℕ) (q : Op) (greatest many : ℕ) → n ≤ many → Falls (matrix_left n) many (after_column n values last p q greatest)
-  behind_falls p (op.Write v) greatest many enough = by_test (tag_of n values greatest == last)
+  after_column_falls : (p : ℕ) (q : Op) (greatest many : ℕ) → n ≤ many → Falls (matrix_left n) many (after_column n values last p q greatest)
+  after_column_falls p (op.Write v) greatest many enough = by_test (tag_of n values greatest == last)
     where
       by_test : (end : Bool) → Falls (matrix_left n) many (if end then Ends (Spent spent.Matrix) else row_from n values p (op.Write v) n 0 (code_of n values (tag_of n values greatest + 1) p v))
       by_test true = tt
       by_test false = row_falls p (op.Write v) n 0 (code_of n values (tag_of n values greatest + 1) p v) many (omega arith) enough
-  behind_falls p op.Read greatest many enough = row_falls p op.Read n 0 greatest many (omega arith) enough
+  after_column_falls p op.Read greatest many enough = row_falls p op.Read n 0 greatest many (omega arith) enough
 
   column_falls : (p : ℕ) (q : Op) (left j greatest many : ℕ) → left + j ≡ n → left + n ≤ many → Falls (matrix_left n) many (column_from n values last p q left j greatest)
-  column_falls p q zero j greatest many here enough = behind_falls p q greatest many (omega arith)
+  column_falls p q zero j greatest many here enough = after_column_falls p q greatest many (omega arith)
   column_falls p q (suc left) j greatest many here enough = omega arith
 
   rest_falls : (who : ℕ) (o : Op) (task : MatrixTask) (outcome : Outcome) → MatrixMayBeAt n values last who o task → Answers (matrix_code_count n values last) (matrix_asks n task).op outcome → IsNotSpent outcome
@@ -126,19 +126,19 @@ module _ (n values last : ℕ) (some : LEAST_PROCESSES ≤ n) (some_values : LEA
       by_operation (op.Write v) low = let few = work.process in grind (arith, nat_tests)
       by_operation op.Read low = let few = work.process in grind (arith, nat_tests)
 
-  stands_suits : (who : ℕ) (o : Op) (task : MatrixTask) → MatrixMayBeAt n values last who o task → matrix_suits n values who o ≡ true
-  stands_suits who o (Column p q j greatest) stands = work_suits who o p q j greatest stands
-  stands_suits who o (Row p q j code) stands = work_suits who o p q j code stands.0
+  may_be_at_suits : (who : ℕ) (o : Op) (task : MatrixTask) → MatrixMayBeAt n values last who o task → matrix_suits n values who o ≡ true
+  may_be_at_suits who o (Column p q j greatest) stands = work_suits who o p q j greatest stands
+  may_be_at_suits who o (Row p q j code) stands = work_suits who o p q j code stands.0
 
-  frame_tells : (who : ℕ) (o : Op) (task : MatrixTask) → MatrixMayBeAt n values last who o task → (matrix_find who (matrix_frame task) ≡ task) × ((matrix_frame task).op ≡ o)
-  frame_tells who o (Column p q j greatest) stands = (ap (λ r. Column r q j greatest) (sym stands.own), stands.same)
-  frame_tells who o (Row p q j code) stands = (ap (λ r. Row r q j code) (sym stands.0.own), stands.0.same)
+  frame_gives_task : (who : ℕ) (o : Op) (task : MatrixTask) → MatrixMayBeAt n values last who o task → (matrix_find who (matrix_frame task) ≡ task) × ((matrix_frame task).op ≡ o)
+  frame_gives_task who o (Column p q j greatest) stands = (ap (λ r. Column r q j greatest) (sym stands.own), stands.same)
+  frame_gives_task who o (Row p q j code) stands = (ap (λ r. Row r q j code) (sym stands.0.own), stands.0.same)
 
   -- the matrix's rules meet the laws that every layer's rules must meet
   pub matrix_sound : IsSoundTable (matrix_table n values last) (MatrixMayBeAt n values last) (matrix_left n)
   matrix_sound = record {
-    may_be_at_suits = stands_suits;
-    frame_gives = frame_tells;
+    may_be_at_suits = may_be_at_suits;
+    frame_gives = frame_gives_task;
     zero_writes = λ v lt. zero_writes v lt;
     others_read = λ who above below. others_read who below;
     nobody_else = process_of;

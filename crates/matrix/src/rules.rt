@@ -92,8 +92,8 @@ impl MatrixRules {
     ghost use Rattle.std.specs.Bool.{Decides};
     ghost use Rattle.matrix.specs.Turns.{Yields};
 
-    /// The next task, or the end, of a process that has read the parts of its column before part
-    /// `j`.
+    /// The next task or the end of operation `op`, after process `who` has read the parts of its
+    /// column before part `j`. `greatest` is the greatest code read from them, or 0 if `j` is 0.
     fn at_column(&self, who: u32, op: Op, j: u32, greatest: u32) -> Continuation<MatrixTask>
         requires process { who < self.now.n }
         requires part { j ≤ self.now.n }
@@ -114,7 +114,8 @@ impl MatrixRules {
         }
     }
 
-    /// The next task, or the end, of a process that has read its whole column.
+    /// The next task or the end of operation `op`, after process `who` has read its whole column.
+    /// `greatest` is the greatest code read.
     fn after_column(&self, who: u32, op: Op, greatest: u32) -> Continuation<MatrixTask>
         requires process { who < self.now.n }
         requires value { ValueFits self.now.values op }
@@ -134,7 +135,7 @@ impl MatrixRules {
         }
     }
 
-    /// The next task of a process that begins to write its row.
+    /// The task in which process `who` writes `code` to part 0 of its row, during operation `op`.
     fn at_row(&self, who: u32, op: Op, code: u32) -> Continuation<MatrixTask>
         requires { who < self.now.n }
         ensures { Yields (row_from self.now.n self.now.values who op self.now.n 0 code) result }
@@ -147,8 +148,8 @@ impl MatrixRules {
         })
     }
 
-    /// The next task, or the end, of a process that has written the parts of its row before part
-    /// `j`.
+    /// The next task or the end of operation `op`, after process `who` has written `code` to the
+    /// parts of its row before part `j`.
     fn along_row(&self, who: u32, op: Op, j: u32, code: u32) -> Continuation<MatrixTask>
         requires process { who < self.now.n }
         requires part { j ≤ self.now.n }
@@ -173,7 +174,7 @@ impl MatrixRules {
         code / (self.n * self.values)
     }
 
-    /// The code of the tag after `tag`, of the writer `who`, and of the value `v`.
+    /// The code that is made of the tag `tag + 1`, the writer `who` and the value `v`.
     fn raised(&self, tag: u32, who: u32, v: u32) -> u32
         requires tag { tag < self.now.last }
         requires process { who < self.now.n }
@@ -183,8 +184,8 @@ impl MatrixRules {
         ((tag + 1) * self.n + who) * self.values + v
     }
 
-    /// Whether process `who` can be at part `j` of its column or its row in operation `op`, with
-    /// `code`.
+    /// Whether the numbers of a task are in range: process `who`, the value that `op` writes (if
+    /// any), part `j` and the task's `code`.
     fn in_work(&self, who: u32, op: Op, j: u32, code: u32) -> bool
         ensures { Decides result (InWork self.now.n self.now.values self.now.last who op who op j
             code) }

@@ -1,4 +1,4 @@
-//! The program: it passes its words and its three standard streams to the workbench.
+//! The program: it passes its command-line words and its three standard streams to the workbench.
 #![tactic(auto)]
 
 use std::process::ExitCode;

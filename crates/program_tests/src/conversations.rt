@@ -1,5 +1,5 @@
-//! Tests of when answers are written and when a conversation ends, by readers and writers that
-//! count.
+//! Tests, with readers and writers that count, of when answers are written and when a conversation
+//! ends.
 
 ghost use Rattle.std.specs.Prelude.{◌≡◌, ◌++◌, OnOk, codes};
 

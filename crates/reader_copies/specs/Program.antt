@@ -44,18 +44,18 @@ copies_asks (Writing v reader) = record { part = reader - 1; who = 0; op = op.Wr
 copies_asks (Reading reader) = record { part = reader - 1; who = 1; op = op.Read }
 
 -- the frame that records a task on the stack of a pending operation: the operation, and the reader
--- whose copy is at work
+-- whose copy is written or read
 abbrev pub copies_frame : CopiesTask → Frame
 copies_frame (Writing v reader) = record { layer = layer.Copies; op = op.Write v; i = reader; x = 0 }
 copies_frame (Reading reader) = record { layer = layer.Copies; op = op.Read; i = reader; x = 0 }
 
--- the task that process `who` is in, if f is its frame: the frame's operation is the write or read
--- of the copy, and the frame's index i is the reader whose copy this is
+-- the task of process `who` if its frame is f: to write or read a copy, as the operation of f says;
+-- the copy is that of the reader whose number is the index of f
 abbrev pub copies_find : ℕ → Frame → CopiesTask
 copies_find who f = elim (f.op) [ op.Write v ↦ Writing v f.i | op.Read ↦ Reading f.i ]
 
--- The rules of a register made of copies of a register of `values` values for `readers` readers. At
--- first each copy holds the initial value.
+-- The rules of a register made of copies, one for each of `readers` readers; each copy has `values`
+-- values. At first each copy holds the initial value.
 abbrev pub copies_table : ℕ → ℕ → Table CopiesTask
 copies_table readers values = record {
   values = values;

@@ -25,22 +25,22 @@ abbrev pub copies_left : ℕ → CopiesTask → ℕ
 copies_left readers (Writing v reader) = readers - reader
 copies_left readers (Reading reader) = 0
 
--- the rest of a write that has copies left to write reaches a task next: to write the copy of
--- `reader`; it changes no memory before that
+-- if a write has copies left to write, beginning with the copy of `reader`, the rest of the write
+-- next reaches the task of writing this copy, and changes no memory before that
 pub settled_more : (base v reader copies : ℕ) (m : Memory) → 0 < copies
     → settled base (write_from v reader copies) m ≡ record { continuation = continuation.Asks (Writing v reader); memory = m }
 settled_more base v reader zero m some = absurd (omega arith)
 settled_more base v reader (suc behind) m some = refl
 
--- if a write has no copies left to write, its rest ends at once and changes no memory
+-- if a write has no copies left to write, the rest of the write ends at once and changes no memory
 pub settled_none : (base v reader copies : ℕ) (m : Memory) → copies ≡ 0
     → settled base (write_from v reader copies) m ≡ record { continuation = continuation.Ends Written; memory = m }
 settled_none base v reader zero m none = refl
 settled_none base v reader (suc behind) m none = absurd (omega arith)
 
 module _ (readers values : ℕ) (some : 1 ≤ readers) (few : readers ≤ MOST_READERS) where
-  -- the rest of a write is sound (it next reaches a task that the writer can be in, or it ends), if
-  -- it writes the copies of `reader` and of all readers after it
+  -- the rest of a write, if it writes the copies of `reader` and of all later readers, is sound: it
+  -- next reaches a task that the writer can be in, or it ends
   write_sound : (who w v reader copies : ℕ) → who ≡ 0 → v ≡ w → v < values → 1 ≤ reader → reader + copies ≡ readers + 1
       → IsSound (copies_table readers values) (CopiesMayBeAt readers values who (op.Write w)) (Answers values (op.Write w)) (write_from v reader copies)
   write_sound who w v reader zero writer same lt first all = tt
@@ -83,23 +83,23 @@ module _ (readers values : ℕ) (some : 1 ≤ readers) (few : readers ≤ MOST_R
   asks_fit who (op.Write w) (Reading reader) stands = absurd stands
   asks_fit who op.Read (Writing v reader) stands = absurd stands
 
-  stands_suits : (who : ℕ) (o : Op) (task : CopiesTask) → CopiesMayBeAt readers values who o task → one_writer values (readers + 1) who o ≡ true
-  stands_suits who (op.Write w) (Writing v reader) stands = writer.writer_suits values (readers + 1) who w stands.0 (omega arith) (rw stands.1 at stands.2)
-  stands_suits who op.Read (Reading reader) stands = writer.others_read values (readers + 1) who (omega (arith, stands.0, stands.1)) (omega (arith, stands.0, stands.2))
-  stands_suits who (op.Write w) (Reading reader) stands = absurd stands
-  stands_suits who op.Read (Writing v reader) stands = absurd stands
+  may_be_at_suits : (who : ℕ) (o : Op) (task : CopiesTask) → CopiesMayBeAt readers values who o task → one_writer values (readers + 1) who o ≡ true
+  may_be_at_suits who (op.Write w) (Writing v reader) stands = writer.writer_suits values (readers + 1) who w stands.0 (omega arith) (rw stands.1 at stands.2)
+  may_be_at_suits who op.Read (Reading reader) stands = writer.others_read values (readers + 1) who (omega (arith, stands.0, stands.1)) (omega (arith, stands.0, stands.2))
+  may_be_at_suits who (op.Write w) (Reading reader) stands = absurd stands
+  may_be_at_suits who op.Read (Writing v reader) stands = absurd stands
 
-  frame_tells : (who : ℕ) (o : Op) (task : CopiesTask) → CopiesMayBeAt readers values who o task → (copies_find who (copies_frame task) ≡ task) × ((copies_frame task).op ≡ o)
-  frame_tells who (op.Write w) (Writing v reader) stands = (refl, ap op.Write stands.1)
-  frame_tells who op.Read (Reading reader) stands = (refl, refl)
-  frame_tells who (op.Write w) (Reading reader) stands = absurd stands
-  frame_tells who op.Read (Writing v reader) stands = absurd stands
+  frame_gives_task : (who : ℕ) (o : Op) (task : CopiesTask) → CopiesMayBeAt readers values who o task → (copies_find who (copies_frame task) ≡ task) × ((copies_frame task).op ≡ o)
+  frame_gives_task who (op.Write w) (Writing v reader) stands = (refl, ap op.Write stands.1)
+  frame_gives_task who op.Read (Reading reader) stands = (refl, refl)
+  frame_gives_task who (op.Write w) (Reading reader) stands = absurd stands
+  frame_gives_task who op.Read (Writing v reader) stands = absurd stands
 
   -- the rules of copies meet the laws that every layer's rules must meet
   pub copies_sound : IsSoundTable (copies_table readers values) (CopiesMayBeAt readers values) (copies_left readers)
   copies_sound = writer.one_writer_sound (copies_table readers values) (CopiesMayBeAt readers values) (copies_left readers) (λ who o. refl) (omega arith)
       (λ v j lt below. lt) (λ v k lt below. absurd (omega arith))
-      asks_fit stands_suits frame_tells begins_sound rest_sound rest_falls
+      asks_fit may_be_at_suits frame_gives_task begins_sound rest_sound rest_falls
 
 -- whether two tasks are equal: both are writes of one value to one reader's copy, or both are reads
 -- by one reader

@@ -42,10 +42,10 @@ impl Copy for CopiesRules {}
 
 /// The trait that declares `Copies::new`. Import it to call `Copies::new`.
 pub trait NewCopies<S: Register>: Sized {
-    /// Copies of the register below for `readers` readers, 1 to 4. Refused as BadSize for any other
-    /// number of readers, or if the register below has fewer than 2 values, doesn't have 2
-    /// processes, or has depth 8; otherwise refused as TooManyBits if there would be more than
-    /// 4,096 cells or 65,536 words.
+    /// A register made of copies of the register below, one copy for each of `readers` readers.
+    /// Refused as BadSize if `readers` isn't 1 to 4, or if the register below has fewer than 2
+    /// values, doesn't have 2 processes, or has depth 8; otherwise refused as TooManyBits if there
+    /// would be more than 4,096 cells or 65,536 words.
     fn new(below: S, readers: u32) -> Result<Copies<S>, LayerError>
         ensures refused { MatchResult result
             (λ _. copies_refusal readers (S.behaviour below) ≡ None)

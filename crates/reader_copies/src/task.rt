@@ -1,6 +1,7 @@
-//! The tasks of a register made of copies: the points of its programs at which one copy is at work.
+//! The tasks of a register made of copies: the points of its programs at which a copy is written or
+//! read.
 
-/// A task: the write or read of one copy that a pending operation is making.
+/// A task: the write or read of one copy by a pending operation.
 #[derive(Clone, Copy, Debug, PartialEq, Eq)]
 pub enum CopiesTask {
     /// A write of `v` to the copy of reader `reader`.

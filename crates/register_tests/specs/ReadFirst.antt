@@ -76,18 +76,18 @@ asks_fit who op.Read op.Read stands = (omega arith, (omega arith, omega arith))
 asks_fit who (op.Write w) op.Read stands = absurd stands
 asks_fit who op.Read (op.Write v) stands = absurd stands
 
-stands_suits : (who : ℕ) (o task : Op) → ReadFirstMayBeAt who o task → one_writer 8 2 who o ≡ true
-stands_suits who (op.Write w) (op.Write v) stands = writer.writer_suits 8 2 who w stands.0 (omega arith) (omega (arith, stands.1, stands.2))
-stands_suits who op.Read op.Read stands = writer.others_read 8 2 who (omega arith) (omega arith)
-stands_suits who (op.Write w) op.Read stands = absurd stands
-stands_suits who op.Read (op.Write v) stands = absurd stands
+may_be_at_suits : (who : ℕ) (o task : Op) → ReadFirstMayBeAt who o task → one_writer 8 2 who o ≡ true
+may_be_at_suits who (op.Write w) (op.Write v) stands = writer.writer_suits 8 2 who w stands.0 (omega arith) (omega (arith, stands.1, stands.2))
+may_be_at_suits who op.Read op.Read stands = writer.others_read 8 2 who (omega arith) (omega arith)
+may_be_at_suits who (op.Write w) op.Read stands = absurd stands
+may_be_at_suits who op.Read (op.Write v) stands = absurd stands
 
--- the frame's operation is the task
-frame_tells : (who : ℕ) (o task : Op) → ReadFirstMayBeAt who o task → (task ≡ task) × (task ≡ o)
-frame_tells who (op.Write w) (op.Write v) stands = (refl, ap op.Write (sym stands.1))
-frame_tells who op.Read op.Read stands = (refl, refl)
-frame_tells who (op.Write w) op.Read stands = absurd stands
-frame_tells who op.Read (op.Write v) stands = absurd stands
+-- a task's frame gives the task back, and the frame's operation is the pending operation
+frame_gives_task : (who : ℕ) (o task : Op) → ReadFirstMayBeAt who o task → (task ≡ task) × (task ≡ o)
+frame_gives_task who (op.Write w) (op.Write v) stands = (refl, ap op.Write (sym stands.1))
+frame_gives_task who op.Read op.Read stands = (refl, refl)
+frame_gives_task who (op.Write w) op.Read stands = absurd stands
+frame_gives_task who op.Read (op.Write v) stands = absurd stands
 
 pub read_first_sound : IsSoundTable read_first_table ReadFirstMayBeAt (λ _. 0)
 read_first_sound = record {
@@ -98,8 +98,8 @@ read_first_sound = record {
   first_fits = λ v j lt below. lt;
   first_words = λ v k lt below. omega arith;
   asks_fit = asks_fit;
-  may_be_at_suits = stands_suits;
-  frame_gives = frame_tells;
+  may_be_at_suits = may_be_at_suits;
+  frame_gives = frame_gives_task;
   begins_sound = begins_sound;
   rest_sound = rest_sound;
   rest_falls = λ who o task outcome stands answers on. tt;

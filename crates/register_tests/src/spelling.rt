@@ -96,8 +96,8 @@ pub(crate) fn assert_same_after(
 /// the fault that the file has with each of these texts.
 pub(crate) type Refused = (&'static [u8], &'static [u8], FaultKind, u64);
 
-/// Asserts the fault of each beginning with each of its texts; if the text ends a line, also with
-/// more lines after the text.
+/// For each row, asserts the fault of the beginning followed by each of the texts. If a text ends a
+/// line, the fault is also asserted with more lines after the text.
 pub(crate) fn assert_faults(
     rt: &(impl Abort + AllocGlobal),
     file: Kind,

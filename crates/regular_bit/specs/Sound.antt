@@ -43,23 +43,23 @@ module _ (processes : ℕ) (some : 0 < processes) where
   asks_fit who (op.Write w) (Reading reader) stands = absurd stands
   asks_fit who op.Read (Writing v) stands = absurd stands
 
-  stands_suits : (who : ℕ) (o : Op) (task : RegularTask) → RegularMayBeAt processes who o task → one_writer 2 processes who o ≡ true
-  stands_suits who (op.Write w) (Writing v) stands = writer.writer_suits 2 processes who w stands.0 some (rw stands.1 at stands.2)
-  stands_suits who op.Read (Reading reader) stands = writer.others_read 2 processes who (omega (arith, stands.0, stands.1)) (omega (arith, stands.0, stands.2))
-  stands_suits who (op.Write w) (Reading reader) stands = absurd stands
-  stands_suits who op.Read (Writing v) stands = absurd stands
+  may_be_at_suits : (who : ℕ) (o : Op) (task : RegularTask) → RegularMayBeAt processes who o task → one_writer 2 processes who o ≡ true
+  may_be_at_suits who (op.Write w) (Writing v) stands = writer.writer_suits 2 processes who w stands.0 some (rw stands.1 at stands.2)
+  may_be_at_suits who op.Read (Reading reader) stands = writer.others_read 2 processes who (omega (arith, stands.0, stands.1)) (omega (arith, stands.0, stands.2))
+  may_be_at_suits who (op.Write w) (Reading reader) stands = absurd stands
+  may_be_at_suits who op.Read (Writing v) stands = absurd stands
 
-  frame_tells : (who : ℕ) (o : Op) (task : RegularTask) → RegularMayBeAt processes who o task → (regular_find who (regular_frame task) ≡ task) × ((regular_frame task).op ≡ o)
-  frame_tells who (op.Write w) (Writing v) stands = (refl, ap op.Write stands.1)
-  frame_tells who op.Read (Reading reader) stands = (ap Reading (sym stands.0), refl)
-  frame_tells who (op.Write w) (Reading reader) stands = absurd stands
-  frame_tells who op.Read (Writing v) stands = absurd stands
+  frame_gives_task : (who : ℕ) (o : Op) (task : RegularTask) → RegularMayBeAt processes who o task → (regular_find who (regular_frame task) ≡ task) × ((regular_frame task).op ≡ o)
+  frame_gives_task who (op.Write w) (Writing v) stands = (refl, ap op.Write stands.1)
+  frame_gives_task who op.Read (Reading reader) stands = (ap Reading (sym stands.0), refl)
+  frame_gives_task who (op.Write w) (Reading reader) stands = absurd stands
+  frame_gives_task who op.Read (Writing v) stands = absurd stands
 
   -- the regular bit's rules meet the laws that every layer's rules must meet
   pub regular_sound : IsSoundTable (regular_table processes) (RegularMayBeAt processes) (λ _. 0)
   regular_sound = writer.one_writer_sound (regular_table processes) (RegularMayBeAt processes) (λ _. 0) (λ who o. refl) (some)
       (λ v j lt below. lt) (λ v k lt below. omega (arith, lt))
-      asks_fit stands_suits frame_tells begins_sound rest_sound (λ who o task outcome stands answers on. tt)
+      asks_fit may_be_at_suits frame_gives_task begins_sound rest_sound (λ who o task outcome stands answers on. tt)
 
 -- whether two tasks are equal: both are writes of one value, or both are reads by one process
 abbrev pub regular_task_eq : RegularTask → RegularTask → Bool

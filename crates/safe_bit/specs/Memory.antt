@@ -21,7 +21,7 @@ no_cell = idle_cell false
 abbrev pub blank : ℕ → ℕ → Memory
 blank cells words = record { cells = replicate cells no_cell; words = replicate words 0 }
 
--- cell i of a memory; an idle cell whose value is 0 if there is no cell i
+-- cell i of a memory; if there is no cell i, an idle cell whose value is 0
 abbrev pub cell_at : ℕ → Memory → Cell
 cell_at i m = slice_index_or m.cells i no_cell
 

@@ -130,7 +130,7 @@ impl Store {
         &self.words
     }
 
-    /// Cell `i`, which exists.
+    /// Cell `i`, which must exist.
     pub fn cell(&self, i: u32) -> Cell
         requires { i < length self.now.cells }
         ensures { result ≡ cell_at i self.now }
@@ -138,7 +138,7 @@ impl Store {
         self.cells[i as usize]
     }
 
-    /// Word `i`, which exists.
+    /// Word `i`, which must exist.
     pub fn word(&self, i: u32) -> u32
         requires { i < length self.now.words }
         ensures { result ≡ word_at i self.now }
@@ -146,7 +146,7 @@ impl Store {
         self.words[i as usize]
     }
 
-    /// Sets word `i`, which exists, to `x`, and changes nothing else.
+    /// Sets word `i`, which must exist, to `x`, and changes nothing else.
     pub fn set_word(&mut self, i: u32, x: u32)
         requires { i < length self.old.words }
         ensures { self.new ≡ with_word i x self.old }
@@ -197,7 +197,7 @@ impl Store {
     }
 
     /// Ends the read of cell `i`, so that no read of it is in progress. Returns `choice` if the
-    /// read was hit, and else the cell's value.
+    /// read was hit, else the cell's value.
     pub fn end_read(&mut self, i: u32, choice: bool) -> bool
         requires { i < length self.old.cells }
         ensures value { result ≡ read_gives choice (cell_at i self.old) }

@@ -13,8 +13,8 @@ abbrev pub keys_to : List ℕ → Option ℕ → List ℕ
 keys_to keys None = []
 keys_to keys (Some key) = keys_up_to key keys
 
--- a climb of a path is at the given key, which is one of the path's; or None is given, and the
--- climb has passed the first key
+-- a climb of a path is at the given key, which is on the path; or None is given, and the climb has
+-- passed the first key
 abbrev pub HasClimbedTo : List ℕ → Option ℕ → Type 0
 HasClimbedTo keys None = Unit {0}
 HasClimbedTo keys (Some key) = has key keys ≡ true

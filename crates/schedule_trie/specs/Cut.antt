@@ -193,7 +193,7 @@ AreGone new slots = (i x : ℕ) → has_cell x slots ≡ true → has_cell x (sl
 
 -- From cut `old` to cut `new`, at most one segment of `old` is touched (its cells may change), and
 -- it has no note in `new`. Each other segment of `old` keeps its cells and its note; or it is gone,
--- and none of its cells is on a branch of `new`. Segments that only `new` has have no note.
+-- and none of its cells is on a branch of `new`. Segments that are only in `new` have no note.
 pub record KeepsNotes {T : Type 0} (old new : Cut T) : Type 0 where
   pub touched : Option ℕ
   pub kept : (k : ℕ) → (touched ≡ Some k → ⊥) → IsSome (piece_at old.pieces k)
@@ -236,13 +236,13 @@ pub record IsParted {T : Type 0} (c : Cut T) (name : List ℕ) (place key : ℕ)
   pub above : HoldsCellBefore c name place key
   pub below : HoldsCellAt c name place key
 
--- the segment at `key` may receive a new cell at `place` of the branch with this name: it has the
--- cell there; or `place` is the branch's length, and it has the branch's last cell
+-- the segment at `key` may receive a new cell at `place` of the branch with this name: the segment
+-- has the cell at `place`; or it has the branch's last cell, and `place` is the branch's length
 abbrev pub CanGrowAt : {T : Type 0} → Cut T → List ℕ → ℕ → ℕ → Type 0
 CanGrowAt c name place key = HoldsCellAt c name place key ⊎ ((len_of (forest c) name ≡ Some place) × HoldsCellBefore c name place key)
 
 -- from cut `old` to cut `new`, each segment of `old` keeps its cells and its note; or it is gone,
--- and none of its cells is on a branch of `new`. Segments that only `new` has have no note
+-- and none of its cells is on a branch of `new`. Segments that are only in `new` have no note
 abbrev pub KeepsAllNotes : {T : Type 0} → Cut T → Cut T → Type 0
 KeepsAllNotes old new = (notes : KeepsNotes old new) × (notes.touched ≡ None)
 
@@ -339,13 +339,13 @@ abbrev pub keys_by : Option ℕ → List Strand → Option (List ℕ)
 keys_by None strands = None
 keys_by (Some i) strands = Some (keys_in strands i)
 
--- why a query is refused, given its specified result: NoBranch if that is None, since no branch has
--- the name; else Memory
+-- why a query is refused, given the result that it should have: NoBranch if this result is None (no
+-- branch has the name), else Memory
 abbrev pub if_lacks : {X : Type 0} → Option X → Refusal
 if_lacks None = NoBranch
 if_lacks (Some x) = Memory
 
--- a segment with the given note in place of its own; with none if None is given
+-- a segment with the given note instead of its own, or with no note if None is given
 abbrev pub with_note : {T : Type 0} → Option T → Piece T → Piece T
 with_note note p = piece p.slots note
 
@@ -358,7 +358,7 @@ pub record IsNoted {T : Type 0} (old new : Cut T) (key : ℕ) (note : Option T) 
   pub limits : new.limits ≡ old.limits
   pub unchanged : forest new ≡ forest old
 
--- the key right before `key` in a path; `up` if `key` is the first; None if `key` isn't there
+-- the key right before `key` in a path; `up` if `key` is the first; None if the path lacks `key`
 abbrev pub before_key : ℕ → Option ℕ → List ℕ → Option ℕ
 before_key key up [] = None
 before_key key up (k ∷ ks) = if nat_eq key k then up else before_key key (Some k) ks

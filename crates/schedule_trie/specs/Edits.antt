@@ -7,8 +7,8 @@ use Rattle.schedule_trie.specs.Forest.{Forest, insert, remove_cell, replace_step
 use Rattle.schedule_trie.specs.Cut.{Cut, forest, IsCut, KeepsNotesBut, KeepsNotesOff, KeepsUnchanged, KeepsAllNotes, HoldsCellAt, CanGrowAt, IsParted}
 
 -- an edit of the branch with the first name. `Insert` a new cell at a place; `Remove` the cell at a
--- place; `Replace` the step of that cell; `Fork`: add a branch, with the second name, that shares
--- the cells before a place; `Detach`: replace all cells by new ones; or `Drop` the branch
+-- place; `Replace` the step of the cell at a place; `Fork`: add a branch, with the second name,
+-- that shares the cells before a place; `Detach`: replace all cells by new ones; `Drop` the branch
 pub data Edit : Type 0 where
   Insert : List ℕ → ℕ → Step → Edit
   Remove : List ℕ → ℕ → Edit
@@ -48,8 +48,9 @@ pub record IsEdited {T : Type 0} (old new : Cut T) (edit : Edit) : Type 0 where
   pub cut : IsCut new
   pub limits : new.limits ≡ old.limits
 
--- `e` is why an edit is refused: the error of its model, which is the first reason that holds; or,
--- if the edit allocates (insert, fork, detach) and no reason holds, Memory
+-- `e` is why an edit is refused, given `model`, the edit's result if memory suffices: the error of
+-- `model`, which is the first reason that holds; or, if there is no error and the edit allocates
+-- (insert, fork, detach), Memory
 abbrev pub WhyRefused : Edit → Result Forest Refusal → Refusal → Type 0
 WhyRefused (Insert name place step) model e = IsRefused model e
 WhyRefused (Remove name place) model e = model ≡ Err e

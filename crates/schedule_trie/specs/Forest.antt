@@ -83,7 +83,7 @@ ShareUpTo branches =
     (i j k l : ℕ) (s t : Slot) → slice_get (slots_in branches i) k ≡ Some s → slice_get (slots_in branches j) l ≡ Some t
     → s.cell ≡ t.cell → take (suc k) (slots_in branches i) ≡ take (suc l) (slots_in branches j)
 
--- the invariant of every command: branches have different names, branches with a common cell have
+-- what every command keeps true: branches have different names, branches with a common cell have
 -- the same cells up to that cell, and each cell's number is below the number of cells ever made
 pub record IsForest (f : Forest) : Type 0 where
   pub apart : AreNamedApart f.branches
@@ -150,7 +150,7 @@ only_in (suc i) g (b ∷ bs) = b ∷ only_in i g bs
 abbrev pub before_cell : ℕ → Slot → Slot → List Slot
 before_cell x new s = if nat_eq s.cell x then new ∷ s ∷ [] else s ∷ []
 
--- these cells, with a new cell right before cell x; unchanged if cell x isn't there
+-- these cells, with a new cell right before cell x; unchanged if cell x isn't one of them
 abbrev pub put_before : ℕ → Slot → List Slot → List Slot
 put_before x new slots = flat_map (before_cell x new) slots
 
@@ -212,15 +212,15 @@ insert_at limits f place step i =
 abbrev pub insert : Limits → Forest → List ℕ → ℕ → Step → Result Forest Refusal
 insert limits f name place step = on_branch f name (insert_at limits f place step)
 
--- change the cell at a place of the branch at index i, in each branch that has this cell; NoPlace
--- if there is no cell at the place
+-- apply `change`, with the number of the cell at a place of the branch at index i, to the cells of
+-- each branch; NoPlace if there is no cell at the place
 abbrev pub at_cell : Forest → ℕ → (ℕ → List Slot → List Slot) → ℕ → Result Forest Refusal
 at_cell f place change i =
     if nat_le (length (slots_in f.branches i)) place then Err NoPlace
     else Ok (record { branches = everywhere (change (cell_in (slots_in f.branches i) place)) f.branches; made = f.made })
 
--- remove the cell at a place of the named branch from each branch that has it; NoBranch or NoPlace
--- if there is no such branch or cell
+-- remove the cell at a place of the named branch from each branch that has this cell; NoBranch or
+-- NoPlace if there is no such branch or cell
 abbrev pub remove_cell : Forest → List ℕ → ℕ → Result Forest Refusal
 remove_cell f name place = on_branch f name (at_cell f place without)
 
@@ -229,13 +229,14 @@ remove_cell f name place = on_branch f name (at_cell f place without)
 abbrev pub replaced_by : Step → ℕ → List Slot → List Slot
 replaced_by step x slots = replaced x step slots
 
--- replace the step of the cell at a place of the named branch, in each branch that has it; NoBranch
--- or NoPlace if there is no such branch or cell
+-- replace the step of the cell at a place of the named branch, in each branch that has this cell;
+-- NoBranch or NoPlace if there is no such branch or cell
 abbrev pub replace_step : Forest → List ℕ → ℕ → Step → Result Forest Refusal
 replace_step f name place step = on_branch f name (at_cell f place (replaced_by step))
 
--- add a branch at the end of the list, which shares the first `place` cells of the branch at index
--- i; or the first reason to refuse this: NameTaken, BadName, NoPlace, TooManyBranches
+-- add, at the end of the list of branches, a branch named `name` that shares the first `place`
+-- cells of the branch at index i; or the first reason to refuse this: NameTaken, BadName, NoPlace,
+-- TooManyBranches
 abbrev pub fork_at : Limits → Forest → ℕ → List ℕ → ℕ → Result Forest Refusal
 fork_at limits f place name i =
     if list_any (pointwise nat_eq name) (map name_of f.branches) then Err NameTaken
@@ -244,8 +245,9 @@ fork_at limits f place name i =
     else (if nat_le limits.branches (length f.branches) then Err TooManyBranches
     else Ok (record { branches = f.branches ++ branch name (take place (slots_in f.branches i)) ∷ []; made = f.made }))))
 
--- add a branch, named `new`, at the end of the list, which shares the first `place` cells of the
--- branch named `name`; or the first reason to refuse this, NoBranch or one of `fork_at`
+-- add, at the end of the list of branches, a branch named `new` that shares the first `place` cells
+-- of the branch named `name`; or the first reason to refuse this: NoBranch, or a reason of
+-- `fork_at`
 abbrev pub fork : Limits → Forest → List ℕ → ℕ → List ℕ → Result Forest Refusal
 fork limits f name place new = on_branch f name (fork_at limits f place new)
 
@@ -276,7 +278,7 @@ drop_at f i =
 abbrev pub drop_branch : Forest → List ℕ → Result Forest Refusal
 drop_branch f name = on_branch f name (drop_at f)
 
--- `e` is why a call that allocates is refused: the error of its model, which is the first reason
--- that holds; or, if no reason holds, Memory
+-- `e` is why a call that allocates is refused, given `model`, the call's result if memory suffices:
+-- the error of `model`, which is the first reason that holds; or, if there is no error, Memory
 abbrev pub IsRefused : Result Forest Refusal → Refusal → Type 0
 IsRefused model e = (model ≡ Err e) ⊎ ((e ≡ Memory) × IsOk model)

@@ -3,9 +3,9 @@ use Rattle.std.specs.Prelude.{ℕ, ◌≡◌, List, [], ◌∷◌, ◌++◌, Som
 use Rattle.schedule_trie.specs.Forest.{branch, index_of, slots_in}
 use Rattle.schedule_trie.specs.Cut.{Cut, forest, strand, keys_in, IsCut, KeepsNotesOff, IsParted}
 
--- from cut `old` to cut `new`, a branch of this name is added last, with the first `place` cells of
--- the branch at `index`; only a segment that has cells on both sides of that place, and is cut
--- there, loses its note
+-- from cut `old` to cut `new`, a branch of this name is added at the end of the list of branches,
+-- with the first `place` cells of the branch at `index`; only a segment that has cells on both
+-- sides of that place, and is cut there, loses its note
 pub record IsBranchForked {T : Type 0} (old new : Cut T) (index place : ℕ) (name : List ℕ) : Type 0 where
   pub branches : (forest new).branches ≡ (forest old).branches ++ branch name (take place (slots_in (forest old).branches index)) ∷ []
   pub made : new.made ≡ old.made
@@ -13,8 +13,8 @@ pub record IsBranchForked {T : Type 0} (old new : Cut T) (index place : ℕ) (na
   pub notes : (source : List ℕ) → index_of (forest old).branches source ≡ Some index → KeepsNotesOff old new (IsParted old source place)
   pub cut : IsCut new
 
--- from cut `old` to cut `new`, a branch of this name is added last, with all segments of the branch
--- at `index`; no segment changes
+-- from cut `old` to cut `new`, a branch of this name is added at the end of the list of branches,
+-- with all segments of the branch at `index`; no segment changes
 pub record IsForkedWhole {T : Type 0} (old new : Cut T) (index : ℕ) (name : List ℕ) : Type 0 where
   pub strands : new.strands ≡ old.strands ++ strand name (keys_in old.strands index) ∷ []
   pub pieces : new.pieces ≡ old.pieces

@@ -1,4 +1,4 @@
--- Worked rows: a file's limbs and their forest, computed by the definitions.
+-- Worked examples: a file's limbs and their forest, computed by the definitions.
 use Rattle.std.specs.Prelude.{ℕ, List, [], ◌∷◌, Result, Ok, Err, codes, ◌≡◌, refl, true, false}
 use Rattle.frames.specs.declared.types.Step.{Step}
 use Rattle.frames.specs.declared.types.Step.TheVariants.{Read, Write, Go}

@@ -14,7 +14,7 @@ use Rattle.schedule_trie.specs.Forest.{Forest, Branch, branch, numbered, slots_i
 abbrev pub has_slot : ℕ → List Slot → Bool
 has_slot x slots = list_any (is_cell x) slots
 
--- whether the cell with number x is on a branch
+-- whether a branch has the cell with number x
 abbrev pub holds : ℕ → Branch → Bool
 holds x b = has_slot x b.slots
 
@@ -22,8 +22,8 @@ holds x b = has_slot x b.slots
 abbrev pub is_in_branches : List Branch → Slot → Bool
 is_in_branches branches s = list_any (holds s.cell) branches
 
--- the number of a branch's cells before its first cell that no earlier branch has; the number of
--- all its cells if each is on an earlier branch
+-- how many of its first cells a branch shares with earlier branches: those before the first cell
+-- that no earlier branch has, or all its cells if there is no such cell
 abbrev pub shared_with : List Branch → List Slot → ℕ
 shared_with earlier slots = prefix_len (is_in_branches earlier) slots
 
@@ -59,7 +59,8 @@ limbs f = limbs_after [] f.branches
 abbrev pub slots_on : Forest → Limb → List Slot
 slots_on f l = take l.shared (slots_in f.branches l.from) ++ numbered f.made l.steps
 
--- the forest after a limb's branch is added last, with the cells of `slots_on`
+-- the forest after a limb's branch is added at the end of the list of branches, with the cells of
+-- `slots_on`
 abbrev pub grown : Forest → Limb → Forest
 grown f l = record { branches = f.branches ++ branch l.name (slots_on f l) ∷ []; made = f.made + length l.steps }
 
@@ -72,8 +73,8 @@ grow f (l ∷ ls) = grow (grown f l) ls
 abbrev pub no_branches : Forest
 no_branches = record { branches = []; made = 0 }
 
--- the forest that limbs describe, each as a branch; its cells are numbered in the order of the
--- limbs' steps
+-- the forest that limbs describe: a branch for each limb, with the cells numbered in the order of
+-- the limbs' steps
 abbrev pub forest_of : List Limb → Forest
 forest_of ls = grow no_branches ls
 
@@ -109,9 +110,9 @@ abbrev pub is_own_of : Option Limb → ℕ → Bool
 is_own_of None k = false
 is_own_of (Some p) k = nat_lt p.shared k && nat_le k (limb_length p)
 
--- whether a limb may follow the earlier ones, judged by the cells that it shares: its `from` and
--- `shared` are 0; or the last cell that it shares is one of the own cells (not shared in turn) of
--- the limb at index `from`
+-- whether a limb may follow the earlier ones, judged by the cells that it shares: either its `from`
+-- and `shared` are 0, or the last cell that it shares is one of the own cells of the limb at index
+-- `from` (those after that limb's shared cells)
 abbrev pub may_share : List Limb → Limb → Bool
 may_share earlier l = (nat_eq l.from 0 && nat_eq l.shared 0) || is_own_of (slice_get earlier l.from) l.shared
 

@@ -5,9 +5,9 @@ use Rattle.schedule_trie.specs.Forest.{index_of, slots_in}
 use Rattle.schedule_trie.specs.Cut.{Cut, forest, IsBlank, IsCut}
 use Rattle.schedule_trie.specs.Limbs.{is_name, grown}
 
--- a limb's branch can be added to a cut: the branch at the limb's `from` has the cells that the
--- limb shares, the limb's name has the form of a branch's name, no branch has this name, and the
--- limits allow one more branch and the limb's own cells
+-- a limb's branch can be added to a cut: there is a branch at index `l.from`, with at least
+-- `l.shared` cells; the limb's name has the form of a branch's name, and no branch has this name;
+-- and the limits allow one more branch and the limb's own cells
 pub record CanGrow {T : Type 0} (c : Cut T) (l : Limb) : Type 0 where
   pub from : l.from < length c.strands
   pub place : l.shared ≤ length (slots_in (forest c).branches l.from)
@@ -16,8 +16,8 @@ pub record CanGrow {T : Type 0} (c : Cut T) (l : Limb) : Type 0 where
   pub room : length c.strands < c.limits.branches
   pub cells : c.made + length l.steps ≤ c.limits.cells
 
--- from cut `old` to cut `new`, the limb's branch is added last; if `old` has no note, `new` has
--- none
+-- from cut `old` to cut `new`, the limb's branch is added at the end of the list of branches; if
+-- `old` has no note, `new` has none
 pub record IsGrown {T : Type 0} (old new : Cut T) (l : Limb) : Type 0 where
   pub forest_is : forest new ≡ grown (forest old) l
   pub limits : new.limits ≡ old.limits

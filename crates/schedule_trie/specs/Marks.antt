@@ -31,7 +31,7 @@ pub record IsOwnPart (marks : List (Option Mark)) (keys : List ℕ) (stem : Mark
 
 -- `new` is `old` after these consecutive keys of a branch are marked. The mark of a key has the
 -- branch, and how many cells the branch has down to the end of the key's segment; `cells` is how
--- many it has above the first of these keys. No other mark changes.
+-- many cells the branch has above the first of these keys. No other mark changes.
 pub record AreMarked {T : Type 0} (at : ℕ → Option (Piece T)) (old new : List (Option Mark)) (keys : List ℕ) (branch cells : ℕ) : Type 0 where
   pub count : length new ≡ length old
   pub marked : (k : ℕ) → has k keys ≡ true → mark_at new k ≡ Some (mark branch (cells + length (line at (keys_up_to k keys))))

@@ -1,4 +1,4 @@
--- Worked rows: commands on a forest, computed by the definitions.
+-- Worked examples: commands on a forest, computed by the definitions.
 use Rattle.std.specs.Prelude.{ℕ, List, [], ◌∷◌, Result, Ok, Err, codes, ◌≡◌, refl}
 use Rattle.frames.specs.declared.types.Step.{Step}
 use Rattle.frames.specs.declared.types.Step.TheVariants.{Read, Write, Go}
@@ -50,12 +50,12 @@ parent-end : after (fork plenty (opening_forest (read ∷ go ∷ go ∷ [])) mai
     })
 parent-end = refl
 
--- the number of a removed cell isn't given out again
+-- the number of a removed cell isn't used again
 remove-insert : after (remove_cell (opening_forest (write ∷ go ∷ go ∷ [])) main 1) (λ f. insert plenty f main 1 go)
     ≡ Ok (record { branches = branch main (slot 0 write ∷ slot 3 go ∷ slot 2 go ∷ []) ∷ []; made = 4 })
 remove-insert = refl
 
--- a detach makes new cells, which may exceed the limit: here 2, with 4 made and a limit of 4
+-- a detach makes new cells, which may exceed the limit: 2 new, with 4 made and a limit of 4
 cells-full : after (fork four (opening_forest (read ∷ read ∷ read ∷ read ∷ [])) main 2 a) (λ f. detach four f a) ≡ Err Full
 cells-full = refl
 
@@ -63,7 +63,7 @@ cells-full = refl
 fifth-cell : insert four (opening_forest (read ∷ read ∷ read ∷ read ∷ [])) main 0 read ≡ Err Full
 fifth-cell = refl
 
--- a detached branch has its own cells, so that a replace in the other doesn't change it
+-- a detached branch has its own cells, so that a replace in another branch doesn't change it
 detach-replace : after (after (fork plenty (opening_forest (read ∷ go ∷ [])) main 2 a) (λ f. detach plenty f a)) (λ f. replace_step f main 1 (Go 1 1))
     ≡ Ok (record {
       branches = branch main (slot 0 read ∷ slot 1 (Go 1 1) ∷ []) ∷ branch a (slot 2 read ∷ slot 3 go ∷ []) ∷ [];

@@ -1,7 +1,7 @@
 //! Branches of a schedule that share their steps.
 //!
 //! A branch is a list of cells, each of which has a number and holds one step. New cells are
-//! numbered in the order in which they are made, from 0 on; no number is ever given out again. Two
+//! numbered in the order in which they are made, from 0 on; no number is ever used again. Two
 //! branches with a common cell have the same cells up to that cell.
 #![tactic(auto)]
 

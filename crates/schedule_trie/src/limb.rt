@@ -48,9 +48,9 @@ impl Steps {
     }
 }
 
-/// A branch as a file stores it: its name; the number `shared` of its first cells that it shares
-/// with an earlier branch, and the index `from` of that branch in the file (both are 0 if it shares
-/// none); and the steps of its own cells, which follow the shared ones.
+/// A branch as a file stores it: its name; `shared`, how many of its first cells it shares with an
+/// earlier branch; `from`, the index of that branch in the file (both are 0 if no cell is shared);
+/// and the steps of its own cells, which follow the shared ones.
 #[derive(Debug, Drop)]
 pub struct Limb {
     pub name: Name,
@@ -59,9 +59,9 @@ pub struct Limb {
     pub steps: Steps,
 }
 
-/// Whether `limb` may follow `limbs`, judged by the cells that it shares: its `from` and `shared`
-/// are 0; or the last cell that it shares is one of the own cells (not shared in turn) of the limb
-/// at index `from`.
+/// Whether `limb` may follow `limbs`, judged by the cells that it shares: either its `from` and
+/// `shared` are 0, or the last cell that it shares is one of the own cells of the limb at index
+/// `from` (those after that limb's shared cells).
 pub fn may_share(limbs: &[Limb], limb: &Limb) -> bool
     ensures { result ≡ spec.may_share limbs.now limb.now }
 {

@@ -1,4 +1,5 @@
-//! Marks of segments, by which `Trie::limbs` finds with which earlier branch a branch shares cells.
+//! Marks of segments: `Trie::limbs` uses them to find the earlier branch that a branch shares cells
+//! with, and how many cells it shares.
 
 /// The mark of a segment: `branch` is the index of the first branch that has the segment, and
 /// `cells` the number of that branch's cells down to the segment's end.

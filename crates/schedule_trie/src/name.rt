@@ -73,7 +73,7 @@ impl Hash for Name {
 }
 
 impl Name {
-    /// The name `main`, which is that of the one branch of a trie made by `Trie::new`.
+    /// The name `main`, which `Trie::new` gives to the new trie's only branch.
     pub fn main() -> Name
         ensures { result ≡ codes "main" }
     {

@@ -34,7 +34,8 @@ pub enum Refusal {
     NoBreak,
     /// There is no such session, or it hasn't joined.
     NoSession,
-    /// The command's guard isn't the number of edits so far. The field is the number of edits.
+    /// The command's guard, a number of edits, isn't the number of edits so far. The field is the
+    /// number of edits so far.
     Newer(u64),
     /// The number of logged commands is at its limit.
     LogFull,
@@ -49,18 +50,18 @@ impl Refusal {
     pub fn number(self) -> u32
         ensures { result ≡ spec.refusal_number self }
     {
-        self.reported().0
+        self.number_and_name().0
     }
 
     /// The refusal's name, which is spelled like the variant.
     pub fn name(self) -> &'static str
         ensures { result.now ≡ spec.refusal_name self }
     {
-        self.reported().1
+        self.number_and_name().1
     }
 
     /// The refusal's number and its name.
-    fn reported(self) -> (u32, &'static str)
+    fn number_and_name(self) -> (u32, &'static str)
         ensures number { result.0 ≡ spec.refusal_number self }
         ensures name { result.1.now ≡ spec.refusal_name self }
     {

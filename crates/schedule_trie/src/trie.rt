@@ -33,9 +33,9 @@ use lineage::lineage::Lineage;
 use std::alloc::{AllocError, Global};
 use std::marker::Model;
 
-/// Branches of a schedule that share their steps. They are cut into segments: 1 to 128 cells, which
-/// branches share as a whole. Each segment has a key, and may have a note: a value of type `T` that
-/// `set_note` sets, and that an edit of the segment clears.
+/// Branches of a schedule that share their steps. Each branch is cut into segments of 1 to 128
+/// cells, and branches share whole segments. Each segment has a key, and may have a note: a value
+/// of type `T` that `set_note` sets, and that an edit of the segment clears.
 #[derive(Drop)]
 pub struct Trie<T> {
     segments: Lineage<Segment<T>>,
@@ -141,8 +141,8 @@ impl<T: Drop> Trie<T> {
 
     /// Does nothing. Its contract states what holds of each trie: branches have different,
     /// well-formed names; two branches with a common cell have the same cells up to that cell; each
-    /// segment has 1 to 128 cells, and branches that share one share all segments above it; and the
-    /// numbers of branches and of cells made are within the limits.
+    /// segment has 1 to 128 cells; branches that share a segment share all segments above it; and
+    /// the numbers of branches and of cells made are within the limits.
     pub fn held(&self)
         ensures forest { IsForest (forest self.now) }
         ensures names { HaveNames (forest self.now).branches }

@@ -25,11 +25,11 @@ text_of session None = []
 text_of session (Some page) = page_text session page
 
 -- the text of the page that a look shows in world w; nothing if the look is refused
-abbrev pub page_or_refusal : {P : Type 0} → ℕ → Query → World P → List ℕ
-page_or_refusal session query w = text_of session (shown_in w query)
+abbrev pub shown_text : {P : Type 0} → ℕ → Query → World P → List ℕ
+shown_text session query w = text_of session (shown_in w query)
 
--- the answer to a look, given whether the look is refused: `page`, the text of its page, if it
--- isn't; the text of the refusal if it is
+-- the answer to a look: the text of its refusal, if the look is refused; otherwise `page`, the text
+-- of its page
 abbrev pub page_unless : Result Forest Refusal → ℕ → List ℕ → List ℕ
 page_unless (Ok f) session page = page
 page_unless (Err r) session page = answer_text session (No r)
@@ -37,11 +37,12 @@ page_unless (Err r) session page = answer_text session (No r)
 -- the answer to a look, given whether memory ran out: if so, the refusal Memory; otherwise the text
 -- of its page, or of its own refusal
 abbrev pub look_text : Bool → ℕ → Result Forest Refusal → List ℕ → List ℕ
-look_text false session looked_in page = page_unless looked_in session page
-look_text true session looked_in page = answer_text session (No Memory)
+look_text false session result page = page_unless result session page
+look_text true session result page = answer_text session (No Memory)
 
--- the answer to a fill, given whether memory ran out and the index of the fill's branch, if that
--- branch exists: the refusal Memory if memory ran out; otherwise `filled`, or the refusal NoBranch
+-- the answer to a fill, given whether memory ran out, and the index of the fill's branch (`None` if
+-- there is no such branch). If memory ran out, the answer is the refusal Memory. Otherwise it is
+-- `filled` if there is such a branch, and the refusal NoBranch if there is none.
 abbrev pub fill_text : Bool → ℕ → Option ℕ → List ℕ
 fill_text false session None = answer_text session (No NoBranch)
 fill_text false session (Some index) = filled_text session
@@ -56,7 +57,7 @@ replied session a = record { world = a.world; text = answer_text session a.reply
 -- by its reply, a look by its page or its refusal, and a fill by `filled` or NoBranch
 abbrev pub performed : {P : Type 0} → ℕ → Request → World P → Answered (World P)
 performed session (Act guard command) w = replied session (command_result session guard command w)
-performed session (Look query) w = record { world = w; text = page_unless (looked_in w query) session (page_or_refusal session query w) }
+performed session (Look query) w = record { world = w; text = page_unless (looked_in w query) session (shown_text session query w) }
 performed session (Fill branch) w = record { world = w; text = fill_text false session (index_of w.forest.branches branch) }
 
 -- the answer to a call and the world after it, given whether memory ran out. If it did, the answer

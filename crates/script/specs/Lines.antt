@@ -30,14 +30,14 @@ only_branch ws = do
   b ← branch_word (next ws)
   if is_end (after_next ws) then Some b else None
 
--- reads the name of a branch and a place, with no words after them
+-- reads a branch's name and a place, with no words after them
 abbrev pub branch_and_place : List (List ℕ) → Option (List ℕ × ℕ)
 branch_and_place ws = do
   b ← branch_word (next ws)
   k ← number (next (after_next ws))
   if is_end (after_next (after_next ws)) then Some (b, k) else None
 
--- reads the name of a branch, a place and a process, with no words after them
+-- reads a branch's name, a place and a process, with no words after them
 abbrev pub process_at : List (List ℕ) → Option (List ℕ × ℕ × ℕ)
 process_at ws = do
   b ← branch_word (next ws)
@@ -45,7 +45,7 @@ process_at ws = do
   p ← number (next (after_next (after_next ws)))
   if is_end (after_next (after_next (after_next ws))) then Some (b, k, p) else None
 
--- reads the name of a branch, a place and a step, with no words after them
+-- reads a branch's name, a place and a step, with no words after them
 abbrev pub step_at : List (List ℕ) → Option (List ℕ × ℕ × Step)
 step_at ws = do
   b ← branch_word (next ws)
@@ -53,7 +53,7 @@ step_at ws = do
   s ← step_of_words (after_next (after_next ws))
   Some (b, k, s)
 
--- reads the name of a branch, a place and the name of a new branch, with no words after them
+-- reads a branch's name, a place and a new branch's name, with no words after them
 abbrev pub fork_of : List (List ℕ) → Option (List ℕ × ℕ × List ℕ)
 fork_of ws = do
   b ← branch_word (next ws)
@@ -73,7 +73,8 @@ kind_of word =
     else (if bytes_eq word (codes "refused") then Some break.Refused
     else None))
 
--- reads a break, with no words after it: `returns P`, `bit J V`, or one word
+-- reads a break, which is `returns P`, `bit J V`, `chosen`, `void` or `refused`. No words may
+-- follow the break.
 abbrev pub break_of : List (List ℕ) → Option Break
 break_of ws =
     if bytes_eq (next ws) (codes "returns") then option_map break.Returns (one_number (after_next ws))
@@ -92,7 +93,8 @@ is_look word =
     bytes_eq word (codes "branches") || (bytes_eq word (codes "cursor") || (bytes_eq word (codes "steps")
     || (bytes_eq word (codes "process") || is_place_look word)))
 
--- the look that begins with this word (such as `state`) and is at this place of branch b
+-- the look with the first word `word` (such as `state`), at this place of branch b; `None` if
+-- `word` isn't the first word of a look at a place as a whole
 abbrev pub query_at : List ℕ → List ℕ → ℕ → Option Query
 query_at word b place =
     if bytes_eq word (codes "state") then Some (State b place)
@@ -102,15 +104,15 @@ query_at word b place =
     else (if bytes_eq word (codes "verdict") then Some (Verdict b place)
     else None))))
 
--- reads a look at a place as a whole: its first word is given, and the others must be just the name
--- of a branch and a place
+-- reads a look at a place as a whole. `word` is the look's first word; the words after it must be
+-- just a branch's name and a place.
 abbrev pub place_look_of : List ℕ → List (List ℕ) → Option Query
 place_look_of word ws = do
   p ← branch_and_place ws
   query_at word p.0 p.1
 
--- reads a session's look, given its first word: `branches`, `cursor`, `steps B`, `process B K P`,
--- or a look at a place as a whole, which has the words `B K` after its first word
+-- reads a session's look, which is `branches`, `cursor`, `steps B`, `process B K P`, or a look at a
+-- place as a whole (its first word, and then `B K`). `word` is the look's first word.
 abbrev pub look_of : ℕ → List ℕ → List (List ℕ) → Option Query
 look_of session word ws =
     if bytes_eq word (codes "branches") then if_no_more Branches ws
@@ -119,8 +121,8 @@ look_of session word ws =
     else (if bytes_eq word (codes "process") then option_map (λ p. Process p.0 p.1 p.2) (process_at ws)
     else place_look_of word ws)))
 
--- reads an edit of a branch as a whole, given the edit's first word: `fork B K NAME`, `detach B` or
--- `drop B`
+-- reads an edit of a branch as a whole, which is `fork B K NAME`, `detach B` or `drop B`. `word` is
+-- the edit's first word.
 abbrev pub branch_command_of : List ℕ → List (List ℕ) → Option Command
 branch_command_of word ws =
     if bytes_eq word (codes "fork") then option_map (λ p. command.Fork p.0 p.1 p.2) (fork_of ws)
@@ -128,8 +130,8 @@ branch_command_of word ws =
     else (if bytes_eq word (codes "drop") then option_map command.Drop (only_branch ws)
     else None))
 
--- reads an edit, given its first word: `insert B K STEP`, `remove B K`, `replace B K STEP`, or an
--- edit of a branch as a whole
+-- reads an edit, which is `insert B K STEP`, `remove B K`, `replace B K STEP`, or an edit of a
+-- branch as a whole. `word` is the edit's first word.
 abbrev pub cell_command_of : List ℕ → List (List ℕ) → Option Command
 cell_command_of word ws =
     if bytes_eq word (codes "insert") then option_map (λ p. command.Insert p.0 p.1 p.2) (step_at ws)
@@ -137,15 +139,16 @@ cell_command_of word ws =
     else (if bytes_eq word (codes "replace") then option_map (λ p. command.Replace p.0 p.1 p.2) (step_at ws)
     else branch_command_of word ws))
 
--- reads `break BR` or `clear BR` (BR is a break), or an edit, given its first word
+-- reads a command that is `break BR` or `clear BR` (BR is a break), or an edit. `word` is the
+-- command's first word.
 abbrev pub break_command_of : List ℕ → List (List ℕ) → Option Command
 break_command_of word ws =
     if bytes_eq word (codes "break") then option_map command.Break (break_of ws)
     else (if bytes_eq word (codes "clear") then option_map command.Clear (break_of ws)
     else cell_command_of word ws)
 
--- reads a command, given its first word: `join`, `leave`, `seek`, `back`, `go B K`, `break BR`,
--- `clear BR` (BR is a break), or an edit
+-- reads a command, which is `join`, `leave`, `seek`, `back`, `go B K`, `break BR`, `clear BR` (BR
+-- is a break), or an edit. `word` is the command's first word.
 abbrev pub command_of : List ℕ → List (List ℕ) → Option Command
 command_of word ws =
     if bytes_eq word (codes "join") then if_no_more command.Join ws
@@ -173,7 +176,8 @@ abbrev pub act_of : List ℕ → List (List ℕ) → Option Request
 act_of [] ws = unguarded [] ws
 act_of (b ∷ bs) ws = if b == 64 then guarded bs ws else unguarded (b ∷ bs) ws
 
--- reads a session's request, given its first word: a look, `fill B`, or a command
+-- reads a session's request, which is a look, `fill B`, or a command; only a command may have a
+-- guard. `word` is the request's first word.
 abbrev pub request_of : ℕ → List ℕ → List (List ℕ) → Option Request
 request_of session word ws =
     if is_look word then option_map Look (look_of session word ws)

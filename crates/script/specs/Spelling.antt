@@ -1,4 +1,4 @@
--- The one text that spells each call, and what a line says, by these texts.
+-- The one text that spells each call, and what a line says according to the texts of calls.
 use Rattle.std.specs.Prelude.{ℕ, ◌≡◌, ◌^◌, Bool, true, ◌&&◌, nat_lt, nat_le, List, [], ◌∷◌, ◌++◌, Some, None, ⊤, length, map, codes, decimal}
 use Rattle.std.specs.List.{list_all, join_with_byte}
 use Rattle.frames.specs.declared.types.Step.{Step}
@@ -15,7 +15,8 @@ use Rattle.script.specs.declared.call.Call.{Call}
 use Rattle.script.specs.declared.call.Line.{Line}
 use Rattle.script.specs.declared.call.Line.TheVariants as line
 
--- a word of a call: a text, which is a command's word or a branch's name; a number; or a guard
+-- a word of a call: a text, which is a fixed word (such as `join`) or a branch's name; a number; or
+-- a guard
 pub data Word : Type 0 where
   Text : List ℕ → Word
   Number : ℕ → Word
@@ -105,8 +106,8 @@ abbrev pub IsOwn : ℕ → Request → Type 0
 IsOwn session (Look (Cursor who)) = who ≡ session
 IsOwn session r = ⊤
 
--- A text spells a call: it is the call's text; the call's words are sound (each text has 1 to 16
--- visible bytes, each number at most 9 digits); and if the call is a look at a cursor, that cursor
+-- A text spells a call: it is the call's text; the call's words are sound (a number has at most 9
+-- digits, any other word 1 to 16 visible bytes); and if the call is a look at a cursor, that cursor
 -- is the session's own.
 pub record SpellsCall (text : List ℕ) (c : Call) : Type 0 where
   pub own : IsOwn c.session c.request

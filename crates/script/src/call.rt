@@ -7,8 +7,8 @@ use views::query::Query;
 /// A session's request.
 #[derive(Clone, Copy, Debug, PartialEq, Eq)]
 pub enum Request {
-    /// A command, which is logged. If it has a guard, it is carried out only if the guard equals
-    /// the edit count.
+    /// A command. It is logged, unless the reply is LogFull or Memory. If it has a guard, it is
+    /// carried out only if the guard equals the edit count.
     Act {
         if_at: Option<u64>,
         command: Command,

@@ -7,8 +7,8 @@ ghost use Rattle.script.specs.Lines.{read_line};
 ghost use Rattle.script.specs.Spelling.{SpellsCall, LineSays};
 
 /// Each call is spelled by at most one text. `read_line` returns `said` exactly if the line says
-/// that: that it is blank (it is empty or begins with `#`); or the call that it spells; or that it
-/// is bad, because it isn't blank and spells no call.
+/// `said`. A line that is empty or begins with `#` says that it is blank; a line that spells a call
+/// says that call; any other line says that it is bad.
 pub fn one_text()
     ensures text { (a b : List ℕ) (c : Call) → SpellsCall a c → SpellsCall b c → a ≡ b }
     ensures reading { (line : List ℕ) (said : Line) → (read_line line ≡ said) ↔ LineSays line said }

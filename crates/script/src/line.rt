@@ -8,7 +8,7 @@ ghost use Rattle.script.specs.Lines as spec;
 ghost use Rattle.script.specs.Spelling.{LineSays};
 
 use crate::call::{Call, Line, Request};
-use crate::look::{branch, branch_of, is_look, look_of, place_of};
+use crate::look::{branch, branch_and_place, is_look, look_of, only_branch};
 use frames::types::Step;
 use schedule_trie::name::Name;
 use sessions::command::Command;
@@ -24,7 +24,8 @@ const MOST_BYTES: usize = 255;
 /// or that it is bad, if it spells no call.
 pub fn read_line(line: &[u8]) -> Line
     ensures read { result ≡ spec.read_line line.now }
-    // By the definition of each call's text, the line says what is returned, and nothing else.
+    // The result is the only `Line` that the line says. `LineSays` is defined by the text that
+    // spells each call, not by how a line is read.
     ensures says { LineSays line.now result }
     ensures only { (said : Line) → LineSays line.now said → result ≡ said }
 {
@@ -58,7 +59,7 @@ fn called(line: &[u8]) -> Line
 fn all_plain(line: &[u8]) -> bool
     ensures { result ≡ list_all spec.is_call_byte line.now }
 {
-    // There is no early exit, so that many bytes are tested at once.
+    // Without an early exit, many bytes can be tested at once.
     let mut plain = true;
     for byte in line {
         plain &= 0x20 <= *byte && *byte <= 0x7e;
@@ -85,7 +86,7 @@ fn request_of(session: u32, word: &[u8], words: &mut Parts<'_>) -> Option<Reques
         return Some(Request::Look(query));
     }
     if is(word, "fill") {
-        let branch = branch_of(words)?;
+        let branch = only_branch(words)?;
         return Some(Request::Fill(branch));
     }
     match word.split_first() {
@@ -135,13 +136,13 @@ fn command_of(word: &[u8], words: &mut Parts<'_>) -> Option<Command>
         return words.is_end().then_some(Command::Back);
     }
     if is(word, "go") {
-        let (b, k) = place_of(words)?;
+        let (b, k) = branch_and_place(words)?;
         return Some(Command::Go { b, k });
     }
     break_command_of(word, words)
 }
 
-/// Reads a command that begins with this word and sets or clears a break, or that is an edit.
+/// Reads a command that begins with this word. The command is an edit, or sets or clears a break.
 fn break_command_of(word: &[u8], words: &mut Parts<'_>) -> Option<Command>
     ensures { result ≡ spec.break_command_of word.now words.old }
 {
@@ -156,7 +157,8 @@ fn break_command_of(word: &[u8], words: &mut Parts<'_>) -> Option<Command>
     cell_command_of(word, words)
 }
 
-/// Reads an edit that begins with this word: of a cell, or of a branch as a whole.
+/// Reads an edit that begins with this word. The edit inserts, removes or replaces one step, or is
+/// an edit of a branch as a whole.
 fn cell_command_of(word: &[u8], words: &mut Parts<'_>) -> Option<Command>
     ensures { result ≡ spec.cell_command_of word.now words.old }
 {
@@ -165,7 +167,7 @@ fn cell_command_of(word: &[u8], words: &mut Parts<'_>) -> Option<Command>
         return Some(Command::Insert { b, k, step });
     }
     if is(word, "remove") {
-        let (b, k) = place_of(words)?;
+        let (b, k) = branch_and_place(words)?;
         return Some(Command::Remove { b, k });
     }
     if is(word, "replace") {
@@ -175,7 +177,7 @@ fn cell_command_of(word: &[u8], words: &mut Parts<'_>) -> Option<Command>
     branch_command_of(word, words)
 }
 
-/// Reads an edit that begins with this word and is of a branch as a whole.
+/// Reads an edit of a branch as a whole, given the edit's first word.
 fn branch_command_of(word: &[u8], words: &mut Parts<'_>) -> Option<Command>
     ensures { result ≡ spec.branch_command_of word.now words.old }
 {
@@ -184,11 +186,11 @@ fn branch_command_of(word: &[u8], words: &mut Parts<'_>) -> Option<Command>
         return Some(Command::Fork { b, k, name });
     }
     if is(word, "detach") {
-        let b = branch_of(words)?;
+        let b = only_branch(words)?;
         return Some(Command::Detach { b });
     }
     if is(word, "drop") {
-        let b = branch_of(words)?;
+        let b = only_branch(words)?;
         return Some(Command::Drop { b });
     }
     None
@@ -225,7 +227,7 @@ fn kind_of(word: &[u8]) -> Option<Break>
     }
 }
 
-/// Reads a branch, a place and a step.
+/// Reads a branch, a place and a step, after which the line has to end.
 fn step_at(words: &mut Parts<'_>) -> Option<(Name, u32, Step)>
     ensures { result ≡ spec.step_at words.old }
 {

@@ -32,7 +32,7 @@ fn is_place_look(word: &[u8]) -> bool
         || is(word, "verdict")
 }
 
-/// Reads a session's look, given its first word, from the other words of the line.
+/// Reads a look of this session. `word` is the look's first word. `words` are the words after it.
 pub(crate) fn look_of(session: u32, word: &[u8], words: &mut Parts<'_>) -> Option<Query>
     ensures { result ≡ spec.look_of session word.now words.old }
 {
@@ -43,18 +43,19 @@ pub(crate) fn look_of(session: u32, word: &[u8], words: &mut Parts<'_>) -> Optio
         return words.is_end().then_some(Query::Cursor { who: session });
     }
     if is(word, "steps") {
-        let b = branch_of(words)?;
+        let b = only_branch(words)?;
         return Some(Query::Steps { b });
     }
     if is(word, "process") {
         let (b, k, p) = process_at(words)?;
         return Some(Query::Process { b, k, p });
     }
-    let (b, k) = place_of(words)?;
+    let (b, k) = branch_and_place(words)?;
     query_at(word, b, k)
 }
 
-/// The look with this word, at place `k` of branch `b`; `None` if the word is another.
+/// The look with the first word `word`, at place `k` of branch `b`. `None` if `word` isn't the
+/// first word of a look at a place as a whole.
 fn query_at(word: &[u8], b: Name, k: u32) -> Option<Query>
     ensures { result ≡ spec.query_at word.now b k }
 {
@@ -74,15 +75,15 @@ fn query_at(word: &[u8], b: Name, k: u32) -> Option<Query>
 }
 
 /// Reads the name of a branch, which must be the last word of the line.
-pub(crate) fn branch_of(words: &mut Parts<'_>) -> Option<Name>
+pub(crate) fn only_branch(words: &mut Parts<'_>) -> Option<Name>
     ensures { result ≡ spec.only_branch words.old }
 {
     let branch = branch(words.next())?;
     words.is_end().then_some(branch)
 }
 
-/// Reads the name of a branch and a place, which must be the last two words of the line.
-pub(crate) fn place_of(words: &mut Parts<'_>) -> Option<(Name, u32)>
+/// Reads a branch's name and a place, which must be the last two words of the line.
+pub(crate) fn branch_and_place(words: &mut Parts<'_>) -> Option<(Name, u32)>
     ensures { result ≡ spec.branch_and_place words.old }
 {
     let branch = branch(words.next())?;
@@ -100,7 +101,7 @@ fn process_at(words: &mut Parts<'_>) -> Option<(Name, u32, u32)>
     words.is_end().then_some((branch, place, process))
 }
 
-/// The name of a branch that has these bytes; `None` unless there are 1 to 16.
+/// These bytes as the name of a branch; `None` unless there are 1 to 16 bytes.
 pub(crate) fn branch(word: &[u8]) -> Option<Name>
     ensures { result ≡ spec.branch_word word.now }
 {

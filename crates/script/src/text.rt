@@ -40,7 +40,7 @@ pub fn push_bad_line(out: &mut Vec<u8>, line: u32) -> Pushed
     push_text(out, "\n")
 }
 
-/// Adds a reply, without the session's number.
+/// Adds the text of a reply, without the session's number and without a line end.
 fn push_words(out: &mut Vec<u8>, reply: &Reply) -> Pushed
     ensures { OnOk result (out.new.items ≡ out.old.items ++ spec.reply_text reply.now) }
 {
@@ -56,7 +56,7 @@ fn push_words(out: &mut Vec<u8>, reply: &Reply) -> Pushed
     }
 }
 
-/// Adds the place of a cursor that has moved.
+/// Adds the text of the reply that a cursor has moved to this place of this branch.
 fn push_place(out: &mut Vec<u8>, branch: &Name, place: u32) -> Pushed
     ensures { OnOk result (out.new.items ≡ out.old.items ++ spec.place_text branch.now place) }
 {
@@ -65,7 +65,7 @@ fn push_place(out: &mut Vec<u8>, branch: &Name, place: u32) -> Pushed
     push_labelled(out, " ", u64::from(place))
 }
 
-/// Adds a refusal: its number, its name and, for Newer, the edit count.
+/// Adds the text of a refusal: `refused`, its number, its name and, for Newer, the edit count.
 fn push_refusal(out: &mut Vec<u8>, refusal: Refusal) -> Pushed
     ensures { OnOk result (out.new.items ≡ out.old.items ++ spec.refusal_text refusal) }
 {
@@ -74,7 +74,7 @@ fn push_refusal(out: &mut Vec<u8>, refusal: Refusal) -> Pushed
     push_detail(out, refusal)
 }
 
-/// Adds what follows a refusal's name: for Newer, the edit count.
+/// Adds the text after a refusal's name: for Newer, a space and the edit count; otherwise nothing.
 fn push_detail(out: &mut Vec<u8>, refusal: Refusal) -> Pushed
     ensures { OnOk result (out.new.items ≡ out.old.items ++ spec.refusal_detail refusal) }
 {

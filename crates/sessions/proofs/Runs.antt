@@ -23,7 +23,7 @@ use Rattle.views.specs.Looks.{steps_in}
 use Rattle.views.proofs.Spots.{steps_named}
 use Rattle.views.proofs.Alone.{replayed_alone, history_alone, replayed-append, history-append}
 use Rattle.sessions.specs.Seeks.{no_events, events_before, is_hit}
-use Rattle.sessions.specs.Walks.{ReportsPart, ReportParts, is_on_bit, records_any}
+use Rattle.sessions.specs.Walks.{ReportsPart, ReportsParts, is_on_bit, records_any}
 use Rattle.sessions.proofs.Searches.{met_by_records}
 
 module _ {R P : Type 0} (b : Behaviour P) where
@@ -98,23 +98,23 @@ module _ {R P : Type 0} (E : R → R → Bool) (is : R → Behaviour P) (alike :
             ∙ ap (λ d. is_met breaks (slice_index_or (history b d part.run.steps) i no_events) (replayed b d (take (i + 1) part.run.steps)).memory) entry);
       }
 
-  nothing : (place : ℕ) (parts : List (RunPart R P)) → parts ≡ [] → ReportParts is breaks (is_hit b value steps breaks) place parts
-  nothing place parts e = subst (ReportParts is breaks (is_hit b value steps breaks) place) (sym e) tt
+  nothing : (place : ℕ) (parts : List (RunPart R P)) → parts ≡ [] → ReportsParts is breaks (is_hit b value steps breaks) place parts
+  nothing place parts e = subst (ReportsParts is breaks (is_hit b value steps breaks) place) (sym e) tt
 
   -- the runs of a settle of all that follows a front
   told : (before : List Step) (c : Configuration R P) (keys : List ℕ) (rest : ℕ) (parts : List (RunPart R P)) (n : ℕ) → is c.register ≡ b → without_register c ≡ shown b value before
       → steps ≡ before ++ along keys → rest ≡ length (along keys) → Settles E b old new c rest (reached old rest keys) parts n
-      → ReportParts is breaks (is_hit b value steps breaks) (length before) parts
+      → ReportsParts is breaks (is_hit b value steps breaks) (length before) parts
   told before c [] rest parts n home comes all long h = nothing (length before) parts h.0
   told before c (k ∷ ks) rest parts n home comes all long h = by (λ before' c' rest' parts' n'. told before' c' ks rest' parts' n') (nat_eq rest 0) parts h
     where
       Later : Type 0
       Later = (before' : List Step) (c' : Configuration R P) (rest' : ℕ) (parts' : List (RunPart R P)) (n' : ℕ) → is c'.register ≡ b → without_register c' ≡ shown b value before'
           → steps ≡ before' ++ along ks → rest' ≡ length (along ks) → Settles E b old new c' rest' (reached old rest' ks) parts' n'
-          → ReportParts is breaks (is_hit b value steps breaks) (length before') parts'
+          → ReportsParts is breaks (is_hit b value steps breaks) (length before') parts'
 
       some : Later → (part : RunPart R P) (parts' : List (RunPart R P)) → Settles E b old new c rest (k ∷ reached old (rest - length (steps_at old k)) ks) (part ∷ parts') n
-          → ReportParts is breaks (is_hit b value steps breaks) (length before) (part ∷ parts')
+          → ReportsParts is breaks (is_hit b value steps breaks) (length before) (part ∷ parts')
       some later part parts' s =
           let segment : List Step = steps_at old k in
           let total : rest ≡ length segment + length (along ks) = long ∙ ap length (along_more k ks) ∙ length-append segment (along ks) in
@@ -124,12 +124,12 @@ module _ {R P : Type 0} (E : R → R → Bool) (is : R → Behaviour P) (alike :
           replayed_alone b c segment ∙ ap (λ d. replayed b d segment) comes ∙ sym (replayed-append b (first_configuration b value) before segment) in
           let place : length (before ++ segment) ≡ length before + part.count = length-append before segment ∙ ap (λ m. length before + m) (sym count) in (
             one before c k ks part home comes all s.3.fits count,
-            subst (λ m. ReportParts is breaks (is_hit b value steps breaks) m parts') place
+            subst (λ m. ReportsParts is breaks (is_hit b value steps breaks) m parts') place
                 (later (before ++ segment) (replayed b c segment) (rest - length segment) parts' s.1 (ap is (register_kept b c segment) ∙ home) next parted (omega (arith, total)) s.4),
           )
 
       by : Later → (t : Bool) (parts' : List (RunPart R P)) → Settles E b old new c rest (cond t [] (k ∷ reached old (rest - length (steps_at old k)) ks)) parts' n
-          → ReportParts is breaks (is_hit b value steps breaks) (length before) parts'
+          → ReportsParts is breaks (is_hit b value steps breaks) (length before) parts'
       by later true parts' s = nothing (length before) parts' s.0
       by later false [] s = absurd s
       by later false (part ∷ parts') s = some later part parts' s
@@ -139,7 +139,7 @@ module _ {R P : Type 0} (E : R → R → Bool) (is : R → Behaviour P) (alike :
   pub runs_tell : (old new : Charted R P) (name : List ℕ) (len : ℕ) (parts : List (RunPart R P)) (n : ℕ) (breaks : List Break) → len ≡ length (steps_in (forest old.cut) name)
       → old.start ≡ initial_configuration (is old.start.register) old.start.register old.value
       → IsSettled E (is old.start.register) old new name len parts n
-      → ReportParts is breaks (is_hit (is old.start.register) old.value (steps_in (forest old.cut) name) breaks) 0 parts
+      → ReportsParts is breaks (is_hit (is old.start.register) old.value (steps_in (forest old.cut) name) breaks) 0 parts
   runs_tell old new name len parts n breaks long begins h =
       let b = is old.start.register in
       let named = steps_named old.cut name in
@@ -216,7 +216,7 @@ module _ {R P Z : Type 0} where
   counted_within (y ∷ runs) (suc n) = omega (arith, counted_within runs n)
 
   pub tells_at : (is : R → Behaviour P) (breaks : List Break) (test : ℕ → Bool) (place : ℕ) (runs : List (Arc (SegmentRun R P) Z × ℕ)) (i : ℕ) (x : Arc (SegmentRun R P) Z × ℕ)
-      → i < length runs → x ≡ get_or runs i x → ReportParts is breaks test place (map part_of runs) → ReportsPart is breaks test (place + counted (map part_of (take i runs))) (part_of x)
+      → i < length runs → x ≡ get_or runs i x → ReportsParts is breaks test place (map part_of runs) → ReportsPart is breaks test (place + counted (map part_of (take i runs))) (part_of x)
   tells_at is breaks test place [] i x h e t = absurd (omega (arith, h))
   tells_at is breaks test place (y ∷ runs) zero x h e t =
       let none : place ≡ place + 0 = omega arith in

@@ -1,6 +1,6 @@
 -- What a command does: the reason why it is refused, or else its reply and the world after it.
--- Early reasons are tested before the command's branch is looked up. The late reasons follow: that
--- there is no such branch, and others.
+-- Early reasons are tested before the command's branch is looked up. Late reasons, such as that the
+-- command's branch doesn't exist, are tested after the early ones.
 use Rattle.std.specs.Prelude.{ℕ, ◌+◌, Bool, true, false, not, ◌==◌, ◌&&◌, ◌||◌, nat_le, nat_lt, List, [], ◌∷◌, ◌++◌, Option, Some, None, Result, Ok, Err, is_none, slice_set, option_and_then, if◌then◌else◌}
 use Rattle.std.specs.Option.{option_map}
 use Rattle.frames.specs.Behaviour.{Behaviour}
@@ -101,9 +101,9 @@ module _ {P : Type 0} where
       ∷ refused_if (drops_occupied edit w.cursors) Occupied
       ∷ []
 
-  -- the reasons to refuse a command that isn't an edit, of those tested after `early_refusals`, in
-  -- the order they are tested: a `go` to a place that doesn't exist, and a `clear` of a break that
-  -- isn't set
+  -- the late reasons (tested after those of `early_refusals`) to refuse a command that isn't an
+  -- edit, in the order they are tested: it is a `go` to a place that doesn't exist; it is a `clear`
+  -- of a break that its session hasn't set; `None` for each reason that doesn't apply
   abbrev pub other_refusals : ℕ → Command → World P → List (Option Refusal)
   other_refusals who c w =
       refusal_in (looked_by w.forest c)

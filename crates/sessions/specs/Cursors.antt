@@ -30,7 +30,7 @@ acts_in None f branch other = pointwise nat_eq branch other
 acts_in (Some cell) f branch other = is_some (place_of f other cell)
 
 -- whether an insert or a remove at `place` of `branch` moves the cursor c: c is on a branch that
--- the edit changes, and is after `place`; f are the branches before the edit
+-- the edit changes, and is after `place`; f is the forest before the edit
 abbrev pub is_shifted_by : Forest → List ℕ → ℕ → Cursor → Bool
 is_shifted_by f branch place c = acts_in (cell_on_branch f branch place) f branch c.branch && nat_lt place c.place
 
@@ -40,7 +40,7 @@ abbrev pub shifted_place : Shift → ℕ → ℕ
 shifted_place Up place = place + 1
 shifted_place Down place = place - 1
 
--- the cursor c after an insert (Up) or a remove (Down) at `place` of `branch`; f are the branches
+-- the cursor c after an insert (Up) or a remove (Down) at `place` of `branch`; f is the forest
 -- before the edit
 abbrev pub shifted : Shift → Forest → List ℕ → ℕ → Cursor → Cursor
 shifted shift f branch place c = if is_shifted_by f branch place c then cursor c.branch (shifted_place shift c.place) else c
@@ -54,12 +54,12 @@ abbrev pub is_after_place : ℕ → Option Cursor → Bool
 is_after_place place None = false
 is_after_place place (Some c) = nat_lt place c.place
 
--- whether there is a cursor and it is on a branch
+-- whether there is a cursor and it is on this branch
 abbrev pub is_on_branch : List ℕ → Option Cursor → Bool
 is_on_branch branch None = false
 is_on_branch branch (Some c) = pointwise nat_eq branch c.branch
 
--- whether some cursor is on a branch
+-- whether some cursor is on this branch
 abbrev pub is_occupied : List ℕ → List (Option Cursor) → Bool
 is_occupied branch cursors = list_any (is_on_branch branch) cursors
 

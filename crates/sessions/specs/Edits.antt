@@ -41,8 +41,9 @@ abbrev pub moved_if : Option Edit → Forest → List (Option Cursor) → List (
 moved_if (Some edit) f cursors = moved_by edit f cursors
 moved_if None f cursors = cursors
 
--- the second argument says how an edit moves cursors, whatever the branches are: it is a branch, a
--- place, and the direction in which the cursors after that place move, or `None` if no cursor moves
+-- the second argument says how an edit moves cursors, whatever the branches are: `None` says that
+-- no cursor moves; a branch, a place and a direction say that each cursor becomes the one that
+-- `shifted` gives for these. The first argument is the edit, or `None` if there is no edit.
 abbrev pub IsShift : Option Edit → Option (List ℕ × ℕ × Shift) → Type 0
 IsShift edit None = (f : Forest) (cursors : List (Option Cursor)) → moved_if edit f cursors ≡ cursors
 IsShift edit (Some at) = (f : Forest) (cursors : List (Option Cursor)) → moved_if edit f cursors ≡ each_cursor (shifted at.2 f at.0 at.1) cursors

@@ -114,20 +114,21 @@ NoneDue who guard c w = first_refusal (refusals who guard c w) ≡ None
 abbrev pub NoneDueLate : {P : Type 0} → ℕ → Command → World P → Type 0
 NoneDueLate who c w = first_refusal (late_refusals who c w) ≡ None
 
--- the reply to a command may be Memory: the log isn't full, and either, before the command, the log
--- has no memory reserved for one more entry, or there is no other reason to refuse the command
+-- the reply to a command may be Memory, if h is the book before the command: the log of h isn't
+-- full; and either this log has no memory reserved for one more entry, or there is no other reason
+-- to refuse the command
 pub record MayLackMemory {R P : Type 0} (is : R → Behaviour P) (h : Held R P) (who : ℕ) (guard : Option ℕ) (c : Command) : Type 0 where
   pub first : is_full (world_of is h.now) ≡ false
   pub last : (h.room ≡ 0) ⊎ NoneDue who guard c (world_of is h.now)
 
--- if the reply to a command is Memory, then the log wasn't full, and either, before the command,
--- the log had no memory reserved for one more entry, or there is no other reason to refuse the
--- command
+-- if the reply to a command is Memory, then `MayLackMemory` holds of h, the book before the
+-- command: the log of h isn't full; and either this log has no memory reserved for one more entry,
+-- or there is no other reason to refuse the command
 abbrev pub RefusesMemoryLast : {R P : Type 0} → (R → Behaviour P) → Held R P → ℕ → Option ℕ → Command → Reply → Type 0
 RefusesMemoryLast is h who guard c reply = reply ≡ No Memory → MayLackMemory is h who guard c
 
--- r is why a command for which `early_refusals` has no reason isn't carried out: the first reason
--- that `late_refusals` gives, or Memory if it gives none
+-- r is why a command isn't carried out, if `early_refusals` gives no reason to refuse it: the first
+-- reason that `late_refusals` gives, or Memory if `late_refusals` gives none
 abbrev pub IsLate : {P : Type 0} → ℕ → Command → World P → Refusal → Type 0
 IsLate who c w r = (first_refusal (late_refusals who c w) ≡ Some r) ⊎ ((r ≡ Memory) × NoneDueLate who c w)
 

@@ -1,4 +1,5 @@
--- Logs: each reply is the one that its command gets in the world after the entries before it.
+-- Logs. In a legal log, the reply of each entry is the one that the entry's command gets in the
+-- world after the entries before it.
 use Rattle.std.specs.Prelude.{ℕ, ◌≡◌, Bool, true, false, List, [], ◌∷◌, ◌++◌, Option, if◌then◌else◌}
 use Rattle.schedule_trie.specs.declared.refusal.Refusal.TheVariants.{LogFull, Memory}
 use Rattle.sessions.specs.declared.command.Command.{Command}

@@ -6,9 +6,9 @@ use Rattle.cutoff.specs.Held.{LimbsFit}
 use Rattle.sessions.specs.World.{World}
 
 -- `saved` are the limbs of a world's branches (a limb is a branch as a file has it). There is at
--- least one, they are lawful (each may follow those before it), and their steps fit the register.
--- In each, the number of the branch that it shares cells with, and the number of these cells, are
--- within the limits.
+-- least one limb. The limbs are lawful, as `AreLawfulLimbs` says, and their steps fit the register.
+-- In each limb, the index of the branch that it shares cells with, and the count of the shared
+-- cells, are within the world's limits.
 pub record IsSaved {P : Type 0} (w : World P) (saved : List Limb) : Type 0 where
   pub same : saved ≡ limbs w.forest
   pub lawful : AreLawfulLimbs saved

@@ -51,8 +51,9 @@ module _ {R P : Type 0} (is : R → Behaviour P) (breaks : List Break) (test : �
         → test ((place + 1) + i) ≡ is_met breaks (slice_index_or (history (is part.run.entry.register) part.run.entry part.run.steps) i no_events)
         (replayed (is part.run.entry.register) part.run.entry (take (i + 1) part.run.steps)).memory
 
-  -- for each of these parts of stored runs, which follow one another from `place` on, the break test
-  -- `test` reports exactly what `ReportsPart` says
-  abbrev pub ReportParts : ℕ → List (RunPart R P) → Type 0
-  ReportParts place [] = Unit {0}
-  ReportParts place (part ∷ parts) = ReportsPart place part × ReportParts (place + part.count) parts
+  -- the test is right, as `ReportsPart` says, for each of these parts of stored runs; the first
+  -- part begins at `place`, and each other part begins at the place at which the part before it
+  -- ends
+  abbrev pub ReportsParts : ℕ → List (RunPart R P) → Type 0
+  ReportsParts place [] = Unit {0}
+  ReportsParts place (part ∷ parts) = ReportsPart place part × ReportsParts (place + part.count) parts

@@ -92,7 +92,10 @@ impl<R: Register> Book<R> {
         Ok(Book::over(alloc, chart, limits)?)
     }
 
-    /// A book before its first command, with this chart, which has these limits.
+    /// A book before its first command: its log is empty, no session has joined, and the register,
+    /// the initial value and the branches are those of `chart`. `limits` have to be the chart's
+    /// limits, have to be in their ranges, and have to allow the cells that were made in the chart.
+    /// Fails only if memory runs out.
     fn over(alloc: Global, chart: Chart<R>, limits: Limits) -> Result<Book<R>, AllocError>
         requires limits { AreLimits limits }
         requires same_limits { chart.cut.limits ≡ limits }
@@ -173,10 +176,11 @@ impl<R: Register> Book<R> {
         self.stage.look(alloc, query)
     }
 
-    /// Jobs for the segments to replay before a look needs their runs: for each branch, a job for
-    /// its first segment that no stored run fits, if it has such a segment. The job of the branch
-    /// called `branch` is first; the others are in the order the branches were made. A segment that
-    /// branches share has one job.
+    /// The plan: jobs for segments to replay before a look needs their runs. For each branch there
+    /// is a job for the branch's first segment that no stored run fits; a branch without such a
+    /// segment adds no job. The job of the branch called `branch`, if there is one, comes first;
+    /// the other jobs are in the order the branches were made. No segment has two jobs, even if
+    /// several branches share it.
     ///
     /// # Errors
     ///
@@ -194,9 +198,9 @@ impl<R: Register> Book<R> {
     }
 
     /// Stores a run that was replayed elsewhere, on two conditions: the run fits the segment with
-    /// this key, and stored runs fit all segments above that one (before it on its branches).
+    /// this key, and stored runs fit all segments above that segment (before it on its branches).
     /// Returns Installed if so. Otherwise stores nothing, and returns Gone if no segment has this
-    /// key, or Stale if one has. Allocates nothing. World and log are unchanged.
+    /// key, or Stale if a segment has it. Allocates nothing. World and log are unchanged.
     pub fn install(&mut self, key: SegKey, run: Arc<Run<R>>) -> Installation
         ensures installs { let old = self.old.now.chart in
             Installs R.PartialEq.eq (R.behaviour old.start.register) old self.new.now.chart key

@@ -21,7 +21,7 @@ pub enum Command {
     /// Adds, after all other branches, a branch called `name` that shares the cells of `b` before
     /// the place.
     Fork { b: Name, k: u32, name: Name },
-    /// Gives the branch new cells with the same steps, which it shares with no other branch.
+    /// Gives the branch new cells, shared with no other branch, that have the same steps.
     Detach { b: Name },
     /// Drops the branch.
     Drop { b: Name },

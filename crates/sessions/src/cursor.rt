@@ -36,7 +36,7 @@ pub enum Shift {
 }
 
 impl Shift {
-    /// The new place of a cursor at `place`, which is after the edit's place. The sum can't
+    /// The new place of a cursor at `place`, which is after the edit's place. Adding 1 can't
     /// overflow, since `place` is at most MOST_CELLS_MADE.
     fn of(self, place: u32) -> u32
         requires following { 0 < place }
@@ -50,8 +50,8 @@ impl Shift {
     }
 }
 
-/// Whether an edit of `cell` changes the branch `other`. If `cell` is `None`, the edit is at the
-/// end of `branch`, and changes `branch` alone.
+/// Whether an insert or a remove at `cell` changes the branch `other`. If `cell` is `None`, the
+/// edit is at the end of `branch`, and changes `branch` alone.
 fn acts_in<R: Register>(chart: &Chart<R>, cell: Option<u32>, branch: &Name, other: &Name) -> bool
     ensures { result ≡ spec.acts_in cell (forest chart.now.cut) branch.now other.now }
 {
@@ -61,8 +61,9 @@ fn acts_in<R: Register>(chart: &Chart<R>, cell: Option<u32>, branch: &Name, othe
     }
 }
 
-/// The position of a session's cursor after an edit at `place` of `branch`; `None` if the session
-/// has no cursor. `cell` is the cell at that place, or `None` at the branch's end.
+/// The position of a session's cursor after an insert (Up) or a remove (Down) at `place` of
+/// `branch`; `None` if the session has no cursor. `chart` is the chart before that edit. `cell` has
+/// to be the number of the cell at `place` of `branch`, or `None` if there is no such cell.
 fn shifted_one<R: Register>(
     chart: &Chart<R>,
     cell: Option<u32>,

@@ -10,7 +10,7 @@ ghost use Rattle.views.specs.Breaks as breaks_spec;
 ghost use Rattle.views.specs.Looks.{IsChartKept, steps_in};
 ghost use Rattle.sessions.specs.Bounds.{IsPlace};
 ghost use Rattle.sessions.specs.Seeks.{hits, next_place, no_events, IsNextHit, is_hit};
-ghost use Rattle.sessions.specs.Walks.{found_below, SearchGoesOn, ReportsPart, ReportParts, ReportsEvents, ReportsSteps};
+ghost use Rattle.sessions.specs.Walks.{found_below, SearchGoesOn, ReportsPart, ReportsParts, ReportsEvents, ReportsSteps};
 ghost use Rattle.sessions.specs.Walks as spec;
 
 use crate::way::Way;
@@ -61,7 +61,7 @@ impl Search<'_> {
     }
 }
 
-/// `found`, if it isn't `None`; otherwise `hit`, if `hit` is after `from`.
+/// `found`, if it isn't `None`; otherwise `hit`, if `hit` is after `from`; otherwise `None`.
 fn first_of(found: Option<u32>, from: u32, hit: u32) -> Option<u32>
     ensures { result ≡ option_or found (if nat_lt from hit then Some hit else None) }
 {
@@ -132,8 +132,10 @@ fn is_met<R: Register>(breaks: &[Break], events: StepEvents, config: &Config<R>)
     false
 }
 
-/// Continues a search from `place`, by the events of the steps after it, and returns what is found
-/// by then. Nothing is replayed.
+/// Continues a search that has searched the places 0 to `place`, and has found `found`. `events`
+/// has the events of each of the next steps after `place`. For each of these steps, searches the
+/// place right after the step, by the step's events alone. Returns the hit that the search has then
+/// found, if any. Nothing is replayed.
 fn along_events(
     search: &Search<'_>,
     events: EventWalk<'_>,
@@ -156,8 +158,10 @@ fn along_events(
     found
 }
 
-/// Continues a search from `place`, whose configuration is `config`, by replaying the steps
-/// after it, and returns what is found by then.
+/// Continues a search that has searched the places 0 to `place`, and has found `found`. `config` is
+/// the configuration at `place`, and `steps` are the next steps after `place`. Replays each of
+/// these steps, and searches the place right after the step. Returns the hit that the search has
+/// then found, if any.
 fn along_steps<R: Register>(
     search: &Search<'_>,
     config: Config<R>,
@@ -217,7 +221,7 @@ fn along_runs<R: Register>(
     requires room { IsPlace (counted (map part_of runs.now)) }
     ensures { let parts = map part_of runs.now in IfOk result (λ all. (test : ℕ → Bool)
         → test 0 ≡ breaks_spec.is_met search.now.breaks.now no_events first.now.memory
-        → ReportParts R.behaviour search.now.breaks.now test 0 parts
+        → ReportsParts R.behaviour search.now.breaks.now test 0 parts
         → all ≡ found_below search.now test (counted parts + 1)) }
 {
     let none = StepEvents {
@@ -234,10 +238,10 @@ fn along_runs<R: Register>(
     Ok(found)
 }
 
-/// The first place of a branch at which one of the breaks is met, when one goes from `search.from`
-/// in the search's direction; `search.from` itself doesn't count. `None` if there is no such place.
-/// A branch that doesn't exist is searched like one without steps. With or without an error,
-/// nothing in the chart changes, except that missing runs are stored.
+/// The first place of a branch, from `search.from` in the search's direction, at which one of the
+/// breaks is met; `search.from` itself doesn't count. `None` if there is no such place. A branch
+/// that doesn't exist is searched like one without steps. With or without an error, nothing in the
+/// chart changes, except that missing runs are stored.
 ///
 /// # Errors
 ///
@@ -271,7 +275,7 @@ fn settled<R: Register>(
     ensures reports { let b = R.behaviour chart.old.start.register in
         let steps = steps_in (forest chart.old.cut) branch.now in (breaks : List Break)
         → IfOk result
-        (λ runs. ReportParts R.behaviour breaks (is_hit b chart.old.value steps breaks) 0 runs) }
+        (λ runs. ReportsParts R.behaviour breaks (is_hit b chart.old.value steps breaks) 0 runs) }
     ensures counts { IfOk result (λ runs. counted runs
         ≡ length (steps_in (forest chart.old.cut) branch.now)) }
     ensures room { IfOk result (λ runs. IsPlace (counted runs)) }

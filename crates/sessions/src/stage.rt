@@ -102,9 +102,9 @@ impl<R: Register> Stage<R> {
     }
 
     /// Stores a run that was replayed elsewhere, on two conditions: the run fits the segment with
-    /// this key, and stored runs fit all segments above that one (before it on its branches).
+    /// this key, and stored runs fit all segments above that segment (before it on its branches).
     /// Returns Installed if so. Otherwise stores nothing, and returns Gone if no segment has this
-    /// key, or Stale if one has. Changes nothing that commands see.
+    /// key, or Stale if a segment has it. Changes nothing that commands see.
     pub(crate) fn install(&mut self, key: SegKey, run: Arc<Run<R>>) -> Installation
         ensures installs { let old = self.old.chart in Installs R.PartialEq.eq
             (R.behaviour old.start.register) old self.new.chart key (arc_value run) result }
@@ -137,7 +137,7 @@ impl<R: Register> Stage<R> {
         }
     }
 
-    /// Answers a command that has no early refusal, and fails as `act` does.
+    /// Answers a command that `early_refusal` doesn't refuse. Fails as `act` does.
     fn answer(&mut self, alloc: Global, who: u32, command: &Command) -> Result<Reply, AllocError>
         requires room { CanLog self.old }
         requires session { who < 16 }
@@ -174,7 +174,8 @@ impl<R: Register> Stage<R> {
         Reply::No(refusal)
     }
 
-    /// The first reason, if any, to refuse a command before its branch is looked up.
+    /// The first reason to refuse a command, among the reasons that are tested before its branch is
+    /// looked up; `None` if none of them applies.
     fn early_refusal(&self, who: u32, if_at: Option<u64>, command: &Command) -> Option<Refusal>
         ensures { result
             ≡ first_refusal (early_refusals who if_at command.now (world_of R.behaviour self.now)) }
@@ -204,8 +205,9 @@ impl<R: Register> Stage<R> {
         index >= SESSIONS || (needs_session(command) && self.cursors[index].is_none())
     }
 
-    /// Carries out a command that has no early refusal, or refuses it for a late reason or as
-    /// Memory; then nothing that commands see is changed.
+    /// Carries out a command that `early_refusal` doesn't refuse. Fails with the first reason that
+    /// `late_refusals` gives, if it gives one; otherwise with Memory, if memory runs out. After a
+    /// failure nothing that commands see is changed.
     fn work(&mut self, alloc: Global, who: u32, command: &Command) -> Result<Reply, Refusal>
         requires room { CanLog self.old }
         requires session { who < 16 }

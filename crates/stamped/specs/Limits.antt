@@ -1,4 +1,5 @@
--- The limits of a stamped register's numbers of values and stamps, and why one is refused.
+-- The limits of a stamped register's numbers of values and stamps, and why a stamped register is
+-- refused.
 use Rattle.std.specs.Prelude.{ℕ, Bool, ◌&&◌, nat_le, nat_lt, Option, Some, if◌then◌else◌}
 use Rattle.frames.specs.declared.limits.TheConstants.{LEAST_VALUES, MOST_VALUES}
 use Rattle.layers.specs.declared.fit.LayerError.{LayerError}

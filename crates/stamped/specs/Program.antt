@@ -27,8 +27,8 @@ stamped_rest values Reading Written = Ends Written
 stamped_rest values Reading (Value code) = Reads 1 (λ best. Sets 1 (max best code) (Ends (Value (max best code % values))))
 stamped_rest values Reading (Spent layer) = Ends (Spent layer)
 
--- The program of an operation. A write is spent if word 0, the stamp, is the last stamp; otherwise
--- it raises the stamp by 1, and writes the code of the new stamp and its value to the register
+-- The program of an operation. A write of v is spent if word 0, the stamp, is the last stamp;
+-- otherwise it raises the stamp by 1, and writes the code of the new stamp and v to the register
 -- below. A read reads the register below, and then goes on as `stamped_rest` defines.
 abbrev pub stamped_program : ℕ → ℕ → ℕ → Op → Program StampedTask
 stamped_program values last who (op.Write v) =

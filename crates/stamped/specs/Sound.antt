@@ -90,25 +90,25 @@ module _ (values last : ℕ) (some : LEAST_VALUES ≤ values) where
   rest_falls who o Reading (Value code) stands answers on = λ best. tt
   rest_falls who o Reading (Spent layer) stands answers on = tt
 
-  stands_suits : (who : ℕ) (o : Op) (task : StampedTask) → StampedMayBeAt values last who o task → one_writer values 2 who o ≡ true
-  stands_suits who (op.Write w) (Writing v code) stands =
+  may_be_at_suits : (who : ℕ) (o : Op) (task : StampedTask) → StampedMayBeAt values last who o task → one_writer values 2 who o ≡ true
+  may_be_at_suits who (op.Write w) (Writing v code) stands =
       let low : code % values < values = mod_below code values (omega arith) in
       writer.writer_suits values 2 who w stands.0 (omega arith) (omega (arith, low, stands.1, stands.2))
-  stands_suits who op.Read Reading stands = writer.others_read values 2 who (omega (arith, stands)) (omega (arith, stands))
-  stands_suits who (op.Write w) Reading stands = absurd stands
-  stands_suits who op.Read (Writing v code) stands = absurd stands
+  may_be_at_suits who op.Read Reading stands = writer.others_read values 2 who (omega (arith, stands)) (omega (arith, stands))
+  may_be_at_suits who (op.Write w) Reading stands = absurd stands
+  may_be_at_suits who op.Read (Writing v code) stands = absurd stands
 
-  frame_tells : (who : ℕ) (o : Op) (task : StampedTask) → StampedMayBeAt values last who o task → (stamped_find who (stamped_frame task) ≡ task) × ((stamped_frame task).op ≡ o)
-  frame_tells who (op.Write w) (Writing v code) stands = (refl, ap op.Write stands.1)
-  frame_tells who op.Read Reading stands = (refl, refl)
-  frame_tells who (op.Write w) Reading stands = absurd stands
-  frame_tells who op.Read (Writing v code) stands = absurd stands
+  frame_gives_task : (who : ℕ) (o : Op) (task : StampedTask) → StampedMayBeAt values last who o task → (stamped_find who (stamped_frame task) ≡ task) × ((stamped_frame task).op ≡ o)
+  frame_gives_task who (op.Write w) (Writing v code) stands = (refl, ap op.Write stands.1)
+  frame_gives_task who op.Read Reading stands = (refl, refl)
+  frame_gives_task who (op.Write w) Reading stands = absurd stands
+  frame_gives_task who op.Read (Writing v code) stands = absurd stands
 
   -- the stamped register's rules meet the laws that every layer's rules must meet
   pub stamped_sound : IsSoundTable (stamped_table values last) (StampedMayBeAt values last) (λ _. 0)
   stamped_sound = writer.one_writer_sound (stamped_table values last) (StampedMayBeAt values last) (λ _. 0) (λ who o. refl) (omega arith)
       (λ v j lt below. value_fits values last v lt) first_words
-      asks_fit stands_suits frame_tells begins_sound rest_sound rest_falls
+      asks_fit may_be_at_suits frame_gives_task begins_sound rest_sound rest_falls
 
 -- whether two tasks are equal: both are reads, or both are writes with equal values and codes
 abbrev pub stamped_task_eq : StampedTask → StampedTask → Bool

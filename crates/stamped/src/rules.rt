@@ -17,8 +17,8 @@ use layers::nested::{Ask, Continuation};
 use safe_bit::Store;
 
 /// A register of one writer and one reader, over a register of `(last + 1) * values` codes; a code
-/// is one number for a stamp and a value. A write takes the next stamp, and writes the code of this
-/// stamp and its value to the register below; if there is no next stamp, the write is spent. A read
+/// is one number for a stamp and a value. A write of v takes the next stamp, and writes the code of
+/// this stamp and v to the register below; if there is no next stamp, the write is spent. A read
 /// reads a code, and returns the value in the greatest code that the reader has read so far
 /// (Lamport 1986; Herlihy and Shavit, chapter 4).
 pub type Stamped<S> = Layered<StampedRules, S>;
@@ -28,7 +28,7 @@ pub type Stamped<S> = Layered<StampedRules, S>;
 pub struct StampedRules {
     /// The number of values that the stamped register can hold.
     pub values: u32,
-    /// The last stamp. Once the stamp has this value, each later write is spent.
+    /// The last stamp. Once the register's stamp is this one, each later write is spent.
     pub last: u32,
     ghost some: { LEAST_VALUES ≤ values },
     ghost few: { values ≤ MOST_VALUES },

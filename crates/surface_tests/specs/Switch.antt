@@ -26,7 +26,7 @@ use Rattle.frames.specs.laws.OneWriter as writer
 abbrev pub switch_size : Place
 switch_size = record { cell = 1; word = 0 }
 
--- A pending operation is at one point only, which is the operation itself.
+-- The only point of a pending operation is the operation itself. One action ends the operation.
 abbrev pub switch_goes : Op → Memory → Moved Op
 switch_goes (op.Write v) m = record { next = Done Written; chosen = None; memory = record { cells = idle_cell (bit_of v) ∷ []; words = [] } }
 switch_goes op.Read m = record { next = Done (Value (value_of (cell_at 0 m).value)); chosen = None; memory = m }
@@ -99,8 +99,8 @@ switch_lawful = record {
   acts_own = λ who o p r. acts_own p;
 }
 
-pub switch_tells : FramesGivePoint switch SwitchReaches switch_point
-switch_tells = record { point = λ who o p r. refl; op = λ who o p r. ap Some r.0; none = λ who. refl }
+pub switch_frames_give_point : FramesGivePoint switch SwitchReaches switch_point
+switch_frames_give_point = record { point = λ who o p r. refl; op = λ who o p r. ap Some r.0; none = λ who. refl }
 
 -- in a register at a place of a memory, a read finds the bit of the cell at that place
 pub reads_own : (at : Place) (m : Memory) → (cell_at 0 (part at switch_size m)).value ≡ (cell_at at.cell m).value
@@ -110,7 +110,8 @@ reads_own at m = ap (λ c. c.value) (cell_at-part at switch_size 0 m (omega arit
 pub not_one : (who first : ℕ) (stack : List Frame) → length (drop first stack) ≢ 1 → IsPointByFrames switch.frames SwitchReaches who (drop first stack) None
 not_one who first stack other o p there e = other (ap length e)
 
--- if there is just one frame, and its operation fits, the frames give that operation as the point
+-- if process `who` has just one frame, and may make that frame's operation, then the process is at
+-- the point that is this operation (this register's points are its operations)
 pub one_frame : (who first : ℕ) (stack : List Frame) (frame : Frame) → drop first stack ≡ frame ∷ drop (first + 1) stack → length stack - first ≡ 1
     → one_writer 2 2 who frame.op ≡ true → frame ≡ switch_frame frame.op → IsPointByFrames switch.frames SwitchReaches who (drop first stack) (Some frame.op)
 one_frame who first stack frame found one fits same =

@@ -49,7 +49,8 @@ fn edit(rt: &impl Abort, alloc: Global, chart: &mut Chart<Switch>) -> Result<(),
     preceded(alloc, chart, &main)
 }
 
-/// A chart after these edits. The contract promises nothing, so that the tests' proofs stay small.
+/// A chart after the edits of `edit`. The contract promises nothing, so that the tests' proofs stay
+/// small.
 fn edited(rt: &impl Abort, alloc: Global) -> Result<Chart<Switch>, Refusal> {
     let mut chart = Chart::new(alloc, Switch, 0, limits(), &[READ])?;
     edit(rt, alloc, &mut chart)?;

@@ -26,7 +26,8 @@ fn bit() -> Result<RegularBit<Copies<Switch>>, LayerError> {
     RegularBit::new(copies)
 }
 
-/// Whether a write of 1 returns after `write` bit actions, and then a read after `read` of them.
+/// Whether a write of 1 returns after `write` bit actions, and a later read after `read` bit
+/// actions.
 fn writes_and_reads<R: Register>(
     alloc: Global,
     register: R,
@@ -98,7 +99,8 @@ fn stamped(rt: HostRuntime) -> Result<(), Fail> {
     Ok(())
 }
 
-/// The processes and the size of a matrix of stamped registers on unary numbers of these bits.
+/// The number of processes and the size of a matrix. Its parts are stamped registers on unary
+/// numbers made of bits like `bit`.
 fn matrix_of<S: Register>(bit: S) -> Result<(u32, Place), LayerError> {
     let number = Unary::new(bit, 16)?;
     let part = Stamped::new(number, 8, 1)?;

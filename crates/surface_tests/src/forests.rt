@@ -40,7 +40,8 @@ fn edit(rt: &impl Abort, alloc: Global, trie: &mut Trie<u32>) -> Result<(), Refu
     preceded(alloc, trie, &main)
 }
 
-/// A forest after these edits. The contract promises nothing, so that the tests' proofs stay small.
+/// A forest after the edits of `edit`. The contract promises nothing, so that the tests' proofs
+/// stay small.
 fn edited(rt: &impl Abort, alloc: Global) -> Result<Trie<u32>, Refusal> {
     let mut trie = Trie::new(alloc, limits(), &[READ])?;
     edit(rt, alloc, &mut trie)?;

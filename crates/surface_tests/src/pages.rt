@@ -5,7 +5,7 @@ use crate::switch::Switch;
 use std::alloc::{AllocError, Global};
 use views::{Lens, Page, Slip, page_text};
 
-/// The page of a slip, made with a new lens.
+/// The page that a slip gives through a new lens.
 pub(crate) fn page_of(alloc: Global, slip: &Slip<Switch>) -> Result<Page, AllocError> {
     let mut lens = Lens::new(alloc)?;
     slip.page(alloc, &mut lens)
@@ -16,7 +16,7 @@ pub(crate) fn text_of(alloc: Global, page: &Page) -> Result<Vec<u8>, AllocError>
     page_text(alloc, 0, page)
 }
 
-/// The text of the page of a slip, made with a new lens.
+/// The text of the page that a slip gives through a new lens.
 pub(crate) fn text_of_slip(alloc: Global, slip: &Slip<Switch>) -> Result<Vec<u8>, AllocError> {
     let page = page_of(alloc, slip)?;
     text_of(alloc, &page)

@@ -53,7 +53,7 @@ impl Register for Switch {
     ghost use Rattle.frames.specs.declared.types.Op.TheVariants.{Write, Read};
     ghost use Rattle.frames.specs.Equality.{op_eq, op_decides};
     ghost use Rattle.layers.specs.laws.Equality.{decides_like};
-    ghost use Rattle.surface_tests.specs.Switch.{switch_size, SwitchReaches, switch_point, switch_lawful, switch_tells};
+    ghost use Rattle.surface_tests.specs.Switch.{switch_size, SwitchReaches, switch_point, switch_lawful, switch_frames_give_point};
 
     ghost Holds = { λ _. HasSize switch_size };
 
@@ -128,7 +128,7 @@ impl Register for Switch {
         }
     }
 
-    ghost reports = { λ _. switch_tells };
+    ghost reports = { λ _. switch_frames_give_point };
 
     ghost lawful = { λ _. switch_lawful };
 

@@ -56,7 +56,7 @@ impl Runnable for Square {
     }
 }
 
-/// How long an offer is held at most, in iterations of a loop.
+/// The most iterations of a loop for which an offer is held.
 const TURNS: u32 = 1 << 24;
 
 /// A gate that holds offer 0 until offer 1 has come, and offer 1 until offer 0 has come, each for
@@ -164,7 +164,7 @@ fn run_by_two<W: Threads + Wait + Sync>(
 }
 
 /// The caller and one thief have one of two jobs each at the same time; otherwise the gate would
-/// hold the first until its limit. A crew that ran all jobs on one thread would have the same
+/// hold the first offer until its limit. A crew that ran all jobs on one thread would have the same
 /// outcomes and meet each contract: only this test would fail.
 #[test]
 fn two_threads(rt: HostRuntime) -> Result<(), Fail> {

@@ -3,7 +3,7 @@
 use std::sync::atomic::{AtomicU64, Ordering};
 use std::thread;
 
-/// How often a flag is read at most.
+/// The most times that a wait reads a flag.
 const LOOKS: u32 = 1 << 24;
 
 /// Whether the turn is held, whether its holder was signalled to go on, and whether the holder went

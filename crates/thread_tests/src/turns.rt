@@ -62,7 +62,7 @@ impl Work<Notes> for Write {
     }
 }
 
-/// Writes nothing down, and holds the turn until it is signalled to go on.
+/// Writes nothing down, and holds the turn until another thread signals the holder to go on.
 #[derive(Drop)]
 struct Pause<'a> {
     flags: &'a Flags,
@@ -263,7 +263,7 @@ fn two_threads(rt: HostRuntime) -> Result<(), Fail> {
     Ok(())
 }
 
-/// Holds the turn until it is signalled to go on.
+/// Holds the turn until another thread signals the holder to go on.
 fn keep<R: Wait>(rt: &R, turn: &Turn<Notes>, mut chair: Chair<Notes>, flags: &Flags)
     requires { IsOf turn.now chair }
 {

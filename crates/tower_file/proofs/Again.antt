@@ -25,7 +25,7 @@ use Rattle.words.specs.Words.{words, lines, is_end}
 use Rattle.words.specs.Steps.{step_text, HasShortNumbers}
 use Rattle.tower_file.specs.Lines.{fitting_step}
 use Rattle.tower_file.specs.Spelling.{text_with_end, tower_text, spelling, Spells}
-use Rattle.tower_file.specs.Reading.{◌>>=◌, is_file_byte, first_odd, version_of, second_line, tower_of, steps_of, file_of_lines, reading_from, file_reading}
+use Rattle.tower_file.specs.Reading.{◌>>=◌, is_file_byte, first_foreign, version_of, second_line, tower_of, steps_of, file_of_lines, reading_from, file_reading}
 use Rattle.words.proofs.Numbers.{number-decimal}
 use Rattle.words.proofs.Texts.{all_weaker, all_append, is_print, text_prints, words-text}
 use Rattle.words.proofs.Steps.{step_again, step_prints}
@@ -202,8 +202,8 @@ all_before (x ∷ xs) h =
     let rest = all_before xs a.1 in
     ap (λ b. cond (not (not b)) (1 + prefix_len (λ y. not (not (is_file_byte y))) xs) 0) a.0 ∙ omega (arith, rest)
 
-pub no_odd : (xs : List ℕ) → list_all is_file_byte xs ≡ true → first_odd xs ≡ None
-no_odd xs h =
+pub none_foreign : (xs : List ℕ) → list_all is_file_byte xs ≡ true → first_foreign xs ≡ None
+none_foreign xs h =
     let n : ℕ = prefix_len (λ x. not (not (is_file_byte x))) xs in
     ap (λ b. cond b (Some n) None) (le-ltb n (length xs) (omega (arith, all_before xs h)))
 
@@ -246,7 +246,7 @@ file_again f lawful =
 
 reading-spelling : (f : File) → IsLawfulFile f → file_reading (spelling f) ≡ Ok f
 reading-spelling f lawful =
-    ap (λ o. reading_from file_of_lines o (spelling f)) (no_odd (spelling f) (spelling_plain f lawful))
+    ap (λ o. reading_from file_of_lines o (spelling f)) (none_foreign (spelling f) (spelling_plain f lawful))
     ∙ ap file_of_lines (lines-spelling f lawful)
     ∙ file_again f lawful
 

@@ -9,7 +9,7 @@ use Rattle.tower_file.specs.declared.version.Version.{Version}
 use Rattle.tower_file.specs.Faults.{fault}
 use Rattle.tower_file.specs.Files.{file_of}
 use Rattle.tower_file.specs.Spelling.{Spells, SpellsSteps}
-use Rattle.tower_file.specs.Reading.{◌>>=◌, first_odd, version_of, tower_of, steps_of, HasSomeStep, file_of_lines, reading_from}
+use Rattle.tower_file.specs.Reading.{◌>>=◌, first_foreign, version_of, tower_of, steps_of, HasSomeStep, file_of_lines, reading_from}
 use Rattle.words.specs.Words.{lines, after_next}
 use Rattle.tower_file.proofs.Formats.{IsFormat, reading_is}
 use Rattle.tower_file.proofs.Sound.{file_is}
@@ -18,8 +18,8 @@ use Rattle.tower_file.proofs.Again.{reading_again}
 pub tower_format : IsFormat Spells file_of_lines
 tower_format = record { is = file_is; again = reading_again }
 
--- bytes without an odd byte, of which at least one step is read, spell a tower file with steps
-pub spells_steps : (bytes : List ℕ) (v : Version) (t : TowerSpec) (left : List (List ℕ)) → first_odd bytes ≡ None → version_of (lines bytes) ≡ Some v → tower_of (after_next (lines bytes)) ≡ Ok t
+-- bytes without a foreign byte, of which at least one step is read, spell a tower file with steps
+pub spells_steps : (bytes : List ℕ) (v : Version) (t : TowerSpec) (left : List (List ℕ)) → first_foreign bytes ≡ None → version_of (lines bytes) ≡ Some v → tower_of (after_next (lines bytes)) ≡ Ok t
     → left ≡ after_next (after_next (lines bytes)) → HasSomeStep (steps_of v t 3 left) → SpellsSteps bytes
 spells_steps bytes v t left plain version tower same h =
     let ls = lines bytes in

@@ -30,7 +30,7 @@ use Rattle.words.proofs.Numbers.{number-decimal}
 use Rattle.words.proofs.Texts.{is_not, is_print, all_weaker, all_append, text_prints, words-text, cut_at}
 use Rattle.tower_file.proofs.Texts.{lines-line}
 use Rattle.words.proofs.Steps.{step_prints}
-use Rattle.tower_file.proofs.Again.{IsFew, few, tower_prints, step_short, fitting_again, line_plain, no_odd, tower_of_lines}
+use Rattle.tower_file.proofs.Again.{IsFew, few, tower_prints, step_short, fitting_again, line_plain, none_foreign, tower_of_lines}
 use Rattle.tower_file.proofs.BenchLimbs.{step_line, limbs_text, put_step-last, some_last}
 
 -- ---- the bytes of names
@@ -277,7 +277,7 @@ bench_again b h =
 reading-bench_spelling : (b : Bench) → IsLawfulBench b → bench_reading (bench_spelling b) ≡ Ok b
 reading-bench_spelling b lawful =
     let h = parted b lawful in
-    ap (λ o. reading_from bench_of_lines o (bench_spelling b)) (no_odd (bench_spelling b) (bench_plain b h))
+    ap (λ o. reading_from bench_of_lines o (bench_spelling b)) (none_foreign (bench_spelling b) (bench_plain b h))
     ∙ ap bench_of_lines (lines-bench b h)
     ∙ bench_again b h
 

@@ -15,7 +15,7 @@ use Rattle.tower_file.specs.Towers.{is_lawful_tower}
 use Rattle.tower_file.specs.Benches.{IsLawfulBench, bench_of, is_some, are_lawful}
 use Rattle.tower_file.specs.Spelling.{text_with_end, tower_text}
 use Rattle.tower_file.specs.BenchSpelling.{bench_header, bench_spelling, SpellsBench, SpellsLimbs, SpellsFront}
-use Rattle.tower_file.specs.Reading.{◌>>=◌, has_header, first_odd, tower_of}
+use Rattle.tower_file.specs.Reading.{◌>>=◌, has_header, first_foreign, tower_of}
 use Rattle.tower_file.specs.BenchReading.{then_branch, then_step, then_line, limbs_at_end, limbs_of, bench_of_lines}
 use Rattle.words.specs.Words.{lines, words, next, after_next, is_end}
 use Rattle.words.specs.Steps.{step_of_words}
@@ -136,7 +136,7 @@ bench_lawful t n left limbs lawful read =
     and_from (is_lawful_tower t && is_some limbs) (are_lawful t limbs) (and_from (is_lawful_tower t) (is_some limbs) lawful a.some) (a.lawful refl)
 
 -- if the limbs of a prefix are read, a prefix of the bytes spells a bench file
-pub spells_front : (bytes : List ℕ) (t : TowerSpec) (left : List (List ℕ)) → first_odd bytes ≡ None → has_header bench_header (lines bytes) ≡ true → tower_of (after_next (lines bytes)) ≡ Ok t
+pub spells_front : (bytes : List ℕ) (t : TowerSpec) (left : List (List ℕ)) → first_foreign bytes ≡ None → has_header bench_header (lines bytes) ≡ true → tower_of (after_next (lines bytes)) ≡ Ok t
     → left ≡ after_next (after_next (lines bytes)) → SpellsLimbs t left → SpellsFront bytes
 spells_front bytes t left plain header tower same s =
     let a = begun (lines bytes) t header tower in

@@ -52,7 +52,7 @@ SpellsFront-holds = record {
   plain = refl;
 }
 
--- a safe bit and its branch, and an odd byte
+-- a safe bit and its branch, and a foreign byte
 SpellsFront-fails : SpellsFront (bench_spelling bench ++ 0 ∷ []) → ⊥
 unfolding digits
 SpellsFront-fails h = not_none _ h.plain

@@ -8,13 +8,13 @@ use Rattle.tower_file.specs.declared.fault.FaultKind.{FaultKind}
 use Rattle.tower_file.specs.declared.fault.FaultKind.TheVariants.{NotAscii, BadHeader, UnknownTower, BadField, BadStep, BadSize, BadBranch, Tangled, Memory}
 use Rattle.tower_file.specs.declared.fault.FileFault.{FileFault}
 use Rattle.tower_file.specs.Faults.{Fails, Gives, MemoryOnlyIf}
-use Rattle.tower_file.specs.Reading.{first_odd, reading_from, fault_in_order, odd_first, Parses}
+use Rattle.tower_file.specs.Reading.{first_foreign, reading_from, fault_in_order, foreign_first, Parses}
 use Rattle.words.specs.Words.{lines}
 
 -- If lines are read as a file, they spell it; and bytes that spell a file are read as that file.
 pub record IsFormat {F : Type 0} (Spells : List ℕ → F → Type 0) (of_lines : List (List ℕ) → Result F FileFault) : Type 0 where
   pub is : (ls : List (List ℕ)) (f : F) → of_lines ls ≡ Ok f → Spells (join_with_byte 10 ls) f
-  pub again : (bytes : List ℕ) (f : F) → Spells bytes f → reading_from of_lines (first_odd bytes) bytes ≡ Ok f
+  pub again : (bytes : List ℕ) (f : F) → Spells bytes f → reading_from of_lines (first_foreign bytes) bytes ≡ Ok f
 
 no_fault : {F : Type 0} (k : FaultKind) (e : FileFault) (f : F) → Fails k e (let r : Result F FileFault = Ok f in r) → k ≢ Memory → ⊥
 no_fault NotAscii e f given other = cc
@@ -33,52 +33,52 @@ module _ {F : Type 0} {Spells : List ℕ → F → Type 0} {of_lines : List (Lis
   from_is None bytes f h = subst (λ (x : List ℕ). Spells x f) (join_with_byte-slice_split 10 bytes) (format.is (lines bytes) f h)
 
   -- if bytes are read as a file, they spell it
-  pub reading_is : (bytes : List ℕ) (f : F) → reading_from of_lines (first_odd bytes) bytes ≡ Ok f → Spells bytes f
-  reading_is bytes f h = from_is (first_odd bytes) bytes f h
+  pub reading_is : (bytes : List ℕ) (f : F) → reading_from of_lines (first_foreign bytes) bytes ≡ Ok f → Spells bytes f
+  reading_is bytes f h = from_is (first_foreign bytes) bytes f h
 
   -- no bytes spell two files
   pub one_file : (bytes : List ℕ) (f g : F) → Spells bytes f → Spells bytes g → f ≡ g
   one_file bytes f g s u = let both = sym (format.again bytes f s) ∙ format.again bytes g u in cc
 
   module _ {X : Type 0} (view : X → F) where
-    -- lines that spell a file have no odd byte, and an odd byte takes precedence over a fault of
-    -- the lines
+    -- lines that spell a file have no foreign byte, and a foreign byte takes precedence over a
+    -- fault of the lines
     reading_of : (bytes : List ℕ) (r : Result X FileFault) → Gives view r (of_lines (lines bytes))
-        → Gives view (odd_first bytes r) (reading_from of_lines (first_odd bytes) bytes)
+        → Gives view (foreign_first bytes r) (reading_from of_lines (first_foreign bytes) bytes)
     reading_of bytes (Ok x) h = format.again bytes (view x) (from_is None bytes (view x) h)
-    reading_of bytes (Err e) h = by (first_odd bytes)
+    reading_of bytes (Err e) h = by (first_foreign bytes)
       where
         by : (o : Option ℕ) → Fails (fault_in_order o bytes e).kind (fault_in_order o bytes e) (reading_from of_lines o bytes)
         by (Some k) = refl
         by None = h
 
-    found : (bytes : List ℕ) (r : Result X FileFault) → Gives view r (reading_from of_lines (first_odd bytes) bytes) → IfOk r (λ x. Spells bytes (view x))
+    found : (bytes : List ℕ) (r : Result X FileFault) → Gives view r (reading_from of_lines (first_foreign bytes) bytes) → IfOk r (λ x. Spells bytes (view x))
     found bytes (Ok x) given = reading_is bytes (view x) given
     found bytes (Err e) given = tt
 
-    only : (bytes : List ℕ) (r : Result X FileFault) → Gives view r (reading_from of_lines (first_odd bytes) bytes) → (f : F) → Spells bytes f → Gives view r (Ok f)
+    only : (bytes : List ℕ) (r : Result X FileFault) → Gives view r (reading_from of_lines (first_foreign bytes) bytes) → (f : F) → Spells bytes f → Gives view r (Ok f)
     only bytes r given f s = subst (λ (read : Result F FileFault). Gives view r read) (format.again bytes f s) given
 
-    spells_none : (bytes : List ℕ) (r : Result X FileFault) → Gives view r (reading_from of_lines (first_odd bytes) bytes)
+    spells_none : (bytes : List ℕ) (r : Result X FileFault) → Gives view r (reading_from of_lines (first_foreign bytes) bytes)
         → IfErr r (λ e. e.kind ≢ Memory → (f : F) → Spells bytes f → ⊥)
     spells_none bytes (Ok x) given = tt
     spells_none bytes (Err e) given = λ other f s. no_fault e.kind e f (only bytes (Err e) given f s) other
 
-    pub parses : (bytes : List ℕ) (r whole : Result X FileFault) → Gives view r (of_lines (lines bytes)) → whole ≡ odd_first bytes r → Parses view Spells of_lines bytes whole
+    pub parses : (bytes : List ℕ) (r whole : Result X FileFault) → Gives view r (of_lines (lines bytes)) → whole ≡ foreign_first bytes r → Parses view Spells of_lines bytes whole
     parses bytes r whole given same =
-        let exact = subst (λ (w : Result X FileFault). Gives view w (reading_from of_lines (first_odd bytes) bytes)) (sym same) (reading_of bytes r given) in
+        let exact = subst (λ (w : Result X FileFault). Gives view w (reading_from of_lines (first_foreign bytes) bytes)) (sym same) (reading_of bytes r given) in
         record { found = found bytes whole exact; only = only bytes whole exact; exact = exact; no_file = spells_none bytes whole exact }
 
--- Memory is reported only if there is no odd byte
-memory_told : (bytes : List ℕ) (P : Type 0) (e : FileFault) (o : Option ℕ) → first_odd bytes ≡ o → (e.kind ≡ Memory → first_odd bytes ≡ None → P)
+-- Memory is reported only if there is no foreign byte
+memory_told : (bytes : List ℕ) (P : Type 0) (e : FileFault) (o : Option ℕ) → first_foreign bytes ≡ o → (e.kind ≡ Memory → first_foreign bytes ≡ None → P)
     → (fault_in_order o bytes e).kind ≡ Memory → P
-memory_told bytes P e (Some k) odd h memory = absurd cc
-memory_told bytes P e None odd h memory = h memory odd
+memory_told bytes P e (Some k) foreign h memory = absurd cc
+memory_told bytes P e None foreign h memory = h memory foreign
 
 module _ {F : Type 0} (bytes : List ℕ) (P : Type 0) where
-  of_lines_told : (r : Result F FileFault) → MemoryOnlyIf r (first_odd bytes ≡ None → P) → MemoryOnlyIf (odd_first bytes r) P
+  of_lines_told : (r : Result F FileFault) → MemoryOnlyIf r (first_foreign bytes ≡ None → P) → MemoryOnlyIf (foreign_first bytes r) P
   of_lines_told (Ok f) h = tt
-  of_lines_told (Err e) h = memory_told bytes P e (first_odd bytes) refl h
+  of_lines_told (Err e) h = memory_told bytes P e (first_foreign bytes) refl h
 
-  pub plain_memory : (r whole : Result F FileFault) → MemoryOnlyIf r (first_odd bytes ≡ None → P) → whole ≡ odd_first bytes r → MemoryOnlyIf whole P
+  pub plain_memory : (r whole : Result F FileFault) → MemoryOnlyIf r (first_foreign bytes ≡ None → P) → whole ≡ foreign_first bytes r → MemoryOnlyIf whole P
   plain_memory r whole known same = subst (λ (w : Result F FileFault). MemoryOnlyIf w P) (sym same) (of_lines_told r known)

@@ -13,7 +13,7 @@ use Rattle.tower_file.specs.Faults.{fault}
 use Rattle.tower_file.specs.Benches.{Bench, bench_of, is_some}
 use Rattle.tower_file.specs.BenchSpelling.{bench_header}
 use Rattle.tower_file.specs.Lines.{fitting_step, is_branch, branch_of}
-use Rattle.tower_file.specs.Reading.{◌>>=◌, has_header, first_odd, tower_of, reading_from}
+use Rattle.tower_file.specs.Reading.{◌>>=◌, has_header, first_foreign, tower_of, reading_from}
 use Rattle.words.specs.Words.{lines, words, after_next}
 
 -- the name of a limb's branch
@@ -30,22 +30,22 @@ put_step [] s = []
 put_step (l ∷ []) s = limb_with_step l s ∷ []
 put_step (l ∷ k ∷ ls) s = l ∷ put_step (k ∷ ls) s
 
--- these limbs with l, the limb of line n, added at the end. On line n there is BadBranch if l's
--- name isn't the name of a new branch, or else Tangled if l's `from` and `shared` don't allow it to
--- follow these limbs.
+-- these limbs with l, the limb of line n, added at the end. Line n has the fault BadBranch if l's
+-- name has the wrong form or is the name of an earlier limb, or else Tangled if l's `from` and
+-- `shared` don't satisfy `may_share`.
 abbrev pub put_limb : ℕ → List Limb → Limb → Result (List Limb) FileFault
 put_limb n limbs l =
     if not (is_new_name limbs l.name) then Err (fault BadBranch n)
     else (if may_share limbs l then Ok (limbs ++ l ∷ []) else Err (fault Tangled n))
 
--- these limbs with the limb of line n added at the end, given that line's words after `branch`. On
--- line n there is BadBranch if the words aren't those of a branch, or the fault that `put_limb`
--- gives.
+-- these limbs with the limb of line n added at the end, given that line's words after `branch`.
+-- Line n has the fault BadBranch if the words aren't those of a branch, or else the fault that
+-- `put_limb` gives, if any.
 abbrev pub then_branch : ℕ → List Limb → List (List ℕ) → Result (List Limb) FileFault
 then_branch n limbs ws = ok_or (branch_of ws) (fault BadBranch n) >>= put_limb n limbs
 
--- these limbs with the step of line n added to the last limb. On line n there is BadBranch if there
--- is no limb, or else BadStep if the line doesn't spell a step that fits the tower.
+-- these limbs with the step of line n added to the last limb. Line n has the fault BadBranch if
+-- there is no limb, or else BadStep if the line doesn't spell a step that fits the tower.
 abbrev pub then_step : TowerSpec → ℕ → List Limb → List ℕ → Result (List Limb) FileFault
 then_step t n limbs line =
     if is_some limbs then (ok_or (fitting_step Two t line) (fault BadStep n) >>= λ s. Ok (put_step limbs s))
@@ -67,7 +67,7 @@ cut_line limbs line = if is_branch line || not (is_some limbs) then BadBranch el
 abbrev pub limbs_at_end : ℕ → List Limb → List ℕ → Result (List Limb) FileFault
 limbs_at_end n limbs rest = if length rest == 0 && is_some limbs then Ok limbs else Err (fault (cut_line limbs rest) n)
 
--- these limbs with the branches and the steps of the lines from line n on added; or the first fault
+-- these limbs with the branches and the steps of line n and later lines added; or the first fault
 -- of those lines. At the end there must be at least one limb, and no text after the last line end.
 unfoldable pub limbs_of : TowerSpec → ℕ → List Limb → List (List ℕ) → Result (List Limb) FileFault
 limbs_of t n limbs [] = limbs_at_end n limbs []
@@ -79,7 +79,8 @@ limbs_of t n limbs (line ∷ other ∷ others) = then_line t n limbs line >>= λ
 abbrev pub is_bench : List ℕ → Bool
 is_bench bytes = has_header bench_header (lines bytes)
 
--- the bench file that these lines spell, or their first fault; odd bytes aren't looked for
+-- the bench file that these lines spell, or their first fault; whether all bytes are allowed is not
+-- tested here
 abbrev pub bench_of_lines : List (List ℕ) → Result Bench FileFault
 bench_of_lines ls =
     if has_header bench_header ls
@@ -88,4 +89,4 @@ bench_of_lines ls =
 
 -- what bytes are read as: a bench file, or the first fault in them
 abbrev pub bench_reading : List ℕ → Result Bench FileFault
-bench_reading bytes = reading_from bench_of_lines (first_odd bytes) bytes
+bench_reading bytes = reading_from bench_of_lines (first_foreign bytes) bytes

@@ -6,14 +6,15 @@ use Rattle.words.specs.Steps.{text, step_text}
 use Rattle.tower_file.specs.declared.tower.TowerSpec.{TowerSpec}
 use Rattle.tower_file.specs.Benches.{Bench, IsLawfulBench, is_some, are_lawful}
 use Rattle.tower_file.specs.Spelling.{text_with_end, tower_text}
-use Rattle.tower_file.specs.Reading.{first_odd}
+use Rattle.tower_file.specs.Reading.{first_foreign}
 
 -- the first line of a bench file
 abbrev pub bench_header : List ℕ
 bench_header = codes "bench 1"
 
--- the line of a limb's branch, without a line end: `branch`, the branch's name, the number of the
--- branch that it starts from, and how many cells the two share
+-- the line of a limb's branch, without a line end: `branch`, the name of the limb's branch, the
+-- number of the branch that the limb's branch starts from, and how many cells the two branches
+-- share
 abbrev pub branch_text : Limb → List ℕ
 branch_text l = codes "branch" ++ 32 ∷ text l.name (l.from ∷ l.shared ∷ [])
 
@@ -30,8 +31,8 @@ pub record SpellsBench (bytes : List ℕ) (b : Bench) : Type 0 where
   pub lawful : IsLawfulBench b
   pub spelled : bytes ≡ bench_spelling b
 
--- The text of these lines, joined by line ends, begins with the lines of at least one limb. A bench
--- file on this tower can have the limbs that these lines spell.
+-- These lines, joined by line ends, begin with the spelling of one or more limbs, and a bench file
+-- on this tower can have those limbs.
 pub record SpellsLimbs (t : TowerSpec) (ls : List (List ℕ)) : Type 0 where
   pub limbs : List Limb
   pub rest : List ℕ
@@ -39,12 +40,12 @@ pub record SpellsLimbs (t : TowerSpec) (ls : List (List ℕ)) : Type 0 where
   pub lawful : are_lawful t limbs ≡ true
   pub parts : join_with_byte 10 ls ≡ flat_map limb_text limbs ++ rest
 
--- None of these bytes is odd, and a prefix of them spells a bench file; so any fault is after that
--- prefix.
+-- No byte is foreign (a byte that no file may have), and a prefix of the bytes spells a bench file;
+-- so any fault is after that prefix.
 pub record SpellsFront (bytes : List ℕ) : Type 0 where
   pub front : List ℕ
   pub rest : List ℕ
   pub bench : Bench
   pub spells : SpellsBench front bench
   pub parts : bytes ≡ front ++ rest
-  pub plain : first_odd bytes ≡ None
+  pub plain : first_foreign bytes ≡ None

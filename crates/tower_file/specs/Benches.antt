@@ -25,8 +25,9 @@ is_some (l ∷ ls) = true
 abbrev pub has_fit : TowerSpec → Limb → Bool
 has_fit t l = (nat_lt l.from (10 ^ 9) && nat_lt l.shared (10 ^ 9)) && list_all (fits t) l.steps
 
--- whether a bench file on this tower can have these limbs: each may follow those before it, has
--- numbers of at most 9 digits, and has steps that fit the tower
+-- whether a bench file on this tower can have these limbs: each has a new name and satisfies
+-- `may_share`, given the limbs before it; its `from` and `shared` have at most 9 digits; and its
+-- steps fit the tower
 abbrev pub are_lawful : TowerSpec → List Limb → Bool
 are_lawful t limbs = are_lawful_after [] limbs && list_all (has_fit t) limbs
 

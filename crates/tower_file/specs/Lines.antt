@@ -50,9 +50,10 @@ fitting_step v t line = do
 abbrev pub is_branch : List ℕ → Bool
 is_branch line = bytes_eq (next (words line)) (codes "branch")
 
--- the limb, still without steps, that the words after `branch` spell: a name of at most 16 bytes,
--- the number of the branch that it starts from, and how many cells the two branches share; `None`
--- if the words aren't exactly these three
+-- the limb, still without steps, that the words after `branch` spell. There must be exactly three:
+-- the name of the limb's branch, of at most 16 bytes; the number of the branch that the limb's
+-- branch starts from; and how many cells the two branches share. `None` if the words don't have
+-- this form.
 abbrev pub branch_of : List (List ℕ) → Option Limb
 branch_of ws = do
   name ← names.name_of_bytes (next ws)

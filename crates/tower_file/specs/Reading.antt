@@ -26,11 +26,11 @@ abbrev pub ◌>>=◌ : {A B : Type 0} → Result A FileFault → (A → Result B
 abbrev pub is_file_byte : ℕ → Bool
 is_file_byte b = b == 10 || (nat_le 32 b && nat_le b 126)
 
--- the index of the first odd byte (a byte that a file can't have); `None` if no byte is odd
-abbrev pub first_odd : List ℕ → Option ℕ
-first_odd bytes = position (λ b. not (is_file_byte b)) bytes
+-- the index of the first foreign byte (a byte that a file can't have); `None` if no byte is foreign
+abbrev pub first_foreign : List ℕ → Option ℕ
+first_foreign bytes = position (λ b. not (is_file_byte b)) bytes
 
--- the number of the line that has the byte at index k, counted from 1: one more than the number of
+-- the number, counted from 1, of the line that has the byte at index k: one more than the number of
 -- line ends before that byte
 abbrev pub line_at : ℕ → List ℕ → ℕ
 line_at k bytes = count_by (λ b. b == 10) (take k bytes) + 1
@@ -50,9 +50,9 @@ version_of ls =
 abbrev pub sized : TowerSpec → Result TowerSpec FileFault
 sized t = if is_lawful_tower t then Ok t else Err (fault BadSize 2)
 
--- the tower of this kind with these words of line 2 as its numbers. There is BadField if the line
--- is cut (has no line end) or the words aren't exactly the tower's numbers, or else BadSize if the
--- tower isn't lawful.
+-- the tower of this kind with these words of line 2 as its numbers. The fault is BadField if the
+-- line is cut (has no line end) or the words aren't exactly the tower's numbers, or else BadSize if
+-- the tower isn't lawful.
 abbrev pub fields : Bool → List (List ℕ) → TowerName → Result TowerSpec FileFault
 fields is_cut ws name = if is_cut then Err (fault BadField 2) else (ok_or (fields_of name ws) (fault BadField 2) >>= sized)
 
@@ -74,8 +74,8 @@ next_step v t n ls =
     else (ok_or (fitting_step v t (next ls)) (fault BadStep n) >>= λ s. Ok (Some s))
 
 -- the steps of these lines, the first of which is line n; or BadStep on the first line that has no
--- line end or isn't a step that this file may have. The empty text after the last line end has no
--- step.
+-- line end or isn't a step that this file may have. The empty text after the last line end isn't a
+-- fault.
 unfoldable pub steps_of : Version → TowerSpec → ℕ → List (List ℕ) → Result (List Step) FileFault
 steps_of v t n [] = Ok []
 steps_of v t n (rest ∷ []) = if length rest == 0 then Ok [] else Err (fault BadStep n)
@@ -84,7 +84,8 @@ steps_of v t n (line ∷ other ∷ others) = do
   ss ← steps_of v t (n + 1) (other ∷ others)
   Ok (s ∷ ss)
 
--- the tower file that these lines spell, or their first fault; odd bytes aren't looked for
+-- the tower file that these lines spell, or their first fault; whether all bytes are allowed is not
+-- tested here
 abbrev pub file_of_lines : List (List ℕ) → Result File FileFault
 file_of_lines ls = do
   v ← ok_or (version_of ls) (fault BadHeader 1)
@@ -92,34 +93,35 @@ file_of_lines ls = do
   ss ← steps_of v t 3 (after_next (after_next ls))
   Ok (file_of v t ss)
 
--- what bytes are read as, given the index of their first odd byte. If there is one, the result is
--- NotAscii on the line of that byte; otherwise it is what `of_lines` gives for the bytes' lines.
+-- what bytes are read as, given the index of their first foreign byte: NotAscii on the line of that
+-- byte, if there is such a byte; otherwise what `of_lines` gives for the bytes' lines
 abbrev pub reading_from : {Y : Type 0} → (List (List ℕ) → Result Y FileFault) → Option ℕ → List ℕ → Result Y FileFault
 reading_from of_lines (Some k) bytes = Err (fault NotAscii (line_at k bytes))
 reading_from of_lines None bytes = of_lines (lines bytes)
 
--- the first fault of the bytes, given the index of their first odd byte and e, the fault of their
--- lines: NotAscii on the line of the odd byte; or e, if no byte is odd
+-- the first fault of the bytes, given the index of their first foreign byte and e, the fault of
+-- their lines: NotAscii on the line of the foreign byte; or e, if no byte is foreign
 abbrev pub fault_in_order : Option ℕ → List ℕ → FileFault → FileFault
 fault_in_order (Some k) bytes e = fault NotAscii (line_at k bytes)
 fault_in_order None bytes e = e
 
--- the result of reading the bytes' lines, in which NotAscii replaces a fault if some byte is odd
-abbrev pub odd_first : {Y : Type 0} → List ℕ → Result Y FileFault → Result Y FileFault
-odd_first bytes (Ok y) = Ok y
-odd_first bytes (Err e) = Err (fault_in_order (first_odd bytes) bytes e)
+-- the result of reading the bytes' lines. But if that result is a fault, and some byte is foreign,
+-- the fault is replaced by NotAscii on the line of the first foreign byte.
+abbrev pub foreign_first : {Y : Type 0} → List ℕ → Result Y FileFault → Result Y FileFault
+foreign_first bytes (Ok y) = Ok y
+foreign_first bytes (Err e) = Err (fault_in_order (first_foreign bytes) bytes e)
 
--- A parser's result for these bytes is the file that they spell, or their first fault if they spell
--- no file, unless memory ran out.
+-- Unless memory ran out, a parser's result for these bytes is the file that they spell, or their
+-- first fault if they spell no file.
 pub record Parses {X F : Type 0} (view : X → F) (Spells : List ℕ → F → Type 0) (of_lines : List (List ℕ) → Result F FileFault) (bytes : List ℕ) (result : Result X FileFault) : Type 0 where
   pub found : IfOk result (λ x. Spells bytes (view x))
   pub only : (f : F) → Spells bytes f → Gives view result (Ok f)
-  pub exact : Gives view result (reading_from of_lines (first_odd bytes) bytes)
+  pub exact : Gives view result (reading_from of_lines (first_foreign bytes) bytes)
   pub no_file : IfErr result (λ e. e.kind ≢ Memory → (f : F) → Spells bytes f → ⊥)
 
 -- what bytes are read as: a tower file, or the first fault in them
 abbrev pub file_reading : List ℕ → Result File FileFault
-file_reading bytes = reading_from file_of_lines (first_odd bytes) bytes
+file_reading bytes = reading_from file_of_lines (first_foreign bytes) bytes
 
 -- the steps were read without a fault, and there is at least one, so that memory is needed
 abbrev pub HasSomeStep : Result (List Step) FileFault → Type 0

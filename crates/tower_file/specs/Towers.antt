@@ -1,4 +1,5 @@
--- The six towers: their values and processes, which of them are lawful, and which steps fit them.
+-- Towers of six kinds: how many values and processes a tower has, whether it is lawful, and which
+-- steps fit it.
 use Rattle.std.specs.Prelude.{ℕ, ◌+◌, ◌*◌, Bool, ◌&&◌, nat_lt, nat_le}
 use Rattle.frames.specs.declared.types.Op.{Op}
 use Rattle.frames.specs.declared.types.Op.TheVariants as op
@@ -19,8 +20,8 @@ values_of (Unary values readers init) = values
 values_of (Stamped values last) = values
 values_of (Matrix processes values last_tag last_stamp) = values
 
--- how many processes a tower has: in a matrix, the number that its line gives; in any other tower,
--- the writer and the readers, of which there is one if its line gives no number
+-- how many processes a tower has. A matrix has as many as its line gives. Any other tower has one
+-- process more than it has readers; it has 1 reader if its line gives no number of readers.
 abbrev pub processes_of : TowerSpec → ℕ
 processes_of (Safe init) = 2
 processes_of (Copies readers init) = readers + 1
@@ -34,7 +35,8 @@ abbrev pub is_between : ℕ → ℕ → ℕ → Bool
 is_between least most n = nat_le least n && nat_le n most
 
 -- whether a matrix with these numbers has at most 512 codes (each is one number for a stamp, a tag,
--- a process and a value), and at most 4,096 bits: one for each code, writer and reader
+-- a process and a value), and at most 4,096 bits: one bit for each combination of a code, a writer
+-- and a reader
 abbrev pub is_small_matrix : ℕ → ℕ → ℕ → ℕ → Bool
 is_small_matrix processes values last_tag last_stamp =
     let codes = (last_stamp + 1) * (last_tag + 1) * processes * values in
@@ -53,8 +55,8 @@ is_lawful_tower (Matrix processes values last_tag last_stamp) =
     ((is_between LEAST_PROCESSES MOST_WRITERS processes && is_between LEAST_VALUES MOST_VALUES values) && nat_lt last_tag MOST_VALUES && nat_lt last_stamp MOST_VALUES)
     && is_small_matrix processes values last_tag last_stamp
 
--- whether an operation fits process `who`: in a matrix each process may read, and write each value;
--- in any other tower process 0 may write each value, and the other processes may read
+-- whether an operation fits process `who`: in a matrix each process may read and may write each
+-- value; in any other tower process 0 may write each value, and the other processes may read
 abbrev pub suits : TowerSpec → ℕ → Op → Bool
 suits (Matrix processes values last_tag last_stamp) who (op.Write v) = nat_lt who processes && nat_lt v values
 suits (Matrix processes values last_tag last_stamp) who op.Read = nat_lt who processes

@@ -7,7 +7,9 @@ use schedule_trie::Limbs;
 use schedule_trie::limb::Limb;
 
 /// What a bench file says: a lawful tower, and at least one limb (a branch as a file stores it).
-/// Each limb may follow those before it, and its steps fit the tower.
+/// Each limb has a well-formed name that no earlier limb has. Each limb's `from` and `shared` are
+/// below 10^9. Either both are 0, or the limb's last shared cell is one of the own cells of the
+/// earlier limb at index `from`. Each limb's steps fit the tower.
 #[derive(Debug, Drop)]
 pub struct BenchFile {
     /// The tower.
@@ -23,8 +25,8 @@ impl BenchFile {
     ghost use Rattle.tower_file.specs.Said.{as_bench};
 
     /// The file with this tower and these limbs. The tower must be lawful. There must be at least
-    /// one limb. Each limb must be one that may follow those before it; its `from` and `shared`
-    /// must be below 10^9, and its steps must fit the tower.
+    /// one limb. Each limb must have a new name and satisfy `may_share`, given the limbs before it;
+    /// its `from` and `shared` must be below 10^9, and its steps must fit the tower.
     pub(crate) fn of_lawful(spec: TowerSpec, limbs: Vec<Limb>) -> BenchFile
         requires lawful { IsLawfulBench (bench_of spec limbs.items) }
         ensures { as_bench result ≡ bench_of spec limbs.items }

@@ -9,7 +9,7 @@ ghost use Rattle.tower_file.specs.Said.{as_bench};
 ghost use Rattle.tower_file.specs.BenchSpelling.{SpellsBench, SpellsFront, SpellsLimbs, bench_header};
 ghost use Rattle.tower_file.specs.BenchReading as spec;
 ghost use Rattle.tower_file.specs.Reading as reading;
-ghost use Rattle.tower_file.specs.Reading.{first_odd};
+ghost use Rattle.tower_file.specs.Reading.{first_foreign};
 ghost use Rattle.words.specs.Words.{lines, words, after_next};
 ghost use Rattle.words.specs.Steps.{step_of_words};
 
@@ -17,7 +17,7 @@ use crate::bench::BenchFile;
 use crate::fault::{FaultKind, FileFault};
 use crate::limbs::NamedLimbs;
 use crate::line::{branch_of, is_branch};
-use crate::reading::{fault, lines_of, odd_first, tower_of};
+use crate::reading::{fault, foreign_first, lines_of, tower_of};
 use crate::tower::TowerSpec;
 use crate::version::Version;
 use frames::types::Step;
@@ -147,11 +147,12 @@ fn limbs_of(alloc: Global, tower: &TowerSpec, lines: &mut Lines<'_>) -> Result<V
     }
 }
 
-/// Reads the lines of a bench file, without a check for odd bytes.
+/// Reads the lines of a bench file, without a check for foreign bytes (those that no file may
+/// have).
 #[tactic(auto, using(crate::proofs::Loop::fewer_left))]
 fn bench_of_lines(alloc: Global, bytes: &[u8]) -> Result<BenchFile, FileFault>
     ensures exact { Gives as_bench result (spec.bench_of_lines (lines bytes.now)) }
-    ensures memory { MemoryOnlyIf result (first_odd bytes.now ≡ None → SpellsFront bytes.now) }
+    ensures memory { MemoryOnlyIf result (first_foreign bytes.now ≡ None → SpellsFront bytes.now) }
 {
     let mut lines = lines_of(bytes);
     if !has_header(&mut lines) {
@@ -162,12 +163,13 @@ fn bench_of_lines(alloc: Global, bytes: &[u8]) -> Result<BenchFile, FileFault>
     Ok(BenchFile::of_lawful(tower, limbs))
 }
 
-/// Reads a bench file. If its lines have a fault, also looks for an odd byte.
+/// Reads a bench file. If its lines have a fault, also looks for a foreign byte (one that no file
+/// may have).
 fn bench_of(alloc: Global, bytes: &[u8]) -> Result<BenchFile, FileFault>
     ensures parsed { reading.Parses as_bench SpellsBench spec.bench_of_lines bytes.now result }
     ensures memory { MemoryOnlyIf result (SpellsFront bytes.now) }
 {
-    odd_first(bytes, bench_of_lines(alloc, bytes))
+    foreign_first(bytes, bench_of_lines(alloc, bytes))
 }
 
 /// Whether these bytes are to be read as a bench file: their first line is `bench 1` and has a line
@@ -180,9 +182,9 @@ pub fn is_bench(bytes: &[u8]) -> bool
 }
 
 /// Returns the bench file that the bytes spell. If they spell none, returns their first fault:
-/// NotAscii if some byte is odd (neither a line end nor one of 0x20 to 0x7E), or else the fault of
-/// the first faulty line. If no byte is odd, and memory runs out before a faulty line is reached,
-/// returns Memory on line 0 instead.
+/// NotAscii if some byte is foreign (neither a line end nor one of 0x20 to 0x7E), or else the fault
+/// of the first faulty line. If no byte is foreign, and memory runs out before a faulty line is
+/// reached, returns Memory on line 0 instead.
 pub fn parse_bench(alloc: Global, bytes: &[u8]) -> Result<BenchFile, FileFault>
     // The bytes spell the file that is returned.
     ensures found { IfOk result (λ b. SpellsBench bytes.now (as_bench b)) }
@@ -193,8 +195,9 @@ pub fn parse_bench(alloc: Global, bytes: &[u8]) -> Result<BenchFile, FileFault>
     ensures exact { Gives as_bench result (spec.bench_reading bytes.now) }
     ensures fault { IfErr result (λ e. e.kind ≢ Memory
         → (b : Bench) → SpellsBench bytes.now b → ⊥) }
-    // Memory is reported only if no byte is odd, and a prefix of the bytes spells a bench file: the
-    // lines up to and including the one that needed memory.
+    // Memory is reported only on line 0, only if no byte is foreign, and only if a prefix of the
+    // bytes spells a bench file. One such prefix is the lines up to and including the one that
+    // needed memory.
     ensures memory { IfErr result (λ e. e.kind ≡ Memory → (e.line ≡ 0) × SpellsFront bytes.now) }
 {
     bench_of(alloc, bytes)

@@ -9,7 +9,7 @@ use thiserror::Error;
 /// What is wrong with a file.
 #[derive(Clone, Copy, Debug, PartialEq, Eq, Error)]
 pub enum FaultKind {
-    /// Some byte is odd: it is neither a line end nor one of 0x20 to 0x7E.
+    /// Some byte is foreign: it is neither a line end nor one of 0x20 to 0x7E.
     #[error("10 NotAscii")]
     NotAscii,
     /// The first line isn't a header, or has no line end.
@@ -21,9 +21,9 @@ pub enum FaultKind {
     /// The second line doesn't have exactly the fields of its tower, or has no line end.
     #[error("13 BadField")]
     BadField,
-    /// A line isn't a step of the file's version that fits the tower, or has no line end. In a
-    /// tower file this is a line after the second; in a bench file, a line after the first branch's
-    /// line, whose first word isn't `branch`.
+    /// A line has no line end, isn't a step that fits the tower, or is a stop in a tower file of
+    /// version 1. In a tower file the line is after the second line; in a bench file it is after
+    /// the first branch's line, and the line's first word isn't `branch`.
     #[error("14 BadStep")]
     BadStep,
     /// A field of the tower is out of its range, or the tower is too large.
@@ -33,8 +33,10 @@ pub enum FaultKind {
     /// form, no line end, a name that no branch may have, or the name of an earlier branch.
     #[error("16 BadBranch")]
     BadBranch,
-    /// In a bench file, a branch can't share its number of cells with the branch that it starts
-    /// from.
+    /// In a bench file, a line `branch NAME P K` has the right form and a new name, but P and K are
+    /// wrong. P and K are right if both are 0. They are also right if P is the number, counted from
+    /// 0, of an earlier branch, and the K-th cell of branch P is one of its own cells, not one that
+    /// it shares with a branch before it.
     #[error("17 Tangled")]
     Tangled,
     /// Out of memory.

@@ -8,23 +8,23 @@ ghost use Rattle.tower_file.specs.Benches.{Bench, IsLawfulBench};
 ghost use Rattle.tower_file.specs.BenchSpelling.{SpellsBench, bench_spelling};
 ghost use Rattle.tower_file.specs.BenchReading.{bench_reading};
 
-/// Exactly one list of bytes spells each lawful tower file, and no bytes spell two files. Bytes are
-/// read as a tower file (by `file_reading`) exactly if they spell that file.
+/// Each lawful tower file is spelled by exactly one list of bytes, and no bytes spell two files.
+/// `file_reading` gives a tower file for a list of bytes exactly if the bytes spell that file.
 pub fn one_spelling()
     ensures spelling { (f : File) → IsLawfulFile f → Spells (spelling f) f }
     ensures bytes { (f : File) (a b : List ℕ) → Spells a f → Spells b f → a ≡ b }
     ensures file { (bytes : List ℕ) (f g : File) → Spells bytes f → Spells bytes g → f ≡ g }
-    ensures file_reading { (bytes : List ℕ) (f : File)
+    ensures reading { (bytes : List ℕ) (f : File)
         → (file_reading bytes ≡ Ok f) ↔ Spells bytes f }
 {}
 
-/// Exactly one list of bytes spells each lawful bench file, and no bytes spell two files. Bytes are
-/// read as a bench file (by `bench_reading`) exactly if they spell that file.
+/// Each lawful bench file is spelled by exactly one list of bytes, and no bytes spell two files.
+/// `bench_reading` gives a bench file for a list of bytes exactly if the bytes spell that file.
 pub fn one_bench_spelling()
     ensures spelling { (b : Bench) → IsLawfulBench b → SpellsBench (bench_spelling b) b }
     ensures bytes { (b : Bench) (x y : List ℕ) → SpellsBench x b → SpellsBench y b → x ≡ y }
     ensures file { (bytes : List ℕ) (a b : Bench) → SpellsBench bytes a → SpellsBench bytes b
         → a ≡ b }
-    ensures file_reading { (bytes : List ℕ) (b : Bench) → (bench_reading bytes ≡ Ok b)
+    ensures reading { (bytes : List ℕ) (b : Bench) → (bench_reading bytes ≡ Ok b)
         ↔ SpellsBench bytes b }
 {}

@@ -30,15 +30,16 @@
 //! follow. Each is a line `branch NAME P K` and then its own steps, as in version 2. Branches are
 //! counted from 0. The branch NAME begins with the first K cells of branch P. NAME is 1 to 16
 //! bytes, a lower-case letter and then lower-case letters or digits, and differs from all earlier
-//! names. Either P and K are 0, or P is an earlier branch, and K is more than that branch's own K
-//! and at most the number of that branch's cells. So P is the first branch that has the last shared
-//! cell, and a forest has one spelling ([`laws::one_bench_spelling`]).
+//! names. P and K may both be 0. Otherwise P is an earlier branch, and K is more than that branch's
+//! own K and at most the number of that branch's cells. So if K isn't 0, P is the first branch that
+//! has the last shared cell. Thus a forest has one spelling ([`laws::one_bench_spelling`]).
 //!
 //! [`parse_bench`] reports NotAscii (10) and the faults of the first two lines as [`parse`] does,
-//! and then the fault of the first bad line from the third on. If that line's first word is
+//! and then the fault of the first bad line from the third on. If the bad line's first word is
 //! `branch`, the fault is BadBranch (16) if the line's form, end or name is wrong, and Tangled (17)
-//! if only P and K are wrong. The fault of any other line is BadBranch before the first branch's
-//! line, and BadStep (14) after it. So a file that ends after two lines has BadBranch on line 3.
+//! if only P and K are wrong. If the bad line's first word isn't `branch`, the fault is BadBranch
+//! before the first branch's line, and BadStep (14) after that line. So a file that ends after two
+//! lines has BadBranch on line 3.
 #![tactic(auto)]
 
 mod bench;

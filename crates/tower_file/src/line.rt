@@ -42,9 +42,9 @@ pub fn tower_name(word: &[u8]) -> Option<TowerName>
         .or(named(word, "matrix", TowerName::Matrix))
 }
 
-/// Reads the words that are left as the numbers of a tower of this kind, and returns the tower.
-/// `None` if there are too few or too many words, or if one isn't a number. The numbers' ranges
-/// aren't checked.
+/// Reads all words of a tower's line after the first. They must be the numbers of a tower of this
+/// kind. Returns the tower; `None` if there are too few or too many words, or if one isn't a
+/// number. The numbers' ranges aren't checked.
 pub fn fields_of(name: TowerName, words: &mut Parts<'_>) -> Option<TowerSpec>
     ensures { result ≡ spec.fields_of name words.old }
 {
@@ -93,9 +93,10 @@ pub fn is_branch(line: &[u8]) -> bool
     is(words.next(), "branch")
 }
 
-/// Reads the words after `branch` as a limb without steps. There must be exactly three: a name of
-/// at most 16 bytes, the number of the branch that it starts from, and how many cells the two
-/// branches share. `None` if the words don't have this form. Allocates nothing.
+/// Reads the words after `branch` as a limb without steps. There must be exactly three: the name of
+/// the limb's branch, of at most 16 bytes; the number of the branch that the limb's branch starts
+/// from; and how many cells the two branches share. `None` if the words don't have this form.
+/// Allocates nothing.
 pub fn branch_of(alloc: Global, words: &mut Parts<'_>) -> Option<Limb>
     ensures { result ≡ spec.branch_of words.old }
 {

@@ -22,9 +22,9 @@ use words::lines::Lines;
 use words::parts::Parts;
 use words::step::is;
 
-/// The index of the first odd byte: one that is neither a line end nor one of 0x20 to 0x7E.
-fn first_odd(bytes: &[u8]) -> Option<usize>
-    ensures { result ≡ spec.first_odd bytes.now }
+/// The index of the first foreign byte: one that is neither a line end nor one of 0x20 to 0x7E.
+fn first_foreign(bytes: &[u8]) -> Option<usize>
+    ensures { result ≡ spec.first_foreign bytes.now }
 {
     bytes.iter().position(|b| !is_plain(*b))
 }
@@ -36,7 +36,7 @@ fn is_plain(b: u8) -> bool
     b == b'\n' || (0x20 <= b && b <= 0x7e)
 }
 
-/// The number of the line that has the byte at index `place`, counted from 1.
+/// The number, counted from 1, of the line that has the byte at index `place`.
 fn line_at(place: usize, bytes: &[u8]) -> u64
     requires inside { place ≤ length bytes.now }
     ensures { result ≡ spec.line_at place bytes.now }
@@ -105,8 +105,9 @@ pub(crate) fn tower_of(lines: &mut Lines<'_>) -> Result<TowerSpec, FileFault>
     Ok(tower)
 }
 
-/// Reads the step of line `number`. Returns `None` if nothing follows the last line end, and
-/// BadStep if the line isn't a step that the file may have, or has no line end.
+/// Reads the step of line `number`. Returns `None` if the line is the empty text after the last
+/// line end. Otherwise the line has the fault BadStep if it has no line end, or if it isn't a step
+/// that the file may have.
 fn next_step(
     version: Version,
     tower: &TowerSpec,
@@ -130,7 +131,7 @@ fn next_step(
     Err(fault(FaultKind::BadStep, number))
 }
 
-/// Adds a step, if there was memory for all earlier ones. Returns whether all steps so far are
+/// Adds a step, if there was memory for all earlier steps. Returns whether all steps so far are
 /// kept.
 fn keep(steps: &mut Vec<Step>, step: Step, room_was_left: bool) -> bool
     ensures kept { result ≡ true → steps.new.items ≡ steps.old.items ++ step ∷ [] }
@@ -170,11 +171,13 @@ fn steps_of(
     Ok(steps)
 }
 
-/// Reads the lines of a file, without a check for odd bytes. Only steps need memory.
+/// Reads the lines of a file, without a check for foreign bytes (those that no file may have). Only
+/// the steps need memory.
 #[tactic(auto, using(crate::proofs::Loop::fewer_left))]
 fn file_of_lines(alloc: Global, bytes: &[u8]) -> Result<TowerFile, FileFault>
     ensures exact { Gives as_file result (spec.file_of_lines (lines bytes.now)) }
-    ensures memory { MemoryOnlyIf result (spec.first_odd bytes.now ≡ None → SpellsSteps bytes.now) }
+    ensures memory { MemoryOnlyIf result
+        (spec.first_foreign bytes.now ≡ None → SpellsSteps bytes.now) }
 {
     let mut lines = lines_of(bytes);
     let Some(version) = version_of(&mut lines) else {
@@ -185,22 +188,22 @@ fn file_of_lines(alloc: Global, bytes: &[u8]) -> Result<TowerFile, FileFault>
     Ok(TowerFile::of_lawful(version, tower, steps))
 }
 
-/// The first fault of the bytes: NotAscii if some byte is odd, and otherwise `of_lines`, the fault
-/// that reading the lines gave.
+/// The first fault of the bytes: NotAscii if some byte is foreign, and otherwise `of_lines`, the
+/// fault that reading the lines gave.
 fn first_fault(bytes: &[u8], of_lines: FileFault) -> FileFault
-    ensures { result ≡ spec.fault_in_order (spec.first_odd bytes.now) bytes.now of_lines }
+    ensures { result ≡ spec.fault_in_order (spec.first_foreign bytes.now) bytes.now of_lines }
 {
-    match first_odd(bytes) {
+    match first_foreign(bytes) {
         Some(place) => fault(FaultKind::NotAscii, line_at(place, bytes)),
         None => of_lines,
     }
 }
 
 /// Returns `of_lines`, the result of reading the bytes' lines. But if that is a fault, and some
-/// byte is odd (neither a line end nor one of 0x20 to 0x7E), returns NotAscii on the line of the
-/// first odd byte. If the lines spell a file, no byte is odd, so none is looked for.
-pub(crate) fn odd_first<T>(bytes: &[u8], of_lines: Result<T, FileFault>) -> Result<T, FileFault>
-    ensures { result ≡ spec.odd_first bytes.now of_lines }
+/// byte is foreign (neither a line end nor one of 0x20 to 0x7E), returns NotAscii on the line of
+/// the first foreign byte. If the lines spell a file, no byte is foreign, so none is looked for.
+pub(crate) fn foreign_first<T>(bytes: &[u8], of_lines: Result<T, FileFault>) -> Result<T, FileFault>
+    ensures { result ≡ spec.foreign_first bytes.now of_lines }
 {
     match of_lines {
         Ok(file) => Ok(file),
@@ -208,17 +211,18 @@ pub(crate) fn odd_first<T>(bytes: &[u8], of_lines: Result<T, FileFault>) -> Resu
     }
 }
 
-/// Reads a tower file. If its lines have a fault, also looks for an odd byte.
+/// Reads a tower file. If its lines have a fault, also looks for a foreign byte (one that no file
+/// may have).
 fn file_of(alloc: Global, bytes: &[u8]) -> Result<TowerFile, FileFault>
     ensures parsed { spec.Parses as_file Spells spec.file_of_lines bytes.now result }
     ensures memory { MemoryOnlyIf result (SpellsSteps bytes.now) }
 {
-    odd_first(bytes, file_of_lines(alloc, bytes))
+    foreign_first(bytes, file_of_lines(alloc, bytes))
 }
 
 /// Returns the tower file that the bytes spell. If they spell none, returns their first fault:
-/// NotAscii if some byte is odd (neither a line end nor one of 0x20 to 0x7E), or else the fault of
-/// the first faulty line. If they spell a file with steps, and there is no memory for the steps,
+/// NotAscii if some byte is foreign (neither a line end nor one of 0x20 to 0x7E), or else the fault
+/// of the first faulty line. If they spell a file with steps, and there is no memory for the steps,
 /// returns Memory on line 0.
 pub fn parse(alloc: Global, bytes: &[u8]) -> Result<TowerFile, FileFault>
     // The bytes spell the file that is returned.

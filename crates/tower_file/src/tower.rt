@@ -1,4 +1,5 @@
-//! The six towers: their values and processes, which of them are lawful, and which steps fit them.
+//! Towers of six kinds: how many values and processes a tower has, whether it is lawful, and which
+//! steps fit it.
 
 ghost use Rattle.std.specs.Prelude.{◌≡◌, ◌<◌, ◌≤◌};
 ghost use Rattle.frames.specs.declared.limits.TheConstants.{LEAST_VALUES, MOST_READERS, MOST_VALUES, MOST_WRITERS};
@@ -26,7 +27,7 @@ pub enum TowerSpec {
         readers: u32,
         init: u32,
     },
-    /// A unary number.
+    /// A unary number: a register of `values` values, made of one regular bit for each value.
     Unary {
         values: u32,
         readers: u32,
@@ -84,7 +85,7 @@ impl TowerSpec {
                 last_tag,
                 last_stamp,
             } => {
-                is_in(LEAST_PROCESSES, MOST_WRITERS, processes)
+                is_between(LEAST_PROCESSES, MOST_WRITERS, processes)
                     && is_value_count(values)
                     && last_tag < MOST_VALUES
                     && last_stamp < MOST_VALUES
@@ -117,7 +118,8 @@ impl HasRoles for TowerSpec {
         }
     }
 
-    // In a matrix each process writes and reads; in other towers process 0 writes and others read.
+    // In a matrix each process writes and reads; in any other tower process 0 writes, and the
+    // other processes read.
     fn suits(&self, who: u32, op: Op) -> bool {
         let values = self.values();
         let processes = self.process_count();
@@ -132,7 +134,7 @@ impl HasRoles for TowerSpec {
 }
 
 /// Whether `n` is at least `least` and at most `most`.
-fn is_in(least: u32, most: u32, n: u32) -> bool
+fn is_between(least: u32, most: u32, n: u32) -> bool
     ensures { result ≡ spec.is_between least most n }
 {
     least <= n && n <= most
@@ -142,17 +144,17 @@ fn is_in(least: u32, most: u32, n: u32) -> bool
 fn is_reader_count(readers: u32) -> bool
     ensures { result ≡ spec.is_between 1 MOST_READERS readers }
 {
-    is_in(1, MOST_READERS, readers)
+    is_between(1, MOST_READERS, readers)
 }
 
 /// Whether a tower may have `values` values.
 fn is_value_count(values: u32) -> bool
     ensures { result ≡ spec.is_between LEAST_VALUES MOST_VALUES values }
 {
-    is_in(LEAST_VALUES, MOST_VALUES, values)
+    is_between(LEAST_VALUES, MOST_VALUES, values)
 }
 
-/// Whether a matrix whose numbers are in their ranges has at most 512 codes and 4,096 bits.
+/// Whether a matrix whose numbers are in their ranges has at most 512 codes and at most 4,096 bits.
 fn is_small_matrix(processes: u32, values: u32, last_tag: u32, last_stamp: u32) -> bool
     requires processes { processes ≤ MOST_WRITERS }
     requires values { values ≤ MOST_VALUES }

@@ -1,5 +1,5 @@
 -- Worked examples of definitions that state an existence: one that holds, and a near miss.
-use Rattle.std.proofs.Common.{ℕ, ◌≡◌, true, false, inr, List, [], ◌∷◌, Option, Some, None, Ok, Err, slice_index_or, ap, refl, sym, ◌∙◌, arith}
+use Rattle.std.proofs.Common.{ℕ, ◌≡◌, true, false, inr, List, [], ◌∷◌, Option, Some, None, Ok, Err, slice_index_or, ap, refl, ◌∙◌, arith}
 use Rattle.std.specs.Fmt.{digits}
 use Rattle.clap.specs.Faults.{walk_fault, defaults_fault}
 use Rattle.schedule_trie.specs.declared.limits.Limits.{Limits}
@@ -11,6 +11,7 @@ use Rattle.tower_file.specs.Spelling.{spelling}
 use Rattle.tower_file.specs.Benches.{Bench}
 use Rattle.tower_file.specs.BenchSpelling.{bench_spelling}
 use Rattle.tower_file.proofs.Again.{reading_again}
+use Rattle.conversation.specs.Moments.{Streams, streams}
 use Rattle.command_line.specs.CommandLine.{Says, default_options}
 use Rattle.command_line.specs.Ranges.{AreOptionsInRange, limits_of}
 use Rattle.towerbench.specs.declared.fault.Fault.TheVariants as fault
@@ -27,21 +28,24 @@ bench = one_branch (Safe 0) []
 abbrev limits : Limits
 limits = limits_of default_options
 
--- no bytes, and one byte
 abbrev empty : Option (List ℕ)
 empty = Some []
 
-abbrev one_byte : Option (List ℕ)
-one_byte = Some (33 ∷ [])
+-- the streams, with nothing to read and with one byte to read
+abbrev nothing : Streams
+nothing = streams empty empty
+
+abbrev one_byte : Streams
+one_byte = streams (Some (33 ∷ [])) empty
 
 some_left : ◌≡◌ {A = List ℕ} (33 ∷ []) [] → ⊥
 some_left e = cc
 
 -- an empty script has no answers
-abbrev done : IsDone limits bench empty empty empty empty
+abbrev done : IsDone limits bench nothing nothing
 done = record { room = refl; answered = record { script = []; marks = λ number. false; read = refl; ended = refl; short = omega arith; wrote = refl } }
 
-leaving : RanLeaving None limits (bench_spelling bench) empty empty empty empty
+leaving : RanLeaving None limits (bench_spelling bench) nothing nothing
 leaving = record {
   bench = bench;
   left = bench;
@@ -51,11 +55,11 @@ leaving = record {
 }
 
 -- an empty script was answered
-Ran-holds : Ran None limits empty empty empty empty
+Ran-holds : Ran None limits nothing nothing
 Ran-holds = (bench, (refl, done))
 
 -- a byte of the script is not read
-Ran-fails : Ran None limits one_byte one_byte empty empty → ⊥
+Ran-fails : Ran None limits one_byte one_byte → ⊥
 Ran-fails h = some_left h.1.1.answered.ended
 
 -- a tower file of no steps
@@ -71,50 +75,50 @@ AreSound-fails h = no_file _ h.0 (reading_again _ h.0 h.1)
     no_file e f is = cc
 
 -- there was no memory to report the branches that a run left
-FailsOpen-holds : FailsOpen true None limits empty empty empty empty fault.Memory
+FailsOpen-holds : FailsOpen true None limits nothing nothing fault.Memory
 FailsOpen-holds = (bench, (refl, inr (refl, done)))
 
 -- a save that failed isn't a fault of this kind
-FailsOpen-fails : FailsOpen true None limits empty empty empty empty fault.Save → ⊥
+FailsOpen-fails : FailsOpen true None limits nothing nothing fault.Save → ⊥
 FailsOpen-fails h = h.1.1
 
 -- an empty script leaves the branches as they were opened
-RanLeaving-holds : RanLeaving None limits (bench_spelling bench) empty empty empty empty
+RanLeaving-holds : RanLeaving None limits (bench_spelling bench) nothing nothing
 RanLeaving-holds = leaving
 
 -- a byte of the script is not read
-RanLeaving-fails : RanLeaving None limits (bench_spelling bench) one_byte one_byte empty empty → ⊥
+RanLeaving-fails : RanLeaving None limits (bench_spelling bench) one_byte one_byte → ⊥
 RanLeaving-fails h = some_left h.leaves.done.answered.ended
 
 -- the bytes of these branches are saved
-RanSaving-holds : RanSaving None limits empty empty empty empty empty (Some (bench_spelling bench))
+RanSaving-holds : RanSaving None limits nothing nothing empty (Some (bench_spelling bench))
 RanSaving-holds = (bench_spelling bench, leaving, refl)
 
 -- nothing was saved, although the run ended well
-RanSaving-fails : RanSaving None limits empty empty empty empty empty empty → ⊥
+RanSaving-fails : RanSaving None limits nothing nothing empty empty → ⊥
 RanSaving-fails h = no_bench h.0 h.1.left (h.1.spells.spelled) h.2
   where
     no_bench : (bytes : List ℕ) (left : Bench) → bytes ≡ bench_spelling left → [] ≡ bytes → ⊥
     no_bench bytes left spelled none = let e : 7 ≡ 98 = ap (λ bytes. slice_index_or bytes 0 7) (none ∙ spelled) in omega (arith, e)
 
 -- the first write to the saver failed
-SavesInto-holds : SavesInto None limits empty empty empty empty empty empty fault.Save
+SavesInto-holds : SavesInto None limits nothing nothing empty empty fault.Save
 SavesInto-holds = (bench_spelling bench, leaving, ([], (bench_spelling bench, refl), refl))
 
 -- a save failed, although a byte of the script was not read before
-SavesInto-fails : SavesInto None limits one_byte one_byte empty empty empty empty fault.Save → ⊥
+SavesInto-fails : SavesInto None limits one_byte one_byte empty empty fault.Save → ⊥
 SavesInto-fails h = some_left h.1.leaves.done.answered.ended
 
 -- no file is named, and an empty script was answered
-WorksOut-holds : WorksOut false limits false empty empty empty empty Done
+WorksOut-holds : WorksOut false limits false nothing nothing Done
 WorksOut-holds = (None, refl, (bench, (refl, done)))
 
 -- a byte of the script is not read
-WorksOut-fails : WorksOut false limits false one_byte one_byte empty empty Done → ⊥
+WorksOut-fails : WorksOut false limits false one_byte one_byte Done → ⊥
 WorksOut-fails h = some_left h.2.1.1.answered.ended
 
 -- there are no words, and an empty script was answered
-RunsBy-holds : RunsBy [] empty empty empty empty Done
+RunsBy-holds : RunsBy [] nothing nothing Done
 unfolding walk_fault defaults_fault
 RunsBy-holds = (None, (default_options, (None, (says, (None, refl, (bench, (refl, done)))))))
   where
@@ -131,7 +135,7 @@ RunsBy-holds = (None, (default_options, (None, (says, (None, refl, (bench, (refl
     says = record { taken = refl; file_is = refl; options_are = refl; save_is = refl; limits = in_ranges }
 
 -- a byte of the script is not read
-RunsBy-fails : RunsBy [] one_byte one_byte empty empty Done → ⊥
+RunsBy-fails : RunsBy [] one_byte one_byte Done → ⊥
 RunsBy-fails h = some_left h.1.1.1.1.2.1.1.answered.ended
 
 -- the byte 2 was written after 1
@@ -143,11 +147,11 @@ IsPrinted-fails : IsPrinted (Some (1 ∷ [])) (Some (2 ∷ [])) Done → ⊥
 IsPrinted-fails h = let e : 2 ≡ 1 = ap (λ bytes. slice_index_or bytes 0 7) h.1 in omega (arith, e)
 
 -- there was no memory to read the words: status 1
-tool-holds : (ending : Ending) × ProgramEndsBy [] empty empty empty empty ending × (1 ≡ exit_status ending)
-tool-holds = (Faulted Memory, (refl, refl), refl)
+tool-holds : (ending : Ending) × ProgramEndsBy [] nothing nothing ending × (1 ≡ exit_status ending)
+tool-holds = (Faulted Memory, refl, refl)
 
 -- no end has the status 3
-tool-fails : (ending : Ending) × ProgramEndsBy [] empty empty empty empty ending × (3 ≡ exit_status ending) → ⊥
+tool-fails : (ending : Ending) × ProgramEndsBy [] nothing nothing ending × (3 ≡ exit_status ending) → ⊥
 tool-fails h = by h.0 h.2
   where
     by : (ending : Ending) → 3 ≡ exit_status ending → ⊥

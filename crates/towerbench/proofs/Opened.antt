@@ -15,13 +15,7 @@ use Rattle.schedule_trie.specs.Forest.{IsRefused}
 use Rattle.schedule_trie.specs.Limbs.{forest_of, limbs, loaded}
 use Rattle.tower_file.specs.declared.tower.TowerSpec.{TowerSpec}
 use Rattle.tower_file.specs.declared.tower.TowerSpec.TheVariants.{Safe}
-use Rattle.tower_file.specs.declared.fault.FileFault.{FileFault}
-use Rattle.tower_file.specs.declared.fault.FaultKind.{FaultKind}
-use Rattle.tower_file.specs.declared.fault.FaultKind.TheVariants as kind
-use Rattle.tower_file.specs.Faults.{Fails}
-use Rattle.tower_file.specs.Files.{File}
 use Rattle.tower_file.specs.Towers.{fits}
-use Rattle.tower_file.specs.Reading.{◌>>=◌}
 use Rattle.tower_file.specs.Benches.{Bench, bench_of}
 use Rattle.towerbench.specs.declared.fault.Fault.{Fault}
 use Rattle.towerbench.specs.declared.fault.Fault.TheVariants as fault
@@ -35,13 +29,14 @@ use Rattle.towerbench.specs.Streams.{of_stream}
 use Rattle.tower_file.specs.Said.{as_bench}
 use Rattle.tower_file.specs.declared.bench.BenchFile.{BenchFile}
 use Rattle.command_line.specs.declared.options.Options.{Options}
+use Rattle.conversation.specs.Moments.{Streams}
 use Rattle.conversation.specs.Scripts.{answers_to, lines_of}
-use Rattle.conversation.specs.Conversations.{Breaks, Leaves}
+use Rattle.conversation.specs.Conversations.{EndsWithFault, Leaves}
 use Rattle.command_line.specs.Ranges.{limits_of}
 use Rattle.towerbench.specs.declared.opening.Opening.{Opening}
-use Rattle.towerbench.specs.Opening.{Course, course_on, IsBroken, IsLeftBench}
+use Rattle.towerbench.specs.Opening.{Course, course_on, IsEndedByFault, IsLeftBench}
 use Rattle.towerbench.proofs.Grounds.{IsOn, ground_kept}
-use Rattle.towerbench.specs.Opening.{bench_in, one_branch, opened_bench, opening_of_limbs, course_from, course_of, FailsOver, EndsOver, IsDone, IsUnopened, RanInto, SavesInto}
+use Rattle.towerbench.specs.Opening.{one_branch, opened_bench, opening_of_limbs, course_from, course_of, FailsOver, EndsOver, IsDone, IsUnopened, RanInto, SavesInto}
 use Rattle.towerbench.specs.Openings.{Builds, CanOpen, opening_world}
 
 -- a register that behaves as a tower does builds that tower
@@ -66,27 +61,27 @@ none_within limits some = by (nat_lt limits.cells 0) (nat_lt limits.branches 1) 
 
 module _ (reports : Bool) (file : Option (List ℕ)) (limits : Limits) where
   -- if nothing is opened, nothing is read or written
-  pub unopened : (some : 1 ≤ limits.branches) (old before : Option (List ℕ)) (x : Fault) → IsUnopened file x → RanInto reports file limits old old before before x
-  unopened some old before (fault.File e) h = (h, (refl, refl))
-  unopened some old before (fault.Refused r) h =
+  pub unopened : (some : 1 ≤ limits.branches) (before : Streams) (x : Fault) → IsUnopened file x → RanInto reports file limits before before x
+  unopened some before (fault.File e) h = (h, refl)
+  unopened some before (fault.Refused r) h =
       let none : opened_bench file ≡ Ok (one_branch (Safe 0) []) = ap opened_bench h.0 in
       let memory : IsRefused (loaded limits (one_branch (Safe 0) []).limbs) r = inr (h.1, subst IsOk (sym (none_within limits some)) refl) in
-      (one_branch (Safe 0) [], (none, (memory, (refl, refl))))
-  unopened some old before fault.Read h = absurd h
-  unopened some old before fault.Write h = absurd h
-  unopened some old before fault.TooLong h = absurd h
-  unopened some old before fault.Memory h = absurd h
-  unopened some old before fault.Save h = absurd h
+      (one_branch (Safe 0) [], (none, (memory, refl)))
+  unopened some before fault.Read h = absurd h
+  unopened some before fault.Write h = absurd h
+  unopened some before fault.TooLong h = absurd h
+  unopened some before fault.Memory h = absurd h
+  unopened some before fault.Save h = absurd h
 
   -- if nothing is opened, a call that passes the fault on ends as such a run of the program does
-  pub unopened_so : (some : 1 ≤ limits.branches) (old before : Option (List ℕ)) (r : Result ⊤ Fault) (Is : Fault → Type 0) (e : Fault) → IsErrAnd r Is → ((x : Fault) → Is x → x ≡ e)
-      → IsUnopened file e → IfErr r (RanInto reports file limits old old before before)
-  unopened_so some old before (Ok done) Is e k same h = tt
-  unopened_so some old before (Err x) Is e k same h = unopened some old before x (subst (IsUnopened file) (sym (same x k)) h)
+  pub unopened_so : (some : 1 ≤ limits.branches) (before : Streams) (r : Result ⊤ Fault) (Is : Fault → Type 0) (e : Fault) → IsErrAnd r Is → ((x : Fault) → Is x → x ≡ e)
+      → IsUnopened file e → IfErr r (RanInto reports file limits before before)
+  unopened_so some before (Ok done) Is e k same h = tt
+  unopened_so some before (Err x) Is e k same h = unopened some before x (subst (IsUnopened file) (sym (same x k)) h)
 
-  module _ (old now before after : Option (List ℕ)) (b : Bench) (is : opened_bench file ≡ Ok b) where
+  module _ (before after : Streams) (b : Bench) (is : opened_bench file ≡ Ok b) where
     -- a fault of a run over a file's tower and branches is a fault of a run over the file
-    pub over_open : (x : Fault) → FailsOver reports limits b old now before after x → RanInto reports file limits old now before after x
+    pub over_open : (x : Fault) → FailsOver reports limits b before after x → RanInto reports file limits before after x
     over_open (fault.File e) h = absurd h
     over_open (fault.Refused r) h = (b, (is, h))
     over_open fault.Read h = (b, (is, h))
@@ -96,14 +91,14 @@ module _ (reports : Bool) (file : Option (List ℕ)) (limits : Limits) where
     over_open fault.Save h = absurd h
 
 -- if nothing is opened, nothing is saved
-pub unsaved : (file : Option (List ℕ)) (limits : Limits) (some : 1 ≤ limits.branches) (old before kept : Option (List ℕ)) (r : Result ⊤ Fault) (Is : Fault → Type 0) (e : Fault) → IsErrAnd r Is
-    → ((x : Fault) → Is x → x ≡ e) → IsUnopened file e → IfErr r (SavesInto file limits old old before before kept kept)
-unsaved file limits some old before kept (Ok done) Is e k same h = tt
-unsaved file limits some old before kept (Err x) Is e k same h = by x (subst (IsUnopened file) (sym (same x k)) h)
+pub unsaved : (file : Option (List ℕ)) (limits : Limits) (some : 1 ≤ limits.branches) (before : Streams) (kept : Option (List ℕ)) (r : Result ⊤ Fault) (Is : Fault → Type 0) (e : Fault) → IsErrAnd r Is
+    → ((x : Fault) → Is x → x ≡ e) → IsUnopened file e → IfErr r (SavesInto file limits before before kept kept)
+unsaved file limits some before kept (Ok done) Is e k same h = tt
+unsaved file limits some before kept (Err x) Is e k same h = by x (subst (IsUnopened file) (sym (same x k)) h)
   where
-    by : (x : Fault) → IsUnopened file x → SavesInto file limits old old before before kept kept x
-    by (fault.File e) h = (unopened true file limits some old before (fault.File e) h, refl)
-    by (fault.Refused r) h = (unopened true file limits some old before (fault.Refused r) h, refl)
+    by : (x : Fault) → IsUnopened file x → SavesInto file limits before before kept kept x
+    by (fault.File e) h = (unopened true file limits some before (fault.File e) h, refl)
+    by (fault.Refused r) h = (unopened true file limits some before (fault.Refused r) h, refl)
     by fault.Read h = absurd h
     by fault.Write h = absurd h
     by fault.TooLong h = absurd h
@@ -111,19 +106,19 @@ unsaved file limits some old before kept (Err x) Is e k same h = by x (subst (Is
     by fault.Save h = absurd h
 
 -- if a run fails, nothing is saved
-pub unsaved_over : (read set_up : BenchFile) (options given : Options) (same_bench : set_up ≡ read) (same_options : given ≡ options) (file : Option (List ℕ)) (old now before after kept : Option (List ℕ))
+pub unsaved_over : (read set_up : BenchFile) (options given : Options) (same_bench : set_up ≡ read) (same_options : given ≡ options) (file : Option (List ℕ)) (before after : Streams) (kept : Option (List ℕ))
     (is : opened_bench file ≡ Ok (as_bench read)) (r : Result ⊤ Fault) (Is : Fault → Type 0) (e : Fault) → IsErrAnd r Is → ((x : Fault) → Is x → x ≡ e)
-    → FailsOver true (limits_of given) (as_bench set_up) old now before after e → IfErr r (SavesInto file (limits_of options) old now before after kept kept)
-unsaved_over read set_up options given same_bench same_options file old now before after kept is (Ok done) Is e k same h = tt
-unsaved_over read set_up options given same_bench same_options file old now before after kept is (Err x) Is e k same h =
-    let there = subst (λ o. FailsOver true (limits_of o) (as_bench set_up) old now before after e) same_options h in
-    let fails = subst (λ b. FailsOver true (limits_of options) (as_bench b) old now before after e) same_bench there in
-    by x (subst (FailsOver true (limits_of options) (as_bench read) old now before after) (sym (same x k)) fails)
+    → FailsOver true (limits_of given) (as_bench set_up) before after e → IfErr r (SavesInto file (limits_of options) before after kept kept)
+unsaved_over read set_up options given same_bench same_options file before after kept is (Ok done) Is e k same h = tt
+unsaved_over read set_up options given same_bench same_options file before after kept is (Err x) Is e k same h =
+    let there = subst (λ o. FailsOver true (limits_of o) (as_bench set_up) before after e) same_options h in
+    let fails = subst (λ b. FailsOver true (limits_of options) (as_bench b) before after e) same_bench there in
+    by x (subst (FailsOver true (limits_of options) (as_bench read) before after) (sym (same x k)) fails)
   where
-    over : (x : Fault) → FailsOver true (limits_of options) (as_bench read) old now before after x → RanInto true file (limits_of options) old now before after x
-    over x f = over_open true file (limits_of options) old now before after (as_bench read) is x f
+    over : (x : Fault) → FailsOver true (limits_of options) (as_bench read) before after x → RanInto true file (limits_of options) before after x
+    over x f = over_open true file (limits_of options) before after (as_bench read) is x f
 
-    by : (x : Fault) → FailsOver true (limits_of options) (as_bench read) old now before after x → SavesInto file (limits_of options) old now before after kept kept x
+    by : (x : Fault) → FailsOver true (limits_of options) (as_bench read) before after x → SavesInto file (limits_of options) before after kept kept x
     by (fault.File e) f = absurd f
     by (fault.Refused r) f = (over (fault.Refused r) f, refl)
     by fault.Read f = (over fault.Read f, refl)
@@ -133,8 +128,8 @@ unsaved_over read set_up options given same_bench same_options file old now befo
     by fault.Save f = absurd f
 
 -- a run that ended well with some bytes is done
-module _ (limits : Limits) (b : Bench) (old now before after : Option (List ℕ)) where
-  pub done : (reports : Bool) (bytes : Vec ℕ Global) → EndsOver reports limits b old now before after (Ok bytes) → IsDone limits b old now before after
+module _ (limits : Limits) (b : Bench) (before after : Streams) where
+  pub done : (reports : Bool) (bytes : Vec ℕ Global) → EndsOver reports limits b before after (Ok bytes) → IsDone limits b before after
   done reports bytes h = h.1.done
 
 -- How a run from an opening ends, given what was answered at its desk from the world before the
@@ -146,12 +141,12 @@ module _ {R P : Type 0} (is : R → Behaviour P) (o : Opening R) (can : CanOpen 
   course_is : course_on (as_bench o.setup.bench) limits_at ≡ course_from w
   course_is = can.builds.course limits_at o.setup.bench.limbs ∙ ap course_from (sym at)
 
-  module _ (old now before after : Option (List ℕ)) (room : loaded limits_at o.setup.bench.limbs ≡ Ok (forest_of o.setup.bench.limbs)) where
-    pub broken_at : (e : StreamFault) → Breaks (answers_to answer_line w) e old now before after → IsBroken limits_at (as_bench o.setup.bench) e old now before after
-    broken_at e h = record { room = room; broke = subst (λ (c : Course). Breaks c.answering e old now before after) (sym course_is) h }
+  module _ (before after : Streams) (room : loaded limits_at o.setup.bench.limbs ≡ Ok (forest_of o.setup.bench.limbs)) where
+    pub ended_by_fault_at : (e : StreamFault) → EndsWithFault (answers_to answer_line w) e before after → IsEndedByFault limits_at (as_bench o.setup.bench) e before after
+    ended_by_fault_at e h = record { room = room; ended = subst (λ (c : Course). EndsWithFault c.answering e before after) (sym course_is) h }
 
-    module _ (v : World P) (leaves : Leaves answer_line w v old now before after) where
-      pub done_at : IsDone limits_at (as_bench o.setup.bench) old now before after
+    module _ (v : World P) (leaves : Leaves answer_line w v before after) where
+      pub done_at : IsDone limits_at (as_bench o.setup.bench) before after
       done_at =
           let a = leaves.answered in
           record {
@@ -162,11 +157,11 @@ module _ {R P : Type 0} (is : R → Behaviour P) (o : Opening R) (can : CanOpen 
               read = a.read;
               ended = a.ended;
               short = a.short;
-              wrote = subst (λ (c : Course). Appends before after (c.answering (lines_of a.script) a.marks)) (sym course_is) a.wrote;
+              wrote = subst (λ (c : Course). Appends before.written after.written (c.answering (lines_of a.script) a.marks)) (sym course_is) a.wrote;
             };
           }
 
-      pub left_at : (left : Bench) → left ≡ bench_of o.setup.bench.spec (limbs v.forest) → IsLeftBench limits_at (as_bench o.setup.bench) left old now before after
+      pub left_at : (left : Bench) → left ≡ bench_of o.setup.bench.spec (limbs v.forest) → IsLeftBench limits_at (as_bench o.setup.bench) left before after
       unfolding done_at
       left_at left is_left =
           let a = leaves.answered in
@@ -191,15 +186,15 @@ module _ {R P : Type 0} (is : R → Behaviour P) (o : Opening R) (can : CanOpen 
       branches_at = subst (λ (l : Limits). l.branches ≤ 1024) (sym (ground.limits ∙ ap (λ (x : World P). x.limits) at)) can.limits.few_branches
 
 -- a fault of the streams
-fails_by : (limits : Limits) (b : Bench) (reports : Bool) (old now before after : Option (List ℕ)) (e : StreamFault) → IsBroken limits b e old now before after
-    → FailsOver reports limits b old now before after (of_stream e)
-fails_by limits b reports old now before after stream.Read h = h
-fails_by limits b reports old now before after stream.Write h = h
-fails_by limits b reports old now before after stream.TooLong h = h
-fails_by limits b reports old now before after stream.Memory h = inl h
+fails_by : (limits : Limits) (b : Bench) (reports : Bool) (before after : Streams) (e : StreamFault) → IsEndedByFault limits b e before after
+    → FailsOver reports limits b before after (of_stream e)
+fails_by limits b reports before after stream.Read h = h
+fails_by limits b reports before after stream.Write h = h
+fails_by limits b reports before after stream.TooLong h = h
+fails_by limits b reports before after stream.Memory h = inl h
 
 -- a call that passes on a fault of the streams ends as such a run of the program does
-pub stream_at : (limits : Limits) (b : Bench) (reports : Bool) (old now before after : Option (List ℕ)) (r : Result (Vec ℕ Global) Fault) (Is : Fault → Type 0) (e : StreamFault)
-    → IsErrAnd r Is → ((x : Fault) → Is x → x ≡ of_stream e) → IsBroken limits b e old now before after → EndsOver reports limits b old now before after r
-stream_at limits b reports old now before after (Ok bytes) Is e k same h = absurd k
-stream_at limits b reports old now before after (Err x) Is e k same h = subst (FailsOver reports limits b old now before after) (sym (same x k)) (fails_by limits b reports old now before after e h)
+pub stream_at : (limits : Limits) (b : Bench) (reports : Bool) (before after : Streams) (r : Result (Vec ℕ Global) Fault) (Is : Fault → Type 0) (e : StreamFault)
+    → IsErrAnd r Is → ((x : Fault) → Is x → x ≡ of_stream e) → IsEndedByFault limits b e before after → EndsOver reports limits b before after r
+stream_at limits b reports before after (Ok bytes) Is e k same h = absurd k
+stream_at limits b reports before after (Err x) Is e k same h = subst (FailsOver reports limits b before after) (sym (same x k)) (fails_by limits b reports before after e h)

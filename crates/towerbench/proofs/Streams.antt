@@ -1,12 +1,13 @@
 -- What answering a script at a desk gives, from what answering it at a seat gives.
-use Rattle.std.proofs.Common.{◌≡◌, List, ℕ, Option, Result, Ok, Err, sym, subst}
+use Rattle.std.proofs.Common.{◌≡◌, Result, Ok, Err, sym, subst}
 use Rattle.std.specs.Prelude.{⊤, IfErr}
 use Rattle.std.specs.Result.{IsErrAnd}
 use Rattle.conversation.specs.declared.fault.StreamFault.{StreamFault}
 use Rattle.conversation.specs.declared.fault.StreamFault.TheVariants as stream
-use Rattle.conversation.specs.Conversations.{Answering, Breaks}
+use Rattle.conversation.specs.Moments.{Streams}
+use Rattle.conversation.specs.Conversations.{Answering, EndsWithFault}
 use Rattle.towerbench.specs.declared.fault.Fault.{Fault}
-use Rattle.towerbench.specs.Streams.{of_stream, BreaksBy, IsOfStreams}
+use Rattle.towerbench.specs.Streams.{of_stream, EndsWithStreamFault, IsOfStreams}
 
 is_of_streams : (e : StreamFault) → IsOfStreams (of_stream e)
 is_of_streams stream.Read = tt
@@ -14,11 +15,11 @@ is_of_streams stream.Write = tt
 is_of_streams stream.TooLong = tt
 is_of_streams stream.Memory = tt
 
-breaks_by : (answering : Answering) (old now before after : Option (List ℕ)) (e : StreamFault) → Breaks answering e old now before after → BreaksBy answering (of_stream e) old now before after
-breaks_by answering old now before after stream.Read h = h
-breaks_by answering old now before after stream.Write h = h
-breaks_by answering old now before after stream.TooLong h = h
-breaks_by answering old now before after stream.Memory h = h
+ends_by_stream : (answering : Answering) (before after : Streams) (e : StreamFault) → EndsWithFault answering e before after → EndsWithStreamFault answering (of_stream e) before after
+ends_by_stream answering before after stream.Read h = h
+ends_by_stream answering before after stream.Write h = h
+ends_by_stream answering before after stream.TooLong h = h
+ends_by_stream answering before after stream.Memory h = h
 
 module _ (r : Result ⊤ Fault) (Is : Fault → Type 0) (e : StreamFault) (k : IsErrAnd r Is) (same : (x : Fault) → Is x → x ≡ of_stream e) where
   pub of_streams : IfErr r IsOfStreams
@@ -28,10 +29,10 @@ module _ (r : Result ⊤ Fault) (Is : Fault → Type 0) (e : StreamFault) (k : I
       by (Ok done) k = tt
       by (Err x) k = subst IsOfStreams (sym (same x k)) (is_of_streams e)
 
-  pub breaks_so : (answering : Answering) (old now before after : Option (List ℕ)) → Breaks answering e old now before after
-      → IfErr r (λ x. BreaksBy answering x old now before after)
-  breaks_so answering old now before after h = by r k
+  pub ends_so : (answering : Answering) (before after : Streams) → EndsWithFault answering e before after
+      → IfErr r (λ x. EndsWithStreamFault answering x before after)
+  ends_so answering before after h = by r k
     where
-      by : (r : Result ⊤ Fault) → IsErrAnd r Is → IfErr r (λ x. BreaksBy answering x old now before after)
+      by : (r : Result ⊤ Fault) → IsErrAnd r Is → IfErr r (λ x. EndsWithStreamFault answering x before after)
       by (Ok done) k = tt
-      by (Err x) k = subst (λ x. BreaksBy answering x old now before after) (sym (same x k)) (breaks_by answering old now before after e h)
+      by (Err x) k = subst (λ x. EndsWithStreamFault answering x before after) (sym (same x k)) (ends_by_stream answering before after e h)

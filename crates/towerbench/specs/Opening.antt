@@ -29,8 +29,9 @@ use Rattle.sessions.specs.World.{World}
 use Rattle.script.specs.Answers.{answer_line}
 use Rattle.conversation.specs.declared.fault.StreamFault.{StreamFault}
 use Rattle.conversation.specs.declared.fault.StreamFault.TheVariants as stream
+use Rattle.conversation.specs.Moments.{Streams}
 use Rattle.conversation.specs.Scripts.{Marks, after_lines, answers_to, lines_of}
-use Rattle.conversation.specs.Conversations.{Answering, IsAnswered, Breaks, WroteFront}
+use Rattle.conversation.specs.Conversations.{Answering, IsAnswered, EndsWithFault, WroteFront}
 use Rattle.towerbench.specs.declared.fault.Fault.{Fault}
 use Rattle.towerbench.specs.declared.fault.Fault.TheVariants as fault
 
@@ -63,7 +64,7 @@ opened_bench (Some bytes) = said_by (is_bench bytes) bytes
 abbrev pub opening_of_limbs : {P : Type 0} → Behaviour P → ℕ → Limits → List Limb → World P
 opening_of_limbs b value limits ls = sessions.opening b value limits (forest_of ls)
 
--- What scripts do. From a script's lines and the marks of those that were refused memory,
+-- What scripts do. From a script's lines, and from marks that say which lines were refused memory,
 -- `answering` gives the answers, and `leaving` gives the branches that the lines leave.
 pub record Course : Type 0 where
   pub answering : Answering
@@ -89,65 +90,64 @@ course_of (Matrix processes values last_tag last_stamp) limits ls = course_from 
 abbrev pub course_on : Bench → Limits → Course
 course_on b limits = course_of b.spec limits b.limbs
 
--- nothing was read or written: the reader has the bytes left that it had, and the writer holds the
--- bytes that it held
-abbrev pub IsUntouched : Option (List ℕ) → Option (List ℕ) → Option (List ℕ) → Option (List ℕ) → Type 0
-IsUntouched old now before after = (now ≡ old) × (after ≡ before)
+-- nothing was read or written: the streams hold the same before and after
+abbrev pub IsUntouched : Streams → Streams → Type 0
+IsUntouched before after = after ≡ before
 
 -- A run of the program on this bench ended well: the bench's branches are within the limits, the
 -- script was read to its end, and the answers to all its lines were written.
-pub record IsDone (limits : Limits) (b : Bench) (old now before after : Option (List ℕ)) : Type 0 where
+pub record IsDone (limits : Limits) (b : Bench) (before after : Streams) : Type 0 where
   pub room : loaded limits b.limbs ≡ Ok (forest_of b.limbs)
-  pub answered : IsAnswered (course_on b limits).answering old now before after
+  pub answered : IsAnswered (course_on b limits).answering before after
 
 -- A run of the program on bench `b` ended well and left the bench `left`: the tower of `b`, and the
 -- limbs of the branches that the script's lines left.
-pub record IsLeftBench (limits : Limits) (b left : Bench) (old now before after : Option (List ℕ)) : Type 0 where
-  pub done : IsDone limits b old now before after
+pub record IsLeftBench (limits : Limits) (b left : Bench) (before after : Streams) : Type 0 where
+  pub done : IsDone limits b before after
   pub tower : left.spec ≡ b.spec
   pub branches : left.limbs ≡ limbs ((course_on b limits).leaving (lines_of done.answered.script) done.answered.marks)
 
 -- A run of the program on this bench ended with this fault of its streams. The bench's branches are
--- within the limits, and what was read and written is as `Breaks` says for this fault.
-pub record IsBroken (limits : Limits) (b : Bench) (fault : StreamFault) (old now before after : Option (List ℕ)) : Type 0 where
+-- within the limits, and what was read and written is as `EndsWithFault` says for this fault.
+pub record IsEndedByFault (limits : Limits) (b : Bench) (fault : StreamFault) (before after : Streams) : Type 0 where
   pub room : loaded limits b.limbs ≡ Ok (forest_of b.limbs)
-  pub broke : Breaks (course_on b limits).answering fault old now before after
+  pub ended : EndsWithFault (course_on b limits).answering fault before after
 
 -- A run of the program on a bench ended with this fault. Either the branches were refused as they
 -- were loaded, and nothing was read or written; or a stream failed, the script was too long, or
--- memory ran out, and what was read and written is as `IsBroken` says. If the branches are to be
--- reported (`reports`), memory may also have run out during the report, after a script that ended
--- well.
-abbrev pub FailsOver : Bool → Limits → Bench → Option (List ℕ) → Option (List ℕ) → Option (List ℕ) → Option (List ℕ) → Fault → Type 0
-FailsOver reports limits b old now before after (fault.File e) = ⊥
-FailsOver reports limits b old now before after (fault.Refused r) = IsRefused (loaded limits b.limbs) r × IsUntouched old now before after
-FailsOver reports limits b old now before after fault.Read = IsBroken limits b stream.Read old now before after
-FailsOver reports limits b old now before after fault.Write = IsBroken limits b stream.Write old now before after
-FailsOver reports limits b old now before after fault.TooLong = IsBroken limits b stream.TooLong old now before after
-FailsOver reports limits b old now before after fault.Memory =
-    IsBroken limits b stream.Memory old now before after ⊎ ((reports ≡ true) × IsDone limits b old now before after)
-FailsOver reports limits b old now before after fault.Save = ⊥
+-- memory ran out, and what was read and written is as `IsEndedByFault` says. If the branches are to
+-- be reported (`reports`), memory may also have run out during the report, after a script that
+-- ended well.
+abbrev pub FailsOver : Bool → Limits → Bench → Streams → Streams → Fault → Type 0
+FailsOver reports limits b before after (fault.File e) = ⊥
+FailsOver reports limits b before after (fault.Refused r) = IsRefused (loaded limits b.limbs) r × IsUntouched before after
+FailsOver reports limits b before after fault.Read = IsEndedByFault limits b stream.Read before after
+FailsOver reports limits b before after fault.Write = IsEndedByFault limits b stream.Write before after
+FailsOver reports limits b before after fault.TooLong = IsEndedByFault limits b stream.TooLong before after
+FailsOver reports limits b before after fault.Memory =
+    IsEndedByFault limits b stream.Memory before after ⊎ ((reports ≡ true) × IsDone limits b before after)
+FailsOver reports limits b before after fault.Save = ⊥
 
--- What a run of the program returns as bytes about `left`, the bench that it left: bytes that spell
--- `left` if the branches are to be reported, and otherwise no bytes.
+-- A run of the program that left the bench `left` returns these bytes: they spell `left` if the
+-- branches are to be reported; otherwise there are no bytes.
 abbrev pub IsReported : Bool → Bench → List ℕ → Type 0
 IsReported true left bytes = SpellsBench bytes left
 IsReported false left bytes = bytes ≡ []
 
--- A run of the program on a bench ended with this result: with bytes, if it ended well (they spell
--- the bench that it left if `reports`, and otherwise there are none), or with a fault.
-abbrev pub EndsOver : Bool → Limits → Bench → Option (List ℕ) → Option (List ℕ) → Option (List ℕ) → Option (List ℕ) → Result (Vec ℕ Global) Fault → Type 0
-EndsOver reports limits b old now before after (Ok bytes) =
-    (left : Bench) × IsLeftBench limits b left old now before after × IsReported reports left bytes.items
-EndsOver reports limits b old now before after (Err e) = FailsOver reports limits b old now before after e
+-- A run of the program on a bench ended with this result: a fault; or bytes, if the run ended well.
+-- If the branches are to be reported (`reports`), the bytes spell the bench that the run left;
+-- otherwise there are no bytes.
+abbrev pub EndsOver : Bool → Limits → Bench → Streams → Streams → Result (Vec ℕ Global) Fault → Type 0
+EndsOver reports limits b before after (Ok bytes) = (left : Bench) × IsLeftBench limits b left before after × IsReported reports left bytes.items
+EndsOver reports limits b before after (Err e) = FailsOver reports limits b before after e
 
 -- a run of the program over a file, or without one, ended well: a bench was opened, the script was
 -- read to its end, and the answers to all its lines were written
-abbrev pub Ran : Option (List ℕ) → Limits → Option (List ℕ) → Option (List ℕ) → Option (List ℕ) → Option (List ℕ) → Type 0
-Ran file limits old now before after = (b : Bench) × ((opened_bench file ≡ Ok b) × IsDone limits b old now before after)
+abbrev pub Ran : Option (List ℕ) → Limits → Streams → Streams → Type 0
+Ran file limits before after = (b : Bench) × ((opened_bench file ≡ Ok b) × IsDone limits b before after)
 
 -- What is known of bytes if memory ran out while they were read. If they were read as a bench file,
--- a prefix spells a bench file, and no byte is odd; otherwise all of them spell a tower file.
+-- a prefix spells a bench file, and no byte is foreign; otherwise the bytes spell a tower file.
 abbrev pub AreSound : Bool → List ℕ → Type 0
 AreSound true bytes = SpellsFront bytes
 AreSound false bytes = (f : File) × Spells bytes f
@@ -167,47 +167,46 @@ IsUnopened file fault.TooLong = ⊥
 IsUnopened file fault.Memory = ⊥
 IsUnopened file fault.Save = ⊥
 
--- a bench was opened (that of the file, or the one without a file), and the run of the program on
--- it ended with this fault
-abbrev pub FailsOpen : Bool → Option (List ℕ) → Limits → Option (List ℕ) → Option (List ℕ) → Option (List ℕ) → Option (List ℕ) → Fault → Type 0
-FailsOpen reports file limits old now before after e = (b : Bench) × ((opened_bench file ≡ Ok b) × FailsOver reports limits b old now before after e)
+-- a bench was opened, as `opened_bench` says, and the run of the program on it ended with this
+-- fault
+abbrev pub FailsOpen : Bool → Option (List ℕ) → Limits → Streams → Streams → Fault → Type 0
+FailsOpen reports file limits before after e = (b : Bench) × ((opened_bench file ≡ Ok b) × FailsOver reports limits b before after e)
 
--- A run of the program ended with this fault. Either the fault is one of its file, and nothing was
--- read or written; or a bench was opened, and the run on that bench ended with this fault, as
+-- A run of the program ended with this fault. Either it is a fault of the run's file, and nothing
+-- was read or written; or a bench was opened, and the run on that bench ended with this fault, as
 -- `FailsOver` says.
-abbrev pub RanInto : Bool → Option (List ℕ) → Limits → Option (List ℕ) → Option (List ℕ) → Option (List ℕ) → Option (List ℕ) → Fault → Type 0
-RanInto reports file limits old now before after (fault.File e) = MatchOption file ⊥ (IsFileFault e) × IsUntouched old now before after
-RanInto reports file limits old now before after (fault.Refused r) = FailsOpen reports file limits old now before after (fault.Refused r)
-RanInto reports file limits old now before after fault.Read = FailsOpen reports file limits old now before after fault.Read
-RanInto reports file limits old now before after fault.Write = FailsOpen reports file limits old now before after fault.Write
-RanInto reports file limits old now before after fault.TooLong = FailsOpen reports file limits old now before after fault.TooLong
-RanInto reports file limits old now before after fault.Memory = FailsOpen reports file limits old now before after fault.Memory
-RanInto reports file limits old now before after fault.Save = ⊥
+abbrev pub RanInto : Bool → Option (List ℕ) → Limits → Streams → Streams → Fault → Type 0
+RanInto reports file limits before after (fault.File e) = MatchOption file ⊥ (IsFileFault e) × IsUntouched before after
+RanInto reports file limits before after (fault.Refused r) = FailsOpen reports file limits before after (fault.Refused r)
+RanInto reports file limits before after fault.Read = FailsOpen reports file limits before after fault.Read
+RanInto reports file limits before after fault.Write = FailsOpen reports file limits before after fault.Write
+RanInto reports file limits before after fault.TooLong = FailsOpen reports file limits before after fault.TooLong
+RanInto reports file limits before after fault.Memory = FailsOpen reports file limits before after fault.Memory
+RanInto reports file limits before after fault.Save = ⊥
 
 -- A run of the program over a file, or without one, ended well and left the branches that these
 -- bytes spell.
-pub record RanLeaving (file : Option (List ℕ)) (limits : Limits) (bytes : List ℕ) (old now before after : Option (List ℕ)) : Type 0 where
+pub record RanLeaving (file : Option (List ℕ)) (limits : Limits) (bytes : List ℕ) (before after : Streams) : Type 0 where
   pub bench : Bench
   pub left : Bench
   pub opens : opened_bench file ≡ Ok bench
-  pub leaves : IsLeftBench limits bench left old now before after
+  pub leaves : IsLeftBench limits bench left before after
   pub spells : SpellsBench bytes left
 
 -- a run of the program ended well, and the bytes that spell its tower and the branches that it left
 -- were written to the saver, after `kept`, which the saver held before
-abbrev pub RanSaving : Option (List ℕ) → Limits → Option (List ℕ) → Option (List ℕ) → Option (List ℕ) → Option (List ℕ) → Option (List ℕ) → Option (List ℕ) → Type 0
-RanSaving file limits old now before after kept saved = (bytes : List ℕ) × RanLeaving file limits bytes old now before after × Appends kept saved bytes
+abbrev pub RanSaving : Option (List ℕ) → Limits → Streams → Streams → Option (List ℕ) → Option (List ℕ) → Type 0
+RanSaving file limits before after kept saved = (bytes : List ℕ) × RanLeaving file limits bytes before after × Appends kept saved bytes
 
 -- A run of the program that saves ended with this fault. If the fault is Save, the script had ended
--- well, and the saver took a prefix of the bytes that spell the tower and the branches that were
--- left. After any other fault, the saver took nothing, and what was read and written is as
+-- well, and the saver took a prefix of the bytes that spell the tower and the branches that the
+-- script left. After any other fault, the saver took nothing, and what was read and written is as
 -- `RanInto` says.
-abbrev pub SavesInto : Option (List ℕ) → Limits → Option (List ℕ) → Option (List ℕ) → Option (List ℕ) → Option (List ℕ) → Option (List ℕ) → Option (List ℕ) → Fault → Type 0
-SavesInto file limits old now before after kept saved fault.Save =
-    (bytes : List ℕ) × RanLeaving file limits bytes old now before after × WroteFront kept saved bytes
-SavesInto file limits old now before after kept saved (fault.File e) = RanInto true file limits old now before after (fault.File e) × (saved ≡ kept)
-SavesInto file limits old now before after kept saved (fault.Refused r) = RanInto true file limits old now before after (fault.Refused r) × (saved ≡ kept)
-SavesInto file limits old now before after kept saved fault.Read = RanInto true file limits old now before after fault.Read × (saved ≡ kept)
-SavesInto file limits old now before after kept saved fault.Write = RanInto true file limits old now before after fault.Write × (saved ≡ kept)
-SavesInto file limits old now before after kept saved fault.TooLong = RanInto true file limits old now before after fault.TooLong × (saved ≡ kept)
-SavesInto file limits old now before after kept saved fault.Memory = RanInto true file limits old now before after fault.Memory × (saved ≡ kept)
+abbrev pub SavesInto : Option (List ℕ) → Limits → Streams → Streams → Option (List ℕ) → Option (List ℕ) → Fault → Type 0
+SavesInto file limits before after kept saved fault.Save = (bytes : List ℕ) × RanLeaving file limits bytes before after × WroteFront kept saved bytes
+SavesInto file limits before after kept saved (fault.File e) = RanInto true file limits before after (fault.File e) × (saved ≡ kept)
+SavesInto file limits before after kept saved (fault.Refused r) = RanInto true file limits before after (fault.Refused r) × (saved ≡ kept)
+SavesInto file limits before after kept saved fault.Read = RanInto true file limits before after fault.Read × (saved ≡ kept)
+SavesInto file limits before after kept saved fault.Write = RanInto true file limits before after fault.Write × (saved ≡ kept)
+SavesInto file limits before after kept saved fault.TooLong = RanInto true file limits before after fault.TooLong × (saved ≡ kept)
+SavesInto file limits before after kept saved fault.Memory = RanInto true file limits before after fault.Memory × (saved ≡ kept)

@@ -1,5 +1,5 @@
 -- What a script's desk is opened with, and how a run of the program at that desk ends.
-use Rattle.std.specs.Prelude.{◌≡◌, ◌<◌, ℕ, Bool, true, false, List, Option, Result}
+use Rattle.std.specs.Prelude.{◌≡◌, ◌<◌, ℕ, Bool, true, false, List, Result}
 use Rattle.std.specs.declared.alloc.Global.{Global}
 use Rattle.std.specs.declared.vec.Vec.{Vec}
 use Rattle.frames.specs.declared.types.Step.{Step}
@@ -8,6 +8,7 @@ use Rattle.frames.specs.Configuration.{fits_step}
 use Rattle.schedule_trie.specs.declared.limb.Limb.{Limb}
 use Rattle.schedule_trie.specs.declared.limits.Limits.{Limits}
 use Rattle.sessions.specs.World.{World}
+use Rattle.conversation.specs.Moments.{Streams}
 use Rattle.tower_file.specs.declared.tower.TowerSpec.{TowerSpec}
 use Rattle.tower_file.specs.Said.{as_bench}
 use Rattle.tower_file.specs.Towers.{fits}
@@ -43,5 +44,5 @@ is_reported Branches = true
 
 -- A run of the program with this setup, and with this choice of what is returned about the branches
 -- that it left, ended with this result.
-abbrev pub EndsFrom : Setup → Reporting → Option (List ℕ) → Option (List ℕ) → Option (List ℕ) → Option (List ℕ) → Result (Vec ℕ Global) Fault → Type 0
-EndsFrom setup reporting old now before after result = EndsOver (is_reported reporting) (limits_of setup.options) (as_bench setup.bench) old now before after result
+abbrev pub EndsFrom : Setup → Reporting → Streams → Streams → Result (Vec ℕ Global) Fault → Type 0
+EndsFrom setup reporting before after result = EndsOver (is_reported reporting) (limits_of setup.options) (as_bench setup.bench) before after result

@@ -20,8 +20,8 @@ pub record Seated (R P : Type 0) : Type 0 where
   pub seen : List Entry
   pub shares : List Bool
 
--- the seat of a chair at a desk, given the chair's view `v`: its shares, and the calls that it has
--- seen
+-- the seat of a chair at a desk; `v`, the chair's view, gives the chair's shares and the calls that
+-- the chair has seen
 abbrev pub seated : {R P : Type 0} → Desk R P → View (Item R P) → Seated R P
 seated desk v = record { first = book_at_first desk; seen = seen v; shares = v.shares }
 
@@ -35,7 +35,8 @@ abbrev pub world_at : {R P : Type 0} → (R → Behaviour P) → Seated R P → 
 world_at is s = world_after (opening_of is s.first) s.seen
 
 -- A call was answered. Its answer was added after the bytes `before`, and the call left the world
--- `left`. `answered` gives both, given whether the call was refused memory, which is `memory`.
+-- `left`. `answered` gives the answer and the world, given `memory`: whether the call was refused
+-- memory.
 pub record AddsAnswer {W : Type 0} (answered : Bool → Answered W) (left : W) (before after : List ℕ) : Type 0 where
   pub memory : Bool
   pub text : List ℕ

@@ -1,8 +1,9 @@
 -- Faults of a script's streams.
-use Rattle.std.specs.Prelude.{◌≡◌, ⊤, ℕ, List, Option}
+use Rattle.std.specs.Prelude.{⊤}
 use Rattle.conversation.specs.declared.fault.StreamFault.{StreamFault}
 use Rattle.conversation.specs.declared.fault.StreamFault.TheVariants as stream
-use Rattle.conversation.specs.Conversations.{Answering, Breaks}
+use Rattle.conversation.specs.Moments.{Streams}
+use Rattle.conversation.specs.Conversations.{Answering, EndsWithFault}
 use Rattle.towerbench.specs.declared.fault.Fault.{Fault}
 use Rattle.towerbench.specs.declared.fault.Fault.TheVariants as fault
 
@@ -13,7 +14,7 @@ of_stream stream.Write = fault.Write
 of_stream stream.TooLong = fault.TooLong
 of_stream stream.Memory = fault.Memory
 
--- the fault is one of the script's streams: Read, Write, TooLong or Memory
+-- the fault is a fault of the script's streams: Read, Write, TooLong or Memory
 abbrev pub IsOfStreams : Fault → Type 0
 IsOfStreams fault.Read = ⊤
 IsOfStreams fault.Write = ⊤
@@ -23,13 +24,13 @@ IsOfStreams (fault.File e) = ⊥
 IsOfStreams (fault.Refused r) = ⊥
 IsOfStreams fault.Save = ⊥
 
--- The fault is one of the script's streams, and what was read and written before it is as `Breaks`
--- says for this fault. `answering` gives the answers to lines.
-abbrev pub BreaksBy : Answering → Fault → Option (List ℕ) → Option (List ℕ) → Option (List ℕ) → Option (List ℕ) → Type 0
-BreaksBy answering fault.Read old now before after = Breaks answering stream.Read old now before after
-BreaksBy answering fault.Write old now before after = Breaks answering stream.Write old now before after
-BreaksBy answering fault.TooLong old now before after = Breaks answering stream.TooLong old now before after
-BreaksBy answering fault.Memory old now before after = Breaks answering stream.Memory old now before after
-BreaksBy answering (fault.File e) old now before after = ⊥
-BreaksBy answering (fault.Refused r) old now before after = ⊥
-BreaksBy answering fault.Save old now before after = ⊥
+-- The fault is a fault of the script's streams, and what was read and written before it is as
+-- `EndsWithFault` says for this fault. `answering` gives the answers to lines.
+abbrev pub EndsWithStreamFault : Answering → Fault → Streams → Streams → Type 0
+EndsWithStreamFault answering fault.Read before after = EndsWithFault answering stream.Read before after
+EndsWithStreamFault answering fault.Write before after = EndsWithFault answering stream.Write before after
+EndsWithStreamFault answering fault.TooLong before after = EndsWithFault answering stream.TooLong before after
+EndsWithStreamFault answering fault.Memory before after = EndsWithFault answering stream.Memory before after
+EndsWithStreamFault answering (fault.File e) before after = ⊥
+EndsWithStreamFault answering (fault.Refused r) before after = ⊥
+EndsWithStreamFault answering fault.Save before after = ⊥

@@ -3,7 +3,7 @@
 ghost use Rattle.std.specs.Prelude.{◌≡◌, ◌⊎◌, ◌++◌, Bool, Ok, Err, OnOk, IfOk, IfErr};
 ghost use Rattle.schedule_trie.specs.Forest.{index_of};
 ghost use Rattle.sessions.specs.Looks.{looked_in};
-ghost use Rattle.script.specs.Answers.{page_or_refusal};
+ghost use Rattle.script.specs.Answers.{shown_text};
 ghost use Rattle.script.specs.Answers as spec;
 ghost use Rattle.conversation.specs.Scripts.{IsLineAnswer};
 ghost use Rattle.towerbench.specs.Seats.{AddsAnswer, IsAlone, world_at};
@@ -104,7 +104,7 @@ fn answer_look<R: Register, W: Wait>(
     ensures text { let w = world_at R.behaviour seat.old in IsAlone seat.old
         → OnOk result ((memory : Bool)
         × (out.new.items ≡ out.old.items
-        ++ spec.look_text memory session (looked_in w query) (page_or_refusal session query w))) }
+        ++ spec.look_text memory session (looked_in w query) (shown_text session query w))) }
     ensures kept { IsAlone seat.old → world_at R.behaviour seat.new
         ≡ world_at R.behaviour seat.old }
     ensures alone { IsAlone seat.old → IsAlone seat.new }
@@ -123,7 +123,7 @@ fn page_in<R: Register, W: Wait>(
     query: Query,
 ) -> Result<Vec<u8>, Refusal>
     ensures text { IsAlone seat.old → IfOk result (λ text. text.items
-        ≡ page_or_refusal session query (world_at R.behaviour seat.old)) }
+        ≡ shown_text session query (world_at R.behaviour seat.old)) }
     ensures found { let w = world_at R.behaviour seat.old in
         IsAlone seat.old → OnOk result (looked_in w query ≡ Ok w.forest) }
     ensures err { IsAlone seat.old → IfErr result (λ r.

@@ -23,15 +23,15 @@ pub enum Fault {
     /// A write of the answers failed, or took no bytes.
     #[error("write failed")]
     Write,
-    /// The script doesn't end within its limits.
+    /// The script has too many bytes, or takes too many reads.
     #[error("script too long")]
     TooLong,
     /// Memory ran out while the script was answered, or, after a script that ended well, while the
     /// branches were saved.
     #[error("memory")]
     Memory,
-    /// The branches' file can't be opened, or a write to it failed or took no bytes. By then the
-    /// script has ended well, and its answers were written.
+    /// The file to save the branches to can't be opened, or a write to it failed or took no bytes.
+    /// By then the script has ended well, and its answers were written.
     #[error("save failed")]
     Save,
 }

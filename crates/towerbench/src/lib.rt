@@ -1,5 +1,5 @@
 //! A workbench for a tower of registers: it reads a script of edits and looks, and writes the
-//! answers. The program passes the words of its command line and its streams to `tool`.
+//! answers. The program passes its streams and the words of its command line to `tool`.
 #![tactic(auto)]
 
 mod answer;

@@ -5,6 +5,7 @@ ghost use Rattle.std.specs.IoError.{error_kind};
 ghost use Rattle.std.specs.Option.{is_some};
 ghost use Rattle.std.specs.String.{string_bytes};
 ghost use Rattle.tower_file.specs.Said.{as_bench};
+ghost use Rattle.conversation.specs.Moments.{streams};
 ghost use Rattle.command_line.specs.Ranges.{AreOptionsInRange, limits_of};
 ghost use Rattle.towerbench.specs.declared.ending.Ending.{Ending};
 ghost use Rattle.towerbench.specs.Opening.{IsUntouched, opened_bench};
@@ -41,13 +42,14 @@ pub fn tool<F: Files + AllocGlobal + Threads + Wait + Sync, R: Read, W: Write, E
 ) -> u8
     ensures status { result ≤ 2 }
     ensures ends { IfOk words (λ ws. (ending : Ending)
-        × ProgramEndsBy (map string_bytes ws.items) (R.remaining reader.old)
-        (R.remaining reader.new)
-        (W.contents writer.old) (W.contents writer.new) ending
+        × ProgramEndsBy (map string_bytes ws.items)
+        (streams (R.remaining reader.old) (W.contents writer.old))
+        (streams (R.remaining reader.new) (W.contents writer.new)) ending
         × (result ≡ exit_status ending)) }
     // If `words` is an error, nothing is read from `reader` or written to `writer`.
-    ensures unread { OnErr words (IsUntouched (R.remaining reader.old) (R.remaining reader.new)
-        (W.contents writer.old) (W.contents writer.new) × (1 ≤ result)) }
+    ensures unread { OnErr words (IsUntouched
+        (streams (R.remaining reader.old) (W.contents writer.old))
+        (streams (R.remaining reader.new) (W.contents writer.new)) × (1 ≤ result)) }
     // If that error is OutOfMemory, the program ends with a fault, and the status is 1. After any
     // other error (a word isn't text), the words are refused, and the status is 2.
     ensures no_memory { IfErr words (λ e. error_kind e ≡ ErrorKind.OutOfMemory → result ≡ 1) }
@@ -87,9 +89,9 @@ fn follow<F: Files + AllocGlobal + Threads + Wait + Sync, R: Read, W: Write>(
     reader: &mut R,
     writer: &mut W,
 ) -> Ending
-    ensures { ProgramEndsBy (map string_bytes words.now) (R.remaining reader.old)
-        (R.remaining reader.new)
-        (W.contents writer.old) (W.contents writer.new) result }
+    ensures { ProgramEndsBy (map string_bytes words.now)
+        (streams (R.remaining reader.old) (W.contents writer.old))
+        (streams (R.remaining reader.new) (W.contents writer.new)) result }
 {
     match parse_words(files.alloc(), words) {
         Invocation::Run {
@@ -115,8 +117,8 @@ fn work<F: Files + AllocGlobal + Threads + Wait + Sync, R: Read, W: Write>(
 ) -> Ending
     requires limits { AreOptionsInRange options }
     ensures { WorksOut (is_some file.entry) (limits_of options) (is_some save.entry)
-        (R.remaining reader.old) (R.remaining reader.new)
-        (W.contents writer.old) (W.contents writer.new) result }
+        (streams (R.remaining reader.old) (W.contents writer.old))
+        (streams (R.remaining reader.new) (W.contents writer.new)) result }
 {
     let setup = match bench_at(files, file) {
         Ok(bench) => Setup::last(bench, options),

@@ -10,6 +10,7 @@ ghost use Rattle.tower_file.specs.Benches.{Bench, bench_of};
 ghost use Rattle.tower_file.specs.BenchSpelling.{SpellsBench};
 ghost use Rattle.tower_file.specs.Said.{as_bench};
 ghost use Rattle.tower_file.specs.Towers as towers;
+ghost use Rattle.conversation.specs.Moments.{streams};
 ghost use Rattle.command_line.specs.Ranges.{AreOptionsInRange, limits_of};
 ghost use Rattle.towerbench.specs.Opening.{FailsOver, IsDone, IsLeftBench, IsReported, Ran, RanInto};
 ghost use Rattle.towerbench.specs.Openings.{Builds, EndsFrom, is_reported};
@@ -51,12 +52,12 @@ pub fn run<H: Threads + Wait + Sync, R: Read, W: Write>(
 ) -> Result<(), Fault>
     requires limits { AreOptionsInRange options }
     ensures done { OnOk result (Ran (option_map (λ bytes. bytes.now) file.entry) (limits_of options)
-        (R.remaining reader.old) (R.remaining reader.new)
-        (W.contents writer.old) (W.contents writer.new)) }
+        (streams (R.remaining reader.old) (W.contents writer.old))
+        (streams (R.remaining reader.new) (W.contents writer.new))) }
     ensures fault { IfErr result (RanInto false
         (option_map (λ bytes. bytes.now) file.entry) (limits_of options)
-        (R.remaining reader.old) (R.remaining reader.new)
-        (W.contents writer.old) (W.contents writer.new)) }
+        (streams (R.remaining reader.old) (W.contents writer.old))
+        (streams (R.remaining reader.new) (W.contents writer.new))) }
 {
     let setup = Setup::new(open_file(alloc, file)?, options);
     run_bench(rt, alloc, setup, reader, writer)
@@ -73,11 +74,11 @@ pub(crate) fn run_bench<H: Threads + Wait + Sync, R: Read, W: Write>(
 ) -> Result<(), Fault>
     requires limits { AreOptionsInRange setup.options }
     ensures done { OnOk result (IsDone (limits_of setup.options) (as_bench setup.bench)
-        (R.remaining reader.old) (R.remaining reader.new)
-        (W.contents writer.old) (W.contents writer.new)) }
+        (streams (R.remaining reader.old) (W.contents writer.old))
+        (streams (R.remaining reader.new) (W.contents writer.new))) }
     ensures fault { IfErr result (FailsOver false (limits_of setup.options) (as_bench setup.bench)
-        (R.remaining reader.old) (R.remaining reader.new)
-        (W.contents writer.old) (W.contents writer.new)) }
+        (streams (R.remaining reader.old) (W.contents writer.old))
+        (streams (R.remaining reader.new) (W.contents writer.new))) }
 {
     run_setup(rt, alloc, setup, Reporting::Nothing, reader, writer)?;
     Ok(())
@@ -95,11 +96,11 @@ pub(crate) fn run_leaving<H: Threads + Wait + Sync, R: Read, W: Write>(
     requires limits { AreOptionsInRange setup.options }
     ensures done { IfOk result (λ bytes. (left : Bench)
         × IsLeftBench (limits_of setup.options) (as_bench setup.bench) left
-        (R.remaining reader.old) (R.remaining reader.new)
-        (W.contents writer.old) (W.contents writer.new) × SpellsBench bytes.items left) }
+        (streams (R.remaining reader.old) (W.contents writer.old))
+        (streams (R.remaining reader.new) (W.contents writer.new)) × SpellsBench bytes.items left) }
     ensures fault { IfErr result (FailsOver true (limits_of setup.options) (as_bench setup.bench)
-        (R.remaining reader.old) (R.remaining reader.new)
-        (W.contents writer.old) (W.contents writer.new)) }
+        (streams (R.remaining reader.old) (W.contents writer.old))
+        (streams (R.remaining reader.new) (W.contents writer.new))) }
 {
     run_setup(rt, alloc, setup, Reporting::Branches, reader, writer)
 }
@@ -115,8 +116,8 @@ fn run_setup<H: Threads + Wait + Sync, R: Read, W: Write>(
 ) -> Result<Vec<u8>, Fault>
     requires limits { AreOptionsInRange setup.options }
     ensures { EndsFrom setup reporting
-        (R.remaining reader.old) (R.remaining reader.new)
-        (W.contents writer.old) (W.contents writer.new) result }
+        (streams (R.remaining reader.old) (W.contents writer.old))
+        (streams (R.remaining reader.new) (W.contents writer.new)) result }
 {
     match tower_of(&setup.bench) {
         TowerSpec::Safe { init } => {
@@ -157,7 +158,7 @@ fn run_setup<H: Threads + Wait + Sync, R: Read, W: Write>(
 }
 
 /// Answers a script on a stamped register. Stamped registers and matrices have functions of their
-/// own, so that the proofs about their types run side by side.
+/// own, so that the proofs about their types run in parallel.
 fn begin_stamped<H: Threads + Wait + Sync, R: Read, W: Write>(
     rt: &H,
     alloc: Global,
@@ -172,8 +173,8 @@ fn begin_stamped<H: Threads + Wait + Sync, R: Read, W: Write>(
     requires builds { Builds ⟦<StampedTower as Behaves>⟧.behaviour opening.register opening.value
         opening.setup.bench.spec }
     ensures { EndsFrom opening.setup reporting
-        (R.remaining reader.old) (R.remaining reader.new)
-        (W.contents writer.old) (W.contents writer.new) result }
+        (streams (R.remaining reader.old) (W.contents writer.old))
+        (streams (R.remaining reader.new) (W.contents writer.new)) result }
 {
     begin(rt, alloc, opening, reporting, reader, writer)
 }
@@ -193,13 +194,14 @@ fn begin_matrix<H: Threads + Wait + Sync, R: Read, W: Write>(
     requires builds { Builds ⟦<MatrixTower as Behaves>⟧.behaviour opening.register opening.value
         opening.setup.bench.spec }
     ensures { EndsFrom opening.setup reporting
-        (R.remaining reader.old) (R.remaining reader.new)
-        (W.contents writer.old) (W.contents writer.new) result }
+        (streams (R.remaining reader.old) (W.contents writer.old))
+        (streams (R.remaining reader.new) (W.contents writer.new)) result }
 {
     begin(rt, alloc, opening, reporting, reader, writer)
 }
 
-/// Opens a desk, and answers a script at it. The limbs are dropped before anything is read.
+/// Opens a desk, and answers a script at it. The opening's limbs are dropped before anything is
+/// read.
 fn begin<B: Register + Send + Sync, H: Threads + Wait + Sync, R: Read, W: Write>(
     rt: &H,
     alloc: Global,
@@ -214,8 +216,8 @@ where
     requires limits { AreOptionsInRange opening.setup.options }
     requires builds { Builds B.behaviour opening.register opening.value opening.setup.bench.spec }
     ensures { EndsFrom opening.setup reporting
-        (R.remaining reader.old) (R.remaining reader.new)
-        (W.contents writer.old) (W.contents writer.new) result }
+        (streams (R.remaining reader.old) (W.contents writer.old))
+        (streams (R.remaining reader.new) (W.contents writer.new)) result }
 {
     let fate = opening.setup.fate;
     let tower = opening.setup.bench.spec;
@@ -239,7 +241,7 @@ fn leave<B: Register, H>(seat: Seat<'_, B, H>, fate: Fate) {
 }
 
 /// The bytes that `reporting` asks for about the branches at a seat. The seat's register must be
-/// that of `tower`. An error if memory runs out, which it can't if nothing is asked for.
+/// that of `tower`. An error if memory runs out; if nothing is asked for, there is no error.
 fn reported_bytes<B: Register, H: Wait>(
     alloc: Global,
     seat: &mut Seat<'_, B, H>,

@@ -4,6 +4,7 @@ ghost use Rattle.std.specs.Prelude.{◌≡◌, ◌⊎◌, OnOk, OnErr, IfErr};
 ghost use Rattle.std.specs.Option.{option_map};
 ghost use Rattle.std.specs.Io.KnownBytes.{Appends};
 ghost use Rattle.conversation.specs.Conversations.{WroteFront};
+ghost use Rattle.conversation.specs.Moments.{streams};
 ghost use Rattle.command_line.specs.Ranges.{AreOptionsInRange, limits_of};
 ghost use Rattle.towerbench.specs.Opening.{RanSaving, SavesInto};
 
@@ -41,13 +42,13 @@ pub fn run_saving<H: Threads + Wait + Sync, R: Read, W: Write, S: Write>(
     requires limits { AreOptionsInRange options }
     ensures done { OnOk result (RanSaving
         (option_map (λ bytes. bytes.now) file.entry) (limits_of options)
-        (R.remaining reader.old) (R.remaining reader.new)
-        (W.contents writer.old) (W.contents writer.new)
+        (streams (R.remaining reader.old) (W.contents writer.old))
+        (streams (R.remaining reader.new) (W.contents writer.new))
         (S.contents saver.old) (S.contents saver.new)) }
     ensures fault { IfErr result (SavesInto
         (option_map (λ bytes. bytes.now) file.entry) (limits_of options)
-        (R.remaining reader.old) (R.remaining reader.new)
-        (W.contents writer.old) (W.contents writer.new)
+        (streams (R.remaining reader.old) (W.contents writer.old))
+        (streams (R.remaining reader.new) (W.contents writer.new))
         (S.contents saver.old) (S.contents saver.new)) }
 {
     let setup = Setup::new(open_file(alloc, file)?, options);
@@ -56,7 +57,7 @@ pub fn run_saving<H: Threads + Wait + Sync, R: Read, W: Write, S: Write>(
 }
 
 /// Creates the file at a path, or empties it if it exists, and writes `bytes` to it. The fault is
-/// Memory if memory runs out as the file is created or emptied, and otherwise Save.
+/// Memory if memory runs out while the file is created or emptied, and otherwise Save.
 pub(crate) fn save_at<F: Files>(files: &F, path: &str, bytes: &[u8]) -> Result<(), Fault>
     ensures { IfErr result (λ e. (e ≡ Fault.Save) ⊎ (e ≡ Fault.Memory)) }
 {

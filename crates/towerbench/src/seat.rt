@@ -1,4 +1,4 @@
-//! A seat at a desk, which answers a script's lines.
+//! A seat: a desk and one of its chairs, by which a script's lines are answered.
 
 ghost use Rattle.std.specs.Prelude.{◌≡◌, ◌≤◌, ◌⊎◌, Some, Ok, OnOk, IfOk, IfErr, Err};
 ghost use Rattle.schedule_trie.specs.Forest.{IsRefused};
@@ -85,8 +85,8 @@ impl<'a, R: Register, W> Seat<'a, R, W> {
     ///
     /// # Errors
     ///
-    /// Full if the limbs have more cells than may be made; TooManyBranches if there are too many
-    /// limbs; Memory if memory runs out.
+    /// Full if the limbs have, in all, more own cells than may be made; else TooManyBranches if
+    /// there are too many limbs; else Memory if memory runs out.
     pub(crate) fn open(
         rt: &'a W,
         alloc: Global,

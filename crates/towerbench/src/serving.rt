@@ -1,13 +1,14 @@
 //! Serving a script at a desk.
 
 ghost use Rattle.std.specs.Prelude.{◌≡◌, ◌≤◌, OnOk, IfErr};
-ghost use Rattle.conversation.specs.Conversations.{IsAnswered, Leaves, Breaks};
+ghost use Rattle.conversation.specs.Conversations.{IsAnswered, Leaves, EndsWithFault};
+ghost use Rattle.conversation.specs.Moments.{streams};
 ghost use Rattle.conversation.specs.Scripts.{answers_to, IsLineAnswer};
 ghost use Rattle.script.specs.Answers.{answer_line};
 ghost use Rattle.turn.specs.Shares.{HasAll};
 ghost use Rattle.turn.specs.Chairs.{view};
 ghost use Rattle.desk.specs.Chairs.{IsChairOf};
-ghost use Rattle.towerbench.specs.Streams.{BreaksBy, IsOfStreams};
+ghost use Rattle.towerbench.specs.Streams.{EndsWithStreamFault, IsOfStreams};
 ghost use Rattle.towerbench.specs.Seats.{IsAlone, seated, world_at};
 
 use crate::answer::{LineAnswer, answer};
@@ -50,12 +51,12 @@ where
     requires thieves { thieves ≤ 4 }
     ensures done { HasAll (view chair).shares → OnOk result (IsAnswered
         (answers_to answer_line (world_at B.behaviour (seated desk (view chair))))
-        (R.remaining reader.old) (R.remaining reader.new)
-        (W.contents writer.old) (W.contents writer.new)) }
-    ensures fault { HasAll (view chair).shares → IfErr result (λ e. BreaksBy
+        (streams (R.remaining reader.old) (W.contents writer.old))
+        (streams (R.remaining reader.new) (W.contents writer.new))) }
+    ensures fault { HasAll (view chair).shares → IfErr result (λ e. EndsWithStreamFault
         (answers_to answer_line (world_at B.behaviour (seated desk (view chair)))) e
-        (R.remaining reader.old) (R.remaining reader.new)
-        (W.contents writer.old) (W.contents writer.new)) }
+        (streams (R.remaining reader.old) (W.contents writer.old))
+        (streams (R.remaining reader.new) (W.contents writer.new))) }
     ensures of_streams { IfErr result IsOfStreams }
 {
     let mut seat = Seat::new(rt, desk, chair, thieves);
@@ -75,13 +76,13 @@ where
     B::Pending: Send + Sync,
     ensures done { IsAlone seat.old → OnOk result (Leaves answer_line
         (world_at B.behaviour seat.old) (world_at B.behaviour seat.new)
-        (R.remaining reader.old) (R.remaining reader.new)
-        (W.contents writer.old) (W.contents writer.new)) }
+        (streams (R.remaining reader.old) (W.contents writer.old))
+        (streams (R.remaining reader.new) (W.contents writer.new))) }
     ensures alone { IsAlone seat.old → OnOk result (IsAlone seat.new) }
-    ensures fault { IsAlone seat.old → IfErr result (λ e. Breaks
+    ensures fault { IsAlone seat.old → IfErr result (λ e. EndsWithFault
         (answers_to answer_line (world_at B.behaviour seat.old)) e
-        (R.remaining reader.old) (R.remaining reader.new)
-        (W.contents writer.old) (W.contents writer.new)) }
+        (streams (R.remaining reader.old) (W.contents writer.old))
+        (streams (R.remaining reader.new) (W.contents writer.new))) }
 {
     let answering = |seat: &mut Seat<'_, B, H>, number: u32, line: &[u8], out: &mut Vec<
         u8,

@@ -49,13 +49,13 @@ regular_tower readers = layered (regular_table (readers + 1)) (copies_tower read
 abbrev pub unary_tower : ℕ → ℕ → Behaviour UnaryPoint
 unary_tower values readers = layered (unary_table values (readers + 1)) (regular_tower readers)
 
--- a stamped register for one reader, with stamps up to `last`, over a unary number that has one
--- value for each pair of a stamp and a value
+-- a stamped register for one reader, with stamps up to `last`, over a unary number whose values are
+-- the codes of the stamped register
 abbrev pub stamped_tower : ℕ → ℕ → Behaviour StampedPoint
 stamped_tower values last = layered (stamped_table values last) (unary_tower ((last + 1) * values) 1)
 
--- a matrix for `processes` processes with tags up to `tag`, over stamped registers with stamps up
--- to `stamp`, whose values are the codes of the matrix: each is one number for a tag, a writer and
--- a value
+-- A matrix of `processes` processes and `values` values, with tags up to `tag`. The matrix is over
+-- stamped registers with stamps up to `stamp`. The values of the stamped registers are the codes of
+-- the matrix: each code is one number for a tag, a writer and a value.
 abbrev pub matrix_tower : ℕ → ℕ → ℕ → ℕ → Behaviour MatrixPoint
 matrix_tower processes values tag stamp = layered (matrix_table processes values tag) (stamped_tower ((tag + 1) * processes * values) stamp)

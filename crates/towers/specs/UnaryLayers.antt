@@ -1,5 +1,5 @@
--- The layers of a unary number over regular bits, copies and safe bits: each layer fits on the
--- layer below, and equal unary numbers behave alike.
+-- The layers of a unary number over regular bits, which are over copies of safe bits. Each layer
+-- fits on the layer below, and equal unary numbers behave alike.
 use Rattle.std.specs.Prelude.{◌≡◌, ℕ, Bool, true, List, Option}
 use Rattle.std.proofs.Common.{refl, nat_eq}
 use mathlib.Core.Bool.{◌&&◌}
@@ -49,8 +49,8 @@ abbrev pub does : UnaryTower → Behaviour UnaryPoint
 does r = let u = r.layers in let b = u.below in let c = b.below in
     layered (unary_table u.layer.values u.layer.processes) (layered (regular_table b.layer.processes) (layered (copies_table c.layer.readers c.layer.values) safe_behaviour))
 
--- the point of a process's operation on a unary number that a list of frames describes; `None` if
--- the list describes none
+-- the point of a process's operation on a unary number, as a list of frames describes it; `None` if
+-- the frames describe no point
 abbrev pub finds : UnaryTower → ℕ → List Frame → Option UnaryPoint
 finds r = let u = r.layers in let b = u.below in let c = b.below in
     layered_point (unary_table u.layer.values u.layer.processes)

@@ -46,10 +46,10 @@ pub fn unary_is_regular(register: &UnaryTower)
 }
 
 /// A stamped register over a unary number is atomic. It has one writer and one reader. Each
-/// returned read can be assigned a write whose value it gives, so that the writes assigned never go
-/// back. The write assigned is the last that returned before the read began, or one that overlaps
-/// the read; refused writes are left out, and the initial value is taken as a first write. So none
-/// of its returned reads is stray.
+/// returned read can be assigned a write whose value it gives, so that, of two reads, the first to
+/// return is never assigned the later write. The write assigned is the last that returned before
+/// the read began, or one that overlaps the read. Refused writes are left out, and the initial
+/// value is taken as a first write. So no returned read of the stamped register is stray.
 pub fn stamped_is_atomic(register: &StampedTower)
     ensures atomic { IsAtomic (⟦<StampedTower as Behaves>⟧.behaviour register.now) }
     ensures never_stray { NeverStray (⟦<StampedTower as Behaves>⟧.behaviour register.now) }
@@ -59,9 +59,9 @@ pub fn stamped_is_atomic(register: &StampedTower)
     never_stray(register);
 }
 
-/// If each step of each branch fits the tower, no page of a regular, unary or stamped tower shows a
-/// stray read: one whose value is neither the one written last before it nor that of an overlapping
-/// write.
+/// If each step of each branch fits the tower, then from any initial value no page of a regular,
+/// unary or stamped tower shows a stray read: a read that gives neither the value written last
+/// before it nor the value of a write that overlaps it.
 pub fn pages_show_no_stray(bit: &RegularTower, number: &UnaryTower, register: &StampedTower)
     ensures regular { NeverShowsStray (⟦<RegularTower as Behaves>⟧.behaviour bit.now) }
     ensures unary { NeverShowsStray (⟦<UnaryTower as Behaves>⟧.behaviour number.now) }

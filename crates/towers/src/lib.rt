@@ -69,9 +69,10 @@ pub fn unary(values: u32, readers: u32) -> UnaryTower
 }
 
 /// Returns a stamped register for one reader, with the values 0 to `values` - 1 and stamps up to
-/// `last`. `values` must be 2 to 512, and `last` at most 511. The register is over a unary number
-/// that has one value for each pair of a stamp and a value; so there may be at most 512 of these
-/// pairs, `(last + 1) * values`. It behaves as `stamped_tower values last` does.
+/// `last`. `values` must be 2 to 512, and `last` at most 511. A code is one number for a stamp and
+/// a value. The number of codes, `(last + 1) * values`, must be at most 512. The stamped register
+/// is over a unary number whose values are these codes. The stamped register behaves as
+/// `stamped_tower values last` does.
 pub fn stamped(values: u32, last: u32) -> StampedTower
     requires two { LEAST_VALUES ≤ values }
     requires few { values ≤ MOST_VALUES }
@@ -84,11 +85,11 @@ pub fn stamped(values: u32, last: u32) -> StampedTower
 }
 
 /// Returns a matrix for `processes` processes, which must be 2 to 4, with 2 to 512 values, tags up
-/// to `tag`, and stamps up to `stamp`; `tag` and `stamp` must be at most 511. It is over
-/// `processes` squared stamped registers. Each of these has a bit for each of its codes, of which
-/// there may be at most 512, `(stamp + 1) * (tag + 1) * processes * values`; and all of them
-/// together may have at most 4,096 bits. It behaves as `matrix_tower processes values tag stamp`
-/// does.
+/// to `tag`, and stamps up to `stamp`; `tag` and `stamp` must be at most 511. The matrix is over
+/// `processes * processes` stamped registers. Each stamped register has
+/// `(stamp + 1) * (tag + 1) * processes * values` bits, one for each of its codes. This number must
+/// be at most 512, and all stamped registers together may have at most 4,096 bits. The matrix
+/// behaves as `matrix_tower processes values tag stamp` does.
 pub fn matrix(processes: u32, values: u32, tag: u32, stamp: u32) -> MatrixTower
     requires two { LEAST_PROCESSES ≤ processes }
     requires four { processes ≤ MOST_WRITERS }

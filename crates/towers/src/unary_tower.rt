@@ -1,5 +1,5 @@
-//! The unary number over regular bits, as a struct that hides its layers: the types of the towers
-//! above it would otherwise name each of them.
+//! The unary number over regular bits, as a struct that hides its layers: otherwise the types of
+//! the towers above the unary number would name each layer.
 
 use crate::RegularTower;
 use frames::flat::FlatStack;
@@ -32,10 +32,10 @@ impl Behaves for UnaryTower {
 impl Register for UnaryTower {
     ghost use Rattle.std.specs.Prelude.{refl};
     ghost use Rattle.frames.specs.SafeBit.{safe_point};
-    ghost use Rattle.frames.specs.laws.Safe.{safe_tells, point_decides};
+    ghost use Rattle.frames.specs.laws.Safe.{safe_frames_give_point, point_decides};
     ghost use Rattle.frames.specs.declared.safe.SafePoint.TheVariants.{WriteStart, WriteEnd, ReadStart, ReadEnd};
     ghost use Rattle.layers.specs.Flat.{layered_point};
-    ghost use Rattle.layers.specs.laws.Flat.{layered_tells};
+    ghost use Rattle.layers.specs.laws.Flat.{layered_frames_give_point};
     ghost use Rattle.towers.specs.UnaryLayers as layers;
     ghost use Rattle.layers.specs.laws.Layered.{layer_lawful};
     ghost use Rattle.layers.specs.laws.Equality.{nested_decides, decides_like};
@@ -117,6 +117,10 @@ impl Register for UnaryTower {
         self.layers.pending_on(alloc, stack, first, who)
     }
 
+    fn lay(&self, alloc: Global, pending: &Self::Pending, stack: &mut FlatStack) {
+        self.layers.lay(alloc, pending, stack);
+    }
+
     #[inline(always)]
     fn begin_on(
         &self,
@@ -145,8 +149,8 @@ impl Register for UnaryTower {
     ghost reports = { λ r.
         let b = r.layers.below in
         let copies_point = layered_point (copies_table b.below.layer.readers b.below.layer.values) safe_point in
-        layered_tells (layers.on_regular r) (layered_point (regular_table b.layer.processes) copies_point)
-        (layered_tells (layers.on_copies r) copies_point (layered_tells (layers.on_bits r) safe_point safe_tells)) };
+        layered_frames_give_point (layers.on_regular r) (layered_point (regular_table b.layer.processes) copies_point)
+        (layered_frames_give_point (layers.on_copies r) copies_point (layered_frames_give_point (layers.on_bits r) safe_point safe_frames_give_point)) };
 
     ghost lawful = { λ r. layer_lawful (layers.on_regular r) };
 

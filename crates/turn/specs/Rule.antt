@@ -17,11 +17,11 @@ module _ {E : Type 0} (by : E → ℕ) where
   abbrev pub ByChairs : List E → Type 0
   ByChairs list = All (λ e. by e < 16) list
 
-  -- What the view v of a seat says of the list is true: v has seen a prefix of it. For each share
-  -- that v holds, the calls of v under it are just the list's entries under it, and v has seen each
-  -- of these; v has no calls under other shares. If v has the turn, it has seen the whole list.
-  -- Here `flag` is word 0, `holder` is the seat that has the turn, and `owner` gives the seat that
-  -- holds a share.
+  -- What the view v of a seat says of the list is true: v has seen a prefix of the list. For each
+  -- share that v holds, the calls of v under this share are just the list's entries under this
+  -- share, and v has seen each of these; v has no calls under other shares. If v has the turn, v
+  -- has seen the whole list. `flag` is word 0, `holder` is the seat that has the turn, and `owner`
+  -- gives the seat that holds a share.
   pub record Knows (list : List E) (flag holder : ℕ) (owner : ℕ → ℕ) (seat : ℕ) (v : View E) : Type 0 where
     pub below : (share : ℕ) → has_share v.shares share ≡ true → share < 16
     pub seen : (rest : List E) × (v.seen ++ rest ≡ list) × (HoldsSome v → ByChairs rest)
@@ -54,8 +54,8 @@ module _ {E : Type 0} (by : E → ℕ) where
     Sat = Me (Option T) (View E)
 
     -- A seat found the turn free, and now has the turn and the value. The value's list begins with
-    -- what the seat had seen, is at least as long as any length that it had read, and is exactly
-    -- what it had seen if it has every share.
+    -- what the seat had seen, is at least as long as any length that the seat had read, and is
+    -- exactly what the seat had seen if the seat has every share.
     abbrev pub Grabs : Sat → Sat → Type 0
     Grabs m m' = (x : T) × (m' ≡ (grabbed m.0 (entries x), (0, Some x) ∷ m.1)) × StartsWith (entries x) m.0.seen × (m.0.reported ≤ length (entries x))
         × OwnsItsCalls by (grabbed m.0 (entries x)) × (HasAll m.0.shares → entries x ≡ m.0.seen)
@@ -74,9 +74,10 @@ module _ {E : Type 0} (by : E → ℕ) where
     abbrev pub release_reports : At → Sat → ℕ → Sat → Type 0
     release_reports step m found m' = m' ≡ (released m.0, [])
 
-    -- A seat reads the list's length, which is at least the length of what it has seen, and at
-    -- least any length that it had read. Suppose that one of the two lists seen before its last
-    -- join isn't longer than what it has seen; then what it has seen begins with that list.
+    -- A seat reads the list's length, which is at least the length of what the seat has seen, and
+    -- at least any length that the seat had read. `met` has two lists that were seen before a join
+    -- (`View` says which). If one of them isn't longer than what the seat has seen, then what the
+    -- seat has seen begins with that list.
     abbrev pub NewsReports : Sat → ℕ → Sat → Type 0
     NewsReports m found m' = (m' ≡ (with_news m.0 found, m.1)) × (m.0.reported ≤ found) × (length m.0.seen ≤ found) × OwnsItsCalls by m.0
         × (length m.0.met.0 ≤ length m.0.seen → StartsWith m.0.seen m.0.met.0) × (length m.0.met.1 ≤ length m.0.seen → StartsWith m.0.seen m.0.met.1)

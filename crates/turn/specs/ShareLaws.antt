@@ -158,6 +158,6 @@ count_some (true ∷ xs) share held = omega (arith, count_true xs)
 count_some (false ∷ xs) zero held = absurd (cc)
 count_some (false ∷ xs) (suc share) held = let r = count_some xs share held in omega (arith, count_false xs)
 
--- the union of a set that has this share, which is below 16, with any other set has some share
+-- if a set has this share, which is below 16, then its union with any other set has some share
 pub together_some : (shares others : List Bool) (share : ℕ) → share < 16 → has_share shares share ≡ true → (one : ℕ) × (has_share (together shares others) one ≡ true)
 together_some shares others share inside held = (share, has_where _ share inside ∙ ap (λ b. b || has_share others share) held)

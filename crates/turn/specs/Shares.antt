@@ -35,7 +35,7 @@ chair_number shares = unwrap_or (position (λ held. held) shares) 16
 abbrev pub rank : List Bool → ℕ → ℕ
 rank shares i = count (take i shares)
 
--- of the shares in the set except its least one, the n least; all of them if there are fewer than n
+-- the first n of the set's shares after its least share; all of these if there are fewer than n
 abbrev pub next_least : ℕ → List Bool → List Bool
 next_least n shares = shares_where (λ i. has_share shares i && nat_lt 0 (rank shares i) && nat_le (rank shares i) n)
 
@@ -43,6 +43,6 @@ next_least n shares = shares_where (λ i. has_share shares i && nat_lt 0 (rank s
 abbrev pub shares_without : List Bool → List Bool → List Bool
 shares_without shares given = shares_where (λ i. has_share shares i && not (has_share given i))
 
--- the shares that are in either of two sets
+-- the shares that are in at least one of two sets
 abbrev pub together : List Bool → List Bool → List Bool
 together shares others = shares_where (λ i. has_share shares i || has_share others i)

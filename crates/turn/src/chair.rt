@@ -1,5 +1,5 @@
 //! Chairs: each caller of a turn (a lock around one value) has one. A chair may take the turn, and
-//! knows how much it has seen of the value's list.
+//! knows how much it has seen of the value's list of entries.
 
 ghost use Rattle.std.specs.Prelude.{◌≡◌, ◌<◌, false, []};
 ghost use Rattle.turn.specs.Shares.{count};

@@ -21,9 +21,10 @@ use std::snapshot::Snapshot;
 use std::sync::Wait;
 
 impl<T: Counted + Drop> Turn<T> {
-    /// Makes a turn (a lock) around `value`. No entry of the value's list may have the number of a
-    /// chair, which is less than 16. The turn's first chair holds all 16 shares, has made no entry,
-    /// and has seen the whole list. If memory runs out, the value is dropped.
+    /// Makes a turn (a lock) around `value`. Each entry of the value's list has to have a number of
+    /// at least 16, since the numbers below 16 are for chairs. The turn's first chair holds all 16
+    /// shares, has made no entry, and has seen the whole list. If memory runs out, the value is
+    /// dropped.
     pub fn new(alloc: Global, value: T) -> Result<(Turn<T>, Chair<T>), AllocError>
         requires { All (λ e. 16 ≤ T.by e) (T.entries value) }
         ensures chair { IfOk result (λ r. view r.1 ≡ first_view (T.entries value)) }
@@ -74,10 +75,10 @@ impl<T: Counted + Drop> Turn<T> {
         news(&self.table.shared, &mut chair.place)
     }
 
-    /// Makes a new chair of this turn, of which `chair` has to be a chair too. The new one gets
-    /// `shares` of the shares of `chair` (at least one, and fewer than `chair` has), and the calls
-    /// made under them. `chair` keeps its least share, which is its number, and gives the next
-    /// least ones. Both chairs have then seen what `chair` had seen.
+    /// Makes a new chair of this turn. `chair`, which has to be a chair of this turn, gives the new
+    /// chair some of its shares, and the calls made under them. `shares` says how many shares to
+    /// give: at least one, and fewer than `chair` has. `chair` keeps its least share, which is its
+    /// number, and gives the next least shares. Both chairs have then seen what `chair` had seen.
     pub fn split(&self, chair: &mut Chair<T>, shares: u32) -> Chair<T>
         requires turn { IsOf self.now chair.old }
         requires some { 0 < shares }

@@ -9,8 +9,8 @@ use atomic_table::{Join, Play, Seat, Shared, Split, TableRule};
 use std::marker::{Brand, PhantomData};
 use std::snapshot::Snapshot;
 
-/// The invariant of a turn's table: there is one list, and it is the value's list while the turn is
-/// free.
+/// The invariant of a turn's table: there is one list, of which each chair has seen a prefix, and
+/// which is the value's list while the turn is free.
 pub struct Rule<T>(PhantomData<T>);
 
 impl<T: Counted> TableRule<Option<T>, View<T::Entry>, Snapshot<T>> for Rule<T> {
@@ -29,8 +29,8 @@ pub(crate) type Board<T> = Shared<Option<T>, View<<T as Counted>::Entry>, Snapsh
 /// the chair's view, which is what the chair knows.
 pub(crate) type Place<T> = Seat<Option<T>, View<<T as Counted>::Entry>>;
 
-/// For contracts alone: the entries that one call of `publish` adds to the list. The call chooses
-/// them by this type parameter.
+/// For contracts alone: the entries that one call of `publish` adds to the list. The call passes
+/// the type `Brand`, and its proof chooses the entries.
 pub(crate) trait Added<E> {
     ghost use Rattle.std.specs.Prelude.{List};
 
@@ -43,8 +43,8 @@ impl<E> Added<E> for Brand {
     ghost added = { [] };
 }
 
-/// For contracts alone: the shares that one call of `split` gives away. The call chooses them by
-/// this type parameter.
+/// For contracts alone: the shares that one call of `split` gives away. The call passes the type
+/// `Brand`, and its proof chooses the shares.
 pub(crate) trait Given {
     ghost use Rattle.std.specs.Prelude.{List, Bool};
 

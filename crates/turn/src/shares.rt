@@ -54,8 +54,8 @@ impl Shares {
         self.marks[..share].iter().filter(|held| **held).count()
     }
 
-    /// Of the shares in the set except its least one, the `many` least; all of them if there are
-    /// fewer than `many`.
+    /// The first `many` of the set's shares after its least share; all of these if there are fewer
+    /// than `many`.
     pub(crate) fn next_least(&self, many: usize) -> Shares
         ensures { result.marks ≡ next_least many self.now.marks }
     {

@@ -76,7 +76,7 @@ pub(crate) fn put<T: Counted>(board: &Board<T>, place: &mut Place<T>, value: T)
     let None = taken_out else { unreachable!() };
 }
 
-/// Gives the turn back, once the value is in its slot again.
+/// Gives the turn back. The value has to be in its slot again.
 pub(crate) fn release<T: Counted>(board: &Board<T>, place: &mut Place<T>)
     requires turn { IsTurn board.now.table_id place.old }
     requires holds { place.old.me.0.holds ≡ true }

@@ -46,7 +46,7 @@ abbrev pub unary_program : Outcome → ℕ → ℕ → Op → Program UnaryTask
 unary_program none values who (op.Write x) = Asks (Setting x) (λ outcome. clears_below x x)
 unary_program none values who op.Read = Asks (Looking who 0 (values - 1)) (λ outcome. after_look 0 (looks_above none who 0 (values - 1)) outcome)
 
--- the rest of an operation's program, after the bit has ended the task with this outcome
+-- the rest of an operation's program, after this task has ended with this outcome
 abbrev pub unary_rest : Outcome → UnaryTask → Outcome → Program UnaryTask
 unary_rest none (Setting x) outcome = clears_below x x
 unary_rest none (Clearing x i) outcome = clears_below x i
@@ -60,14 +60,15 @@ unary_asks (Clearing x i) = record { part = i; who = 0; op = op.Write 0 }
 unary_asks (Looking who i left) = record { part = i; who = who; op = op.Read }
 
 -- the frame that records a task on the stack of a pending operation: the operation of the unary
--- number, and the index of the bit at work
+-- number, and the index of the bit that is written or read
 abbrev pub unary_frame : UnaryTask → Frame
 unary_frame (Setting x) = record { layer = Unary; op = op.Write x; i = x; x = 0 }
 unary_frame (Clearing x i) = record { layer = Unary; op = op.Write x; i = i; x = 0 }
 unary_frame (Looking who i left) = record { layer = Unary; op = op.Read; i = i; x = 0 }
 
--- the task that process `who` is in, if f is its frame with bit i: a write of x sets bit i if i is
--- x, and otherwise clears it; a read reads bit i and has all higher bits left to read
+-- The task that process `who` is in, if f is its frame; the frame's field `i` is a bit's index. A
+-- write of x sets bit i if i is x, and clears bit i otherwise. A read reads bit i, and has all
+-- higher bits left to read.
 abbrev pub unary_find : ℕ → ℕ → Frame → UnaryTask
 unary_find values who f = elim (f.op) [ op.Write x ↦ (if f.i == x then Setting x else Clearing x f.i) | op.Read ↦ Looking who f.i (values - 1 - f.i) ]
 

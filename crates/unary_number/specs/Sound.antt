@@ -44,8 +44,8 @@ module _ (none : Outcome) (values processes : ℕ) (two : LEAST_VALUES ≤ value
   looks_sound who reader i (suc left) same above below all = ((same, above, below, omega arith), λ o. refl)
 
   -- after a scan has read a bit, the rest of its program is sound (it next reaches a task that the
-  -- reader can be in, or ends with an outcome that suits a read), whichever value x below `values`
-  -- it gives if the bit is 1
+  -- reader can be in, or ends with an outcome that suits a read); x, which the scan gives if the
+  -- bit is 1, may be any value below `values`
   looked_sound : (who reader i left bit x : ℕ) → reader ≡ who → 1 ≤ who → who < processes → i + left + 1 ≡ values → x < values
       → IsSound (unary_table_with none values processes) (UnaryMayBeAt values processes who op.Read) (Answers values op.Read) (after_look x (looks_above none reader i left) (Value bit))
   looked_sound who reader i left bit x same above below all small = by_test (bit == 1)
@@ -110,33 +110,33 @@ module _ (none : Outcome) (values processes : ℕ) (two : LEAST_VALUES ≤ value
   rest_falls who o (Looking reader i left) Written stands answers on = tt
   rest_falls who o (Looking reader i left) (Spent layer) stands answers on = tt
 
-  stands_suits : (who : ℕ) (o : Op) (task : UnaryTask) → UnaryMayBeAt values processes who o task → one_writer values processes who o ≡ true
-  stands_suits who (op.Write w) (Setting x) stands = writer.writer_suits values processes who w stands.0 some stands.2
-  stands_suits who (op.Write w) (Clearing x i) stands = writer.writer_suits values processes who w stands.0 some stands.3
-  stands_suits who op.Read (Looking reader i left) stands = writer.others_read values processes who stands.1 stands.2
-  stands_suits who (op.Write w) (Looking reader i left) stands = absurd stands
-  stands_suits who op.Read (Setting x) stands = absurd stands
-  stands_suits who op.Read (Clearing x i) stands = absurd stands
+  may_be_at_suits : (who : ℕ) (o : Op) (task : UnaryTask) → UnaryMayBeAt values processes who o task → one_writer values processes who o ≡ true
+  may_be_at_suits who (op.Write w) (Setting x) stands = writer.writer_suits values processes who w stands.0 some stands.2
+  may_be_at_suits who (op.Write w) (Clearing x i) stands = writer.writer_suits values processes who w stands.0 some stands.3
+  may_be_at_suits who op.Read (Looking reader i left) stands = writer.others_read values processes who stands.1 stands.2
+  may_be_at_suits who (op.Write w) (Looking reader i left) stands = absurd stands
+  may_be_at_suits who op.Read (Setting x) stands = absurd stands
+  may_be_at_suits who op.Read (Clearing x i) stands = absurd stands
 
-  frame_tells : (who : ℕ) (o : Op) (task : UnaryTask) → UnaryMayBeAt values processes who o task → (unary_find values who (unary_frame task) ≡ task) × ((unary_frame task).op ≡ o)
-  frame_tells who (op.Write w) (Setting x) stands = (ap (λ same. if same then Setting x else Clearing x x) (same_bit x), ap op.Write stands.1)
-  frame_tells who (op.Write w) (Clearing x i) stands = (ap (λ same. if same then Setting x else Clearing x i) (other_bit i x (omega (arith, stands.1, stands.2))), ap op.Write stands.1)
-  frame_tells who op.Read (Looking reader i left) stands =
+  frame_gives_task : (who : ℕ) (o : Op) (task : UnaryTask) → UnaryMayBeAt values processes who o task → (unary_find values who (unary_frame task) ≡ task) × ((unary_frame task).op ≡ o)
+  frame_gives_task who (op.Write w) (Setting x) stands = (ap (λ same. if same then Setting x else Clearing x x) (same_bit x), ap op.Write stands.1)
+  frame_gives_task who (op.Write w) (Clearing x i) stands = (ap (λ same. if same then Setting x else Clearing x i) (other_bit i x (omega (arith, stands.1, stands.2))), ap op.Write stands.1)
+  frame_gives_task who op.Read (Looking reader i left) stands =
       let behind : values - 1 - i ≡ left = omega (arith, stands.3) in
       (λ k. Looking (sym stands.0 k) i (behind k), refl)
-  frame_tells who (op.Write w) (Looking reader i left) stands = absurd stands
-  frame_tells who op.Read (Setting x) stands = absurd stands
-  frame_tells who op.Read (Clearing x i) stands = absurd stands
+  frame_gives_task who (op.Write w) (Looking reader i left) stands = absurd stands
+  frame_gives_task who op.Read (Setting x) stands = absurd stands
+  frame_gives_task who op.Read (Clearing x i) stands = absurd stands
 
   -- the rules meet the laws that every layer's rules must meet, if a read may end with `none`, the
   -- outcome of a scan that finds no 1
   pub table_sound : IsSoundTable (unary_table_with none values processes) (UnaryMayBeAt values processes) unary_left
   table_sound = writer.one_writer_sound (unary_table_with none values processes) (UnaryMayBeAt values processes) unary_left (λ who o. refl) (some)
       (λ v j lt below. first_bit v j) (λ v k lt below. omega arith)
-      asks_fit stands_suits frame_tells begins_sound rest_sound rest_falls
+      asks_fit may_be_at_suits frame_gives_task begins_sound rest_sound rest_falls
 
 -- the unary number's rules meet the laws that every layer's rules must meet, since a scan that
--- finds no 1 gives one of its values
+-- finds no 1 gives one of the unary number's values
 pub unary_sound : (values processes : ℕ) → LEAST_VALUES ≤ values → 0 < processes → IsSoundTable (unary_table values processes) (UnaryMayBeAt values processes) unary_left
 unary_sound values processes two some =
     let greatest : Answers values op.Read (Value (values - 1)) = omega arith in

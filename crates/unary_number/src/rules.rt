@@ -18,9 +18,9 @@ use layers::layered::Layered;
 use layers::nested::{Ask, Continuation};
 use safe_bit::Store;
 
-/// A register of 2 to 512 values, made of one register of two values, called a bit, for each of
-/// them. A write of x sets bit x to 1, and then clears the bits below bit x to 0, from bit x - 1
-/// down to bit 0. A read scans from bit 0 upward and returns the index of the first 1 that it finds
+/// A register of 2 to 512 values. For each value it has a bit, which is a register of two values. A
+/// write of x sets bit x to 1, and then clears the bits below bit x to 0, from bit x - 1 down to
+/// bit 0. A read scans from bit 0 upward and returns the index of the first 1 that it finds
 /// (Lamport 1986; Herlihy and Shavit, chapter 4).
 pub type Unary<S> = Layered<UnaryRules, S>;
 
@@ -46,11 +46,11 @@ impl Copy for UnaryRules {}
 
 /// The trait that declares `Unary::new`. Import it to call `Unary::new`.
 pub trait NewUnary<S: Register>: Sized {
-    /// The unary number of `values` values over registers like `below`, which has two values, and
-    /// whose processes are the number's processes too. Refused as BadSize if `values` isn't 2 to
-    /// 512, or if the register below doesn't have two values, doesn't have 2 to 5 processes, or has
-    /// depth 8; otherwise refused as TooManyBits if there would be more than 4,096 cells or 65,536
-    /// words.
+    /// The unary number of `values` values over registers like `below`. The register below has two
+    /// values, and its processes are the unary number's processes too. Refused as BadSize if
+    /// `values` isn't 2 to 512, or if the register below doesn't have two values, doesn't have 2 to
+    /// 5 processes, or has depth 8; otherwise refused as TooManyBits if there would be more than
+    /// 4,096 cells or 65,536 words.
     fn new(below: S, values: u32) -> Result<Unary<S>, LayerError>
         ensures refused { MatchResult result (λ _. unary_refusal values (S.behaviour below) ≡ None)
             (λ e. unary_refusal values (S.behaviour below) ≡ Some e) }

@@ -1,6 +1,6 @@
 //! The tasks of a unary number: the points of its programs at which one bit is written or read.
 
-/// A task: the write or read of one bit that a pending operation of the unary number is making.
+/// A task: the write or read of one bit by a pending operation of the unary number.
 #[derive(Clone, Copy, Debug, PartialEq, Eq)]
 pub enum UnaryTask {
     /// A write of a value sets the bit of this value.

@@ -17,7 +17,7 @@ use Rattle.frames.specs.OneWriter.{HasOneWriter}
 use Rattle.frames.specs.Recorded.{AllFit, recorded}
 use Rattle.frames.specs.Verdicts.{Known, is_refused, counts, accepted, initially, invoked_now, returning, after, reading}
 use Rattle.frames.specs.Regularity.{in_progress, OnReturn, by_number, IsNumber, Numbered, IsAtomic}
-use Rattle.views.specs.VerdictWords.{is_turn, IsQuiet, InProgress, has_role, IsOneWriterHistory, ReturnedRead, during, afterwards, is_written, is_got, returned_reads, RecordsHistories}
+use Rattle.views.specs.VerdictWords.{begins_or_ends, IsQuiet, InProgress, has_role, IsOneWriterHistory, ReturnedRead, during, afterwards, is_written, is_got, returned_reads, RecordsHistories}
 use Rattle.views.specs.LawWords.{returned_writes, IsWrite, NumbersRead, AreNumbered, IsAtomicInWords}
 use Rattle.views.proofs.VerdictKnown.{no_event, HaveRoles, roles-left, roles-right, history-left, noting, known, known-append, parted, known_writing, writing_of_progress, progress_of_writing, noting_returned, known_grows, EndsWrites, ends_behind, reading_of_progress}
 use Rattle.views.proofs.VerdictOverlaps.{write_ends, not_refused, still_unrefused, returned_unrefused, roles_since}
@@ -34,14 +34,14 @@ writes_first e es = count_write (is_written e.1) e (filter (λ x. is_written x.1
 writes-append : (xs ys : List (ℕ × Event)) → returned_writes (xs ++ ys) ≡ returned_writes xs + returned_writes ys
 writes-append xs ys = ap length (filter-append (λ e. is_written e.1) xs ys) ∙ length-append (filter (λ e. is_written e.1) xs) (filter (λ e. is_written e.1) ys)
 
-unwritten : (e : Event) → is_turn 0 e ≡ false → has_role e ≡ true → is_written e ≡ false
+unwritten : (e : Event) → begins_or_ends 0 e ≡ false → has_role e ≡ true → is_written e ≡ false
 unwritten (Wrote p) q r = absurd (true≢false (sym r ∙ q))
 unwritten e q r = refl
 
 quiet_writes : (xs : List (ℕ × Event)) → IsQuiet 0 xs → HaveRoles xs → returned_writes xs ≡ 0
 quiet_writes [] q r = refl
 quiet_writes (e ∷ es) q r =
-    let quiet = or_parts (is_turn 0 e.1) (list_any (λ x. is_turn 0 x.1) es) q in
+    let quiet = or_parts (begins_or_ends 0 e.1) (list_any (λ x. begins_or_ends 0 x.1) es) q in
     let roles = and_parts (has_role e.1) (list_all (λ x. has_role x.1) es) r in
     writes_first e es ∙ ap (λ b. cond b 1 0 + returned_writes es) (unwritten e.1 quiet.0 roles.0) ∙ ap (λ n. 0 + n) (quiet_writes es quiet.1 roles.1) ∙ (omega arith)
 

@@ -22,9 +22,9 @@ use Rattle.frames.specs.Behaviour.{Behaviour}
 use Rattle.frames.specs.Configuration.{fits_step}
 use Rattle.frames.specs.Recorded.{AllFit, recorded}
 use Rattle.frames.specs.Verdicts.{verdicts}
-use Rattle.views.specs.VerdictWords.{is_turn, IsQuiet, InProgress, Follows, ReturnedRead, IsLastWritten, IsVerdictOn, EndsBy, IsOverlapping, IsJudged}
+use Rattle.views.specs.VerdictWords.{begins_or_ends, IsQuiet, InProgress, Follows, ReturnedRead, IsLastWritten, IsVerdictOn, EndsBy, IsOverlapping, IsJudged}
 use Rattle.views.specs.LawWords.{IsWrite, AreNumbered}
-use Rattle.views.specs.Strays.{AreOf}
+use Rattle.views.specs.Strays.{AreVerdictsOn}
 
 abbrev Events : Type 0
 Events = List (ℕ × Event)
@@ -74,7 +74,7 @@ InProgress-fails : InProgress 0 (Write 1) (writes ∷ (1, Wrote 0) ∷ []) → �
 InProgress-fails h = by h.earlier h.step h.since h.split h.quiet
   where
     by : (earlier : Events) (k : ℕ) (since : Events) → writes ∷ (1, Wrote 0) ∷ [] ≡ earlier ++ (k, Invoke 0 (Write 1)) ∷ since → IsQuiet 0 since → ⊥
-    by [] k since e quiet = true≢false (ap (λ events. list_any (λ e. is_turn 0 e.1) events) (ap (drop 1) e) ∙ quiet)
+    by [] k since e quiet = true≢false (ap (λ events. list_any (λ e. begins_or_ends 0 e.1) events) (ap (drop 1) e) ∙ quiet)
     by (x ∷ []) k since e quiet = wrote_invoked 0 0 (Write 1) (ap (event_at 1) e)
     by (x ∷ y ∷ earlier) k since e quiet = nothing earlier since _ (ap (drop 2) e)
 
@@ -284,8 +284,8 @@ abbrev read_verdict : ReadVerdict
 read_verdict = record { step = 2; process = 1; value = 0; verdict = Fresh }
 
 -- process 1 reads a safe bit at 0: one invocation and two bit actions
-AreOf-holds : AreOf safe_behaviour (read_verdict ∷ [])
-AreOf-holds = record { value = 0; steps = step.Read 1 ∷ step.Go 1 0 ∷ step.Go 1 0 ∷ []; within = omega arith; fit = fit; judged = refl }
+AreVerdictsOn-holds : AreVerdictsOn safe_behaviour (read_verdict ∷ [])
+AreVerdictsOn-holds = record { value = 0; steps = step.Read 1 ∷ step.Go 1 0 ∷ step.Go 1 0 ∷ []; within = omega arith; fit = fit; judged = refl }
   where
     fits : Step → Type 0
     fits s = fits_step safe_behaviour s ≡ true
@@ -312,8 +312,8 @@ no_step (step.Go p c) e = no_less p (nat_lt c 2) e
 no_step (step.Stop p) e = let less : p < 0 = ltb-true p 0 e in omega (arith, less)
 
 -- no read of that bit is judged
-AreOf-fails : AreOf unused (read_verdict ∷ []) → ⊥
-AreOf-fails h = by h.steps h.fit h.judged
+AreVerdictsOn-fails : AreVerdictsOn unused (read_verdict ∷ []) → ⊥
+AreVerdictsOn-fails h = by h.steps h.fit h.judged
   where
     none : read_verdict ∷ [] ≡ [] → ⊥
     none e = cc

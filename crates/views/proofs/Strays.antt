@@ -29,7 +29,7 @@ use Rattle.views.specs.Spots.{IsSpotOf}
 use Rattle.views.specs.RunPages.{run_page}
 use Rattle.views.specs.Looks.{steps_in, place_page, judged_from}
 use Rattle.views.specs.Slips.{Slipped}
-use Rattle.views.specs.Strays.{OnVerdicts, AreOf, Judges, JudgesIts, ShowsNoStray, IsRegularOrAtomic, NeverShowsStray, JudgesFrom}
+use Rattle.views.specs.Strays.{OnVerdicts, AreVerdictsOn, Judges, JudgesIts, ShowsNoStray, IsRegularOrAtomic, NeverShowsStray, JudgesFrom}
 use Rattle.views.proofs.Slips.{slip_told}
 
 NoneStray : List ReadVerdict → Type 0
@@ -67,7 +67,7 @@ on_verdicts f (page.Branches p) h = tt
 on_verdicts f (page.Cursor p) h = tt
 on_verdicts f (page.Steps p) h = tt
 
-never_there : {P : Type 0} (b : Behaviour P) → NeverStray b → (reads : List ReadVerdict) → AreOf b reads → NoneStray reads
+never_there : {P : Type 0} (b : Behaviour P) → NeverStray b → (reads : List ReadVerdict) → AreVerdictsOn b reads → NoneStray reads
 never_there b never reads of =
     subst NoneStray (sym of.judged) (none_stray (initially of.value) (accepted (recorded b of.value of.steps)) (never of.value of.steps of.within of.fit))
 

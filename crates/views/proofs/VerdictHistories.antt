@@ -31,16 +31,16 @@ use Rattle.frames.specs.laws.OneWriter.{writer_zero, reader_some}
 use Rattle.frames.specs.Recorded.{at_index, indexed}
 use Rattle.frames.specs.Recorded.{AllFit}
 use Rattle.frames.specs.Recorded.{first_configuration, recorded}
-use Rattle.views.specs.VerdictWords.{is_turn, IsQuiet, InProgress, has_role, Follows, IsOneWriterHistory, RecordsHistories, RecordsJudged}
+use Rattle.views.specs.VerdictWords.{begins_or_ends, IsQuiet, InProgress, has_role, Follows, IsOneWriterHistory, RecordsHistories, RecordsJudged}
 use Rattle.views.proofs.VerdictKnown.{no_event, with_event, progress_still}
 use Rattle.views.proofs.VerdictOverlaps.{parted_at, goes_on}
 use Rattle.views.proofs.VerdictWords.{judged_in_words}
 
 quiet-left : (p : ℕ) (xs ys : List (ℕ × Event)) → IsQuiet p (xs ++ ys) → IsQuiet p xs
-quiet-left p xs ys q = (or_parts (list_any (λ e. is_turn p e.1) xs) (list_any (λ e. is_turn p e.1) ys) (sym (list_any-append (λ e. is_turn p e.1) xs ys) ∙ q)).0
+quiet-left p xs ys q = (or_parts (list_any (λ e. begins_or_ends p e.1) xs) (list_any (λ e. begins_or_ends p e.1) ys) (sym (list_any-append (λ e. begins_or_ends p e.1) xs ys) ∙ q)).0
 
 quiet-right : (p : ℕ) (xs ys : List (ℕ × Event)) → IsQuiet p (xs ++ ys) → IsQuiet p ys
-quiet-right p xs ys q = (or_parts (list_any (λ e. is_turn p e.1) xs) (list_any (λ e. is_turn p e.1) ys) (sym (list_any-append (λ e. is_turn p e.1) xs ys) ∙ q)).1
+quiet-right p xs ys q = (or_parts (list_any (λ e. begins_or_ends p e.1) xs) (list_any (λ e. begins_or_ends p e.1) ys) (sym (list_any-append (λ e. begins_or_ends p e.1) xs ys) ∙ q)).1
 
 -- a list of one, split
 only_one : (s since : List (ℕ × Event)) (x y : ℕ × Event) → x ∷ [] ≡ s ++ y ∷ since → (s ≡ []) × (x ≡ y)
@@ -70,7 +70,7 @@ Pends p before None = (o : Op) → ¬ InProgress p o before
 Pends p before (Some o) = InProgress p o before
 
 -- an operation in progress after one more event was so before, or is invoked by it
-progress_before : (p : ℕ) (o : Op) (before : List (ℕ × Event)) (i : ℕ) (e : Event) → InProgress p o (with_event before i e) → (e ≡ Invoke p o) ⊎ ((is_turn p e ≡ false) × InProgress p o before)
+progress_before : (p : ℕ) (o : Op) (before : List (ℕ × Event)) (i : ℕ) (e : Event) → InProgress p o (with_event before i e) → (e ≡ Invoke p o) ⊎ ((begins_or_ends p e ≡ false) × InProgress p o before)
 progress_before p o before i e w =
     elim (parted_at before ((i, e) ∷ []) w.earlier w.since (w.step, Invoke p o) w.split) [
       | inl second ↦ inl (ap (λ (x : ℕ × Event). x.1) (only_one second.0 w.since (i, e) (w.step, Invoke p o) second.2).1)
@@ -78,15 +78,15 @@ progress_before p o before i e w =
           let rest : w.since ≡ first.0 ++ (i, e) ∷ [] = goes_on w.earlier w.since first.0 before ((i, e) ∷ []) (w.step, Invoke p o) w.split first.1 in
           let quiet : IsQuiet p (first.0 ++ (i, e) ∷ []) = subst (IsQuiet p) rest w.quiet in
           inr (
-            (or_parts (is_turn p e) false (quiet-right p first.0 ((i, e) ∷ []) quiet)).0,
+            (or_parts (begins_or_ends p e) false (quiet-right p first.0 ((i, e) ∷ []) quiet)).0,
             record { earlier = w.earlier; step = w.step; since = first.0; split = first.1; quiet = quiet-left p first.0 ((i, e) ∷ []) quiet },
           )
     ]
 
 -- an event that is no turn of a process leaves what it has pending
-pends_still : (p : ℕ) (x : Option Op) (before : List (ℕ × Event)) (i : ℕ) (e : Event) → is_turn p e ≡ false → Pends p before x → Pends p (with_event before i e) x
+pends_still : (p : ℕ) (x : Option Op) (before : List (ℕ × Event)) (i : ℕ) (e : Event) → begins_or_ends p e ≡ false → Pends p before x → Pends p (with_event before i e) x
 pends_still p None before i e t h = λ o w. elim (progress_before p o before i e w) [
-  | inl same ↦ true≢false (sym (ap (is_turn p) same ∙ eq-eqb p p refl) ∙ t)
+  | inl same ↦ true≢false (sym (ap (begins_or_ends p) same ∙ eq-eqb p p refl) ∙ t)
   | inr old ↦ h o old.1
 ]
 pends_still p (Some o) before i e t h = progress_still p o before i e t h
@@ -95,7 +95,7 @@ pends_still p (Some o) before i e t h = progress_still p o before i e t h
 pends_invoked : (p : ℕ) (o : Op) (before : List (ℕ × Event)) (i : ℕ) → Pends p (with_event before i (Invoke p o)) (Some o)
 pends_invoked p o before i = record { earlier = before; step = i; since = []; split = refl; quiet = refl }
 
-pends_ended : (p : ℕ) (before : List (ℕ × Event)) (i : ℕ) (e : Event) → is_turn p e ≡ true → ((o : Op) → ¬ (e ≡ Invoke p o)) → Pends p (with_event before i e) None
+pends_ended : (p : ℕ) (before : List (ℕ × Event)) (i : ℕ) (e : Event) → begins_or_ends p e ≡ true → ((o : Op) → ¬ (e ≡ Invoke p o)) → Pends p (with_event before i e) None
 pends_ended p before i e t n = λ o w. elim (progress_before p o before i e w) [
   | inl same ↦ n o same
   | inr old ↦ true≢false (sym t ∙ old.0)
@@ -118,7 +118,7 @@ tells_more p before first after x y a b =
 
 -- one event of a process
 tells_event : (p : ℕ) (before : List (ℕ × Event)) (i : ℕ) (e : Event) (x : Option Op) → IsOneWriterHistory before → Follows before e → has_role e ≡ true
-    → ((q : ℕ) → ¬ (q ≡ p) → is_turn q e ≡ false) → Pends p (with_event before i e) x → Tells p before (with_event before i e) x
+    → ((q : ℕ) → ¬ (q ≡ p) → begins_or_ends q e ≡ false) → Pends p (with_event before i e) x → Tells p before (with_event before i e) x
 tells_event p before i e x h f r alone own =
     record { history = history_with before i e h f r; own = own; others = λ q y other is. pends_still q y before i e (alone q other) is }
 
@@ -151,7 +151,7 @@ module _ {P : Type 0} (b : Behaviour P) (one : HasOneWriter b) where
       (pends_ended p before i (Refused p layer) (eq-eqb p p refl) (λ o same. cc same))
 
   -- an event that is nobody's turn, and nothing else
-  tells_only : (p : ℕ) (before : List (ℕ × Event)) (i : ℕ) (e : Event) (x : Option Op) → IsOneWriterHistory before → Follows before e → has_role e ≡ true → ((q : ℕ) → is_turn q e ≡ false)
+  tells_only : (p : ℕ) (before : List (ℕ × Event)) (i : ℕ) (e : Event) (x : Option Op) → IsOneWriterHistory before → Follows before e → has_role e ≡ true → ((q : ℕ) → begins_or_ends q e ≡ false)
       → Pends p before x → Tells p before (with_events before i (in_order (Some e) None)) x
   tells_only p before i e x h f r nobody own = tells_event p before i e x h f r (λ q other. nobody q) (pends_still p x before i e (nobody p) own)
 

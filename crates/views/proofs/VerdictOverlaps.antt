@@ -11,7 +11,7 @@ use Rattle.frames.specs.declared.types.Layer.{Layer}
 use Rattle.frames.specs.declared.types.Event.{Event}
 use Rattle.frames.specs.declared.types.Event.TheVariants.{Invoke, Got, Wrote, Refused, Void, Stop, Chosen}
 use Rattle.frames.specs.Verdicts.{refused_by, is_refused}
-use Rattle.views.specs.VerdictWords.{is_turn, IsQuiet, InProgress, has_role, Follows, IsOneWriterHistory, EndsBy, IsOverlapping}
+use Rattle.views.specs.VerdictWords.{begins_or_ends, IsQuiet, InProgress, has_role, Follows, IsOneWriterHistory, EndsBy, IsOverlapping}
 use Rattle.views.proofs.VerdictKnown.{HaveRoles, roles-left, roles-right, history-left, quiet_refused}
 
 -- a write of the value v, in progress until then, returns in `during`
@@ -28,10 +28,10 @@ abbrev pub Crosses : ℕ → List (ℕ × Event) → List (ℕ × Event) → Lis
 Crosses v earlier during later = (InProgress 0 (op.Write v) (earlier ++ during) × (is_refused later ≡ false)) ⊎ ReturnsIn v earlier during
 
 -- quiet events have no turn
-quiet_at : (p : ℕ) (before later : List (ℕ × Event)) (i : ℕ) (e : Event) → IsQuiet p (before ++ (i, e) ∷ later) → is_turn p e ≡ false
-quiet_at p [] later i e q = (or_parts (is_turn p e) (list_any (λ x. is_turn p x.1) later) q).0
+quiet_at : (p : ℕ) (before later : List (ℕ × Event)) (i : ℕ) (e : Event) → IsQuiet p (before ++ (i, e) ∷ later) → begins_or_ends p e ≡ false
+quiet_at p [] later i e q = (or_parts (begins_or_ends p e) (list_any (λ x. begins_or_ends p x.1) later) q).0
 quiet_at p (x ∷ before) later i e q =
-    quiet_at p before later i e (or_parts (is_turn p x.1) (list_any (λ y. is_turn p y.1) (before ++ (i, e) ∷ later)) q).1
+    quiet_at p before later i e (or_parts (begins_or_ends p x.1) (list_any (λ y. begins_or_ends p y.1) (before ++ (i, e) ∷ later)) q).1
 
 -- the first turn of a process among events
 record FirstTurn (p : ℕ) (events : List (ℕ × Event)) : Type 0 where
@@ -41,39 +41,39 @@ record FirstTurn (p : ℕ) (events : List (ℕ × Event)) : Type 0 where
   since : List (ℕ × Event)
   split : events ≡ before ++ (step, event) ∷ since
   quiet : IsQuiet p before
-  turn : is_turn p event ≡ true
+  turn : begins_or_ends p event ≡ true
 
 first_turn : (p : ℕ) (events : List (ℕ × Event)) → IsQuiet p events ⊎ FirstTurn p events
 first_turn p [] = inl refl
-first_turn p (e ∷ es) = by (is_turn p e.1) refl (first_turn p es)
+first_turn p (e ∷ es) = by (begins_or_ends p e.1) refl (first_turn p es)
   where
-    by : (b : Bool) → is_turn p e.1 ≡ b → IsQuiet p es ⊎ FirstTurn p es → IsQuiet p (e ∷ es) ⊎ FirstTurn p (e ∷ es)
+    by : (b : Bool) → begins_or_ends p e.1 ≡ b → IsQuiet p es ⊎ FirstTurn p es → IsQuiet p (e ∷ es) ⊎ FirstTurn p (e ∷ es)
     by true t rest = inr (record { before = []; step = e.0; event = e.1; since = es; split = refl; quiet = refl; turn = t })
-    by false t (inl q) = inl (ap (λ b. b || list_any (λ x. is_turn p x.1) es) t ∙ q)
+    by false t (inl q) = inl (ap (λ b. b || list_any (λ x. begins_or_ends p x.1) es) t ∙ q)
     by false t (inr f) = inr (record {
       before = e ∷ f.before;
       step = f.step;
       event = f.event;
       since = f.since;
       split = ap (λ xs. e ∷ xs) f.split;
-      quiet = ap (λ b. b || list_any (λ x. is_turn p x.1) f.before) t ∙ f.quiet;
+      quiet = ap (λ b. b || list_any (λ x. begins_or_ends p x.1) f.before) t ∙ f.quiet;
       turn = f.turn;
     })
 
 -- events have one first turn
-same_turn : (p : ℕ) (xs ys later rest : List (ℕ × Event)) (x y : ℕ × Event) → xs ++ x ∷ later ≡ ys ++ y ∷ rest → IsQuiet p xs → IsQuiet p ys → is_turn p x.1 ≡ true → is_turn p y.1 ≡ true → x ≡ y
+same_turn : (p : ℕ) (xs ys later rest : List (ℕ × Event)) (x y : ℕ × Event) → xs ++ x ∷ later ≡ ys ++ y ∷ rest → IsQuiet p xs → IsQuiet p ys → begins_or_ends p x.1 ≡ true → begins_or_ends p y.1 ≡ true → x ≡ y
 same_turn p [] [] later rest x y h a b s t = cc
 same_turn p [] (z ∷ ys) later rest x y h a b s t =
     let same : x ≡ z = cc h in
-    absurd (true≢false (sym s ∙ ap (λ (e : ℕ × Event). is_turn p e.1) same ∙ (or_parts (is_turn p z.1) (list_any (λ e. is_turn p e.1) ys) b).0))
+    absurd (true≢false (sym s ∙ ap (λ (e : ℕ × Event). begins_or_ends p e.1) same ∙ (or_parts (begins_or_ends p z.1) (list_any (λ e. begins_or_ends p e.1) ys) b).0))
 same_turn p (z ∷ xs) [] later rest x y h a b s t =
     let same : z ≡ y = cc h in
-    absurd (true≢false (sym t ∙ ap (λ (e : ℕ × Event). is_turn p e.1) (sym same) ∙ (or_parts (is_turn p z.1) (list_any (λ e. is_turn p e.1) xs) a).0))
+    absurd (true≢false (sym t ∙ ap (λ (e : ℕ × Event). begins_or_ends p e.1) (sym same) ∙ (or_parts (begins_or_ends p z.1) (list_any (λ e. begins_or_ends p e.1) xs) a).0))
 same_turn p (z ∷ xs) (w ∷ ys) later rest x y h a b s t =
     let tails : xs ++ x ∷ later ≡ ys ++ y ∷ rest = cc h in
     same_turn p xs ys later rest x y tails
-    (or_parts (is_turn p z.1) (list_any (λ e. is_turn p e.1) xs) a).1
-    (or_parts (is_turn p w.1) (list_any (λ e. is_turn p e.1) ys) b).1
+    (or_parts (begins_or_ends p z.1) (list_any (λ e. begins_or_ends p e.1) xs) a).1
+    (or_parts (begins_or_ends p w.1) (list_any (λ e. begins_or_ends p e.1) ys) b).1
     s
     t
 
@@ -96,7 +96,7 @@ parted_at (z ∷ xs) ys (w ∷ before) since x h =
     ]
 
 -- the turn that follows a write in progress, and isn't its refusal, is its return
-return_of_turn : (v : ℕ) (before : List (ℕ × Event)) (e : Event) → InProgress 0 (op.Write v) before → Follows before e → is_turn 0 e ≡ true → has_role e ≡ true → ((layer : Layer) → ¬ (e ≡ Refused 0 layer)) → e ≡ Wrote 0
+return_of_turn : (v : ℕ) (before : List (ℕ × Event)) (e : Event) → InProgress 0 (op.Write v) before → Follows before e → begins_or_ends 0 e ≡ true → has_role e ≡ true → ((layer : Layer) → ¬ (e ≡ Refused 0 layer)) → e ≡ Wrote 0
 return_of_turn v before (Invoke p o) w f t r n = absurd (f (op.Write v) (subst (λ q. InProgress q (op.Write v) before) (sym (eqb-true p 0 t)) w))
 return_of_turn v before (Got p u) w f t r n = absurd (true≢false (sym t ∙ not-true (p == 0) r))
 return_of_turn v before (Wrote p) w f t r n = ap Wrote (eqb-true p 0 t)
@@ -109,7 +109,7 @@ return_of_turn v before (Chosen p bit u) w f t r n = absurd (true≢false (sym t
 RefusedIn : List (ℕ × Event) → Type 0
 RefusedIn events = (layer : Layer) × EndsBy 0 (Refused 0 layer) events
 
-refusal_behind : (e : ℕ × Event) (es : List (ℕ × Event)) → is_turn 0 e.1 ≡ false → RefusedIn es → RefusedIn (e ∷ es)
+refusal_behind : (e : ℕ × Event) (es : List (ℕ × Event)) → begins_or_ends 0 e.1 ≡ false → RefusedIn es → RefusedIn (e ∷ es)
 unfolding RefusedIn
 refusal_behind e es t x = (
   x.0,
@@ -118,7 +118,7 @@ refusal_behind e es t x = (
     step = x.1.step;
     later = x.1.later;
     split = ap (λ l. e ∷ l) x.1.split;
-    quiet = ap (λ b. b || list_any (λ y. is_turn 0 y.1) x.1.before) t ∙ x.1.quiet;
+    quiet = ap (λ b. b || list_any (λ y. begins_or_ends 0 y.1) x.1.before) t ∙ x.1.quiet;
   },
 )
 
@@ -164,7 +164,7 @@ not_refused since later quiet roles none = by (is_refused later) refl
           step = end.1.step;
           later = end.1.later;
           split = ap (λ es. since ++ es) end.1.split ∙ sym (append_assoc since end.1.before (x ∷ end.1.later));
-          quiet = list_any-append (λ y. is_turn 0 y.1) since end.1.before ∙ ap (λ b. b || list_any (λ y. is_turn 0 y.1) end.1.before) quiet ∙ end.1.quiet;
+          quiet = list_any-append (λ y. begins_or_ends 0 y.1) since end.1.before ∙ ap (λ b. b || list_any (λ y. begins_or_ends 0 y.1) end.1.before) quiet ∙ end.1.quiet;
         }))
 
 -- a write that isn't refused is in progress after these events, or returns in them

@@ -1,4 +1,4 @@
--- What looks at the branches of a chart show. `is` gives the behaviour of a register.
+-- What is shown by looks at the branches of a chart. `is` gives the behaviour of a register.
 use Rattle.std.specs.Prelude.{ℕ, List, Option}
 use Rattle.frames.specs.Behaviour.{Behaviour}
 use Rattle.schedule_trie.specs.Forest.{Forest}
@@ -26,9 +26,10 @@ page_in is chart what branch place = place_page (is chart.start.register) chart.
 abbrev pub steps_page : Forest → List ℕ → Page
 steps_page f branch = Steps (record { branch = branch; steps = steps_in f branch })
 
--- These parts of runs are the result of a settle of the first `place` steps of a chart's branch,
--- which has `len` steps. The configuration that the parts reach equals the one after these first
--- steps in everything except its register, and the two registers behave alike. The parts record the
--- events of these steps.
+-- These parts of runs are the result of settling the first `place` steps of a chart's branch, and
+-- `len` is the number of all the branch's steps. Take the configuration that the last part reaches,
+-- or the chart's initial configuration if there are no parts. Its register behaves like that of the
+-- chart's initial configuration. In all else it equals the configuration that the first `place`
+-- steps reach from the chart's initial value. The parts record the events of these first steps.
 abbrev pub IsSpotIn : {R P : Type 0} → (R → Behaviour P) → Charted R P → List ℕ → ℕ → ℕ → List (RunPart R P) → Type 0
 IsSpotIn is chart branch place len parts = IsSpotOf is chart.start chart.value (steps_in (forest chart.cut) branch) place len parts

@@ -16,13 +16,13 @@ use Rattle.views.specs.VerdictWords.{ReturnedRead, during, afterwards, is_writte
 abbrev pub Overlaps : {history : List (ℕ × Event)} → ℕ → ReturnedRead history → Type 0
 Overlaps v r = IsOverlapping v r.earlier (during r) (afterwards r)
 
--- what safe says of a read: if no write overlaps it, it gives the value written last before it (the
--- initial value if none was)
+-- what safe says of a read: if no write overlaps the read, the read gives the value written last
+-- before it (the initial value if no value was written before)
 abbrev pub FreshIfAlone : {history : List (ℕ × Event)} → ℕ → ReturnedRead history → Type 0
 FreshIfAlone initial r = ((v : ℕ) → ¬ Overlaps v r) → IsFresh initial r.value r.earlier
 
--- what regular says of a read: it gives the value written last before it (the initial value if none
--- was), or that of a write that overlaps it
+-- what regular says of a read: the read gives the value written last before it (the initial value
+-- if no value was written before), or that of a write that overlaps the read
 abbrev pub FreshOrOverlapping : {history : List (ℕ × Event)} → ℕ → ReturnedRead history → Type 0
 FreshOrOverlapping initial r = IsFresh initial r.value r.earlier ⊎ Overlaps r.value r
 
@@ -64,8 +64,8 @@ pub record NumbersRead {history : List (ℕ × Event)} (initial n : ℕ) (r : Re
   pub low : returned_writes r.earlier ≤ n
   pub write : ((n ≡ 0) × (r.value ≡ initial)) ⊎ IsWrite n r.value (r.earlier ++ during r) (afterwards r)
 
--- each returned read can be assigned a write whose value it gives, as `NumbersRead` states, so that
--- in the order in which the reads return, the writes assigned never go back
+-- each returned read can be assigned a write whose value it gives, as `NumbersRead` states, so
+-- that, of two reads, the first to return is never assigned the later write
 pub record AreNumbered (initial : ℕ) (history : List (ℕ × Event)) : Type 0 where
   pub number : ℕ → ℕ
   pub rises : (i j : ℕ) → i ≤ j → number i ≤ number j
@@ -73,7 +73,8 @@ pub record AreNumbered (initial : ℕ) (history : List (ℕ × Event)) : Type 0 
 
 -- Lamport's atomic register with one writer and one reader: on every list of fitting steps, from
 -- every initial value, each returned read can be assigned a write whose value it gives, as
--- `NumbersRead` states, so that the writes assigned never go back
+-- `NumbersRead` states, so that, of two reads, the first to return is never assigned the later
+-- write
 pub record IsAtomicInWords {P : Type 0} (b : Behaviour P) : Type 0 where
   pub one_writer : HasOneWriter b
   pub one_reader : b.processes ≡ 2

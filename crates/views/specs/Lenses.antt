@@ -12,7 +12,7 @@ use Rattle.views.specs.Spots.{IsAlike, part_end}
 abbrev pub IsAt : {R P : Type 0} → (R → Behaviour P) → SegmentRun R P → ℕ → Configuration R P → Type 0
 IsAt is run count c = IsAlike is c (part_end is (record { run = run; count = count }))
 
--- Each configuration in a lens's cache is like the one at its key: the one that a run reaches in
--- its first `count` steps, if the key is that run and `count`.
-abbrev pub AreTrue : {R P : Type 0} → (R → Behaviour P) → LruCache (RunPart R P) (Configuration R P) → Type 0
-AreTrue {R} {P} is places = (e : RunPart R P × Configuration R P) → Contains places.entries e → IsAlike is e.1 (part_end is e.0)
+-- A key of a lens's cache is a run and a number `count`. The configuration that the cache has for a
+-- key is like the one that the first `count` steps of the key's run reach.
+abbrev pub MatchTheirKeys : {R P : Type 0} → (R → Behaviour P) → LruCache (RunPart R P) (Configuration R P) → Type 0
+MatchTheirKeys {R} {P} is places = (e : RunPart R P × Configuration R P) → Contains places.entries e → IsAlike is e.1 (part_end is e.0)

@@ -19,7 +19,7 @@ use Rattle.views.specs.Pages.{page_at}
 
 -- The result of a look is the forest, which it leaves unchanged, or an error: NoBranch if there is
 -- no such branch, NoPlace if the branch has fewer than `place` steps. A look at a branch's steps is
--- refused only if there is no such branch; one at all branches or at a cursor, never.
+-- refused only if there is no such branch. A look at all branches or at a cursor is never refused.
 abbrev pub looked : Query → Forest → Result Forest Refusal
 looked (State branch place) f = look f branch place
 looked (Process branch place process) f = look f branch place
@@ -35,8 +35,8 @@ looked (Cursor who) f = Ok f
 abbrev pub steps_in : Forest → List ℕ → List Step
 steps_in f branch = unwrap_or (path_of f branch) []
 
--- the page of the kind `what` for the branch named `branch`, which has the steps `steps`, after the
--- first `place` of them; `value` is the register's initial value
+-- the page of the kind `what` that shows a branch after the branch's first `place` steps; `branch`
+-- is the branch's name, `steps` are all its steps, and `value` is the register's initial value
 abbrev pub place_page : {P : Type 0} → Behaviour P → ℕ → PlaceKind → List ℕ → ℕ → List Step → Page
 place_page b value what branch place steps =
     page_at b what (record { branch = branch; place = place; len = length steps }) (shown b value (take place steps)) (recorded b value (take place steps))

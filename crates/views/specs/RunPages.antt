@@ -67,8 +67,9 @@ abbrev pub found_last : {R P : Type 0} → Configuration R P → Option (Arc (Se
 found_last first None = Initial first
 found_last first (Some part) = Last part.0 part.1
 
--- what a look found at a place is enough for a page of this kind, and gives the same page as
--- `parts`, the parts of all runs up to the place, after `first`, the configuration before them
+-- What a look found at a place is enough for a page of this kind, and gives the same page as
+-- `parts` do. `parts` are the parts of all runs up to the place, and `first` is the configuration
+-- before these parts.
 pub record Shows {R P : Type 0} (is : R → Behaviour P) (kind : PlaceKind) (first : Configuration R P) (parts : List (RunPart R P)) (found : Found R P) : Type 0 where
   pub page : (head : Head) → found_page is kind head found ≡ run_page is kind head first parts
   pub enough : IsFor kind found

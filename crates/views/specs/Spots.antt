@@ -34,10 +34,11 @@ pub record IsAlike {R P : Type 0} (is : R → Behaviour P) (c d : Configuration 
   pub home : is c.register ≡ is d.register
   pub arrives : without_register c ≡ without_register d
 
--- These parts of runs are the result of a settle of the first `place` of a branch's steps, and
--- `len` is the number of all its steps. The configuration that the last part reaches (if there are
--- no parts, the initial one, `start`) equals the one after these first steps in everything except
--- its register, and the two registers behave alike. The parts record the events of these steps.
+-- These parts of runs are the result of settling the first `place` steps of a branch. The branch
+-- has the steps `steps`, and `len` is the number of all of them. Take the configuration that the
+-- last part reaches, or the initial configuration `start` if there are no parts. Its register
+-- behaves like that of `start`. In all else it equals the configuration that the first `place`
+-- steps reach from the initial value, `value`. The parts record the events of these first steps.
 pub record IsSpotOf {R P : Type 0} (is : R → Behaviour P) (start : Configuration R P) (value : ℕ) (steps : List Step) (place len : ℕ) (parts : List (RunPart R P)) : Type 0 where
   pub counted : len ≡ length steps
   pub home : is (parts_end is start parts).register ≡ is start.register

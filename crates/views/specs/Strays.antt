@@ -31,7 +31,7 @@ OnVerdicts Says (Steps page) = ⊤
 
 -- `reads` are the verdicts on a history of a register: on what it records for some fitting steps,
 -- from some initial value
-pub record AreOf {P : Type 0} (b : Behaviour P) (reads : List ReadVerdict) : Type 0 where
+pub record AreVerdictsOn {P : Type 0} (b : Behaviour P) (reads : List ReadVerdict) : Type 0 where
   pub value : ℕ
   pub steps : List Step
   pub within : value < b.values
@@ -40,7 +40,7 @@ pub record AreOf {P : Type 0} (b : Behaviour P) (reads : List ReadVerdict) : Typ
 
 -- if a page shows verdicts, they are on a history that this register records
 abbrev pub Judges : {P : Type 0} → Behaviour P → Page → Type 0
-Judges b page = OnVerdicts (AreOf b) page
+Judges b page = OnVerdicts (AreVerdictsOn b) page
 
 -- if `judged` is a register, not `None`, and a page shows verdicts, they are on a history that this
 -- register records

@@ -6,10 +6,12 @@ ghost use Rattle.views.specs.Breaks as spec;
 use frames::types::{Event, StepEvents};
 use safe_bit::Store;
 
-/// A condition on a step's events, or on the memory after the step. A seek moves a session's cursor
-/// along its branch, forwards or backwards, to the nearest other place at which one of the
-/// session's breaks is met; the cursor stays if there is none. A break on a process or a bit that
-/// the tower doesn't have is never met.
+/// A condition on a step's events, or on the memory after the step. A break is met at a place if
+/// the events of the step just before the place meet it, or the memory at the place does; no step
+/// precedes place 0, so only the memory can meet a break there. A seek moves a session's cursor
+/// along the cursor's branch, forwards or backwards, to the nearest place, other than the cursor's
+/// own, at which one of the session's breaks is met. If there is no such place in that direction,
+/// the cursor stays. A break on a process or a bit that the tower doesn't have is never met.
 #[derive(Clone, Copy, Debug, PartialEq, Eq)]
 pub enum Break {
     /// An operation of this process returned.

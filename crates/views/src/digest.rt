@@ -5,7 +5,9 @@ ghost use Rattle.views.specs.Digests as spec;
 
 use frames::types::Step;
 
-/// The multiplier: 2^64 over the golden ratio, so that the bits of each step reach higher ones too.
+/// The number by which a digest is multiplied before the number of the next step is added: 2^64
+/// over the golden ratio, rounded down. The multiplication spreads the bits of earlier steps to
+/// higher bits.
 const FACTOR: u64 = 0x9E37_79B9_7F4A_7C15;
 
 /// The digest of a list of steps: the number that is hashed in place of the list. Equal lists have

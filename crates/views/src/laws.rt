@@ -5,7 +5,7 @@ ghost use Rattle.views.specs.Strays.{IsRegularOrAtomic, NeverShowsStray};
 use frames::register::Register;
 
 /// If a register is regular or atomic, and each step of each branch fits it, no look at a branch
-/// shows a stray read: one whose value is neither the fresh one nor that of an overlapping write.
+/// shows a stray read: a read that gives neither the fresh value nor that of an overlapping write.
 pub fn never_shows_stray<R: Register>(register: &R)
     ensures { IsRegularOrAtomic (R.behaviour register.now)
         → NeverShowsStray (R.behaviour register.now) }

@@ -21,13 +21,14 @@ use std::sync::Arc;
 /// The most places that a lens keeps.
 const PLACES: usize = 32;
 
-/// The most places that one look keeps when looks go backwards, so that most of the looks that
-/// follow replay no steps.
+/// The most places that one look keeps when looks go backwards. Then most of the next looks replay
+/// no steps.
 const STRETCH: u32 = 16;
 
-/// A cache of the configurations at the places looked at most recently. Two places are the same if
-/// they lie after equally many steps of runs that have the same steps and begin from equal
-/// configurations, whatever the branches; so one lens serves all branches.
+/// A cache of the configurations at the places used most recently. A place is a run and a number:
+/// how many of the run's steps precede the place. Two places are the same if equally many steps
+/// precede them, and their runs have the same steps and begin from equal configurations. Branches
+/// make no difference, so one lens serves all branches.
 #[derive(Drop)]
 pub struct Lens<R: Register> {
     places: LruCache<RunPlace<R>, Config<R>>,
@@ -37,13 +38,13 @@ impl<R: Register> Model for Lens<R> {
     ghost use Rattle.lru.specs.LruCache.{LruCache};
     ghost use Rattle.frames.specs.Configuration.{Configuration};
     ghost use Rattle.cutoff.specs.Fitting.{RunPart};
-    ghost use Rattle.views.specs.Lenses.{AreTrue};
+    ghost use Rattle.views.specs.Lenses.{MatchTheirKeys};
 
     ghost Value = { LruCache (RunPart R R.Pending) (Configuration R R.Pending) };
 
     ghost view = { λ l. l.places };
 
-    ghost invariant = { λ l. AreTrue R.behaviour l.places };
+    ghost invariant = { λ l. MatchTheirKeys R.behaviour l.places };
 }
 
 impl<R: Register> Lens<R> {
@@ -60,9 +61,9 @@ impl<R: Register> Lens<R> {
     }
 
     /// The configuration after the first `count` steps of `run`, which must have more than `count`
-    /// steps. It equals the one that replay from the run's entry reaches, but for its register,
-    /// which need only behave alike (`IsAlike`). Replay begins from a configuration that the lens
-    /// has, at that place or one step before it, else from the run's entry.
+    /// steps. The result is like the configuration that these steps reach from the run's entry
+    /// (`IsAlike`): the two registers behave alike, and all else is equal. Replay begins at the
+    /// place that `nearest` gives: `count`, `count` - 1, or 0 (the run's entry).
     pub(crate) fn config_in(
         &mut self,
         alloc: Global,
@@ -78,8 +79,8 @@ impl<R: Register> Lens<R> {
         Ok(self.walk(alloc, run, first, count, config))
     }
 
-    /// The place from which to replay to place `count`, and the configuration there. The place is
-    /// `count` if the lens keeps it, else `count` - 1 if the lens keeps that, else 0.
+    /// The place from which to replay to place `count`, and a copy of the configuration there. The
+    /// place is `count` if `find` finds it, else `count` - 1 if `find` finds that, else 0.
     fn nearest(
         &mut self,
         alloc: Global,
@@ -100,9 +101,11 @@ impl<R: Register> Lens<R> {
         Ok((0, entry))
     }
 
-    /// The place after which `walk` keeps each place up to `count`: usually `count` - 1, so that
-    /// `walk` keeps one place. If the lens already keeps the place after `count`, looks are going
-    /// backwards, and `walk` keeps up to 16 places. The result is never before `made`.
+    /// The place from which `walk` is to replay to place `count`. `walk` keeps each place after the
+    /// result, up to `count`. Usually the result is `count` - 1, so that `walk` keeps one place. If
+    /// `has` is true of place `count` + 1, looks are going backwards: the result is `count` - 16,
+    /// so that `walk` keeps 16 places. In either case, a result that would be before `made` is
+    /// `made` instead, and `walk` keeps fewer places.
     fn kept_from(&self, run: &Arc<Run<R>>, made: u32, count: u32) -> u32
         requires { made ≤ count }
         ensures { (made ≤ result) × (result ≤ count) }
@@ -112,7 +115,8 @@ impl<R: Register> Lens<R> {
         made.max(count.saturating_sub(passed))
     }
 
-    /// Replays from place `made` of a run to place `count`, and keeps each place after `made`.
+    /// Replays a run from place `made`, at which the configuration is `config`, to place `count`.
+    /// Keeps each place after `made`, up to `count`, except those for which memory runs out.
     fn walk(
         &mut self,
         alloc: Global,

@@ -20,7 +20,7 @@ impl<T> Model for Listed<T> {
 }
 
 impl<T> Listed<T> {
-    /// Returns the list of the values in `items`, whose memory it takes. Allocates nothing.
+    /// Returns the list of the values in `items`, in the memory of `items`. Allocates nothing.
     pub fn new(items: Vec<T>) -> Listed<T>
         ensures { result ≡ items.items }
     {

@@ -2,8 +2,8 @@
 
 use schedule_trie::name::Name;
 
-/// What a look is to show. It shows a place if it has a `k`: the place after the first `k` steps of
-/// branch `b`. `p` is the number of a process, and `who` that of a session.
+/// What a look is to show. If the query has a `k`, the look shows the place after the first `k`
+/// steps of branch `b`. `p` is the number of a process, and `who` that of a session.
 #[derive(Clone, Copy, Debug, PartialEq, Eq)]
 pub enum Query {
     /// The processes, and the values of all bit cells and words.

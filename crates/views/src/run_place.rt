@@ -1,4 +1,4 @@
-//! Places in runs, which are the keys of a lens, a cache of configurations.
+//! Places in runs. These places are the keys of a lens, which is a cache of configurations.
 
 ghost use Rattle.std.specs.Prelude.{◌≡◌, ◌++◌, IfOk};
 ghost use Rattle.std.specs.Arc.{arc_value};
@@ -16,8 +16,8 @@ use std::hash::{Hash, Hasher};
 use std::marker::Model;
 use std::sync::Arc;
 
-/// How many steps before a place are hashed. To hash more would slow each look down. Places with
-/// equal hashes may differ: equality decides.
+/// The most steps that are hashed for a place: the last steps before it. To hash more would slow
+/// each look down. Different places may have equal hashes; `eq` tells such places apart.
 const HASHED_STEPS: usize = 4;
 
 /// The place after the first `count` steps of a run. Two places are equal if their counts are

@@ -57,11 +57,14 @@ impl<R: Register> Model for Slip<R> {
 }
 
 impl<R: Register> Slip<R> {
-    /// Looks at one branch; `query` must not be `Branches` or `Cursor`. The returned slip's page
-    /// shows the branch's steps, or what the replay of its first `k` steps (`k` is the query's)
-    /// reaches and records from the initial value. The slip remembers the chart's register, and any
-    /// verdicts on the page are on a history of that register. If it is regular or atomic, none of
-    /// them is stray. Of the chart, only stored runs may change, even if there is an error.
+    /// Looks at one branch; `query` must not be `Branches` or `Cursor`. If the query is `Steps`,
+    /// the returned slip's page shows the branch's steps. Every other query has a `k`. The
+    /// page then shows what a replay of the branch's first `k` steps from the initial value gives:
+    /// the configuration that the replay reaches, or a part of that configuration; or the events
+    /// that the replay records; or the verdicts (if they are defined) on the reads that return in
+    /// these events. The slip remembers the chart's register, and any verdicts on the page are on a
+    /// history of that register. If that register is regular or atomic, no verdict is stray. Of the
+    /// chart, only stored runs may change, even if there is an error.
     ///
     /// # Errors
     ///
@@ -122,10 +125,11 @@ impl<R: Register> Slip<R> {
         }
     }
 
-    /// Consumes the slip and returns its page; a page that the slip was made from isn't copied. The
-    /// page doesn't depend on `lens`, which only saves replaying steps. If the slip remembers the
-    /// register that was looked at, any verdicts on the page are on a history of that register; and
-    /// if that register is regular or atomic, none of them is stray. Fails only if memory runs out.
+    /// Consumes the slip and returns its page. If the slip already holds the page, the page isn't
+    /// copied. The page doesn't depend on `lens`, which only saves replaying steps. If the slip
+    /// remembers the register that was looked at, any verdicts on the page are on a history of that
+    /// register; and if that register is regular or atomic, none of them is stray. Fails only if
+    /// memory runs out.
     pub fn into_page(self, alloc: Global, lens: &mut Lens<R>) -> Result<Page, AllocError>
         ensures page { IfOk result (λ page. page ≡ self.page) }
         ensures judges { IfOk result (JudgesIts R.behaviour self.judged) }
@@ -185,7 +189,8 @@ fn place_slip<R: Register>(
     Ok(Slip { content, judged })
 }
 
-/// Settles a branch's first `place` steps. Returns its length, and what a page of this kind needs.
+/// Settles a branch's first `place` steps. Returns the branch's length, and what a page of this
+/// kind is made from.
 fn settled<R: Register>(
     alloc: Global,
     chart: &mut Chart<R>,

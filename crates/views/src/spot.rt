@@ -13,8 +13,8 @@ use frames::types::{Event, Step};
 use std::alloc::{AllocError, Global};
 use std::sync::Arc;
 
-/// The exit of `run`: the configuration after all its steps. It is thus the one after the first
-/// `count` steps, since `count` must be at least the number of all steps.
+/// The exit of `run`: the configuration after all steps of the run. The run must have at most
+/// `count` steps, so the exit is also the configuration after the run's first `count` steps.
 #[tactic(auto, using(std::proofs::lemmas::List::take_all))]
 pub(crate) fn exit_at<R: Register>(run: &Run<R>, count: u32) -> &Config<R>
     requires { length run.now.steps ≤ count }
@@ -23,8 +23,8 @@ pub(crate) fn exit_at<R: Register>(run: &Run<R>, count: u32) -> &Config<R>
     run.exit()
 }
 
-/// Replays `steps`, each of which must fit the register, from `config`, which becomes the
-/// configuration that they reach.
+/// Replays `steps` from `config`, and sets `config` to the configuration after them. Each step must
+/// fit the register.
 pub(crate) fn make<R: Register>(config: &mut Config<R>, steps: &[Step])
     requires { AllFit (R.behaviour config.old.register) steps.now }
     ensures { config.new ≡ replayed (R.behaviour config.old.register) config.old steps.now }
@@ -34,9 +34,9 @@ pub(crate) fn make<R: Register>(config: &mut Config<R>, steps: &[Step])
     }
 }
 
-/// The events that successive runs record. Each run comes with a number, and only the events of
-/// that many of its first steps are listed. Each event has the index of its step, counted from 0
-/// through these first steps of all runs.
+/// The events that the first steps of successive runs record. The number that comes with a run says
+/// how many steps of the run are used, from its first one. Each event has the index of its step;
+/// the steps used are numbered from 0, through all runs.
 pub(crate) fn history_of<R: Register>(
     alloc: Global,
     runs: &[(Arc<Run<R>>, u32)],

@@ -22,12 +22,12 @@ abbrev pub parts_left : ℕ → Option (List ℕ) → List (List ℕ)
 parts_left c None = []
 parts_left c (Some text) = parts c text
 
--- the next part, which is the first of these; an empty one if no part is left
+-- the next part, which is the first of these parts; an empty part if no part is left
 abbrev pub next : List (List ℕ) → List ℕ
 next [] = []
 next (part ∷ others) = part
 
--- the parts that are left when the next one, the first of these, is taken
+-- the parts that are left after the next part (the first of these parts) is taken
 abbrev pub after_next : List (List ℕ) → List (List ℕ)
 after_next [] = []
 after_next (part ∷ others) = others

@@ -9,7 +9,7 @@ use crate::parts::first_part;
 use frames::types::Step;
 use std::marker::Model;
 
-/// The lines of a text that aren't taken yet. Lines are the parts between line ends.
+/// The lines of a text that aren't taken yet. The text is cut into lines at its line ends.
 #[derive(Drop)]
 pub struct Lines<'a> {
     text: Option<&'a [u8]>,

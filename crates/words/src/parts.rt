@@ -7,8 +7,7 @@ ghost use Rattle.words.specs.Words.{parts, parts_left, next, after_next, is_end}
 use bstr::ByteSlice;
 use std::marker::Model;
 
-/// The parts of a text that aren't taken yet. A part is the text between one separator and the
-/// next.
+/// The parts of a text that aren't taken yet. The text is cut into parts at its separators.
 #[derive(Drop)]
 pub struct Parts<'a> {
     text: Option<&'a [u8]>,
@@ -57,8 +56,8 @@ impl<'a> Parts<'a> {
     }
 }
 
-/// The part of a text before the first separator, and the text after it. If there is no separator,
-/// they are the whole text, and `None`.
+/// The text before the first separator, and the text after this separator; if there is no
+/// separator, the whole text, and `None`.
 pub(crate) fn first_part(text: &[u8], separator: u8) -> (&[u8], Option<&[u8]>)
     ensures { parts separator text.now ≡ result.0.now ∷ parts_left separator
         (option_map (λ t. t.now) result.1) }

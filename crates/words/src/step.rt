@@ -36,7 +36,7 @@ pub fn step_of(words: &mut Parts<'_>) -> Option<Step>
     None
 }
 
-/// Adds the text that spells a step at the end of `out`.
+/// Adds to the end of `out` the text that spells a step.
 ///
 /// # Errors
 ///
@@ -52,7 +52,8 @@ pub fn append_step(out: &mut Vec<u8>, step: Step) -> Result<(), AllocError>
     }
 }
 
-/// Adds a word of one letter, and then each number after a space.
+/// Adds a word of one letter at the end of `out` and then, for each number, a space and the number.
+/// Fails only if memory runs out.
 fn append_letter(out: &mut Vec<u8>, letter: u8, numbers: &[u32]) -> Result<(), AllocError>
     ensures { OnOk result
         (out.new.items ≡ out.old.items ++ spec.text (letter ∷ []) numbers.now) }
@@ -71,7 +72,8 @@ pub fn push_words(out: &mut Vec<u8>, word: &str, numbers: &[u32]) -> io::Result<
     Ok(())
 }
 
-/// Adds each number after a space.
+/// Adds at the end of `out`, for each number, a space and the number. Fails only if memory runs
+/// out.
 fn append_numbers(out: &mut Vec<u8>, numbers: &[u32]) -> Result<(), AllocError>
     ensures { OnOk result (out.new.items ≡ out.old.items ++ spec.text [] numbers.now) }
 {

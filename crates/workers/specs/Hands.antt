@@ -1,6 +1,6 @@
 -- The invariant of a crew's deque: the number of each job that was dealt is in the deque, or was
 -- taken once. A hand is what the caller's end of the deque, or a thief's pass (its right to steal),
--- knows of the deque. The 8 parts are divided among the hands.
+-- knows of the deque. Ownership of the deque has 8 parts, which are divided among the hands.
 use Rattle.std.specs.Prelude.{◌≡◌, ℕ, zero, suc, ◌+◌, ◌<◌, ◌==◌, if◌then◌else◌, ◌≤◌, List, [], ◌∷◌, ◌++◌, length, All}
 use mathlib.Core.Option.{some}
 use lib.ListN.{get_elem?}
@@ -37,10 +37,12 @@ pub record KnowsCount (count : ℕ) (v : Hand) : Type 0 where
   pub dealt : 0 < v.parts → v.count ≡ count
   pub idle : v.parts ≡ 0 → v.taken ≡ []
 
--- The numbers 0 to count - 1 of the jobs that were dealt are each in the deque (its numbers are
--- `items`) or were taken by one hand, once. That is, for any weights, the sum over the numbers
--- taken and those in the deque is the sum over all numbers below `count`. The hands have 8 parts in
--- all, more than the caller and its 4 thieves need.
+-- The jobs that were dealt have the numbers 0 to count - 1. Each of these numbers either is in the
+-- deque, once, or was taken by one hand, once; no other number is in the deque or was taken. That
+-- is: for any weights, the weights of the numbers taken by the hands, plus the weights of `items`,
+-- which are the numbers in the deque, have the same sum as the weights of all numbers below
+-- `count`. The hands have 8 parts in all, which is more than the caller and its 4 thieves need.
+-- `KnowsCount` holds of `count` and each hand.
 pub record IsDealt (items : List ℕ) (hands : List Hand) : Type 0 where
   pub count : ℕ
   pub whole : total (λ v. v.parts) hands ≡ 8
@@ -54,6 +56,6 @@ pub record HasTaken (v : Hand) (xs : List ℕ) (w : Hand) : Type 0 where
   pub jobs : All (λ x. x < v.count) xs
   pub within : length w.taken ≤ v.count
 
--- if a hand has all 8 parts, it has taken the number of each job that was dealt exactly once
+-- if a hand has all 8 parts, it has taken, exactly once, the number of each job that was dealt
 abbrev pub HasAllJobs : Hand → Type 0
 HasAllJobs v = v.parts ≡ 8 → (h : ℕ → ℕ) → weigh h v.taken ≡ weigh_below h v.count

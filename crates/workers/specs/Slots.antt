@@ -25,8 +25,8 @@ module _ {J R : Type 0} (gives : J → R → Type 0) where
   IsSlot number taken job None = weigh (one_at number) taken ≡ 0
   IsSlot number taken job (Some outcome) = IsOutcomeOf gives job outcome
 
-  -- there is one slot for each of these jobs, as `IsSlot` says; the first job has the number
-  -- `number`, and the others have the numbers after it
+  -- there is one slot for each of these jobs, in the order of the jobs, and `IsSlot` holds of each
+  -- slot; the first job has the number `number`, and the others have the numbers after it, in order
   abbrev pub AreSlots : ℕ → List ℕ → List J → List (Option (JobOutcome R)) → Type 0
   AreSlots number taken [] [] = Unit {0}
   AreSlots number taken (job ∷ jobs) (slot ∷ slots) = IsSlot number taken job slot × AreSlots (suc number) taken jobs slots

@@ -1,5 +1,6 @@
-//! The crew: the caller puts the jobs' numbers into a deque (a queue that other threads can take
-//! from), and works on the jobs together with its thieves, which are those threads.
+//! The crew: the caller and its thieves, which are other threads. The caller puts the jobs' numbers
+//! into a deque, which is a queue that the thieves can also take from. The caller and its thieves
+//! take the numbers from the deque, and run the jobs.
 
 ghost use Rattle.std.specs.Prelude.{◌≡◌, ◌<◌, ◌≤◌, ◌-◌, [], length, vec_capacity, IfOk};
 ghost use denote.Param.Send.{IsSend, IsSync};
@@ -65,9 +66,10 @@ where
 type Bench<R> = (Owner, Slots<R>);
 
 /// Runs the jobs in the deque, with at most `thieves` thieves, each in a thread of its own. At the
-/// end the jobs that the thieves have taken count as the caller's, and their outcomes are in the
+/// end, the jobs that the thieves have taken count as the caller's, and their outcomes are in the
 /// caller's slots. If there is no memory for a thief, no more thieves are used. If no thread can be
-/// made for a thief, the caller works first, and that thief then finds the deque empty.
+/// made for a thief, the caller does that thief's work itself, after its own; by then the deque is
+/// empty.
 fn share<R: Threads + Wait + Sync, J: Runnable + Sync, G: Gate<R> + Sync>(
     rt: &R,
     alloc: Global,
@@ -114,7 +116,8 @@ where
     (owner, slots)
 }
 
-/// How many of the thieves can find a job, since the caller takes one itself.
+/// How many thieves to use: `thieves`, or the number of jobs less one if that is less (0 if there
+/// are no jobs). More threads than jobs aren't needed, and the caller is one of the threads.
 fn needed(thieves: u32, jobs: usize) -> u32
     ensures { result ≤ thieves }
 {

@@ -4,7 +4,8 @@ use std::sync::Wait;
 
 /// A gate: each job is offered to it once, by the thread that is about to run the job.
 pub trait Gate<W: Wait> {
-    /// The job with this index is about to be run by this thread. The call may wait.
+    /// Offers the job with this index to the gate. The calling thread is about to run the job. The
+    /// call may wait.
     fn offer(&self, rt: &W, index: usize);
 }
 

@@ -6,10 +6,13 @@ use crossbeam_deque::{Pass, Stealer, Worker};
 use std::alloc::Global;
 use std::collections::LinkedList;
 
-/// What the caller's end of the deque, or a thief's pass, knows of the deque: how many of the 8
-/// parts it has, how many jobs were dealt (put into the deque), and which jobs it has taken. The
-/// caller's end has all parts at first, and gives one to each thief's pass; whoever has all 8 is
-/// the only one that has taken any jobs. For contracts alone: no `Hand` is ever made.
+/// A hand: what the caller's end of the deque, or a thief's pass, knows of the deque. `parts` is
+/// how many of the 8 parts of the deque's ownership the hand has. If the hand has any part, `count`
+/// is how many jobs were dealt (put into the deque). `taken` has the numbers of the jobs that the
+/// hand has taken. The caller's hand has all 8 parts at first, and gives one part to each thief's
+/// pass. When a pass returns, its parts and its taken jobs are added to those of the caller's hand.
+/// If one hand has all 8 parts, the `taken` of each other hand is empty. For contracts alone: no
+/// `Hand` is ever made.
 pub(crate) struct Hand {
     pub parts: u32,
     pub count: usize,
@@ -41,9 +44,10 @@ impl Outcome<usize, Hand> for Deals {
     ghost then = { λ v xs w. w ≡ hand v.parts (v.count + 1) v.taken };
 }
 
-/// A pop: the owner (the caller's end) takes a job's number, or finds the deque empty. If it finds
-/// the deque empty and has all 8 parts of the deque's ownership, it has taken all jobs; those count
-/// that were taken with a pass which has returned to it.
+/// A pop: the owner (the caller's end) takes a job's number, or finds the deque empty. If the owner
+/// finds the deque empty and has all 8 parts of the deque's ownership, it has taken each job that
+/// was dealt, exactly once. After a thief's pass has returned, the jobs that it has taken count as
+/// the owner's.
 pub(crate) struct Pops;
 
 impl Outcome<usize, Hand> for Pops {
@@ -63,7 +67,7 @@ impl Outcome<usize, Hand> for Steals {
     ghost then = { HasTaken };
 }
 
-/// The owner (the caller's end) makes a thief's pass with one of its parts. The pass has taken no
+/// The owner (the caller's end) gives one of its parts to a new thief's pass, which has taken no
 /// job.
 pub(crate) struct Hires;
 
@@ -76,8 +80,8 @@ impl Split<Hand> for Hires {
     ghost right = { λ v. hand 1 v.count [] };
 }
 
-/// A thief's pass returns to the owner (the caller's end), which then has the pass's parts, and
-/// counts the jobs that the pass has taken as its own.
+/// A thief's pass returns to the owner, which is the end of the deque that the caller holds. The
+/// owner then has the pass's parts too, and the jobs that the pass has taken count as the owner's.
 pub(crate) struct ComesBack;
 
 impl Join<Hand> for ComesBack {
@@ -95,5 +99,5 @@ pub(crate) type Owner = Worker<usize, Global, Hand, Dealt>;
 /// A thief's end of the deque, from which the thief steals jobs' numbers.
 pub(crate) type Other = Stealer<usize, Global, Hand, Dealt>;
 
-/// A thief's pass: its right to steal, and for contracts what it knows of the deque.
+/// A thief's pass: the right to steal, and (in contracts alone) what the pass knows of the deque.
 pub(crate) type Part = Pass<usize, Hand>;

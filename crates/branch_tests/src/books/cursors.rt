@@ -30,7 +30,8 @@ struct Branches<'a> {
 type Places = ([u32; 4], [u32; 4], [u32; 4]);
 
 /// Moves cursors to places 0 to 3 of each branch, makes an edit, and compares the cursors' places
-/// with the given ones. Returns the index of the first row with a wrong result.
+/// with the given ones. Each of these is a row; returns the index of the first row with a wrong
+/// result.
 fn first_wrong_move(
     alloc: Global,
     on: Branches<'_>,

@@ -43,8 +43,8 @@ fn following(branch: &Name, cells: u32, step: Step, name: &Name) -> [Command; 4]
     ]
 }
 
-/// Commands that any session may give. If a command can be refused for a reason that is checked
-/// after its guard, such a reason holds.
+/// Commands that any session may give. For each but `join`, a reason for refusal that is checked
+/// after the guard holds too.
 fn open_commands(main: &Name, zed: &Name) -> [Command; 7] {
     [
         Command::Join,
@@ -57,8 +57,8 @@ fn open_commands(main: &Name, zed: &Name) -> [Command; 7] {
     ]
 }
 
-/// Commands that only a session that has joined may give. If a command can be refused for a reason
-/// that is checked after its guard, such a reason holds.
+/// Commands that only a session that has joined may give. For `go` and `clear`, a reason for
+/// refusal that is checked after the guard holds too; the others have no such reason.
 fn own_commands(zed: &Name) -> [Command; 6] {
     [
         Command::Leave,

@@ -59,7 +59,7 @@ impl Register for Counting<'_> {
     ghost use Rattle.std.specs.Prelude.{refl};
     ghost use Rattle.safe_bit.specs.Parts.{HasSize};
     ghost use Rattle.frames.specs.SafeBit.{safe_behaviour, SafeReaches, safe_point};
-    ghost use Rattle.frames.specs.laws.Safe.{safe_lawful, safe_tells, point_decides};
+    ghost use Rattle.frames.specs.laws.Safe.{safe_lawful, safe_frames_give_point, point_decides};
     ghost use Rattle.frames.specs.declared.safe.SafePoint.TheVariants.{WriteStart, WriteEnd, ReadStart, ReadEnd};
 
     ghost Holds = { λ _. HasSize safe_behaviour.size };
@@ -120,7 +120,7 @@ impl Register for Counting<'_> {
         Safe.pending(stack, first, who)
     }
 
-    ghost reports = { λ _. safe_tells };
+    ghost reports = { λ _. safe_frames_give_point };
 
     ghost lawful = { λ _. safe_lawful };
 

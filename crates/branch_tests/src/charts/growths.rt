@@ -1,5 +1,6 @@
 //! Rows in which memory may run out. A call that ran out of memory is made again, and then has the
-//! result that it would have had before, except that it doesn't replay the runs that it had stored.
+//! result that it would have had with enough memory, except that it doesn't replay runs that were
+//! stored before memory ran out.
 
 ghost use Rattle.frames.specs.SafeBit.{safe_behaviour};
 ghost use Rattle.frames.specs.Recorded.{AllFit};
@@ -12,7 +13,7 @@ use std::alloc::Global;
 use std::process::Abort;
 use std::sync::atomic::AtomicU64;
 
-/// How often a call is made at most. This is more often than the allocator refuses in a row.
+/// The most times that a call is made. The allocator refuses fewer times in a row.
 const TRIES: u32 = 10;
 
 /// The index of the first row that goes wrong in a chart of these steps; `None` if none does, or if
@@ -35,7 +36,7 @@ fn tried(
 }
 
 #[test]
-fn late_run_wanting_memory(rt: HostRuntime) {
+fn late_run_out_of_memory(rt: HostRuntime) {
     let mut rows = LATE;
     // the settle may have stored the run before memory ran out
     rows[2] = (Branch::Main, Ask::Settle(1, 0, 1));
@@ -62,11 +63,11 @@ fn settles_again(rt: &impl Abort, alloc: Global, wanted: Wanted) {
 }
 
 #[test]
-fn thousand_steps_wanting_memory(rt: HostRuntime) {
+fn thousand_steps_out_of_memory(rt: HostRuntime) {
     settles_again(&rt, rt.alloc(), Wanted::All);
 }
 
 #[test]
-fn last_run_of_thousand_steps_wanting_memory(rt: HostRuntime) {
+fn last_run_of_thousand_steps_out_of_memory(rt: HostRuntime) {
     settles_again(&rt, rt.alloc(), Wanted::Last);
 }

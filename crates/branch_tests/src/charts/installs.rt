@@ -5,11 +5,11 @@ ghost use Rattle.frames.specs.Configuration.{fits_step};
 ghost use Rattle.frames.specs.SafeBit.{safe_behaviour};
 
 use super::rows::{Kind, limits, step_of};
+use super::single::{run_of, text_of};
 use crate::given::{Branch, name_of, none_wrong};
-use checkpoints::run::{Run, run_segment};
+use checkpoints::run::Run;
 use cutoff::chart::Chart;
 use cutoff::install::Installation;
-use cutoff::plan::Job;
 use frames::safe::Safe;
 use frames::types::Step;
 use schedule_trie::name::Name;
@@ -18,12 +18,8 @@ use schedule_trie::trie::SegKey;
 use std::alloc::Global;
 use std::process::Abort;
 use std::sync::Arc;
-use views::lens::Lens;
-use views::page::page_text;
-use views::query::Query;
-use views::slip::Slip;
 
-/// Runs are offered at the keys below this number, which are more than there are segments.
+/// Runs are offered at the keys below this number. There are fewer segments than such keys.
 const KEYS: SegKey = 8;
 
 /// The segment of a branch that follows the read that all branches share: one write, of 1 or of 0.
@@ -114,14 +110,6 @@ fn are_reported(shelf: &mut Shelf) -> Result<bool, Refusal> {
     Ok(all)
 }
 
-/// The run of a job.
-fn run_of(alloc: Global, job: &Job<Safe>) -> Result<Arc<Run<Safe>>, Refusal> {
-    let Ok(run) = run_segment(alloc, &job.entry, job.steps.as_slice()) else {
-        return Err(Refusal::Memory);
-    };
-    Arc::new(alloc, run).or(Err(Refusal::Memory))
-}
-
 /// Forks a branch after the read, gives it a write, and keeps a run of the write. Returns the
 /// write's segment; `None` if the branch's job isn't of the write alone.
 fn forked(
@@ -146,30 +134,6 @@ fn forked(
         Ok(()) => Ok(Some(Piece { key, is_one })),
         Err(_) => Err(Refusal::Memory),
     }
-}
-
-/// The text of the page of a branch's state at a place.
-fn text_of(
-    alloc: Global,
-    chart: &mut Chart<Safe>,
-    branch: Name,
-    place: u32,
-) -> Result<Vec<u8>, Refusal> {
-    let slip = Slip::at(
-        alloc,
-        chart,
-        Query::State {
-            b: branch,
-            k: place,
-        },
-    )?;
-    let Ok(mut lens) = Lens::new(alloc) else {
-        return Err(Refusal::Memory);
-    };
-    let Ok(page) = slip.page(alloc, &mut lens) else {
-        return Err(Refusal::Memory);
-    };
-    page_text(alloc, 0, &page).or(Err(Refusal::Memory))
 }
 
 /// The expected text of the page of `a`'s or `b`'s state after the read and its write.

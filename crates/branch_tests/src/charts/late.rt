@@ -2,8 +2,9 @@
 //! too late; then a run that fits is installed.
 
 use super::rows::{Kind, limits, step_of};
+use super::single::{run_of, text_of};
 use crate::given::{name, none_wrong};
-use checkpoints::run::{Run, run_segment};
+use checkpoints::run::Run;
 use cutoff::chart::Chart;
 use cutoff::install::Installation;
 use frames::safe::Safe;
@@ -13,10 +14,6 @@ use schedule_trie::trie::SegKey;
 use std::alloc::Global;
 use std::process::Abort;
 use std::sync::Arc;
-use views::lens::Lens;
-use views::page::page_text;
-use views::query::Query;
-use views::slip::Slip;
 
 /// The text of the page of `b`'s state at place 2.
 const STATE: &[u8] =
@@ -31,22 +28,16 @@ fn made_for(alloc: Global, chart: &Chart<Safe>, branch: &Name) -> Result<Option<
     let [job] = jobs.as_slice() else {
         return Ok(None);
     };
-    let run = run_segment(alloc, &job.entry, job.steps.as_slice())?;
-    let Ok(run) = Arc::new(alloc, run) else {
-        return Err(Refusal::Memory);
-    };
-    Ok(Some((job.key, run)))
+    Ok(Some((job.key, run_of(alloc, job)?)))
 }
 
 /// Whether the page of the branch's state at place 2 has the text `STATE`.
 fn is_shown(alloc: Global, chart: &mut Chart<Safe>, branch: Name) -> Result<bool, Refusal> {
-    let slip = Slip::at(alloc, chart, Query::State { b: branch, k: 2 })?;
-    let mut lens = Lens::new(alloc)?;
-    let page = slip.page(alloc, &mut lens)?;
-    Ok(page_text(alloc, 0, &page)?.as_slice() == STATE)
+    Ok(text_of(alloc, chart, branch, 2)?.as_slice() == STATE)
 }
 
-/// Makes a run of `a`, drops `a`, and forks `b` in its place, with another step. Returns the run.
+/// Makes a run of `a`, drops `a`, forks `b` from the same cell of `main`, and gives `b` another
+/// step. Returns the run.
 fn old_run(
     rt: &impl Abort,
     alloc: Global,

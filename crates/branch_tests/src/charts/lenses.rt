@@ -14,9 +14,18 @@ use std::alloc::{AllocError, Global};
 use std::process::Abort;
 use std::sync::atomic::{AtomicU64, Ordering};
 use views::lens::Lens;
-use views::page::page_text;
+use views::page::{Page, page_text};
 use views::query::Query;
 use views::slip::Slip;
+
+/// A slip's page, through a lens.
+fn page_of<'a>(
+    alloc: Global,
+    slip: &Slip<Counting<'a>>,
+    lens: &mut Lens<Counting<'a>>,
+) -> Result<Page, AllocError> {
+    slip.page(alloc, lens)
+}
 
 /// The text of a slip's page.
 fn text_of<'a>(
@@ -24,8 +33,19 @@ fn text_of<'a>(
     slip: &Slip<Counting<'a>>,
     lens: &mut Lens<Counting<'a>>,
 ) -> Result<Vec<u8>, AllocError> {
-    let page = slip.page(alloc, lens)?;
+    let page = page_of(alloc, slip, lens)?;
     page_text(alloc, 0, &page)
+}
+
+/// The text of a slip's page through a new lens.
+fn new_text_of<'a>(alloc: Global, slip: &Slip<Counting<'a>>) -> Result<Vec<u8>, AllocError> {
+    let mut lens = Lens::new(alloc)?;
+    text_of(alloc, slip, &mut lens)
+}
+
+/// Whether a slip's page through a new lens has this text.
+fn is_own(alloc: Global, slip: &Slip<Counting<'_>>, text: &[u8]) -> Result<bool, AllocError> {
+    Ok(new_text_of(alloc, slip)?.as_slice() == text)
 }
 
 /// How many steps were made for a slip's page through `lens`; `None` if the page differs from the
@@ -39,13 +59,7 @@ fn steps_for<'a>(
     let before = calls.load(Ordering::SeqCst);
     let text = text_of(alloc, slip, lens)?;
     let made = calls.load(Ordering::SeqCst).wrapping_sub(before);
-    let mut new = Lens::new(alloc)?;
-    let wanted = text_of(alloc, slip, &mut new)?;
-    if text == wanted {
-        Ok(Some(made))
-    } else {
-        Ok(None)
-    }
+    Ok(is_own(alloc, slip, &text)?.then_some(made))
 }
 
 /// A chart of the 1,000 steps of `writes` on `main`, on a register that counts its calls.
@@ -78,6 +92,13 @@ impl<'a> Counted<'a> {
         })
     }
 
+    /// The slip of a look.
+    fn slip(&mut self, query: Query) -> Result<Slip<Counting<'a>>, Refusal>
+        requires { is_at_branch query ≡ true }
+    {
+        Slip::at(self.alloc, &mut self.chart, query)
+    }
+
     /// How many steps were made for the page of the state at a place; `None` if the page differs
     /// from the page through a new lens.
     fn steps_at(
@@ -86,14 +107,10 @@ impl<'a> Counted<'a> {
         place: u32,
     ) -> Result<Option<u64>, Refusal> {
         let branch = self.main;
-        let slip = Slip::at(
-            self.alloc,
-            &mut self.chart,
-            Query::State {
-                b: branch,
-                k: place,
-            },
-        )?;
+        let slip = self.slip(Query::State {
+            b: branch,
+            k: place,
+        })?;
         match steps_for(self.alloc, self.calls, &slip, lens) {
             Ok(made) => Ok(made),
             Err(_) => Err(Refusal::Memory),
@@ -138,6 +155,19 @@ impl<'a> Counted<'a> {
             Ok(Some(places as usize))
         }
     }
+
+    /// Goes up through the first `places` places and down again. Returns the first place that goes
+    /// wrong.
+    fn first_wrong_place(
+        &mut self,
+        lens: &mut Lens<Counting<'a>>,
+        places: u32,
+    ) -> Result<Option<usize>, Refusal> {
+        match self.first_wrong_up(lens, places)? {
+            Some(place) => Ok(Some(place)),
+            None => self.first_wrong_down(lens, places),
+        }
+    }
 }
 
 /// Goes up through the first `places` places and down again, with one lens. Returns the first place
@@ -146,10 +176,7 @@ fn first_wrong(rt: &impl Abort, alloc: Global, places: u32) -> Result<Option<usi
     let calls = AtomicU64::new(0);
     let mut chart = Counted::new(rt, alloc, &calls, 0)?;
     let mut lens = Lens::new(alloc).expect(rt, "memory");
-    match chart.first_wrong_up(&mut lens, places)? {
-        Some(place) => Ok(Some(place)),
-        None => chart.first_wrong_down(&mut lens, places),
-    }
+    chart.first_wrong_place(&mut lens, places)
 }
 
 #[test]
@@ -157,15 +184,28 @@ fn forty_places_up_and_down(rt: HostRuntime) {
     none_wrong(&rt, first_wrong(&rt, rt.alloc(), 40));
 }
 
-/// These are more places than a lens keeps, in three segments.
+/// Three hundred places are more than a lens keeps, and lie in three segments.
 #[test]
 fn three_hundred_places_up_and_down(rt: HostRuntime) {
     none_wrong(&rt, first_wrong(&rt, rt.alloc(), 300));
 }
 
-/// Goes upwards through 40 places of two charts: of both by turns through a shared lens, and of the
-/// second also through its own lens. Returns the first place with a page that differs from the page
-/// through a new lens.
+/// Whether the pages of two charts at a place, through a shared lens, are as through a new lens, and
+/// the second chart's page also through a lens of its own.
+fn are_own_at<'a>(
+    zero: &mut Counted<'a>,
+    one: &mut Counted<'a>,
+    shared: &mut Lens<Counting<'a>>,
+    own: &mut Lens<Counting<'a>>,
+    place: u32,
+) -> Result<bool, Refusal> {
+    let of_zero = zero.steps_at(shared, place)?.is_some();
+    let of_one = one.steps_at(shared, place)?.is_some();
+    let alone = one.steps_at(own, place)?.is_some();
+    Ok(of_zero && of_one && alone)
+}
+
+/// Goes upwards through 40 places, and returns the first place at which `are_own_at` is false.
 fn first_foreign<'a>(
     zero: &mut Counted<'a>,
     one: &mut Counted<'a>,
@@ -173,10 +213,7 @@ fn first_foreign<'a>(
     own: &mut Lens<Counting<'a>>,
 ) -> Result<Option<usize>, Refusal> {
     for place in 0..40 {
-        let of_zero = zero.steps_at(shared, place)?;
-        let of_one = one.steps_at(shared, place)?;
-        let alone = one.steps_at(own, place)?;
-        if of_zero.is_none() || of_one.is_none() || alone.is_none() {
+        if !are_own_at(zero, one, shared, own, place)? {
             return Ok(Some(place as usize));
         }
     }
@@ -240,37 +277,52 @@ impl<'a> Counted<'a> {
     fn are_all_own(&mut self, lens: &mut Lens<Counting<'a>>, place: u32) -> Result<bool, Refusal> {
         for kind in 0..KINDS {
             let query = query_of(kind, self.main, place);
-            let text = self.text(lens, query)?;
-            let mut new = Lens::new(self.alloc)?;
-            if text != self.text(&mut new, query)? {
+            if !self.is_page_own(lens, query)? {
                 return Ok(false);
             }
         }
         Ok(true)
     }
 
+    /// Whether a page is the same through `lens` as through a new lens.
+    fn is_page_own(&mut self, lens: &mut Lens<Counting<'a>>, query: Query) -> Result<bool, Refusal>
+        requires { is_at_branch query ≡ true }
+    {
+        let slip = self.slip(query)?;
+        let text = text_of(self.alloc, &slip, lens)?;
+        Ok(is_own(self.alloc, &slip, &text)?)
+    }
+
+    /// Goes up through 40 places and down again. Returns how many places were passed before a page
+    /// of some kind differed from the page through a new lens.
+    fn first_wrong_of_all_kinds(
+        &mut self,
+        lens: &mut Lens<Counting<'a>>,
+    ) -> Result<Option<usize>, Refusal> {
+        for passed in 0..80u32 {
+            let place = if passed < 40 { passed } else { 79 - passed };
+            if !self.are_all_own(lens, place)? {
+                return Ok(Some(passed as usize));
+            }
+        }
+        Ok(None)
+    }
+
     /// The text of the page that a query asks for.
     fn text(&mut self, lens: &mut Lens<Counting<'a>>, query: Query) -> Result<Vec<u8>, Refusal>
         requires { is_at_branch query ≡ true }
     {
-        let slip = Slip::at(self.alloc, &mut self.chart, query)?;
+        let slip = self.slip(query)?;
         Ok(text_of(self.alloc, &slip, lens)?)
     }
 }
 
-/// Goes up through 40 places and down again, with one lens. Returns how many places were passed
-/// before a page of some kind differed from the page through a new lens.
+/// What `Counted::first_wrong_of_all_kinds` finds with one lens.
 fn first_wrong_of_all_kinds(rt: &impl Abort, alloc: Global) -> Result<Option<usize>, Refusal> {
     let calls = AtomicU64::new(0);
     let mut chart = Counted::new(rt, alloc, &calls, 0)?;
     let mut lens = Lens::new(alloc).expect(rt, "memory");
-    for passed in 0..80u32 {
-        let place = if passed < 40 { passed } else { 79 - passed };
-        if !chart.are_all_own(&mut lens, place)? {
-            return Ok(Some(passed as usize));
-        }
-    }
-    Ok(None)
+    chart.first_wrong_of_all_kinds(&mut lens)
 }
 
 #[test]
@@ -282,26 +334,41 @@ fn forty_places_of_each_kind(rt: HostRuntime) {
 const LAST_STATE: &[u8] =
     b"0: state main 1000 of 1000\n  p0 write 0 next ws 0\n  p1 idle\n  bits 1\n  words -\n";
 
-/// The number of the first wrong one of three pages, all of the last place: page 0 is made before a
-/// choice is replaced; pages 1 and 2 after that, through the same lens and through a new lens.
+impl<'a> Counted<'a> {
+    /// Whether the page of the state after all 1,000 steps has the text `LAST_STATE`.
+    fn shows_the_last_state(&mut self, lens: &mut Lens<Counting<'a>>) -> Result<bool, Refusal> {
+        let branch = self.main;
+        let query = Query::State { b: branch, k: 1000 };
+        Ok(self.text(lens, query)?.as_slice() == LAST_STATE)
+    }
+
+    /// Makes three pages of the last place. Page 0 is made before a choice is replaced; pages 1 and
+    /// 2 are made after that, through the same lens and through a new lens. Returns the number of
+    /// the first wrong page.
+    fn first_wrong_after_an_edit(
+        &mut self,
+        lens: &mut Lens<Counting<'a>>,
+        new: &mut Lens<Counting<'a>>,
+    ) -> Result<Option<usize>, Refusal> {
+        if !self.shows_the_last_state(lens)? {
+            return Ok(Some(0));
+        }
+        let branch = self.main;
+        self.chart.replace(&branch, 10, step_of(Kind::Go1))?;
+        if !self.shows_the_last_state(lens)? {
+            return Ok(Some(1));
+        }
+        Ok((!self.shows_the_last_state(new)?).then_some(2))
+    }
+}
+
+/// What `Counted::first_wrong_after_an_edit` finds.
 fn first_wrong_after_an_edit(rt: &impl Abort, alloc: Global) -> Result<Option<usize>, Refusal> {
     let calls = AtomicU64::new(0);
     let mut chart = Counted::new(rt, alloc, &calls, 0)?;
     let mut lens = Lens::new(alloc).expect(rt, "memory");
     let mut new = Lens::new(alloc).expect(rt, "memory");
-    let main = chart.main;
-    let query = Query::State { b: main, k: 1000 };
-    if chart.text(&mut lens, query)?.as_slice() != LAST_STATE {
-        return Ok(Some(0));
-    }
-    chart.chart.replace(&main, 10, step_of(Kind::Go1))?;
-    if chart.text(&mut lens, query)?.as_slice() != LAST_STATE {
-        return Ok(Some(1));
-    }
-    if chart.text(&mut new, query)?.as_slice() != LAST_STATE {
-        return Ok(Some(2));
-    }
-    Ok(None)
+    chart.first_wrong_after_an_edit(&mut lens, &mut new)
 }
 
 #[test]

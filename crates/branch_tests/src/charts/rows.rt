@@ -88,7 +88,8 @@ pub(super) enum Ask {
     /// The branch is forked from the first cell of `main`.
     Fork,
     Drop,
-    /// The plan has one job, of this step alone. Its run is made, by one call, and kept.
+    /// The plan has one job, of this step alone. The job's run is made, by one call of the
+    /// register, and kept.
     Plan(Kind),
     /// The run that was kept first is offered, and is installed if this is true.
     Install(bool),
@@ -335,9 +336,9 @@ fn rejoined_suffix(rt: HostRuntime) {
 
 /// Places at which a read is inserted into 1,000 cells, and how many steps are then replayed. The
 /// read stays pending at every later place, so no later segment begins from the same configuration
-/// as before: the segment with the read and all after it are replayed, and none above. Segments
-/// begin at 0, 128, and so on to 896. A full segment is cut into two new ones. Each step makes one
-/// call.
+/// as before: the segment with the read and all segments after it are replayed, and none before it.
+/// Segments begin at 0, 128, and so on to 896. A full segment is cut into two new ones. Each step
+/// makes one call.
 const READS: [(u32, u32); 4] = [(0, 1001), (512, 489), (630, 489), (1000, 105)];
 
 /// The index of the first of `READS` with which something goes wrong.
@@ -370,8 +371,8 @@ fn settles_again_what_was_edited(rt: HostRuntime) {
     none_wrong(&rt, first_wrong(&rt, rt.alloc(), &steps, &rows));
 }
 
-/// A run that was made for a dropped branch isn't installed; a run for the branch that took its
-/// place is installed.
+/// A run that was made for a dropped branch isn't installed; a run for the branch that is forked
+/// next is installed.
 pub(super) const LATE: [Row; 10] = [
     (Branch::A, Ask::Fork),
     (Branch::A, Ask::Insert(1, Kind::Write1)),

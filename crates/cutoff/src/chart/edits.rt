@@ -19,9 +19,10 @@ use std::alloc::Global;
 
 impl<R: Register> Chart<R> {
     /// Inserts a new cell with this step, which must fit the register, before the cell at `place`
-    /// of a branch, in each branch that has that cell. If `place` is the branch's length, the new
-    /// cell goes to the end of that branch alone. Only the segment that had that cell, or to which
-    /// the new cell is added, loses its stored run.
+    /// of a branch, in each branch that has that cell. The segment that had that cell loses its
+    /// stored run. If `place` is the branch's length, the new cell goes to the end of that branch
+    /// alone; if it is added to the branch's last segment, that segment loses its stored run. All
+    /// other segments keep theirs.
     ///
     /// # Errors
     ///
@@ -80,8 +81,8 @@ impl<R: Register> Chart<R> {
     }
 
     /// Makes a new branch with the name `name`, after all others. Its only cells are the first
-    /// `place` cells of `branch`, which the two branches then share. Only a segment with some of
-    /// these cells and also a later cell of `branch` loses its stored run.
+    /// `place` cells of `branch`, which the two branches then share. If these cells end inside a
+    /// segment, that segment is cut there and loses its stored run. All other segments keep theirs.
     ///
     /// # Errors
     ///

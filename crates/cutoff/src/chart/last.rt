@@ -1,4 +1,4 @@
-//! Settling a branch's first cells, if only the last of their stored runs is needed.
+//! Settling a branch's first cells for a caller that needs only the last of their stored runs.
 
 ghost use Rattle.std.specs.Prelude.{◌≡◌, Ok, Some, IfOk, OnOk, IfErr};
 ghost use Rattle.std.specs.Option.{option_map};
@@ -20,9 +20,9 @@ impl<R: Register> Chart<R> {
     /// these cells and no stored run that fits, and stores the new run. Returns the branch's
     /// length; the run now stored in the segment with the last of these cells, with how many of its
     /// steps are steps of these cells (`None` if `place` is 0); and how many steps were replayed in
-    /// all. Nothing else changes. If the next call of `settle_last` is for the same place, it
-    /// visits only the segment with the last of these cells, unless there was an `install`, a
-    /// `settle`, or an edit other than a fork of a whole branch in between.
+    /// all. Nothing else changes. If the next call of `settle_last` has the same `branch` and
+    /// `place`, that call visits only the segment with the last of these cells, unless an
+    /// `install`, a `settle`, or an edit other than a fork of a whole branch comes in between.
     ///
     /// # Errors
     ///

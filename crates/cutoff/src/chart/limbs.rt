@@ -1,5 +1,5 @@
 //! Charts made from limbs, and the limbs of a chart. A limb describes a branch in a file: its name,
-//! what it shares with which branch, and its own steps.
+//! how many cells it shares with which branch, and its own steps.
 
 ghost use Rattle.std.specs.Prelude.{◌≡◌, ◌<◌, length, IfOk, IfErr, Ok};
 ghost use Rattle.frames.specs.Configuration.{initial_configuration};
@@ -20,15 +20,16 @@ use std::alloc::{AllocError, Global};
 
 impl<R: Register> Chart<R> {
     /// A chart with the limits `limits`, of the branches that `limbs` describe. At least one limb
-    /// is required. Each must have a well-formed name that no earlier limb has, share nothing or
-    /// cells of an earlier limb's branch (the last of them one of that limb's own), and have steps
-    /// that fit the register. Each branch begins from the initial configuration of `register`, in
-    /// which the register holds `value`, one of its values. The chart's limbs equal `limbs`, and no
-    /// run is stored. The limits have to be in the ranges that `Limits` gives.
+    /// is required. Each limb must have a well-formed name that no earlier limb has, and its own
+    /// steps must fit the register. It must share either nothing (`from` and `shared` are 0), or
+    /// the first cells of an earlier limb's branch, the last of which must be one of that earlier
+    /// limb's own cells. Each branch begins from the initial configuration of `register`, in which
+    /// the register holds `value`, one of its values. The chart's limbs equal `limbs`, and no run
+    /// is stored. The limits have to be in the ranges that `Limits` gives.
     ///
     /// # Errors
     ///
-    /// Full if the limbs have more cells than `limits.cells`; TooManyBranches; Memory.
+    /// Full if the limbs have more own cells in total than `limits.cells`; TooManyBranches; Memory.
     pub fn load(
         alloc: Global,
         register: R,
@@ -56,8 +57,8 @@ impl<R: Register> Chart<R> {
     }
 
     /// The limbs that describe the chart's branches, in the order the branches were made. They meet
-    /// the conditions of `load`, and their numbers are within the chart's limits. A chart loaded
-    /// from them has the same branches, except for the numbers of the cells.
+    /// the conditions of `load`, and their `from` and `shared` are within the chart's limits. A
+    /// chart loaded from them has the same branches, except for the numbers of the cells.
     ///
     /// # Errors
     ///

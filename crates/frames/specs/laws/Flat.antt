@@ -84,8 +84,8 @@ parked_decides a b =
 pub parked_per : IsPartialEquivalence parked_eq
 parked_per = per_from_decides parked_eq parked_decides
 
--- if test L agrees with `layer_eq`, and test O with `op_eq`, a comparison of two stacks, frame by
--- frame, with L and O agrees with `stack_eq`
+-- if test L agrees with `layer_eq` and test O with `op_eq`, the test that compares two stacks frame
+-- by frame, by means of L and O, agrees with `stack_eq`
 pub agrees : (L : FrameLayer → FrameLayer → Bool) (O : Op → Op → Bool) → ((a b : FrameLayer) → L a b ≡ layer_eq a b) → ((a b : Op) → O a b ≡ op_eq a b)
     → (xs ys : List Frame) → pointwise (λ a b. L a.layer b.layer && (O a.op b.op && (nat_eq a.i b.i && nat_eq a.x b.x))) xs ys ≡ stack_eq xs ys
 agrees L O layers ops xs ys = λ i. pointwise (λ a b. layers a.layer b.layer i && (ops a.op b.op i && (nat_eq a.i b.i && nat_eq a.x b.x))) xs ys
@@ -120,12 +120,12 @@ module _ {P : Type 0} (b : Behaviour P) (Reaches : ℕ → Op → P → Type 0) 
       let e : frame.op ≡ o = cc in ap (λ q. option_map (λ x. record { op = frame.op; point = x }) q) found ∙ ap (λ q. Some (record { op = q; point = p })) e
 
   -- the frames of a pending operation determine the operation and its point
-  pub tells_slot : (who : ℕ) (slot : Option (Running P)) → IsReached Reaches who slot → running_of (point who) (stack_of b slot) ≡ slot
-  tells_slot who None h = refl
-  tells_slot who (Some r) h = told who (b.frames r.point) r.op r.point (tell.op who r.op r.point h) (tell.point who r.op r.point h)
+  pub slot_by_frames : (who : ℕ) (slot : Option (Running P)) → IsReached Reaches who slot → running_of (point who) (stack_of b slot) ≡ slot
+  slot_by_frames who None h = refl
+  slot_by_frames who (Some r) h = told who (b.frames r.point) r.op r.point (tell.op who r.op r.point h) (tell.point who r.op r.point h)
 
-  -- the outermost frame of a process's stack has its pending operation; an idle process has no
-  -- frame
+  -- the outermost frame of a process's stack has the process's pending operation; an idle process
+  -- has no frame
   pub slot_op : (who : ℕ) (slot : Option (Running P)) → IsReached Reaches who slot → outermost (stack_of b slot) ≡ option_map (λ r. r.op) slot
   slot_op who None h = refl
   slot_op who (Some r) h = tell.op who r.op r.point h

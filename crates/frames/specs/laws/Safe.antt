@@ -153,37 +153,37 @@ pub byte_value : (b : Bool) → bool_byte b ≡ value_of b
 byte_value false = refl
 byte_value true = refl
 
--- the bit of a bit's value is the bit itself
-told_bit : (b : Bool) → bit_of (value_of b) ≡ b
-told_bit false = refl
-told_bit true = refl
+-- `bit_of` gives a bit back from the bit's value
+bit_of_its_value : (b : Bool) → bit_of (value_of b) ≡ b
+bit_of_its_value false = refl
+bit_of_its_value true = refl
 
 -- a frame determines the point that it describes
-pub point_told : (p : SafePoint) → point_at (safe_frame p).op (safe_frame p).i ≡ p
-point_told (at.WriteStart b) = ap at.WriteStart (told_bit b)
-point_told (at.WriteEnd b) = ap at.WriteEnd (told_bit b)
-point_told at.ReadStart = refl
-point_told at.ReadEnd = refl
+pub point_of_its_frame : (p : SafePoint) → point_at (safe_frame p).op (safe_frame p).i ≡ p
+point_of_its_frame (at.WriteStart b) = ap at.WriteStart (bit_of_its_value b)
+point_of_its_frame (at.WriteEnd b) = ap at.WriteEnd (bit_of_its_value b)
+point_of_its_frame at.ReadStart = refl
+point_of_its_frame at.ReadEnd = refl
 
 -- the value of the bit of v is v, if v is 0 or 1
-told_value : (v : ℕ) → v < 2 → value_of (bit_of v) ≡ v
-told_value zero lt = refl
-told_value (suc zero) lt = refl
-told_value (suc (suc v)) lt = absurd (omega (arith, lt))
+value_of_its_bit : (v : ℕ) → v < 2 → value_of (bit_of v) ≡ v
+value_of_its_bit zero lt = refl
+value_of_its_bit (suc zero) lt = refl
+value_of_its_bit (suc (suc v)) lt = absurd (omega (arith, lt))
 
 -- the outermost frame of an operation has the operation
-op_told : (who : ℕ) (o : Op) (p : SafePoint) → SafeReaches who o p → outermost (safe_behaviour.frames p) ≡ Some o
-op_told who (op.Write v) (at.WriteStart b) r = ap (λ x. Some (op.Write x)) (ap value_of r.2 ∙ told_value v r.1)
-op_told who (op.Write v) (at.WriteEnd b) r = ap (λ x. Some (op.Write x)) (ap value_of r.2 ∙ told_value v r.1)
-op_told who op.Read at.ReadStart r = refl
-op_told who op.Read at.ReadEnd r = refl
-op_told who (op.Write v) at.ReadStart r = absurd r
-op_told who (op.Write v) at.ReadEnd r = absurd r
-op_told who op.Read (at.WriteStart b) r = absurd r
-op_told who op.Read (at.WriteEnd b) r = absurd r
+op_of_the_frames : (who : ℕ) (o : Op) (p : SafePoint) → SafeReaches who o p → outermost (safe_behaviour.frames p) ≡ Some o
+op_of_the_frames who (op.Write v) (at.WriteStart b) r = ap (λ x. Some (op.Write x)) (ap value_of r.2 ∙ value_of_its_bit v r.1)
+op_of_the_frames who (op.Write v) (at.WriteEnd b) r = ap (λ x. Some (op.Write x)) (ap value_of r.2 ∙ value_of_its_bit v r.1)
+op_of_the_frames who op.Read at.ReadStart r = refl
+op_of_the_frames who op.Read at.ReadEnd r = refl
+op_of_the_frames who (op.Write v) at.ReadStart r = absurd r
+op_of_the_frames who (op.Write v) at.ReadEnd r = absurd r
+op_of_the_frames who op.Read (at.WriteStart b) r = absurd r
+op_of_the_frames who op.Read (at.WriteEnd b) r = absurd r
 
-pub safe_tells : FramesGivePoint safe_behaviour SafeReaches safe_point
-safe_tells = record { point = λ who o p r. ap Some (point_told p); op = op_told; none = λ who. refl }
+pub safe_frames_give_point : FramesGivePoint safe_behaviour SafeReaches safe_point
+safe_frames_give_point = record { point = λ who o p r. ap Some (point_of_its_frame p); op = op_of_the_frames; none = λ who. refl }
 
 -- an invocation leaves the memory as it was
 pub begin_leaves : (at : Place) (m : Memory) (who : ℕ) (o : Op) → LiesIn at safe_size m → m ≡ with_part at (safe_begins who o (part at safe_size m)).memory m
@@ -198,7 +198,7 @@ begin_lands at m who (op.Write v) stack lies fits =
     let low : v < 2 = grind (arith, nat_tests) in
     record {
       answer = refl;
-      stack = ap (λ x. stack ++ record { layer = layer.Safe; op = op.Write x; i = 0; x = 0 } ∷ []) (sym (told_value v low));
+      stack = ap (λ x. stack ++ record { layer = layer.Safe; op = op.Write x; i = 0; x = 0 } ∷ []) (sym (value_of_its_bit v low));
       memory = sym (with_part-own at safe_size m lies);
     }
 begin_lands at m who op.Read stack lies fits = record { answer = refl; stack = refl; memory = sym (with_part-own at safe_size m lies) }
@@ -221,14 +221,14 @@ module _ (at : Place) (m : Memory) (who first : ℕ) (stack : List Frame) (choic
   same_point o p on =
       let e : frame ∷ drop (first + 1) stack ≡ safe_frame p ∷ [] = sym found ∙ on.there in
       let f : frame ≡ safe_frame p = cc in
-      is ∙ ap (λ x. point_at x.op x.i) f ∙ point_told p
+      is ∙ ap (λ x. point_at x.op x.i) f ∙ point_of_its_frame p
 
   -- if an operation is still pending after a bit action, its frame is replaced by that of the new
   -- point
-  pub stands_on : (q' : SafePoint) (m' : Memory) → (safe_goes q choice (part at safe_size m)).next ≡ Pending q' → m' ≡ with_part at (safe_goes q choice (part at safe_size m)).memory m
+  pub goes_on_reached : (q' : SafePoint) (m' : Memory) → (safe_goes q choice (part at safe_size m)).next ≡ Pending q' → m' ≡ with_part at (safe_goes q choice (part at safe_size m)).memory m
       → (o : Op) (p : SafePoint) → HasFramesFrom safe_behaviour.frames SafeReaches who first stack o p
       → Lands safe_behaviour.frames at (safe_goes p choice (part at safe_size m)).next (safe_goes p choice (part at safe_size m)).memory (take first stack) m None (set stack first (safe_frame q')) m'
-  stands_on q' m' next memory o p on =
+  goes_on_reached q' m' next memory o p on =
       subst (λ x. Lands safe_behaviour.frames at (safe_goes x choice (part at safe_size m)).next (safe_goes x choice (part at safe_size m)).memory (take first stack) m None (set stack first (safe_frame q')) m')
       (same_point o p on)
       (record {

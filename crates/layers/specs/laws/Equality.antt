@@ -1,5 +1,7 @@
--- Tests of equality: two pending operations are equal exactly if tests find their tasks and their
--- parts' points equal; and equal rules over equal registers make equal registers.
+-- Laws of equality. If one test decides whether tasks are equal, and another whether points are
+-- equal, then two pending operations are equal exactly if the tests find their tasks equal and
+-- their parts' points equal. Layers behave alike if their rules are equal and the registers below
+-- them behave alike.
 use Rattle.std.proofs.Common.{◌≡◌, Bool, true, false, ap}
 use mathlib.Core.Bool.{◌&&◌}
 use Rattle.std.specs.Bool.{Decides}

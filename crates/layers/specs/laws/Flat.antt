@@ -1,5 +1,5 @@
--- Laws of the frames of a layer's operation: these determine its task and its part's point. The
--- last law says which frames are left after a part's step.
+-- Laws of the frames of a layer's operation: the frames determine the operation's task and the
+-- point of the task's part. The last law says which frames are left after a part's step.
 use Rattle.std.proofs.Common.{◌≡◌, ℕ, ◌+◌, ◌<◌, List, [], ◌∷◌, ◌++◌, length, take, drop, Option, Some, option_map, refl, sym, ap, ◌∙◌, arith, append_assoc, append-nil, length-drop}
 use Rattle.std.proofs.lemmas.List.{drop_more, take_more, take-append-le, take_all}
 use Rattle.frames.specs.declared.types.Outcome.{Outcome}
@@ -12,9 +12,9 @@ use Rattle.layers.specs.Sound.{LayerReaches}
 use Rattle.layers.specs.Flat.{layered_point, cut_where_ended}
 use Rattle.layers.specs.laws.Over.{LayerOver}
 
-pub layered_tells : {Task P : Type 0} (l : LayerOver Task P) (find : ℕ → List Frame → Option P) → FramesGivePoint l.below l.Reaches find
+pub layered_frames_give_point : {Task P : Type 0} (l : LayerOver Task P) (find : ℕ → List Frame → Option P) → FramesGivePoint l.below l.Reaches find
     → FramesGivePoint (layered l.table l.below) (LayerReaches l.table l.MayBeAt l.Reaches) (layered_point l.table find)
-layered_tells l find tell = record {
+layered_frames_give_point l find tell = record {
   point = λ who o n there.
       let own = (l.sound.frame_gives who o n.task there.may_be_at).0 in
       (λ i. option_map (λ p. record { task = own i; below = p }) (find (l.table.asks (own i)).who (l.below.frames n.below)))
@@ -36,8 +36,8 @@ pub parts_there : {A : Type 0} (first : ℕ) (xs ys : List A) (x y : A) → drop
 parts_there {A} first xs ys x y e f =
     let g : ◌≡◌ {A = List A} (y ∷ drop (first + 1) xs) (x ∷ ys) = sym f ∙ e in (cc, cc)
 
-pub behind_there : {A : Type 0} (first : ℕ) (xs ys : List A) (x : A) → drop first xs ≡ x ∷ ys → drop (first + 1) xs ≡ ys
-behind_there first xs ys x e =
+pub drop_one_more : {A : Type 0} (first : ℕ) (xs ys : List A) (x : A) → drop first xs ≡ x ∷ ys → drop (first + 1) xs ≡ ys
+drop_one_more first xs ys x e =
     let f = drop_more xs first x (index_there first xs ys x e) in (parts_there first xs ys x _ e f).1
 
 pub front_there : {A : Type 0} (first : ℕ) (xs ys : List A) (x : A) → drop first xs ≡ x ∷ ys → take (first + 1) xs ≡ take first xs ++ x ∷ []
@@ -46,9 +46,9 @@ front_there first xs ys x e =
     let f = drop_more xs first x lt in
     take_more xs first x lt ∙ ap (λ y. take first xs ++ y ∷ []) (parts_there first xs ys x _ e f).0
 
--- The layer's own frame follows the frames `front` on a stack, and the frames of its part follow
--- it. All of these are kept after the part's step if the part's operation goes on; if it has ended,
--- only `front` is kept.
+-- After a part's step, a stack has the frames `front`, then the layer's own frame, then the frames
+-- of the part's operation (none if it has ended). All of these are kept if the part's operation is
+-- still pending; if it has ended, only `front` is kept.
 pub part_leaves : {P : Type 0} (frames : P → List Frame) (frame : Frame) (front : List Frame) (next : Next P) (given : Option Outcome) (left : List Frame) (first : ℕ)
     → length front ≡ first → given ≡ ended next → left ≡ (front ++ frame ∷ []) ++ left_frames frames next
     → cut_where_ended first given left ≡ front ++ left_frames (λ p. frame ∷ frames p) next

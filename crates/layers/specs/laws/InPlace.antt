@@ -75,14 +75,14 @@ module _ {Task P : Type 0} (l : LayerOver Task P)
   pub pushed_next : (j : ℕ) (p : P) (choice : Bool) → j < l.table.parts → (l.below.goes p choice (part (place_after at (part_place l.below.size j)) l.below.size m)).next ≡ (pushed l.below j p choice (own l.table l.below at m)).next
   pushed_next j p choice lt = ap (λ inner. (l.below.goes p choice inner).next) (sym (part_there j lt))
 
-  bit_behind : (q : Place) (chosen : Option (ℕ × Bool)) → placed_bit (place_after at q) chosen ≡ placed_bit at (placed_bit q chosen)
-  bit_behind q None = refl
-  bit_behind q (Some bit) = ap (λ i. Some (i, bit.1)) (add_assoc at.cell q.cell bit.0)
+  bit_of_place_after : (q : Place) (chosen : Option (ℕ × Bool)) → placed_bit (place_after at q) chosen ≡ placed_bit at (placed_bit q chosen)
+  bit_of_place_after q None = refl
+  bit_of_place_after q (Some bit) = ap (λ i. Some (i, bit.1)) (add_assoc at.cell q.cell bit.0)
 
   pub pushed_chosen : (j : ℕ) (p : P) (choice : Bool) → j < l.table.parts
       → placed_bit (place_after at (part_place l.below.size j)) (l.below.goes p choice (part (place_after at (part_place l.below.size j)) l.below.size m)).chosen ≡ placed_bit at (pushed l.below j p choice (own l.table l.below at m)).chosen
   pushed_chosen j p choice lt =
-      bit_behind (part_place l.below.size j) _ ∙ ap (λ inner. placed_bit at (placed_bit (part_place l.below.size j) (l.below.goes p choice inner).chosen)) (sym (part_there j lt))
+      bit_of_place_after (part_place l.below.size j) _ ∙ ap (λ inner. placed_bit at (placed_bit (part_place l.below.size j) (l.below.goes p choice inner).chosen)) (sym (part_there j lt))
 
   pub pushed_memory : (j : ℕ) (p : P) (choice : Bool) (who : ℕ) (o : Op) → j < l.table.parts → l.Reaches who o p
       → with_part (place_after at (part_place l.below.size j)) (l.below.goes p choice (part (place_after at (part_place l.below.size j)) l.below.size m)).memory m

@@ -1,5 +1,6 @@
--- A layer's whole memory is at its initial value once its parts, one after the other, and then its
--- own words, one after the other, have been set to theirs.
+-- A layer's `init` sets the layer's parts to their initial values, one after the other, and then
+-- the layer's own words to their initial values, one after the other. After that, the layer's whole
+-- memory is the layer's initial memory.
 use Rattle.std.proofs.Common.{◌≡◌, ℕ, suc, ◌+◌, ◌*◌, ◌<◌, ◌≤◌, List, [], ◌∷◌, length, set, refl, sym, ◌∙◌, arith, mul-one, mul-le-mul_right}
 use Rattle.safe_bit.specs.declared.Place.{Place}
 use Rattle.safe_bit.specs.Memory.{Memory}
@@ -58,10 +59,10 @@ module _ {Task P : Type 0} (l : LayerOver Task P)
 
   -- setting all parts, and then the layer's own words, to their initial values has the same effect
   -- as setting the layer's memory to its initial memory
-  pub words_behind : (at : Place) (m : Memory) → LiesIn at (layer_size l.table l.below.size) m
+  pub words_after_parts : (at : Place) (m : Memory) → LiesIn at (layer_size l.table l.below.size) m
       → record (with_part at (first_parts l.table l.below v l.table.parts) m) { words = splice (at.word + own_words l.table l.below.size) (gathered (λ k. l.table.first_word v k ∷ []) l.table.words) (with_part at (first_parts l.table l.below v l.table.parts) m).words }
       ≡ with_part at (layer_initial l.table l.below v) m
-  words_behind at m lies =
+  words_after_parts at m lies =
       let z = first_parts_size l.table.parts (omega arith) in
       same_memory _ _ refl
       (splice-after at.word (own_words l.table l.below.size) (first_parts l.table l.below v l.table.parts).words (gathered (λ k. l.table.first_word v k ∷ []) l.table.words) m.words z.words

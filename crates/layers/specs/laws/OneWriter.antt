@@ -1,5 +1,6 @@
--- When the table of a register of one writer is sound: laws of `frames` show which operations its
--- processes may make, and the law in this file lists all else that the table has to satisfy.
+-- A law that says when the table of a register with one writer is sound. Laws of the crate `frames`
+-- show which operations each process may make. The law in this file requires all else that the
+-- table has to satisfy.
 use Rattle.std.specs.Prelude.{◌≡◌, ℕ, ◌<◌, true}
 use Rattle.std.proofs.Common.{◌∙◌, sym}
 use Rattle.frames.specs.declared.types.Op.{Op}
@@ -28,7 +29,7 @@ module _ {Task : Type 0} (t : Table Task) (MayBeAt : ℕ → Op → Task → Typ
       → ((who : ℕ) (o : Op) (task : Task) (outcome : Outcome) → GoesOn who o task outcome (IsSound t (MayBeAt who o) (Answers t.values o) (t.rest task outcome)))
       → ((who : ℕ) (o : Op) (task : Task) (outcome : Outcome) → GoesOn who o task outcome (Falls left (left task) (t.rest task outcome)))
       → IsSoundTable t MayBeAt left
-  one_writer_sound suits some first_fits first_words asks_fit stands_suits frame_tells begins_sound rest_sound rest_falls = record {
+  one_writer_sound suits some first_fits first_words asks_fit may_be_at_suits frame_gives_task begins_sound rest_sound rest_falls = record {
     zero_writes = λ v lt. suits 0 (op.Write v) ∙ writer.zero_writes t.values t.processes v some lt;
     others_read = λ who above below. suits who op.Read ∙ writer.others_read t.values t.processes who above below;
     nobody_else = λ who o h. writer.nobody_else t.values t.processes who o (sym (suits who o) ∙ h);
@@ -36,8 +37,8 @@ module _ {Task : Type 0} (t : Table Task) (MayBeAt : ℕ → Op → Task → Typ
     first_fits = first_fits;
     first_words = first_words;
     asks_fit = asks_fit;
-    may_be_at_suits = stands_suits;
-    frame_gives = frame_tells;
+    may_be_at_suits = may_be_at_suits;
+    frame_gives = frame_gives_task;
     begins_sound = begins_sound;
     rest_sound = rest_sound;
     rest_falls = rest_falls;

@@ -12,7 +12,7 @@ use Rattle.layers.specs.declared.nested.Continuation.TheVariants as continuation
 use Rattle.frames.specs.Behaviour.{Answers, ReachedOrAnswered}
 use Rattle.layers.specs.Nested.{layer_size, own_words, asked, pushed, advance}
 use Rattle.layers.specs.Sound.{IsNotSpent, LayerHolds}
-use Rattle.layers.specs.laws.Nested.{Good, asks_fit, rest_sound, behind_well, advance_well, holds_with_part}
+use Rattle.layers.specs.laws.Nested.{Good, asks_fit, rest_sound, rest_is_well, advance_well, holds_with_part}
 use Rattle.layers.specs.Settled.{settled, ContinuationIsSound, tasks_left, run_on, follow_on}
 use Rattle.layers.specs.laws.Settled.{settled_falls}
 use Rattle.layers.specs.InPlace.{LayerLies}
@@ -20,21 +20,22 @@ use Rattle.layers.specs.laws.InPlace.{lies_with}
 use Rattle.layers.specs.laws.Over.{LayerOver}
 
 module _ {Task P : Type 0} (l : LayerOver Task P) where
-  -- after a step of a task's part that has reached a right point or outcome, running the layer on
-  -- from memory that satisfies `LayerHolds` leaves its memory and operation `Good`
+  -- if a step has brought a task's part to a point that it can reach, or to an outcome that suits
+  -- its operation, running the layer on from memory that satisfies `LayerHolds` leaves the layer's
+  -- memory and operation `Good`
   pub follow_well : (who : ℕ) (o : Op) (task : Task) (next : Next P) (m : Memory) → LayerHolds l.table l.below l.Holds m → l.MayBeAt who o task
       → ReachedOrAnswered (l.Reaches (l.table.asks task).who (l.table.asks task).op) (Answers l.below.values (l.table.asks task).op) next
       → Good l who o (follow_on l.table l.below task next m)
   follow_well who o task next m h stands below =
-      behind_well l who o (λ outcome n. advance l.table l.below (l.table.rest task outcome) n) task next m h stands below
+      rest_is_well l who o (λ outcome n. advance l.table l.below (l.table.rest task outcome) n) task next m h stands below
       (λ outcome answers goes_on. advance_well l who o (l.table.rest task outcome) m
       (rest_sound l who o task outcome stands answers goes_on) h)
 
   -- once the operation that a task asks for is invoked, the task's part is at a point that it can
   -- reach, or has ended with an outcome that suits this operation
-  pub ask_stands : (who : ℕ) (o : Op) (task : Task) (m : Memory) → LayerHolds l.table l.below l.Holds m → l.MayBeAt who o task
+  pub ask_is_reached : (who : ℕ) (o : Op) (task : Task) (m : Memory) → LayerHolds l.table l.below l.Holds m → l.MayBeAt who o task
       → ReachedOrAnswered (l.Reaches (l.table.asks task).who (l.table.asks task).op) (Answers l.below.values (l.table.asks task).op) (asked l.below (l.table.asks task) m).next
-  ask_stands who o task m h stands =
+  ask_is_reached who o task m h stands =
       let fit = asks_fit l who o task stands in
       (l.lawful.begins_well (l.table.asks task).who (l.table.asks task).op _ (h.parts (l.table.asks task).part fit.0) fit.1).may_be_at
 
@@ -43,9 +44,9 @@ module _ {Task P : Type 0} (l : LayerOver Task P) where
       let fit = asks_fit l who o task stands in
       holds_with_part l (l.table.asks task).part _ m fit.0 (l.lawful.begins_well (l.table.asks task).who (l.table.asks task).op _ (h.parts (l.table.asks task).part fit.0) fit.1).holds h
 
-  pub push_stands : (who : ℕ) (o : Op) (task : Task) (p : P) (choice : Bool) (m : Memory) → LayerHolds l.table l.below l.Holds m → l.MayBeAt who o task → l.Reaches (l.table.asks task).who (l.table.asks task).op p
+  pub push_is_reached : (who : ℕ) (o : Op) (task : Task) (p : P) (choice : Bool) (m : Memory) → LayerHolds l.table l.below l.Holds m → l.MayBeAt who o task → l.Reaches (l.table.asks task).who (l.table.asks task).op p
       → ReachedOrAnswered (l.Reaches (l.table.asks task).who (l.table.asks task).op) (Answers l.below.values (l.table.asks task).op) (pushed l.below (l.table.asks task).part p choice m).next
-  push_stands who o task p choice m h stands there =
+  push_is_reached who o task p choice m h stands there =
       let fit = asks_fit l who o task stands in
       (l.lawful.goes_well (l.table.asks task).who (l.table.asks task).op p choice _ (h.parts (l.table.asks task).part fit.0) there).may_be_at
 
@@ -55,16 +56,16 @@ module _ {Task P : Type 0} (l : LayerOver Task P) where
       let fit = asks_fit l who o task stands in
       holds_with_part l (l.table.asks task).part _ m fit.0 (l.lawful.goes_well (l.table.asks task).who (l.table.asks task).op p choice _ (h.parts (l.table.asks task).part fit.0) there).holds h
 
-  -- running the layer on, from memory that satisfies `LayerHolds` and a continuation that suits its
-  -- operation, leaves its memory and operation `Good`
+  -- if a continuation suits the layer's operation, and the layer's memory satisfies `LayerHolds`,
+  -- then running on from the continuation leaves the layer's memory and operation `Good`
   pub run_well : (who : ℕ) (o : Op) (at_turn : Continuation Task) (m : Memory) → ContinuationIsSound (l.MayBeAt who o) (Answers l.table.values o) at_turn → LayerHolds l.table l.below l.Holds m
       → Good l who o (run_on l.table l.below at_turn m)
   run_well who o (continuation.Ends outcome) m stands h = record { holds = h; may_be_at = stands }
   run_well who o (continuation.Asks task) m stands h =
-      follow_well who o task (asked l.below (l.table.asks task) m).next (asked l.below (l.table.asks task) m).memory (ask_holds who o task m h stands) stands (ask_stands who o task m h stands)
+      follow_well who o task (asked l.below (l.table.asks task) m).next (asked l.below (l.table.asks task) m).memory (ask_holds who o task m h stands) stands (ask_is_reached who o task m h stands)
 
-  -- after a task has ended, the bound on the number of tasks that its operation still begins is at
-  -- most what `left` gives for that task
+  -- after a task has ended, the bound on the number of tasks that the layer's operation can still
+  -- begin is at most what `left` gives for the ended task
   pub rest_left : (who : ℕ) (o : Op) (task : Task) (outcome : Outcome) (m : Memory) → l.MayBeAt who o task
       → Answers l.below.values (l.table.asks task).op outcome → IsNotSpent outcome
       → tasks_left l.left (settled (own_words l.table l.below.size) (l.table.rest task outcome) m).continuation ≤ l.left task
@@ -78,7 +79,7 @@ module _ {Task P : Type 0} (l : LayerOver Task P) where
       → with_part at late (with_part at mid m) ≡ with_part at late m
   put_again at m lies mid late h h' = with_part-with_part at (layer_size l.table l.below.size) late mid m h'.size h.size lies.inside
 
-  -- the layer still lies at its place in a store that differs only in the layer's memory, if this
-  -- satisfies `LayerHolds`
+  -- if only the layer's memory changes in the store, and the layer's new memory satisfies
+  -- `LayerHolds`, then the layer still lies at its place
   pub lies_after : (at : Place) (m : Memory) → LayerLies l.table l.below l.Holds at m → (mid first : Memory) → first ≡ with_part at mid m → LayerHolds l.table l.below l.Holds mid → LayerLies l.table l.below l.Holds at first
   lies_after at m lies mid first e h = subst (LayerLies l.table l.below l.Holds at) (sym e) (lies_with l at m lies mid h)

@@ -25,13 +25,13 @@ words_hold_set t base i x m fit lt low h k few = elim (cases_eq k i) as (λ _. g
 
 module _ {Task : Type 0} (t : Table Task) (MayBeAt : Task → Type 0) (Answer : Outcome → Type 0) where
   -- a sound program runs to a task that `MayBeAt` allows, or to an end that `Answer` allows
-  pub settled_stands : (base : ℕ) (p : Program Task) (m : Memory) → IsSound t MayBeAt Answer p → base + t.words ≤ length m.words → WordsHold t base m
+  pub settled_is_reached : (base : ℕ) (p : Program Task) (m : Memory) → IsSound t MayBeAt Answer p → base + t.words ≤ length m.words → WordsHold t base m
       → ContinuationIsSound MayBeAt Answer (settled base p m).continuation
-  settled_stands base (Ends o) m sound fit h = sound
-  settled_stands base (Asks task k) m sound fit h = sound.0
-  settled_stands base (Reads i k) m sound fit h = settled_stands base (k (word_at (base + i) m)) m (sound.1 _ (h i sound.0)) fit h
-  settled_stands base (Sets i x k) m sound fit h =
-      settled_stands base k (with_word (base + i) x m) sound.1.1 (omega (arith, length-set m.words (base + i) x)) (words_hold_set t base i x m fit sound.0 sound.1.0 h)
+  settled_is_reached base (Ends o) m sound fit h = sound
+  settled_is_reached base (Asks task k) m sound fit h = sound.0
+  settled_is_reached base (Reads i k) m sound fit h = settled_is_reached base (k (word_at (base + i) m)) m (sound.1 _ (h i sound.0)) fit h
+  settled_is_reached base (Sets i x k) m sound fit h =
+      settled_is_reached base k (with_word (base + i) x m) sound.1.1 (omega (arith, length-set m.words (base + i) x)) (words_hold_set t base i x m fit sound.0 sound.1.0 h)
 
   pub settled_falls : (left : Task → ℕ) (base n : ℕ) (p : Program Task) (m : Memory) → Falls left n p → tasks_left left (settled base p m).continuation ≤ n
   settled_falls left base n (Ends o) m f = omega arith
@@ -52,8 +52,9 @@ module _ {Task : Type 0} (t : Table Task) (MayBeAt : Task → Type 0) (Answer : 
       advance_settled b k (with_word (own_words t b.size + i) x m) sound.1.1 (omega (arith, length-set m.words (own_words t b.size + i) x))
       (words_hold_set t (own_words t b.size) i x m fit sound.0 sound.1.0 h)
 
-  -- running a program to its next task or end reaches the same in a store as in the layer's memory
-  -- that lies there, and changes only this memory in the store, in the same way
+  -- whether a sound program runs in a store or in the layer's memory that lies there, it reaches
+  -- the same next task or end, and changes that memory in the same way, but nothing else in the
+  -- store
   pub settled_in_place : (at size : Place) (own : ℕ) (p : Program Task) (m : Memory) → IsSound t MayBeAt Answer p → LiesIn at size m → own + t.words ≤ size.word
       → WordsHold t own (part at size m)
       → ((settled (at.word + own) p m).continuation ≡ (settled own p (part at size m)).continuation)

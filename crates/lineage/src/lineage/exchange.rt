@@ -33,7 +33,7 @@ impl<X: Drop> Lineage<X> {
 }
 
 /// Reserves memory for one more path, and for `count` more nodes. Fails if it can't, or if the
-/// paths and nodes might then be too many for a word to count.
+/// paths and nodes together would then be too many for a word to count.
 pub(super) fn reserve_path<X>(
     nodes: &mut Slab<Node<X>>,
     tips: &mut Vec<Above>,

@@ -53,7 +53,8 @@ impl<X: Drop> Lineage<X> {
     }
 }
 
-/// Reserves memory for one more path.
+/// Reserves memory for one more path; `nodes` is the number of nodes. Fails if it can't, or if the
+/// paths and nodes together would then be too many for a word to count.
 fn reserve_tip(tips: &mut Vec<Above>, nodes: usize) -> Result<(), AllocError>
     ensures items { tips.new.items ≡ tips.old.items }
     ensures room { OnOk result (length tips.new.items < vec_capacity tips.new) }

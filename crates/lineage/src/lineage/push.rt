@@ -30,7 +30,7 @@ impl<X: Drop> Lineage<X> {
 }
 
 /// Reserves memory for one more node; `tips` is the number of paths. Fails if it can't, or if the
-/// paths and nodes might then be too many for a word to count.
+/// paths and nodes together would then be too many for a word to count.
 pub(super) fn reserve_node<X>(nodes: &mut Slab<Node<X>>, tips: usize) -> Result<(), AllocError>
     requires { tips < 2 ^ 63 }
     ensures slots { nodes.new.slots ≡ nodes.old.slots }

@@ -1,4 +1,4 @@
-//! Dropping paths. An item is dropped with the last path that has it.
+//! Dropping paths. An item is dropped when no path has it any more.
 
 ghost use Rattle.std.specs.Prelude.{◌≡◌, ◌≢◌, ◌<◌, ℕ, List, Option, length};
 ghost use Rattle.std.specs.List.{remove};

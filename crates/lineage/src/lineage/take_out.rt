@@ -51,7 +51,7 @@ fn pass_on<X>(nodes: &mut Slab<Node<X>>, above: Above, holders: usize)
     }
 }
 
-/// Replaces the link of each node that links to `key` by `above`.
+/// Gives each node that links to `key` the link `above` instead.
 fn skip_in_nodes<X>(nodes: &mut Slab<Node<X>>, key: Key, above: Above)
     ensures { (k : ℕ) → get nodes.new k ≡ past_node key above (get nodes.old k) }
 {
@@ -60,7 +60,7 @@ fn skip_in_nodes<X>(nodes: &mut Slab<Node<X>>, key: Key, above: Above)
     }
 }
 
-/// Replaces the link of the node at `place` by `above`, if that node links to `key`.
+/// If the node at `place` links to `key`, gives that node the link `above` instead.
 fn skip_at<X>(nodes: &mut Slab<Node<X>>, place: Key, key: Key, above: Above)
     ensures here { get nodes.new place ≡ past_node key above (get nodes.old place) }
     ensures others { (k : ℕ) → k ≢ place → get nodes.new k ≡ get nodes.old k }
@@ -72,7 +72,7 @@ fn skip_at<X>(nodes: &mut Slab<Node<X>>, place: Key, key: Key, above: Above)
     nodes[place].above = skipped;
 }
 
-/// Replaces the last key of each path that ends with `key` by `above`.
+/// Makes `above` the last key of each path whose last key is `key`.
 fn skip_in_tips(tips: &mut Vec<Above>, key: Key, above: Above)
     ensures { tips.new.items ≡ map (past key above) tips.old.items }
 {

@@ -33,7 +33,7 @@ const TALK: [(&str, &str); 7] = [
 /// More bytes than the script has, and more than its answers have.
 pub(super) const ALL: usize = 1 << 10;
 
-/// What a reader does at each read after its bytes.
+/// What a reader does at each read after it has given all its bytes.
 #[derive(Clone, Copy)]
 enum After {
     Ends,
@@ -107,8 +107,8 @@ impl Write for Narrow {
     }
 }
 
-/// How a reader and a writer behave: the most bytes of a read, what the reader does after its
-/// bytes, the most bytes of a write, and the most bytes that the writer takes in all.
+/// How a reader and a writer behave: the most bytes of a read, what the reader does after it has
+/// given all its bytes, the most bytes of a write, and the most bytes that the writer takes in all.
 #[derive(Clone, Copy)]
 struct Way {
     read: usize,

@@ -45,7 +45,8 @@ fn end<F: Files + AllocGlobal + Threads + Wait + Sync>(
     }
 }
 
-/// Asserts how the program ends without words. `way` is what the writer of answers does with bytes.
+/// Asserts how the program ends if it gets no words. `way` is what the writer of answers does with
+/// bytes.
 fn check<F: Abort + Files + AllocGlobal + Threads + Wait + Sync>(
     rt: &F,
     reader: &mut Slow<'_>,
@@ -165,7 +166,7 @@ fn words_before_the_script(rt: HostRuntime) -> Result<(), Fail> {
 
 /// If there is no memory for the words, that is a fault; words that aren't text are refused.
 #[test]
-fn words_not_had(rt: HostRuntime) {
+fn words_that_cannot_be_read(rt: HostRuntime) {
     for (kind, status, reported) in [
         (ErrorKind::OutOfMemory, 1, "towerbench: memory\n"),
         (

@@ -7,7 +7,7 @@ use layers::construction::{Construction, Rules, Shape, one_writer};
 use layers::nested::{Ask, Continuation};
 use safe_bit::Store;
 
-/// The rules of such a register: its word is 1 once it has been read.
+/// The rules of such a register: the word is 1 once the register has been read.
 #[derive(Clone, Copy, Debug, PartialEq, Eq)]
 pub struct ReadFirst;
 

@@ -153,8 +153,8 @@ fn matrices_of<S: Register>(rt: &impl Abort, parts: S, rows: &[([u32; 3], Built)
     }
 }
 
-/// Registers of one kind, named by their number of values. The last three names also have the last
-/// stamp; the others have a last stamp of 0.
+/// Registers of one kind, named by their number of values. The last three names also give the last
+/// stamp, which is 0 for the other registers.
 #[derive(Drop)]
 struct Parts<S: Register> {
     of_4: S,

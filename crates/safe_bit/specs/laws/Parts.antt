@@ -47,7 +47,7 @@ LiesIn-whole size m z = record { cells = omega (arith, z.cells); words = omega (
 pub LiesIn-of_size : (size q s : Place) (m : Memory) → HasSize size m → Within q s size → LiesIn q s m
 LiesIn-of_size size q s m z w = record { cells = omega (arith, z.cells, w.cells); words = omega (arith, z.words, w.words) }
 
--- a part of a memory ends below 2^32, if the memory has fewer than 2^32 cells and words
+-- if a memory has fewer than 2^32 cells and fewer than 2^32 words, each part of it ends below 2^32
 pub IsPlaced-inside : (at size : Place) (m : Memory) → IsNumbered m → LiesIn at size m → IsPlaced at size
 IsPlaced-inside at size m n h = record { cells = omega (arith, n.cells, h.cells); words = omega (arith, n.words, h.words) }
 
@@ -73,8 +73,8 @@ with_part-with_part at s later inner m y z h = same_memory _ _
     (splice-splice at.cell later.cells inner.cells m.cells (fits_cells at s inner m z h) (y.cells ∙ sym z.cells))
     (splice-splice at.word later.words inner.words m.words (fits_words at s inner m z h) (y.words ∙ sym z.words))
 
--- replacing a part of a part, and putting that back, is the same as replacing the inner part in the
--- whole memory
+-- replacing a part of a part, and putting the outer part back, is the same as replacing the inner
+-- part in the whole memory
 pub with_part-part : (at size q s : Place) (inner m : Memory) → HasSize s inner → LiesIn at size m → Within q s size
     → with_part at (with_part q inner (part at size m)) m ≡ with_part (place_after at q) inner m
 with_part-part at size q s inner m z h w = same_memory _ _

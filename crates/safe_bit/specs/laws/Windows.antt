@@ -6,7 +6,7 @@ use Rattle.std.proofs.Common.{suc, [], ◌∷◌, add-zero, append_assoc}
 use Rattle.std.proofs.lemmas.List.{set_split, take_at, drop_at, take-append-drop, take-append-le, drop-append-le}
 use Rattle.safe_bit.specs.Windows.{splice, window}
 
--- what holds of an index before a stretch, of one in it, and of one after it, holds of each index k
+-- P k holds if it holds in each of three cases: index k is before a stretch, in it, or after it
 by_place : (i n k : ℕ) (P : ℕ → Type 0) → (k < i → P k) → ((m : ℕ) → k ≡ i + m → m < n → P k) → (i + n ≤ k → P k) → P k
 by_place i n k P before inside after =
     elim (cases_lt k i) [
@@ -86,8 +86,8 @@ module _ {A : Type 0} where
       (λ m at_m lt. rw at_m (inside m d lt))
       (λ past. after k d past))
 
-  -- replacing a stretch of a stretch, and putting that back, is the same as replacing the inner
-  -- stretch in the whole list
+  -- replacing a stretch of a stretch, and putting the outer stretch back, is the same as replacing
+  -- the inner stretch in the whole list
   pub splice-window : (i n j : ℕ) (ys xs : List A) → i + n ≤ length xs → j + length ys ≤ n
       → splice i (splice j ys (window i n xs)) xs ≡ splice (i + j) ys xs
   splice-window i n j ys xs h inner =
@@ -111,8 +111,8 @@ module _ {A : Type 0} where
           ∙ sym (ap (λ q. get_or (splice (i + j) ys xs) q d) (sym (add_assoc i j p)) ∙ get_or-splice_inside (i + j) ys xs p d hij below)))
           (λ after. get_or-splice_after j ys (window i n xs) m d hj after ∙ get_or-window i n xs m d less ∙ sym (get_or-splice_after (i + j) ys xs (i + m) d hij (omega arith)))
 
-  -- setting an item of a stretch, and putting the stretch back, is the same as setting it in the
-  -- list
+  -- setting an item of a stretch, and putting the stretch back, is the same as setting the item in
+  -- the list
   pub set-window : (i n j : ℕ) (x : A) (xs : List A) → i + n ≤ length xs → j < n → set xs (i + j) x ≡ splice i (set (window i n xs) j x) xs
   set-window i n j x xs h less =
       let lw = length-window i n xs h in
@@ -151,8 +151,8 @@ module _ {A : Type 0} where
   splice-whole ys xs e = rw (drop_all (0 + length ys) xs (omega arith)) (append-nil ys)
 
 -- a stretch stays as it was if an item after it is set
-pub window-set_behind : {A : Type 0} (i n k : ℕ) (x : A) (xs : List A) → i + n ≤ length xs → i + n ≤ k → window i n (set xs k x) ≡ window i n xs
-window-set_behind i n k x xs h behind =
+pub window-set_after : {A : Type 0} (i n k : ℕ) (x : A) (xs : List A) → i + n ≤ length xs → i + n ≤ k → window i n (set xs k x) ≡ window i n xs
+window-set_after i n k x xs h behind =
     let l = length-set xs k x in
     let h' : i + n ≤ length (set xs k x) = omega arith in
     same_lists (window i n (set xs k x)) (window i n xs) (length-window i n (set xs k x) h' ∙ sym (length-window i n xs h))

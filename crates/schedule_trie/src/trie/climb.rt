@@ -66,7 +66,7 @@ impl<T: Drop> Trie<T> {
             let (key, slots, above) = up;
             let (left, is_here) = following.overflowing_sub(slots.len());
             if is_here {
-                // `left` is 2^64 - n; the wanted cell is the n-th here, so its offset is n - 1
+                // `left` is 2^64 - n; the wanted cell is the n-th of `slots`, at offset n - 1
                 return Some((key, usize::MAX - left));
             }
             following = left;

@@ -13,8 +13,8 @@ use crate::segment::Segment;
 use std::alloc::{AllocError, Global};
 
 impl<T: Drop> Trie<T> {
-    /// Replaces each cell of a branch by a new cell with the same step, in that branch alone. Its
-    /// new segments have no notes. The segments of other branches keep their notes.
+    /// Replaces each cell of a branch by a new cell with the same step, in that branch alone. The
+    /// branch's new segments have no notes. The segments of other branches keep their notes.
     ///
     /// # Errors
     ///
@@ -34,7 +34,8 @@ impl<T: Drop> Trie<T> {
         Ok(())
     }
 
-    /// Replaces the cells of the branch at an index by new cells, which the limit of cells allows.
+    /// Replaces the cells of the branch at an index by new cells. The limit of cells has to allow
+    /// them.
     fn detach_at(&mut self, alloc: Global, index: usize) -> Result<(), AllocError>
         requires index { index < length self.old.strands }
         requires room { self.old.made + length (slots_in (forest self.old).branches index)

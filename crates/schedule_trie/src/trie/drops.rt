@@ -30,7 +30,7 @@ impl<T: Drop> Trie<T> {
         Ok(())
     }
 
-    /// Drops the branch at an index. It isn't the only branch.
+    /// Drops the branch at an index. There has to be another branch.
     fn drop_at(&mut self, index: usize)
         requires index { index < length self.old.strands }
         requires several { 1 < length self.old.strands }

@@ -15,7 +15,7 @@ use crate::slot::Slot;
 use frames::types::Step;
 use std::alloc::{AllocError, Global};
 
-/// When an insert cuts a full segment in two, the first part gets this many of its old cells.
+/// When an insert cuts a full segment in two, the first part gets this many of the old cells.
 const UPPER_SLOTS: usize = 64;
 
 impl<T: Drop> Trie<T> {
@@ -111,7 +111,7 @@ impl<T: Drop> Trie<T> {
         Ok(())
     }
 
-    /// Cuts a full segment in two, and inserts a new cell before the cell at an offset.
+    /// Inserts a new cell before the cell at an offset of a full segment, which is cut in two.
     fn put_divided(
         &mut self,
         alloc: Global,

@@ -20,8 +20,9 @@ impl<T: Drop> Trie<T> {
     /// earlier limb has, and shares only what `may_share` allows after the earlier limbs. Each
     /// `from` is below the limit of branches, and each `shared` at most the limit of cells.
     ///
-    /// The forest that the limbs describe is the trie's with other numbers for its cells: it has
-    /// the same names and steps, and its branches share cells at the same places.
+    /// The limbs describe a forest that has the same names and steps as the trie's, and whose
+    /// branches share cells at the same places. The numbers of the cells, and the number of cells
+    /// ever made, may differ.
     ///
     /// # Errors
     ///

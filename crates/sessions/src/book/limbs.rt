@@ -20,15 +20,17 @@ use std::alloc::{AllocError, Global};
 impl<R: Register> Book<R> {
     /// A book before its first command: its log is empty, no session has joined, and its branches
     /// are those that these limbs describe (a limb is a branch as a file has it). There has to be
-    /// at least one limb. The limbs have to be lawful: each has a new and well-formed name, and
-    /// shares either no cells, or the first cells of an earlier branch, the last of which is one of
-    /// that branch's own. Their steps have to fit the register, the limits have to be in their
-    /// ranges, and the initial value `value` has to be one of the register's values.
+    /// at least one limb. The limbs have to be lawful, as follows. Each has a well-formed name that
+    /// no earlier limb has. Each either shares no cells (its `from` and `shared` are 0), or shares
+    /// the first cells of an earlier limb's branch; if it shares cells, the last shared cell is one
+    /// of the earlier limb's own cells, not one that the earlier limb shares. The limbs' steps have
+    /// to fit the register, the limits have to be in their ranges, and the initial value `value`
+    /// has to be one of the register's values.
     ///
     /// # Errors
     ///
-    /// Full if the limbs have more cells than the limits allow; TooManyBranches if there are more
-    /// limbs than the limits allow branches; otherwise Memory, if memory runs out.
+    /// Full if the limbs have, in all, more own cells than the limits allow; else TooManyBranches
+    /// if there are more limbs than the limits allow branches; else Memory if memory runs out.
     pub fn load(
         alloc: Global,
         register: R,
@@ -56,10 +58,12 @@ impl<R: Register> Book<R> {
     }
 
     /// The limbs of the book's branches (a limb is a branch as a file has it), in the order the
-    /// branches were made. There is at least one. They are lawful: each has a new and well-formed
-    /// name, and shares either no cells, or those of an earlier branch up to one of that branch's
-    /// own cells. Their steps fit the register. In each, the number of the branch that it shares
-    /// cells with, and the number of these cells, are within the book's limits.
+    /// branches were made. There is at least one limb. The limbs are lawful, as follows. Each has a
+    /// well-formed name that no earlier limb has. Each either shares no cells (its `from` and
+    /// `shared` are 0), or shares the first cells of an earlier limb's branch; if it shares cells,
+    /// the last shared cell is one of the earlier limb's own cells, not one that the earlier limb
+    /// shares. The limbs' steps fit the register. In each limb, the index of the branch that it
+    /// shares cells with, and the count of the shared cells, are within the book's limits.
     ///
     /// # Errors
     ///

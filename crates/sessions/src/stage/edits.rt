@@ -57,8 +57,8 @@ impl<R: Register> Stage<R> {
     }
 }
 
-/// Makes the edit of a command in a chart, and moves the cursors that are after the edit's place. A
-/// command that isn't an edit changes nothing.
+/// Makes the edit of a command in a chart. An insert or a remove also moves the cursors that are
+/// after its place, on each branch that it changes. A command that isn't an edit changes nothing.
 ///
 /// # Errors
 ///

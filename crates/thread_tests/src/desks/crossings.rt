@@ -24,7 +24,7 @@ use turn::Counted;
 use views::query::Query;
 use workers::gate::Gate;
 
-/// A chair, its desk, and whether the chair has made its edit. Contracts see only the last part.
+/// A chair, its desk, and whether the chair has made its edit. Contracts see only `has_edited`.
 #[derive(Drop)]
 struct Crossing<'a, R: Register>
 where
@@ -172,7 +172,7 @@ fn crossing_a_long_branch(rt: HostRuntime) -> Result<(), Fail> {
 /// If memory runs out, the other chair's edit may be refused, and a run may be missing. The desk
 /// still works after that.
 #[test]
-fn crossing_wanting_memory(rt: HostRuntime) {
+fn crossing_out_of_memory(rt: HostRuntime) {
     let alloc = rt.alloc();
     let Ok((desk, first)) = of_one_read(alloc) else {
         return;

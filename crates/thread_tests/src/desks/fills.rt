@@ -24,8 +24,9 @@ use std::sync::Wait;
 use std::test::Fail;
 use std::thread::Threads;
 use views::lens::Lens;
-use views::page::page_text;
+use views::page::{Page, page_text};
 use views::query::Query;
+use views::slip::Slip;
 
 impl<R: Threads + Wait + Sync> Room<'_, R> {
     /// Fills a branch. Unlike the desk's, this contract promises nothing about histories.
@@ -159,19 +160,32 @@ fn replayed_text(alloc: Global, log: &Log, query: &Query) -> Result<Option<Vec<u
     }
 }
 
+/// The slip of a look at a book.
+fn slip_on(alloc: Global, book: &mut Book<Safe>, query: &Query) -> Result<Slip<Safe>, Refusal> {
+    book.look(alloc, *query)
+}
+
+/// The page of a slip.
+fn page_of(alloc: Global, slip: &Slip<Safe>) -> Result<Page, Refusal> {
+    let Ok(mut lens) = Lens::new(alloc) else {
+        return Err(Refusal::Memory);
+    };
+    slip.page(alloc, &mut lens).or(Err(Refusal::Memory))
+}
+
+/// The page of a look at a book.
+fn page_on(alloc: Global, book: &mut Book<Safe>, query: &Query) -> Result<Page, Refusal> {
+    let slip = slip_on(alloc, book, query)?;
+    page_of(alloc, &slip)
+}
+
 /// The text of a look's page on a book.
 pub(super) fn text_on(
     alloc: Global,
     mut book: Book<Safe>,
     query: &Query,
 ) -> Result<Vec<u8>, Refusal> {
-    let slip = book.look(alloc, *query)?;
-    let Ok(mut lens) = Lens::new(alloc) else {
-        return Err(Refusal::Memory);
-    };
-    let Ok(page) = slip.page(alloc, &mut lens) else {
-        return Err(Refusal::Memory);
-    };
+    let page = page_on(alloc, &mut book, query)?;
     page_text(alloc, 0, &page).or(Err(Refusal::Memory))
 }
 

@@ -219,16 +219,22 @@ impl Forest {
     }
 }
 
-/// The forest that grows by the numbers from a seed.
-fn forest_from(rt: &impl Abort, alloc: Global, seed: u32) -> Result<Forest, Refusal> {
+/// Grows a forest of `main` alone by the numbers from a seed.
+fn grow_from(rt: &impl Abort, forest: &mut Forest, seed: u32) -> Result<(), Refusal> {
     let mut sequence = Sequence { state: seed };
-    let mut forest = Forest::new(alloc)?;
     let main = name(rt, b"main");
     forest.insert_run(main, 0, INSERTS)?;
     for index in 0..NAMES.len() {
         let fresh = name(rt, &NAMES[index..index + 1]);
         forest.grow(&mut sequence, &main, fresh)?;
     }
+    Ok(())
+}
+
+/// The forest that grows by the numbers from a seed.
+fn forest_from(rt: &impl Abort, alloc: Global, seed: u32) -> Result<Forest, Refusal> {
+    let mut forest = Forest::new(alloc)?;
+    grow_from(rt, &mut forest, seed)?;
     Ok(forest)
 }
 

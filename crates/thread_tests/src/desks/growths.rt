@@ -49,7 +49,7 @@ impl<R: Abort + Wait> Room<'_, R> {
 }
 
 #[test]
-fn two_chairs_wanting_memory(rt: HostRuntime) {
+fn two_chairs_out_of_memory(rt: HostRuntime) {
     let alloc = rt.alloc();
     let (desk, first) = match opened(alloc, 16) {
         Ok(opened) => opened,
@@ -70,7 +70,7 @@ fn two_chairs_wanting_memory(rt: HostRuntime) {
     }
 }
 
-/// How often a call is tried at most: more often than growths are refused in a row.
+/// The most times that a call is tried. Fewer growths are refused in a row.
 const TRIES: u32 = 10;
 
 impl<R: Abort + Wait> Room<'_, R> {
@@ -175,11 +175,11 @@ fn thousand_with<R: Abort + Threads + Wait + Sync>(rt: &R, alloc: Global, thieve
 }
 
 #[test]
-fn thousand_steps_wanting_memory(rt: HostRuntime) {
+fn thousand_steps_out_of_memory(rt: HostRuntime) {
     thousand_with(&rt, rt.alloc(), 0);
 }
 
 #[test]
-fn thousand_steps_by_four_wanting_memory(rt: HostRuntime) {
+fn thousand_steps_by_four_out_of_memory(rt: HostRuntime) {
     thousand_with(&rt, rt.alloc(), 4);
 }

@@ -46,7 +46,7 @@ fn count_reported(receipt: Receipt) -> Option<(u64, bool)> {
 }
 
 impl<R: Abort + Wait> Room<'_, R> {
-    /// Makes `EDITS` inserts of a session, each guarded by the edit count that the reply before
+    /// Makes `EDITS` inserts of a session, each guarded by the edit count that the previous reply
     /// reports. Returns whether all were made within `2 * EDITS` calls: each refusal is due to an
     /// edit of the other chair, which also makes `EDITS`.
     pub(super) fn insert_guarded(&self, chair: &mut Chair<Safe>, who: u32) -> bool

@@ -118,7 +118,7 @@ fn limbs_are_reported_again(rt: HostRuntime) {
 
 /// If memory runs out, the refusal is always Memory.
 #[test]
-fn limbs_wanting_memory(rt: HostRuntime) {
+fn limbs_out_of_memory(rt: HostRuntime) {
     let reported = all_keep(&rt, rt.alloc());
     assert!(rt; reported == Ok(true) || reported == Err(Refusal::Memory));
 }

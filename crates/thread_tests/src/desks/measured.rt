@@ -24,7 +24,7 @@ use std::test::Fail;
 /// How many edits a thread makes.
 const EDITS: u32 = 20_000;
 
-/// Limits that allow twice as many edits.
+/// Limits that allow `EDITS` edits by each of two threads.
 fn wide() -> Limits
     ensures { AreLimits result }
 {

@@ -51,27 +51,29 @@ pub steps_decide : (a b : List Step) → Decides (pointwise step_eq a b) (a ≡ 
 steps_decide a b = slice_eq-Decides step_decides a b _ refl
 
 -- Two places of runs are the same: equally many steps precede them, and their runs have the same
--- steps and begin from equal configurations. E compares the registers of these.
+-- steps and begin from equal configurations. E compares the registers of the configurations.
 pub record SamePlace {R P : Type 0} (E : R → R → Bool) (a b : RunPart R P) : Type 0 where
   pub count : a.count ≡ b.count
   pub steps : a.run.steps ≡ b.run.steps
   pub entry : SameConfiguration E a.run.entry b.run.entry
 
 module _ {R P : Type 0} (E : R → R → Bool) (F : P → P → Bool) where
-  -- whether two places of runs are the same; E compares registers, and F pending operations' points
+  -- whether two places of runs are the same; E compares registers, and F compares the points that
+  -- pending operations have reached
   abbrev pub same_place : RunPart R P → RunPart R P → Bool
   same_place = eq_of_both (on (λ a. a.count) nat_eq) (eq_of_both (on (λ a. a.run.steps) (pointwise step_eq)) (on (λ a. a.run.entry) (configuration_eq E F)))
 
   module _ (d : (x y : P) → Decides (F x y) (x ≡ y)) where
     -- `same_place` decides whether two places of runs are the same, if F decides whether two points
-    -- are equal
+    -- of pending operations are equal
     pub place_decides : (a b : RunPart R P) → Decides (same_place a b) (SamePlace E a b)
     place_decides a b =
         Decides-like (same_place a b) (λ p. record { count = p.0; steps = p.1.0; entry = p.1.1 }) (λ p. (p.count, (p.steps, p.entry)))
         (Decides-and (nat_eq a.count b.count) _ (Decides-eqb a.count b.count)
         (Decides-and (pointwise step_eq a.run.steps b.run.steps) _ (steps_decide a.run.steps b.run.steps) (configuration_decides E F d a.run.entry b.run.entry)))
 
-    -- if E, which compares registers, is a partial equivalence, so is `same_place`
+    -- `same_place` is a partial equivalence if E, which compares registers, is a partial
+    -- equivalence, and F decides whether two points of pending operations are equal
     pub same_place_per : IsPartialEquivalence E → IsPartialEquivalence same_place
     same_place_per per =
         and_per (on_per (λ a. a.count) (per_from_decides nat_eq Decides-eqb))
@@ -84,11 +86,13 @@ module _ {R P : Type 0} (E : R → R → Bool) (F : P → P → Bool) where
       entry = record { register = e.refl a.run.entry.register; memory = refl; running = refl; stopped = refl };
     }
 
-    -- if E, which compares registers, is an equivalence, so is `same_place`
+    -- `same_place` is an equivalence if E, which compares registers, is an equivalence, and F
+    -- decides whether two points of pending operations are equal
     pub same_place_equivalence : IsEquivalence E → IsEquivalence same_place
     same_place_equivalence e = equiv (same_place_per (partial_equiv_from_equiv e)) (λ a. (place_decides a a).1 (same_itself e a))
 
-    -- if `same_place` holds of two places, the same numbers are hashed for both
+    -- if `same_place` holds of two places, and F decides whether two points of pending operations
+    -- are equal, the same numbers are hashed for both places
     pub places_hash_alike : (a b : RunPart R P) → same_place a b ≡ true
         → fed.u64 (digest (last_made a)) ++ fed.u32 a.count ≡ fed.u64 (digest (last_made b)) ++ fed.u32 b.count
     places_hash_alike a b h =

@@ -28,7 +28,7 @@ frame_name Stamped = codes "stamped"
 frame_name MatrixRead = codes "matrix"
 frame_name MatrixWrite = codes "matrix"
 
--- the name of the layer that refused an operation because its stamps or tags are used up
+-- the name of a layer that refused an operation because the layer's stamps or tags are used up
 abbrev pub layer_name : Layer → List ℕ
 layer_name layer.Stamped = codes "stamped"
 layer_name layer.Matrix = codes "matrix"

@@ -36,8 +36,8 @@ abbrev pub short_op : Op → ℕ → List ℕ
 short_op (op.Write v) written = codes "w " ++ decimal written
 short_op op.Read written = codes "r"
 
--- the text of a frame's operation: a write is shown with its code x (one number for a stamp and a
--- value) in a stamped register, and with its value in every other layer
+-- The text of a frame's operation. The text of a write has a number: the code x (one number for a
+-- stamp and a value) if the layer is Stamped, else the write's value.
 abbrev pub frame_op : FrameLayer → Op → ℕ → List ℕ
 frame_op Stamped (op.Write v) x = short_op (op.Write v) x
 frame_op Stamped op.Read x = short_op op.Read 0
@@ -50,7 +50,8 @@ after_space n = codes " " ++ decimal n
 
 -- What follows the operation in a frame's text. Safe bit: how many bit actions the operation has
 -- made; copies: the reader whose copy is in use; unary number: the bit in use; matrix: the phase,
--- the part in use and a code; the other layers: nothing.
+-- the part in use and a code (the greatest read so far, or the one being written); the other
+-- layers: nothing.
 abbrev pub frame_rest : FrameLayer → ℕ → ℕ → List ℕ
 frame_rest Safe i x = after_space i
 frame_rest Copies i x = after_space i
@@ -77,7 +78,8 @@ frames_text (f ∷ fs) = frame_text f ++ flat_map inner_frame fs
 abbrev pub frames_line : ℕ → List Frame → Bool → List ℕ
 frames_line p fs stopped = codes "  p" ++ decimal p ++ codes " " ++ frames_text fs ++ stopped_text stopped ++ line_end
 
--- the line of a process, given the frames of its operation, or `None` if it has none pending
+-- the line of a process, given the frames of its pending operation (`None` if nothing is pending),
+-- and whether the process has stopped
 abbrev pub shown_frames : ℕ → Option (List Frame) → Bool → List ℕ
 shown_frames p None stopped = idle_line p stopped
 shown_frames p (Some fs) stopped = frames_line p fs stopped

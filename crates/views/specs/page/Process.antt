@@ -1,4 +1,4 @@
--- The page that shows one process, and the lines of processes, which other pages have too.
+-- The page that shows one process. Also the lines of processes: other pages have such lines too.
 use Rattle.std.specs.Prelude.{ℕ, List, [], ◌++◌, Option, Some, None, Bool, nat_lt, codes, map, if◌then◌else◌}
 use Rattle.std.specs.List.{range_with_len}
 use Rattle.std.specs.Fmt.{decimal}
@@ -41,11 +41,12 @@ op_text op.Read = codes "read"
 abbrev pub stopped_text : Bool → List ℕ
 stopped_text stopped = if stopped then codes " stopped" else []
 
--- the line of a process that has nothing pending, which says whether it has stopped
+-- the line of a process that has nothing pending; the line says whether the process has stopped
 abbrev pub idle_line : ℕ → Bool → List ℕ
 idle_line p stopped = codes "  p" ++ decimal p ++ codes " idle" ++ stopped_text stopped ++ line_end
 
--- the line of a process with an operation pending: the operation, and its next bit action
+-- the line of a process that has an operation pending and hasn't stopped: the operation, and the
+-- operation's next bit action
 abbrev pub busy_line : ℕ → Op → Action → List ℕ
 busy_line p o a =
     codes "  p" ++ decimal p ++ codes " " ++ op_text o ++ codes " next " ++ kind_name a.kind ++ codes " " ++ decimal a.cell ++ line_end

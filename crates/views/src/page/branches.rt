@@ -63,7 +63,7 @@ fn lengths<R: Register>(alloc: Global, chart: &Chart<R>) -> Result<Listed<Branch
     Ok(Listed::new(all))
 }
 
-/// The name and the length of the branch at `index`, with the branches in the order they were made.
+/// The name and the length of the branch at `index` in the order in which the branches were made.
 fn length_at<R: Register>(chart: &Chart<R>, index: u32) -> BranchLength
     requires apart { AreNamedApart (forest chart.now.cut).branches }
     requires within { index < length (forest chart.now.cut).branches }

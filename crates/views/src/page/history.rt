@@ -66,7 +66,9 @@ fn event_process(event: Event) -> u32
     }
 }
 
-/// Adds the text of an event: its kind, with its operation, value, layer, reason or bit.
+/// Adds the text of an event: its kind, and after it an invocation's operation, the value that a
+/// read returned, a refusal's layer, a void's reason, or a choice's bit and value. The text of a
+/// write's return is `return written`, and that of a stop is `stop`.
 fn push_event_name(out: &mut Vec<u8>, event: Event) -> Pushed
     ensures { OnOk result (out.new.items ≡ out.old.items ++ spec.event_name event) }
 {

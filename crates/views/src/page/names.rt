@@ -33,7 +33,7 @@ pub(super) fn frame_name(layer: FrameLayer) -> &'static str
     }
 }
 
-/// The name of the layer that refused an operation because its stamps or tags are used up.
+/// The name of a layer that refused an operation because the layer's stamps or tags are used up.
 pub(super) fn layer_name(layer: Layer) -> &'static str
     ensures { result.now ≡ spec.layer_name layer }
 {

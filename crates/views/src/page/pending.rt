@@ -151,8 +151,8 @@ fn push_frame(out: &mut Vec<u8>, frame: Frame) -> Pushed
     push_frame_rest(out, frame.layer, frame.i, frame.x)
 }
 
-/// Adds the operation of a frame. A write is shown with its code `x` in a stamped register, and
-/// with its value in every other layer.
+/// Adds the operation of a frame. The text of a write has a number: the code `x` if the layer is
+/// `Stamped`, else the write's value.
 fn push_frame_op(out: &mut Vec<u8>, layer: FrameLayer, op: Op, x: u32) -> Pushed
     ensures { OnOk result (out.new.items ≡ out.old.items ++ spec.frame_op layer op x) }
 {
@@ -179,7 +179,10 @@ fn push_frame_rest(out: &mut Vec<u8>, layer: FrameLayer, i: u32, x: u32) -> Push
     }
 }
 
-/// Adds the phase of a matrix's operation, the number of the part in use, and the code.
+/// Adds what follows the operation in the text of a matrix's frame: the phase, `i`, and the code
+/// `x`. `i` is the number of the part in use within the column being read or the row being written.
+/// In the phase `read`, `x` is the greatest code read so far, at first 0. In the phase `write`, `x`
+/// is the code being written.
 fn push_part(out: &mut Vec<u8>, phase: &str, i: u32, x: u32) -> Pushed
     ensures { OnOk result (out.new.items ≡ out.old.items
         ++ phase.now ++ decimal i ++ spec.after_space x) }

@@ -1,4 +1,4 @@
-//! The page that shows one process, and the lines of processes, which other pages have too.
+//! The page that shows one process. Also the lines of processes: other pages have such lines too.
 
 ghost use Rattle.std.specs.Prelude.{◌≡◌, ◌++◌, IfOk, None, OnOk, codes, decimal};
 ghost use Rattle.views.specs.Numbered.{numbered_lines};
@@ -20,7 +20,7 @@ use words::text::{Pushed, push_labelled, push_text};
 pub enum ProcessStatus {
     /// It has nothing pending.
     Idle { stopped: bool },
-    /// It has an operation pending, and `next` is that operation's next bit action.
+    /// It has an operation pending and hasn't stopped. `next` is the operation's next bit action.
     Busy { op: Op, next: Action },
     /// It has stopped with an operation pending.
     Stopped { op: Op },

@@ -20,8 +20,8 @@ pub struct VerdictPage {
     pub reads: Option<Listed<ReadVerdict>>,
 }
 
-/// The page that shows the verdict on each read that returns in `events`, if the register's initial
-/// value is `value`. If `value` is `None`, the page's `reads` are `None`.
+/// The page that shows the verdict on each read that returns in `events`, given the register's
+/// initial value, `value`. If no initial value is given, the page's `reads` are `None`.
 pub(crate) fn verdict_page(
     alloc: Global,
     head: &Head,

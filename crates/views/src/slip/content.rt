@@ -54,7 +54,7 @@ impl<R: Register> Model for PlaceSlip<R> {
     ghost invariant = { λ s. IsFor s.kind s.found };
 }
 
-/// What a look found at a place: only what its kind of page is made from.
+/// What a look found at a place: only what is needed to make a page of the look's kind.
 #[derive(Drop)]
 pub(super) enum Found<R: Register> {
     /// For a page without events, if no step precedes the place: the configuration at the place.
@@ -81,8 +81,9 @@ impl<R: Register> PlaceSlip<R> {
     }
 }
 
-/// The page of the configuration after the first `count` steps of `run`. If these are all of its
-/// steps, the run's exit is shown uncopied; otherwise the lens finds the configuration.
+/// The page of the configuration after the first `count` steps of `run`. If the run has at most
+/// `count` steps, the configuration is the run's exit, and the page is made from the exit itself,
+/// not from a copy. Otherwise `lens` finds the configuration.
 fn part_page<R: Register>(
     alloc: Global,
     lens: &mut Lens<R>,
@@ -102,8 +103,9 @@ fn part_page<R: Register>(
     config_page(alloc, kind, head, &config)
 }
 
-/// The page of the events that successive runs record, or of the verdicts on the reads among these
-/// events. A run's steps after the place are left out.
+/// The page of the events that successive runs record or, if `kind` is `Verdict`, of the verdicts
+/// on the returned reads among these events. Each run in `runs` comes with a number, which says how
+/// many of the run's first steps are used.
 fn events_page<R: Register>(
     alloc: Global,
     kind: PlaceKind,

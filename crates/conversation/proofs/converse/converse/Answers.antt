@@ -1,9 +1,9 @@
-use Rattle.std.proofs.Common.{◌+◌, ◌-◌, ◌≤◌, ◌<◌, ◌≡◌, ℕ, length, take, arith}
+use Rattle.std.proofs.Common.{◌+◌, ◌-◌, ◌≤◌, ◌≡◌, length, take, arith}
 use Rattle.std.specs.Prelude.{⊤, OnOk, Result, Ok, Err}
 use Rattle.std.specs.Result.{IsErrAnd}
 use Rattle.std.proofs.lemmas.List.{length-take-le}
 use Rattle.conversation.specs.declared.fault.StreamFault.{StreamFault}
-use Rattle.conversation.proofs.Turns.{reached_start, reached_kept, reached_at, breaks_read, breaks_long, finished, broken}
+use Rattle.conversation.proofs.Turns.{reached_start, reached_kept, reached_at, fault_read, fault_long, finished, ends_with_fault}
 use Rattle.conversation.proofs.converse.converse.Goals as goal
 use Rattle.conversation.specs.declared.limits.TheConstants.{MOST_SCRIPT_BYTES}
 
@@ -13,7 +13,7 @@ loop-init g c = record {
   few = omega (arith, c.new-conversation.ensures.lines);
   sent = c.new-conversation.ensures.out;
   within = omega arith;
-  reached = λ alone. (alone, reached_start g.A.Answers.define _ _ _ _ _ c.new-conversation.ensures.lines c.new-conversation.ensures.line);
+  reached = λ alone. (alone, reached_start g.A.Answers.define _ _ _ _ c.new-conversation.ensures.lines c.new-conversation.ensures.line);
 }
 
 pub loop-preserved : goal.loop-preserved
@@ -30,9 +30,9 @@ loop-preserved g c =
       within = omega (arith, c.loop.invariant.within);
       reached = λ alone.
           let r = c.loop.invariant.reached alone in
-          let on = c.in_ok-turn.ensures.turned r.0 _ _ _ _ _ (MOST_SCRIPT_BYTES - c.loop.room) (rw c.in-Some.is at c.in-Ok.ensures.bytes) so_far r.1 in (
+          let on = c.in_ok-turn.ensures.turned r.0 _ _ _ _ (MOST_SCRIPT_BYTES - c.loop.room) (rw c.in-Some.is at c.in-Ok.ensures.bytes) so_far r.1 in (
             c.in_ok-turn.ensures.alone r.0,
-            reached_at g.A.Answers.define _ _ _ _ _ _ _ _ _ on _ (omega (arith, size, bound, c.loop.invariant.within)),
+            reached_at g.A.Answers.define _ _ _ _ _ _ _ on _ (omega (arith, size, bound, c.loop.invariant.within)),
           );
     }
 
@@ -40,7 +40,7 @@ pub returns : goal.returns
 returns g c = record {
   done = λ alone. tt;
   alone = λ alone. tt;
-  fault = λ alone. breaks_long g.A.Answers.define _ _ _ _ _ _ _ _ _ (c.loop.invariant.reached alone).1 (omega arith);
+  fault = λ alone. fault_long g.A.Answers.define _ _ _ _ _ _ _ (c.loop.invariant.reached alone).1 (omega arith);
 }
 
 pub returns-then-room-eq0 : goal.returns-then-room-eq0
@@ -55,8 +55,8 @@ returns-then-room-eq0 g c =
       alone = λ alone. tt;
       fault = λ alone.
           let r = c.loop.invariant.reached alone in
-          let on = c.in_ok-turn.ensures.turned r.0 _ _ _ _ _ (MOST_SCRIPT_BYTES - c.loop.room) (rw c.in-Some.is at c.in-Ok.ensures.bytes) so_far r.1 in
-          breaks_long g.A.Answers.define _ _ _ _ _ _ _ _ _ on so_far;
+          let on = c.in_ok-turn.ensures.turned r.0 _ _ _ _ (MOST_SCRIPT_BYTES - c.loop.room) (rw c.in-Some.is at c.in-Ok.ensures.bytes) so_far r.1 in
+          fault_long g.A.Answers.define _ _ _ _ _ _ _ on so_far;
     }
 
 pub returns-in_default : goal.returns-in_default
@@ -65,7 +65,7 @@ returns-in_default g c = record {
   alone = λ alone. tt;
   fault = λ alone.
       let r = c.loop.invariant.reached alone in
-      breaks_read g.A.Answers.define _ _ _ _ _ _ _ _ _ r.1 _ c.in_default.ensures.kept (omega arith);
+      fault_read g.A.Answers.define _ _ _ _ _ _ _ r.1 _ c.in_default.ensures.kept (omega arith);
 }
 
 pub returns-in_default-taken : goal.returns-in_default-taken
@@ -73,14 +73,14 @@ returns-in_default-taken g c = record {
   done = λ alone.
       let r = c.loop.invariant.reached alone in
       let bytes = rw c.in_default-taken.is at c.in-Ok.ensures.bytes in
-      let kept = reached_kept g.A.Answers.define _ _ _ _ _ _ _ _ _ r.1 _ bytes.0 in
-      (finished g.A.Answers.define _ _ _ _ _ _ c.finish.result (c.finish.ensures.ended r.0 _ _ _ _ _ (omega (arith, c.loop.invariant.some, c.loop.invariant.within)) bytes.1 kept)).done;
+      let kept = reached_kept g.A.Answers.define _ _ _ _ _ _ _ r.1 _ bytes.0 in
+      (finished g.A.Answers.define _ _ _ _ c.finish.result (c.finish.ensures.ended r.0 _ _ _ _ (omega (arith, c.loop.invariant.some, c.loop.invariant.within)) bytes.1 kept)).done;
   alone = λ alone. c.finish.ensures.alone (c.loop.invariant.reached alone).0;
   fault = λ alone.
       let r = c.loop.invariant.reached alone in
       let bytes = rw c.in_default-taken.is at c.in-Ok.ensures.bytes in
-      let kept = reached_kept g.A.Answers.define _ _ _ _ _ _ _ _ _ r.1 _ bytes.0 in
-      (finished g.A.Answers.define _ _ _ _ _ _ c.finish.result (c.finish.ensures.ended r.0 _ _ _ _ _ (omega (arith, c.loop.invariant.some, c.loop.invariant.within)) bytes.1 kept)).fault;
+      let kept = reached_kept g.A.Answers.define _ _ _ _ _ _ _ r.1 _ bytes.0 in
+      (finished g.A.Answers.define _ _ _ _ c.finish.result (c.finish.ensures.ended r.0 _ _ _ _ (omega (arith, c.loop.invariant.some, c.loop.invariant.within)) bytes.1 kept)).fault;
 }
 
 handed : (r : Result ⊤ StreamFault) (Is : StreamFault → Type 0) (P : Type 0) → IsErrAnd r Is → OnOk r P
@@ -97,11 +97,11 @@ returns-in_err-turn g c =
     record {
       done = λ alone.
           let r = c.loop.invariant.reached alone in
-          (broken g.A.Answers.define _ _ _ _ _ (g.A.Answers.world c.turn.new.answers) c.from_residual.result _ _ c.from_residual.ensures.0 c.from_residual.ensures.1 (λ x h. h)
-          (c.in_err-turn.ensures.turned r.0 _ _ _ _ _ (MOST_SCRIPT_BYTES - c.loop.room) (rw c.in-Some.is at c.in-Ok.ensures.bytes) so_far r.1)).done;
+          (ends_with_fault g.A.Answers.define _ _ _ (g.A.Answers.world c.turn.new.answers) c.from_residual.result _ _ c.from_residual.ensures.0 c.from_residual.ensures.1 (λ x h. h)
+          (c.in_err-turn.ensures.turned r.0 _ _ _ _ (MOST_SCRIPT_BYTES - c.loop.room) (rw c.in-Some.is at c.in-Ok.ensures.bytes) so_far r.1)).done;
       alone = λ alone. handed c.from_residual.result _ _ c.from_residual.ensures.1;
       fault = λ alone.
           let r = c.loop.invariant.reached alone in
-          (broken g.A.Answers.define _ _ _ _ _ (g.A.Answers.world c.turn.new.answers) c.from_residual.result _ _ c.from_residual.ensures.0 c.from_residual.ensures.1 (λ x h. h)
-          (c.in_err-turn.ensures.turned r.0 _ _ _ _ _ (MOST_SCRIPT_BYTES - c.loop.room) (rw c.in-Some.is at c.in-Ok.ensures.bytes) so_far r.1)).fault;
+          (ends_with_fault g.A.Answers.define _ _ _ (g.A.Answers.world c.turn.new.answers) c.from_residual.result _ _ c.from_residual.ensures.0 c.from_residual.ensures.1 (λ x h. h)
+          (c.in_err-turn.ensures.turned r.0 _ _ _ _ (MOST_SCRIPT_BYTES - c.loop.room) (rw c.in-Some.is at c.in-Ok.ensures.bytes) so_far r.1)).fault;
     }

@@ -1,6 +1,6 @@
 use Rattle.std.proofs.Common.{◌≡◌, ◌++◌, ◌-◌, ℕ, List, length, take, drop, sym, ap, ◌∙◌, append_assoc, take-append-drop}
 use Rattle.std.proofs.lemmas.List.{take_rest}
-use Rattle.conversation.proofs.Known.{appends_more}
+use Rattle.std.proofs.KnownBytes.{Appends-trans}
 use Rattle.conversation.proofs.streams.write_whole.Goals as goal
 
 further : (bytes front rest : List ℕ) (n : ℕ) → bytes ≡ front ++ rest → bytes ≡ (front ++ take n rest) ++ take (length rest - n) (drop n rest)
@@ -11,4 +11,4 @@ further bytes front rest n e =
 pub writes-preserved : goal.writes-preserved
 writes-preserved g c =
     let so_far = c.writes.invariant in
-    (so_far.0 ++ take c.in-Ok.n c.writes.rest.now, further c.args.bytes.now so_far.0 c.writes.rest.now c.in-Ok.n so_far.1, appends_more _ _ _ _ _ so_far.2 c.in-Ok.ensures.bytes)
+    (so_far.0 ++ take c.in-Ok.n c.writes.rest.now, further c.args.bytes.now so_far.0 c.writes.rest.now c.in-Ok.n so_far.1, Appends-trans _ _ _ _ _ so_far.2 c.in-Ok.ensures.bytes)

@@ -5,7 +5,7 @@ use Rattle.tower_file.proofs.BenchAnswers.{bench_format}
 use Rattle.tower_file.proofs.bench_reading.bench_of.Goals as goal
 
 pub returns-clause-parsed : goal.returns-clause-parsed
-returns-clause-parsed c = parses bench_format as_bench c.args.bytes.now c.bench_of_lines.result c.odd_first.result c.bench_of_lines.ensures.exact c.odd_first.ensures
+returns-clause-parsed c = parses bench_format as_bench c.args.bytes.now c.bench_of_lines.result c.foreign_first.result c.bench_of_lines.ensures.exact c.foreign_first.ensures
 
 pub returns-clause-memory : goal.returns-clause-memory
-returns-clause-memory c = plain_memory c.args.bytes.now (SpellsFront c.args.bytes.now) c.bench_of_lines.result c.odd_first.result c.bench_of_lines.ensures.memory c.odd_first.ensures
+returns-clause-memory c = plain_memory c.args.bytes.now (SpellsFront c.args.bytes.now) c.bench_of_lines.result c.foreign_first.result c.bench_of_lines.ensures.memory c.foreign_first.ensures

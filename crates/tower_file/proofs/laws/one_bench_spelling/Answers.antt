@@ -5,5 +5,5 @@ use Rattle.tower_file.proofs.laws.one_bench_spelling.Goals as goal
 pub returns-clause-file : goal.returns-clause-file
 returns-clause-file c = one_file bench_format
 
-pub returns-clause-file_reading : goal.returns-clause-file_reading
-returns-clause-file_reading c = λ bytes b. (reading_is bench_format bytes b, bench_format.again bytes b)
+pub returns-clause-reading : goal.returns-clause-reading
+returns-clause-reading c = λ bytes b. (reading_is bench_format bytes b, bench_format.again bytes b)

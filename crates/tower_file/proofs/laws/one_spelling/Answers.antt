@@ -5,5 +5,5 @@ use Rattle.tower_file.proofs.laws.one_spelling.Goals as goal
 pub returns-clause-file : goal.returns-clause-file
 returns-clause-file c = one_file tower_format
 
-pub returns-clause-file_reading : goal.returns-clause-file_reading
-returns-clause-file_reading c = λ bytes f. (reading_is tower_format bytes f, tower_format.again bytes f)
+pub returns-clause-reading : goal.returns-clause-reading
+returns-clause-reading c = λ bytes f. (reading_is tower_format bytes f, tower_format.again bytes f)

@@ -4,7 +4,7 @@ use Rattle.std.proofs.lemmas.Bool.{and_from}
 use Rattle.words.specs.Words.{lines, after_next}
 use Rattle.tower_file.specs.Towers.{is_lawful_tower}
 use Rattle.tower_file.specs.Versions.{may_have}
-use Rattle.tower_file.specs.Reading.{first_odd, version_of, tower_of}
+use Rattle.tower_file.specs.Reading.{first_foreign, version_of, tower_of}
 use Rattle.tower_file.specs.Spelling.{SpellsSteps}
 use Rattle.tower_file.proofs.Sound.{steps_are}
 use Rattle.tower_file.proofs.Answer.{spells_steps}
@@ -21,7 +21,7 @@ returns-in_err-steps-clause-memory c =
     let version : version_of (lines c.args.bytes.now) ≡ Some v = search rules in
     let tower : tower_of (after_next (lines c.args.bytes.now)) ≡ Ok c.in_ok-tower.tower = search rules in
     let behind : c.tower_of.new.lines ≡ after_next (after_next (lines c.args.bytes.now)) = search rules in
-    want_of_memory c.from_residual-in_err-steps.result _ _ c.from_residual-in_err-steps.ensures.0 c.from_residual-in_err-steps.ensures.1 (λ x h. h) (first_odd c.args.bytes.now ≡ None → SpellsSteps c.args.bytes.now)
+    want_of_memory c.from_residual-in_err-steps.result _ _ c.from_residual-in_err-steps.ensures.0 c.from_residual-in_err-steps.ensures.1 (λ x h. h) (first_foreign c.args.bytes.now ≡ None → SpellsSteps c.args.bytes.now)
     (λ k plain. spells_steps c.args.bytes.now v c.in_ok-tower.tower c.tower_of.new.lines plain version tower behind (c.in_err-steps.ensures.memory k))
 
 pub of_lawful-requires : goal.of_lawful-requires

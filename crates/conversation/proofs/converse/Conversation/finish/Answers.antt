@@ -1,17 +1,17 @@
 use Rattle.std.proofs.Common.{[], arith}
-use Rattle.conversation.proofs.Known.{consumes_start}
-use Rattle.conversation.proofs.Turns.{breaks_memory, breaks_last, all_answered}
+use Rattle.std.proofs.KnownBytes.{Consumes-nil}
+use Rattle.conversation.proofs.Turns.{fault_memory, fault_last, all_answered}
 use Rattle.conversation.proofs.converse.Conversation.finish.Goals as goal
 
 pub returns-in_default-clause-ended : goal.returns-in_default-clause-ended
-returns-in_default-clause-ended g c = λ alone start old now before count short ended r.
-    breaks_memory g.A.Answers.define start old now before _ count _ _ _ r now [] (consumes_start now) (omega (arith, short))
+returns-in_default-clause-ended g c = λ alone start before unread count short ended r.
+    fault_memory g.A.Answers.define start before _ count _ _ _ r unread [] (Consumes-nil unread) (omega (arith, short))
 
 pub returns-in_default-send-clause-ended : goal.returns-in_default-send-clause-ended
-returns-in_default-send-clause-ended g c = λ alone start old now before count short ended r.
+returns-in_default-send-clause-ended g c = λ alone start before unread count short ended r.
     let front = c.in_default-send.ensures.front in
-    breaks_last g.A.Answers.define start old now before _ count _ _ _ r g.A.Answers.reads_front ended short _ c.args.self.now.out.items _ c.requires.sent (c.in-Ok.ensures.answer alone) _ front.0 front.1 front.2
+    fault_last g.A.Answers.define start before _ count _ _ _ r g.A.Answers.reads_front ended short _ c.args.self.now.out.items _ c.requires.sent (c.in-Ok.ensures.answer alone) _ front.0 front.1 front.2
 
 pub returns-clause-ended : goal.returns-clause-ended
-returns-clause-ended g c = λ alone start old now before count short ended r.
-    all_answered g.A.Answers.define start old now before _ count _ _ _ r g.A.Answers.reads_front ended short _ c.args.self.now.out.items _ c.requires.sent (c.in-Ok.ensures.answer alone) _ c.in-Ok-send.ensures.sent
+returns-clause-ended g c = λ alone start before unread count short ended r.
+    all_answered g.A.Answers.define start before _ count _ _ _ r g.A.Answers.reads_front ended short _ c.args.self.now.out.items _ c.requires.sent (c.in-Ok.ensures.answer alone) _ c.in-Ok-send.ensures.sent

@@ -1,6 +1,6 @@
 use Rattle.std.proofs.Common.{[], sym, subst, append-nil}
 use Rattle.std.specs.Io.KnownBytes.{Appends}
-use Rattle.conversation.proofs.Known.{appends_kept}
+use Rattle.std.proofs.KnownBytes.{Appends-kept}
 use Rattle.conversation.proofs.converse.Conversation.send.Goals as goal
 
 pub returns-in_default-clause-front : goal.returns-in_default-clause-front
@@ -11,5 +11,5 @@ returns-in_default-clause-front g c =
       out,
       ([], sym (append-nil out)),
       subst (Appends before after) c.deref.ensures.value
-          (appends_kept before _ after _ c.in_ok-write_whole.ensures.written c.flush.ensures.bytes),
+          (Appends-kept before _ after _ c.in_ok-write_whole.ensures.written c.flush.ensures.bytes),
     )

@@ -13,12 +13,12 @@ use Rattle.frames.specs.declared.types.Op.{Op}
 use Rattle.frames.specs.declared.types.Frame.{Frame}
 use Rattle.frames.specs.declared.safe.SafePoint.{SafePoint}
 use Rattle.frames.specs.Flat.{HasFramesFrom, Lands}
-use Rattle.frames.specs.laws.Safe.{on_own_cell, safe_size, byte_value, stands_on, ends_there}
+use Rattle.frames.specs.laws.Safe.{on_own_cell, safe_size, byte_value, goes_on_reached, ends_there}
 use Rattle.frames.proofs.safe.SafeRegister.go_on.Goals as goal
 
 pub returns-in-WriteStart-clause-lands : goal.returns-in-WriteStart-clause-lands
 returns-in-WriteStart-clause-lands c =
-    let there = stands_on c.args.at c.args.store.now c.args._who c.args.first c.args.stack.now c.args.choice c.frame-frame.result (at.WriteStart c.in-WriteStart.bit)
+    let there = goes_on_reached c.args.at c.args.store.now c.args._who c.args.first c.args.stack.now c.args.choice c.frame-frame.result (at.WriteStart c.in-WriteStart.bit)
     c.frame-frame.ensures (sym c.in-WriteStart.is ∙ c.point_of.ensures) (at.WriteEnd c.in-WriteStart.bit) c.start_write.new.self refl
     (c.start_write.ensures ∙ on_own_cell c.args.at (start_write c.in-WriteStart.bit) c.args.store.now c.requires.inside) in
     rw (c.set.ensures, c.frame_of.ensures) there
@@ -28,11 +28,11 @@ returns-in-WriteEnd-clause-lands c =
     let there = ends_there c.args.at c.args.store.now c.args._who c.args.first c.args.stack.now c.args.choice c.frame-frame.result (at.WriteEnd c.in-WriteEnd.field-0)
     c.frame-frame.ensures (sym c.in-WriteEnd.is ∙ c.point_of.ensures) Written c.end_write.new.self refl
     (c.end_write.ensures ∙ on_own_cell c.args.at end_write c.args.store.now c.requires.inside) in
-    rw c.leave.ensures there
+    rw c.truncate.ensures there
 
 pub returns-in-ReadStart-clause-lands : goal.returns-in-ReadStart-clause-lands
 returns-in-ReadStart-clause-lands c =
-    let there = stands_on c.args.at c.args.store.now c.args._who c.args.first c.args.stack.now c.args.choice c.frame-frame.result at.ReadStart
+    let there = goes_on_reached c.args.at c.args.store.now c.args._who c.args.first c.args.stack.now c.args.choice c.frame-frame.result at.ReadStart
     c.frame-frame.ensures (sym c.in-ReadStart.is ∙ c.point_of.ensures) at.ReadEnd c.start_read.new.self refl
     (c.start_read.ensures ∙ on_own_cell c.args.at start_read c.args.store.now c.requires.inside) in
     rw (c.set-in-ReadStart.ensures, c.frame_of-in-ReadStart.ensures) there
@@ -50,13 +50,13 @@ read_ended place m who first stack choice frame found is gave value m' told byte
 
 pub returns-then-hit-clause-lands : goal.returns-then-hit-clause-lands
 returns-then-hit-clause-lands c =
-    rw c.leave-in-ReadEnd.ensures
+    rw c.truncate-in-ReadEnd.ensures
     (read_ended c.args.at c.args.store.now c.args._who c.args.first c.args.stack.now c.args.choice c.frame-frame.result c.frame-frame.ensures (sym c.in-ReadEnd.is ∙ c.point_of.ensures)
     c.end_read-value.result c.from.result c.end_read-value.new.self c.end_read-value.ensures.value c.from.ensures c.end_read-value.ensures.after c.requires.inside)
 
 pub returns-else-hit-clause-lands : goal.returns-else-hit-clause-lands
 returns-else-hit-clause-lands c =
-    rw c.leave-in-ReadEnd.ensures
+    rw c.truncate-in-ReadEnd.ensures
     (read_ended c.args.at c.args.store.now c.args._who c.args.first c.args.stack.now c.args.choice c.frame-frame.result c.frame-frame.ensures (sym c.in-ReadEnd.is ∙ c.point_of.ensures)
     c.end_read-value.result c.from.result c.end_read-value.new.self c.end_read-value.ensures.value c.from.ensures c.end_read-value.ensures.after c.requires.inside)
 
@@ -66,11 +66,11 @@ set-requires c = omega (arith, ap length c.frame-frame.ensures, length-drop c.ar
 pub set-requires-in-ReadStart : goal.set-requires-in-ReadStart
 set-requires-in-ReadStart c = omega (arith, ap length c.frame-frame.ensures, length-drop c.args.first c.args.stack.now)
 
-pub leave-requires : goal.leave-requires
-leave-requires c = omega (arith, ap length c.frame-frame.ensures, length-drop c.args.first c.args.stack.now)
+pub truncate-requires : goal.truncate-requires
+truncate-requires c = omega (arith, ap length c.frame-frame.ensures, length-drop c.args.first c.args.stack.now)
 
-pub leave-requires-in-ReadEnd : goal.leave-requires-in-ReadEnd
-leave-requires-in-ReadEnd c = omega (arith, ap length c.frame-frame.ensures, length-drop c.args.first c.args.stack.now)
+pub truncate-requires-in-ReadEnd : goal.truncate-requires-in-ReadEnd
+truncate-requires-in-ReadEnd c = omega (arith, ap length c.frame-frame.ensures, length-drop c.args.first c.args.stack.now)
 
 pub frame-frame-requires : goal.frame-frame-requires
 frame-frame-requires c = omega (arith, ap length c.requires.may_be_at.1.1.there, length-drop c.args.first c.args.stack.now)

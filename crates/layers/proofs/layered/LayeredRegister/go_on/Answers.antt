@@ -31,8 +31,8 @@ frame-requires-2 g c =
     stands_still l c.lies.ensures c.args.who c.args.first c.args.stack.now c.args.choice c.frame.ensures c.find-task.ensures
     c.push-progress.new.stack c.in-Some.is c.push-progress.ensures.own
 
-pub leave-requires : goal.leave-requires
-leave-requires g c =
+pub truncate-requires : goal.truncate-requires
+truncate-requires g c =
     let l = over (g.met.S.Register.lawful c.args.self.now.below) (g.met.L.Construction.sound c.args.self.now.layer) c.args.self.now.fit in
     let there = stands_still l c.lies.ensures c.args.who c.args.first c.args.stack.now c.args.choice c.frame.ensures c.find-task.ensures
     c.push-progress.new.stack c.in-Some.is c.push-progress.ensures.own in
@@ -63,7 +63,7 @@ follow-end-requires-clause-answers g c =
 
 pub follow-end-requires-clause-room : goal.follow-end-requires-clause-room
 follow-end-requires-clause-room g c =
-    omega (arith, ap length c.leave.ensures, length-take c.args.first c.push-progress.new.stack, c.requires.room)
+    omega (arith, ap length c.truncate.ensures, length-take c.args.first c.push-progress.new.stack, c.requires.room)
 
 pub returns-clause-lands : goal.returns-clause-lands
 returns-clause-lands g c =
@@ -72,7 +72,7 @@ returns-clause-lands g c =
     c.push-progress.new.stack c.in-Some.is c.push-progress.ensures.own c.frame-2.ensures c.find-ended.ensures in
     λ o n on. ended_goes_on l c.lies.ensures c.args.who c.args.first c.args.stack.now c.args.choice c.frame.ensures c.find-task.ensures
     c.push-progress.new.stack (c.push-progress.ensures.lands c.args.who) on c.in-Some.is
-    c.find-ended.result same c.leave.new.self c.leave.ensures c.follow-end.result c.follow-end.new.stack c.follow-end.new.store c.follow-end.ensures
+    c.find-ended.result same c.truncate.new.self c.truncate.ensures c.follow-end.result c.follow-end.new.stack c.follow-end.new.store c.follow-end.ensures
 
 pub returns-clause-chosen : goal.returns-clause-chosen
 returns-clause-chosen g c =

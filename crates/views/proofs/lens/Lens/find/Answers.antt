@@ -1,5 +1,5 @@
 use Rattle.std.proofs.Common.{sym, subst}
-use Rattle.views.specs.Lenses.{AreTrue}
+use Rattle.views.specs.Lenses.{MatchTheirKeys}
 use Rattle.views.specs.Spots.{IsAlike, part_end}
 use Rattle.views.specs.laws.PlaceLaws.{same_place}
 use Rattle.views.proofs.Lenses.{found, still_true}
@@ -7,19 +7,19 @@ use Rattle.views.proofs.lens.Lens.find.Goals as goal
 
 pub invariant_of-self : goal.invariant_of-self
 invariant_of-self g c =
-    subst (AreTrue g.R.Behaves.behaviour) (sym c.get.follows.holds-at-none)
+    subst (MatchTheirKeys g.R.Behaves.behaviour) (sym c.get.follows.holds-at-none)
     (still_true g.R.Behaves.behaviour g.R.PartialEq.eq g.R.Pending.PartialEq.eq g.met.R.Register.alike g.met.R.Register.same_pending c.self.inside.places c.self.invariant
     (same_place g.R.PartialEq.eq g.R.Pending.PartialEq.eq c.in-Ok.place))
 
 pub invariant_of-self-in_default-copy : goal.invariant_of-self-in_default-copy
 invariant_of-self-in_default-copy g c =
-    subst (AreTrue g.R.Behaves.behaviour) (sym c.get.follows.holds-at-none)
+    subst (MatchTheirKeys g.R.Behaves.behaviour) (sym c.get.follows.holds-at-none)
     (still_true g.R.Behaves.behaviour g.R.PartialEq.eq g.R.Pending.PartialEq.eq g.met.R.Register.alike g.met.R.Register.same_pending c.self.inside.places c.self.invariant
     (same_place g.R.PartialEq.eq g.R.Pending.PartialEq.eq c.in-Ok.place))
 
 pub invariant_of-self-2 : goal.invariant_of-self-2
 invariant_of-self-2 g c =
-    subst (AreTrue g.R.Behaves.behaviour) (sym c.get.follows.holds-at-none)
+    subst (MatchTheirKeys g.R.Behaves.behaviour) (sym c.get.follows.holds-at-none)
     (still_true g.R.Behaves.behaviour g.R.PartialEq.eq g.R.Pending.PartialEq.eq g.met.R.Register.alike g.met.R.Register.same_pending c.self.inside.places c.self.invariant
     (same_place g.R.PartialEq.eq g.R.Pending.PartialEq.eq c.in-Ok.place))
 
