@@ -204,12 +204,15 @@ def own_name(name):
 def rows():
     """Returns the paths of all rows without their kinds, in the order of their names, and what is
     wrong with the other files there, by their paths."""
-    found, strange = set(sizes.files()), {}
+    made_rows = set(sizes.files())
+    found, strange = set(made_rows), {}
     for at, _, files in os.walk(ROWS):
         for file in files:
             made = file[: -len(MADE)] if file.endswith(MADE) else file
             name, _, kind = made.rpartition(".")
-            if kind in KINDS and name:
+            if f"{at}/{name}" in made_rows:
+                strange[f"{at}/{file}"] = f"{sizes.TABLE} has its row"
+            elif kind in KINDS and name:
                 found.add(f"{at}/{name}")
             elif f"{at}/{file}" != sizes.TABLE:
                 strange[f"{at}/{file}"] = "no file of a row"

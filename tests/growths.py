@@ -46,15 +46,15 @@ MORE_IN_A_ROW = {
 # A crate whose tests are tried if no source is newer than they are, a test's name, and how many
 # growths are refused in a row: some make a call again that was refused memory, more often than so.
 TESTS = (
-    ("thread_tests", "desks::growths::two_chairs_wanting_memory", (1,)),
+    ("thread_tests", "desks::growths::two_chairs_out_of_memory", (1,)),
     ("thread_tests", "desks::growths::two_chairs_asking_again", (1, 2, 6)),
-    ("thread_tests", "desks::growths::thousand_steps_wanting_memory", (1, 2, 6)),
-    ("thread_tests", "desks::growths::thousand_steps_by_four_wanting_memory", (1, 2, 6)),
-    ("thread_tests", "desks::crossings::crossing_wanting_memory", (1, 2, 6)),
-    ("thread_tests", "desks::limbs::limbs_wanting_memory", (1, 2, 6)),
-    ("branch_tests", "charts::growths::late_run_wanting_memory", (1, 2, 6)),
-    ("branch_tests", "charts::growths::thousand_steps_wanting_memory", (1, 2, 6)),
-    ("branch_tests", "charts::growths::last_run_of_thousand_steps_wanting_memory", (1, 2, 6)),
+    ("thread_tests", "desks::growths::thousand_steps_out_of_memory", (1, 2, 6)),
+    ("thread_tests", "desks::growths::thousand_steps_by_four_out_of_memory", (1, 2, 6)),
+    ("thread_tests", "desks::crossings::crossing_out_of_memory", (1, 2, 6)),
+    ("thread_tests", "desks::limbs::limbs_out_of_memory", (1, 2, 6)),
+    ("branch_tests", "charts::growths::late_run_out_of_memory", (1, 2, 6)),
+    ("branch_tests", "charts::growths::thousand_steps_out_of_memory", (1, 2, 6)),
+    ("branch_tests", "charts::growths::last_run_of_thousand_steps_out_of_memory", (1, 2, 6)),
 )
 SOURCE = "tests/refuse_growth.c"
 # How many growths were refused, by trial: threads may grow more or less often, so those with workers aren't counted.

@@ -1,3 +1,4 @@
+#!/usr/bin/env python3
 """Public names that two definitions share: each has one of its own.
 
 usage: tests/names.py   prints each name that is shared, with the files that define it; status 1 if there is one

@@ -40,9 +40,9 @@ def texts():
 def code_of(path, text):
     """Returns the lines of a file in which a name is a use or a definition."""
     lines = text.split("\n")
-    if path.endswith(PROOFS):
-        lines = [it.partition("--")[0] for it in lines]
-    return [it for it in lines if not it.strip().startswith("use ")]
+    mark = "--" if path.endswith(PROOFS) else "//"
+    lines = [it.partition(mark)[0] for it in lines]
+    return [it for it in lines if not it.strip().startswith(("use ", "ghost use "))]
 
 
 def lemmas_of(path, lines):
