@@ -14,7 +14,7 @@ use Rattle.schedule_trie.specs.declared.refusal.Refusal.{Refusal}
 use Rattle.schedule_trie.specs.declared.refusal.Refusal.TheVariants.{NameTaken, BadName, NoPlace, Full, LastBranch, TooManyBranches}
 use Rattle.schedule_trie.specs.Forest.{Forest, Branch, branch, slot, name_of, step_of, slots_in, renumbered, everywhere, only_in, put_last, put_before, before_cell, is_other, without, index_of, cell_in, on_found, insert, insert_at, inserted, remove_cell, fork, fork_at, detach, detach_at, drop_branch, drop_at}
 use Rattle.schedule_trie.specs.Names.{is_well_formed}
-use Rattle.cutoff.specs.Held.{StepsFit}
+use Rattle.cutoff.specs.Charts.{StepsFit}
 use Rattle.cutoff.proofs.Edits.{FitAll, fits_everywhere, at_cell_fits, steps_numbered}
 
 -- the result of a command that wasn't refused

@@ -8,7 +8,8 @@ use Rattle.schedule_trie.specs.Forest.{step_of}
 use Rattle.schedule_trie.specs.Cut.{Cut, piece_at, slots_of, note_of}
 use Rattle.schedule_trie.proofs.Once.{has-head, has-tail}
 use Rattle.checkpoints.specs.Segment.{SegmentRun}
-use Rattle.cutoff.specs.Fitting.{StoredRun, RunPart, RunFits, Fits, IsWork, Settles, run_of, steps_at}
+use Rattle.cutoff.specs.Fitting.{StoredRun, RunPart, RunFits, Fits, run_of, steps_at}
+use Rattle.cutoff.specs.Settles.{IsWork, Settles}
 use Rattle.cutoff.specs.EarlyCutoff.{AreKept, AreFitted, replayed_through, StopsEarly}
 
 module _ {R P : Type 0} (E : R → R → Bool) (b : Behaviour P) where

@@ -1,7 +1,6 @@
 -- A chart after an edit.
-use Rattle.std.proofs.Common.{◌≡◌, ℕ, Bool, true, Option, None, Result, Ok, Err, OnOk, IfErr, sym, subst}
+use Rattle.std.proofs.Common.{◌≡◌, ℕ, Bool, Option, None, Result, Ok, Err, OnOk, IfErr, refl, sym, subst}
 use Rattle.frames.specs.Behaviour.{Behaviour}
-use Rattle.frames.specs.Configuration.{fits_step}
 use Rattle.schedule_trie.specs.declared.limits.Limits.{Limits}
 use Rattle.schedule_trie.specs.declared.refusal.Refusal.{Refusal}
 use Rattle.schedule_trie.specs.Forest.{Forest}
@@ -9,22 +8,13 @@ use Rattle.schedule_trie.specs.Cut.{Cut, forest, KeepsNotes}
 use Rattle.schedule_trie.specs.Edits.{Edit, Insert, Remove, Replace, Fork, Detach, Drop, edited, KeepsNotesBy, IsEdited, IsUnedited}
 use Rattle.cutoff.specs.Fitting.{StoredRun}
 use Rattle.cutoff.specs.Links.{without_register}
-use Rattle.cutoff.specs.Held.{Charted, IsCharted, StepsFit}
-use Rattle.cutoff.specs.Edits.{IsUneditedChart}
+use Rattle.cutoff.specs.Charts.{Charted, IsCharted, StepsFit}
+use Rattle.cutoff.specs.Edits.{Edits, FitsEdit}
 use Rattle.cutoff.proofs.Commands.{insert_fits, remove_fits, fork_fits, detach_fits, drop_fits}
 use Rattle.cutoff.proofs.Edits.{replace_fits, linked_kept}
 use Rattle.cutoff.proofs.Kept.{charted_marked}
 
--- the step of an edit, if it has one, fits
-abbrev pub Brings : {P : Type 0} → Behaviour P → Edit → Type 0
-Brings b (Insert name place step) = fits_step b step ≡ true
-Brings b (Remove name place) = Unit {0}
-Brings b (Replace name place step) = fits_step b step ≡ true
-Brings b (Fork name place new) = Unit {0}
-Brings b (Detach name) = Unit {0}
-Brings b (Drop name) = Unit {0}
-
-edited_fits : {P : Type 0} (b : Behaviour P) (limits : Limits) (f g : Forest) (edit : Edit) → Brings b edit → StepsFit b f → edited limits f edit ≡ Ok g → StepsFit b g
+edited_fits : {P : Type 0} (b : Behaviour P) (limits : Limits) (f g : Forest) (edit : Edit) → FitsEdit b edit → StepsFit b f → edited limits f edit ≡ Ok g → StepsFit b g
 edited_fits b limits f g (Insert name place step) new fits e = insert_fits b limits f g name place step new fits e
 edited_fits b limits f g (Remove name place) new fits e = remove_fits b f g name place fits e
 edited_fits b limits f g (Replace name place step) new fits e = replace_fits b f g name place step new fits e
@@ -42,7 +32,7 @@ notes_by (Drop name) old new h = h.0
 
 -- the invariant of a chart after an edit of its trie that was made or refused
 pub charted : {R P Y : Type 0} (E : R → R → Bool) (is : R → Behaviour P) (next : ℕ) (mark : Option ℕ) (c : Charted R P) (new : Cut (StoredRun R P)) (edit : Edit) (result : Result Y Refusal)
-    → IsCharted E is next mark c → Brings (is c.start.register) edit → OnOk result (IsEdited c.cut new edit) → IfErr result (IsUnedited c.cut new edit)
+    → IsCharted E is next mark c → FitsEdit (is c.start.register) edit → OnOk result (IsEdited c.cut new edit) → IfErr result (IsUnedited c.cut new edit)
     → IsCharted E is next None (record { cut = new; start = c.start; value = c.value })
 charted E is next mark c new edit (Ok y) was brings ok err =
     record {
@@ -56,10 +46,11 @@ charted E is next mark c new edit (Ok y) was brings ok err =
 charted E is next mark c new edit (Err e) was brings ok err =
     subst (λ d. IsCharted E is next None (record { cut = d; start = c.start; value = c.value })) (sym err.unchanged) (charted_marked E is next mark None c tt was)
 
--- a refused edit of the trie is a refused edit of the chart
-pub chart_unedited : {R P Y : Type 0} (c d : Charted R P) (new : Cut (StoredRun R P)) (edit : Edit) (result : Result Y Refusal) → c ≡ d
-    → IfErr result (IsUnedited c.cut new edit) → IfErr result (IsUneditedChart d (record { cut = new; start = c.start; value = c.value }) edit)
-chart_unedited c d new edit (Ok y) same err = tt
-chart_unedited c d new edit (Err e) same err =
-    subst (λ v. IsUneditedChart v (record { cut = new; start = c.start; value = c.value }) edit e) same
-    (record { why = err.why; unchanged = λ i. record { cut = err.unchanged i; start = c.start; value = c.value } })
+-- an edit of the trie, made or refused, is one of the chart
+pub chart_edited : {R P : Type 0} (c d : Charted R P) (new : Cut (StoredRun R P)) (edit : Edit) (result : Result (Unit {0}) Refusal) → c ≡ d
+    → OnOk result (IsEdited c.cut new edit) → IfErr result (IsUnedited c.cut new edit) → Edits d (record { cut = new; start = c.start; value = c.value }) edit result
+chart_edited c d new edit (Ok y) same ok err =
+    subst (λ v. Edits v (record { cut = new; start = c.start; value = c.value }) edit (Ok y)) same (ok, (refl, refl))
+chart_edited c d new edit (Err e) same ok err =
+    subst (λ v. Edits v (record { cut = new; start = c.start; value = c.value }) edit (Err e)) same
+    (err.why, λ i. record { cut = err.unchanged i; start = c.start; value = c.value })

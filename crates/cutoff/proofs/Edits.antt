@@ -16,7 +16,7 @@ use Rattle.schedule_trie.specs.Cut.{Cut, Piece, piece_at, note_of, forest, Keeps
 use Rattle.schedule_trie.proofs.Notes.{notes_kept}
 use Rattle.cutoff.specs.Fitting.{StoredRun}
 use Rattle.cutoff.specs.Links.{IsStored, IsTruePiece, IsLinked}
-use Rattle.cutoff.specs.Held.{IsCharted, StepsFit}
+use Rattle.cutoff.specs.Charts.{IsCharted, StepsFit}
 
 -- a property of each item of two lists
 module _ {X : Type 0} (Q : X → Type 0) where

@@ -10,8 +10,9 @@ use Rattle.frames.specs.Equality.{SameConfiguration}
 use Rattle.checkpoints.specs.Segment.{SegmentRun}
 use Rattle.schedule_trie.specs.Forest.{slot}
 use Rattle.schedule_trie.specs.Cut.{Cut, strand, piece, piece_at, note_of, with_note}
-use Rattle.cutoff.specs.Fitting.{StoredRun, RunPart, Settles, HasFitting}
-use Rattle.cutoff.specs.Held.{Charted, IsSettledLast, last_part}
+use Rattle.cutoff.specs.Fitting.{StoredRun, RunPart}
+use Rattle.cutoff.specs.Settles.{Settles, HasFitting, IsSettledLast, last_part}
+use Rattle.cutoff.specs.Charts.{Charted}
 use Rattle.cutoff.specs.Plans.{job_of, with_job, Plans, IsInstalled}
 
 -- registers of one safe bit, which are all equal

@@ -12,7 +12,7 @@ use Rattle.schedule_trie.proofs.Climbs.{once_before}
 use Rattle.schedule_trie.proofs.Partings.{parting}
 use Rattle.cutoff.specs.Fitting.{StoredRun, KeepsRuns, run_of, steps_at, slots_at}
 use Rattle.cutoff.specs.Links.{without_register, IsLinked}
-use Rattle.cutoff.specs.Held.{Charted, IsCharted}
+use Rattle.cutoff.specs.Charts.{Charted, IsCharted}
 use Rattle.cutoff.specs.Plans.{FitsDown}
 use Rattle.cutoff.specs.Prefixes.{RunsDown, RunsTo, IsMarked, RunGoesOn, exit_or_start, exit_or}
 use Rattle.cutoff.proofs.Fits.{register_kept}

@@ -11,10 +11,11 @@ use Rattle.schedule_trie.specs.declared.refusal.Refusal.TheVariants.{NoPlace}
 use Rattle.schedule_trie.specs.Forest.{slots_in, step_of, index_of, on_found}
 use Rattle.schedule_trie.specs.Cut.{Cut, Piece, piece_at, line, forest, has, keys_in, SharesAbove, IsCut}
 use Rattle.schedule_trie.proofs.Lines.{slots_in_on}
-use Rattle.cutoff.specs.Fitting.{StoredRun, KeepsRuns, IsFilled}
+use Rattle.cutoff.specs.Fitting.{StoredRun, KeepsRuns}
+use Rattle.cutoff.specs.Settles.{IsFilled}
 use Rattle.cutoff.specs.Links.{without_register, IsLinked}
 use Rattle.cutoff.specs.Prefixes.{IsMarked}
-use Rattle.cutoff.specs.Held.{Charted, IsCharted, StepsFit, keys_or, keys_named, looked_at, look}
+use Rattle.cutoff.specs.Charts.{Charted, IsCharted, StepsFit, keys_or, keys_named, looked_at, look}
 
 -- the same cells at each key
 module _ {T : Type 0} (Q : List Slot → Type 0) where

@@ -14,9 +14,10 @@ use Rattle.schedule_trie.specs.Climbs.{keys_up_to, keys_to}
 use Rattle.schedule_trie.proofs.Climbs.{up_to-here}
 use Rattle.schedule_trie.proofs.Lines.{slots_in_on}
 use Rattle.schedule_trie.proofs.Partings.{parting, has-in}
-use Rattle.cutoff.specs.Fitting.{StoredRun, run_of, RunPart, Settles, reached, run_at, part_of, KeepsRuns, IsFilled}
-use Rattle.cutoff.specs.Prefixes.{RunsTo, IsKnown, AreKeysAfter, IsMarked, IsPlaceIn, IsHung, IsLeft, SettlesTo}
-use Rattle.cutoff.specs.Held.{Charted, StepsFit, IsSettledLast, keys_or, keys_named, reached_by, last_part}
+use Rattle.cutoff.specs.Fitting.{StoredRun, run_of, RunPart, reached, run_at, part_of, KeepsRuns}
+use Rattle.cutoff.specs.Settles.{Settles, IsFilled, SettlesTo, IsSettledLast, last_part}
+use Rattle.cutoff.specs.Prefixes.{RunsTo, IsKnown, AreKeysAfter, IsMarked, IsPlaceIn, IsHung, IsLeft}
+use Rattle.cutoff.specs.Charts.{Charted, StepsFit, keys_or, keys_named, reached_by}
 use Rattle.cutoff.proofs.Walks.{reached_none}
 
 last_of_parts : {R P : Type 0} (before : List (RunPart R P)) (p : RunPart R P) → last_part (before ++ p ∷ []) ≡ Some p

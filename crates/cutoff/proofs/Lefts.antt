@@ -12,7 +12,8 @@ use Rattle.schedule_trie.specs.Climbs.{keys_up_to, keys_to}
 use Rattle.schedule_trie.proofs.Partings.{parting, has-in}
 use Rattle.cutoff.specs.Fitting.{StoredRun, run_of, run_at}
 use Rattle.cutoff.specs.Links.{without_register, IsLinked}
-use Rattle.cutoff.specs.Prefixes.{HasTrueRun, RunsDown, RunsTo, Hangs, IsMarked, AreKeysAfter, IsHung, SettlesTo, exit_or_start, exit_or, run_named}
+use Rattle.cutoff.specs.Prefixes.{HasTrueRun, RunsDown, RunsTo, Hangs, IsMarked, AreKeysAfter, IsHung, exit_or_start, exit_or, run_named}
+use Rattle.cutoff.specs.Settles.{SettlesTo}
 use Rattle.cutoff.proofs.Hangings.{has-left}
 use Rattle.cutoff.proofs.Prefixes.{down_same, down_more}
 use Rattle.cutoff.proofs.Rests.{IsGoing, last_or, last_to, hanging_settles}

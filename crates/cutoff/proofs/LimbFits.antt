@@ -9,7 +9,7 @@ use Rattle.schedule_trie.specs.declared.refusal.Refusal.TheVariants.{Full, TooMa
 use Rattle.schedule_trie.specs.declared.slot.Slot.{Slot}
 use Rattle.schedule_trie.specs.Forest.{Forest, Branch, branch, numbered, slots_in}
 use Rattle.schedule_trie.specs.Limbs.{cells_of, forest_of, grow, grown, limb_of, limbs, limbs_after, loaded, no_branches, shared_with, slots_on}
-use Rattle.cutoff.specs.Held.{LimbsFit, StepsFit}
+use Rattle.cutoff.specs.Charts.{LimbsFit, StepsFit}
 use Rattle.cutoff.proofs.Commands.{fits_both, fits_one_more, fits_tail, fits_take, none_fit, passed}
 use Rattle.cutoff.proofs.Edits.{FitAll, steps_numbered}
 

@@ -11,7 +11,7 @@ use Rattle.schedule_trie.specs.Edits.{Fork, IsEdited, IsUnedited}
 use Rattle.schedule_trie.specs.Forks.{IsForkedWhole, CutsNoneAtEnd}
 use Rattle.cutoff.specs.Fitting.{StoredRun, RunFits, run_of, steps_at}
 use Rattle.cutoff.specs.Prefixes.{HasTrueRun, RunsDown, RunsTo, IsMarked, exit_or_start, exit_or}
-use Rattle.cutoff.specs.Held.{Charted, IsCharted}
+use Rattle.cutoff.specs.Charts.{Charted, IsCharted}
 use Rattle.cutoff.proofs.Edited.{charted}
 use Rattle.cutoff.proofs.Kept.{charted_marked}
 
@@ -80,11 +80,11 @@ pub forked_charted : {R P Y : Type 0} (E : R → R → Bool) (is : R → Behavio
     → IsCharted E is next after (record { cut = new; start = c.start; value = c.value })
 forked_charted {R} {P} {Y} E is next mark after c new source place name result was (inl none) ok end err =
     subst (λ m. IsCharted E is next m (record { cut = new; start = c.start; value = c.value })) (sym none)
-    (charted E is next mark c new (Fork source place name) result was tt ok err)
+    (charted E is next mark c new (Fork source place name) result was refl ok err)
 forked_charted {R} {P} {Y} E is next mark after c new source place name (Ok y) was (inr whole) ok end err =
     let found = len_found c.cut source place whole.1 in
     charted_marked E is next None after (record { cut = new; start = c.start; value = c.value })
     (subst (IsMarked E is new c.start) (sym whole.0) (marked_whole E is c.cut new c.start found.0 name (end found.0 found.1.0 found.1.1) mark was.marked))
-    (charted E is next mark c new (Fork source place name) (Ok y) was tt ok err)
+    (charted E is next mark c new (Fork source place name) (Ok y) was refl ok err)
 forked_charted {R} {P} {Y} E is next mark after c new source place name (Err e) was (inr whole) ok end err =
     subst (λ d. IsCharted E is next after (record { cut = d; start = c.start; value = c.value })) (sym err.unchanged) (subst (λ m. IsCharted E is next m c) (sym whole.0) was)

@@ -6,7 +6,7 @@ use Rattle.schedule_trie.specs.Forest.{step_of}
 use Rattle.schedule_trie.specs.Cut.{Cut, piece_at, line, forest, keys_in}
 use Rattle.schedule_trie.proofs.Lines.{slots_in_on}
 use Rattle.cutoff.specs.Fitting.{StoredRun}
-use Rattle.cutoff.specs.Held.{StepsFit}
+use Rattle.cutoff.specs.Charts.{StepsFit}
 
 -- the steps of a branch fit
 pub fits_on : {R P : Type 0} (b : Behaviour P) (cut : Cut (StoredRun R P)) → StepsFit b (forest cut) → (i : ℕ) (keys : List ℕ) → keys ≡ keys_in cut.strands i

@@ -1,11 +1,9 @@
 -- The jobs of branches, one after the other.
-use Rattle.std.proofs.Common.{◌≡◌, ℕ, zero, suc, ◌+◌, ◌<◌, ◌≤◌, Bool, List, [], ◌∷◌, length, map, drop, Option, Some, None, IsSome, refl, sym, ap, subst, ◌∙◌, arith, true≢false}
+use Rattle.std.proofs.Common.{◌≡◌, ℕ, zero, suc, ◌+◌, ◌<◌, ◌≤◌, Bool, List, [], ◌∷◌, length, map, drop, Option, refl, sym, ap, subst, ◌∙◌, arith}
 use Rattle.frames.specs.Behaviour.{Behaviour}
 use Rattle.frames.specs.Configuration.{Configuration}
-use Rattle.schedule_trie.specs.declared.refusal.Refusal.TheVariants.{Memory}
-use Rattle.schedule_trie.specs.Cut.{Cut, Strand, keys_in, keys_by, if_lacks}
+use Rattle.schedule_trie.specs.Cut.{Cut, Strand, keys_in}
 use Rattle.cutoff.specs.Fitting.{StoredRun}
-use Rattle.cutoff.specs.Held.{keys_or}
 use Rattle.cutoff.specs.Plans.{Planned, keys_of, Descends, job_of, with_job, Plans}
 
 -- the paths that are left

@@ -17,9 +17,10 @@ use Rattle.schedule_trie.proofs.Once.{has-head, has-tail}
 use Rattle.schedule_trie.proofs.Climbs.{once_before}
 use Rattle.schedule_trie.proofs.Partings.{parting}
 use Rattle.schedule_trie.proofs.Pushes.{line-append}
-use Rattle.cutoff.specs.Fitting.{StoredRun, run_of, RunPart, RunFits, IsWork, IsSegmentSettled, Settles, steps_at, run_at, reached, exit_of}
+use Rattle.cutoff.specs.Fitting.{StoredRun, run_of, RunPart, RunFits, steps_at, run_at, reached, exit_of}
+use Rattle.cutoff.specs.Settles.{IsWork, IsSegmentSettled, Settles, EndsWith, SettlesTo}
 use Rattle.cutoff.specs.Links.{without_register, IsLinked}
-use Rattle.cutoff.specs.Prefixes.{RunsDown, Hangs, EndsIn, IsRest, EndsWith, SettlesTo, exit_or_start, exit_or}
+use Rattle.cutoff.specs.Prefixes.{RunsDown, Hangs, EndsIn, IsRest, exit_or_start, exit_or}
 use Rattle.cutoff.proofs.Climbs.{path_once}
 use Rattle.cutoff.proofs.Fits.{register_kept, same_symm, run_fits_alike, fits_to_note, exit_same}
 use Rattle.cutoff.proofs.Hangings.{hang_kept, hang_down, has-left}

@@ -6,7 +6,8 @@ use Rattle.frames.specs.Configuration.{Configuration}
 use Rattle.frames.specs.Equality.{SameConfiguration}
 use Rattle.checkpoints.specs.Segment.{SegmentRun}
 use Rattle.schedule_trie.specs.Cut.{Cut, Piece, piece, piece_at, note_of, with_note, IsNoted}
-use Rattle.cutoff.specs.Fitting.{StoredRun, run_of, RunFits, Fits, steps_at, IsSegmentSettled}
+use Rattle.cutoff.specs.Fitting.{StoredRun, run_of, RunFits, Fits, steps_at}
+use Rattle.cutoff.specs.Settles.{IsSegmentSettled}
 use Rattle.cutoff.specs.Links.{without_register, IsExitOf, IsStored, IsLinked}
 use Rattle.cutoff.proofs.Fits.{alone_same, stored_at, fits_to_note}
 use Rattle.cutoff.proofs.Links.{taken_linked, new_linked}

@@ -6,7 +6,6 @@ use Rattle.std.proofs.Math.Seq.{drop-cons}
 use Rattle.std.proofs.lemmas.List.{map-append, reverse-append}
 use Rattle.frames.specs.Behaviour.{Behaviour}
 use Rattle.frames.specs.Configuration.{Configuration, replayed, fits_step}
-use Rattle.frames.specs.Equality.{SameConfiguration}
 use Rattle.frames.specs.Recorded.{AllFit}
 use Rattle.schedule_trie.specs.Forest.{step_of}
 use Rattle.schedule_trie.specs.Cut.{Cut, piece_at, slots_of, line, keys_in, has, Once, IsCut}
@@ -18,8 +17,8 @@ use Rattle.cutoff.specs.declared.sight.Sight.{Sight}
 use Rattle.cutoff.specs.declared.sight.Sight.TheVariants.{Unseen, Fit, Unfit}
 use Rattle.cutoff.specs.Fitting.{StoredRun, Fits, steps_at}
 use Rattle.cutoff.specs.Plans.{FitsDownTo, Descends, Planned, job_of, key_of, with_job}
-use Rattle.cutoff.specs.Prefixes.{HasTrueRun, IsMarked, RunsTo, exit_or_start}
-use Rattle.cutoff.specs.Sights.{AddsMissed, AreSeen, HasDescendedAbove, IsAbove, HasDescended, IsKnownAt, IsSeen, IsSight, IsUnseenPart, LooksBelow, sight_at, sight_of}
+use Rattle.cutoff.specs.Prefixes.{HasTrueRun, IsMarked, exit_or_start}
+use Rattle.cutoff.specs.Sights.{AreSeen, HasDescendedAbove, IsAbove, HasDescended, IsKnownAt, IsSeen, IsSight, IsUnseenPart, LooksBelow, sight_at, sight_of}
 use Rattle.cutoff.proofs.Climbs.{path_once}
 use Rattle.cutoff.proofs.Edits.{all_left, all_right}
 use Rattle.cutoff.proofs.Fits.{fits_alike, same_symm}

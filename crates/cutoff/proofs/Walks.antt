@@ -17,7 +17,8 @@ use Rattle.frames.specs.Recorded.{AllFit}
 use Rattle.schedule_trie.specs.Forest.{step_of}
 use Rattle.schedule_trie.specs.Cut.{Cut, Piece, piece_at, slots_of, note_of, with_note, line, has, Once, keys_in, IsNoted, IsCut}
 use Rattle.schedule_trie.proofs.Once.{has-head, has-tail, Once-from_linked}
-use Rattle.cutoff.specs.Fitting.{StoredRun, RunPart, run_of, RunFits, Fits, IsWork, IsSettledAt, IsSegmentSettled, Settles, IsFilled, KeepsRuns, steps_at, slots_at, run_at, reached, exit_of, counted, part_of}
+use Rattle.cutoff.specs.Fitting.{StoredRun, RunPart, run_of, RunFits, Fits, KeepsRuns, steps_at, slots_at, run_at, reached, exit_of, counted, part_of}
+use Rattle.cutoff.specs.Settles.{IsWork, IsSettledAt, IsSegmentSettled, Settles, IsFilled}
 use Rattle.cutoff.specs.Links.{without_register, IsStored, IsTruePiece, IsLinked}
 use Rattle.cutoff.proofs.Edits.{all_left, all_right}
 use Rattle.cutoff.proofs.Fits.{register_kept, same_symm, run_fits_alike, fits_alike, exit_same}

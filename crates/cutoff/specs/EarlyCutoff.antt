@@ -5,7 +5,8 @@ use Rattle.std.specs.Prelude.{ℕ, ◌≡◌, Bool, true, List, [], ◌∷◌, �
 use Rattle.frames.specs.Behaviour.{Behaviour}
 use Rattle.frames.specs.Configuration.{Configuration, replayed}
 use Rattle.schedule_trie.specs.Cut.{Cut, has, piece_at}
-use Rattle.cutoff.specs.Fitting.{StoredRun, RunPart, Fits, Settles, steps_at}
+use Rattle.cutoff.specs.Fitting.{StoredRun, RunPart, Fits, steps_at}
+use Rattle.cutoff.specs.Settles.{Settles}
 
 module _ {R P : Type 0} where
   -- the segments at these keys have the same cells and stored runs in `now` as in `was`

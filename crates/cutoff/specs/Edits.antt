@@ -1,17 +1,24 @@
--- What every edit of a chart leaves as it was; and refused edits, which change nothing.
-use Rattle.std.specs.Prelude.{◌≡◌}
+-- What an edit does to a chart.
+use Rattle.std.specs.Prelude.{◌≡◌, Bool, true, Option, Some, None, Result, Ok, Err}
+use Rattle.frames.specs.declared.types.Step.{Step}
+use Rattle.frames.specs.Behaviour.{Behaviour}
+use Rattle.frames.specs.Configuration.{fits_step}
 use Rattle.schedule_trie.specs.declared.refusal.Refusal.{Refusal}
 use Rattle.schedule_trie.specs.Cut.{forest}
-use Rattle.schedule_trie.specs.Edits.{Edit, edited, WhyRefused}
-use Rattle.cutoff.specs.Held.{Charted}
+use Rattle.schedule_trie.specs.Edits.{Edit, edited, step_in, IsEdited, WhyRefused}
+use Rattle.cutoff.specs.Charts.{Charted}
 
--- the branches still begin from the same configuration, with the same initial value
-pub record KeepsBeginning {R P : Type 0} (old new : Charted R P) : Type 0 where
-  pub start : new.start ≡ old.start
-  pub value : new.value ≡ old.value
+-- whether a step, if there is one, fits
+abbrev pub fits_if_any : {P : Type 0} → Behaviour P → Option Step → Bool
+fits_if_any b None = true
+fits_if_any b (Some step) = fits_step b step
 
--- an edit is refused, and the chart doesn't change; e is the first reason that holds against the
--- edit (`WhyRefused`), or Memory if no reason holds and the edit allocates
-pub record IsUneditedChart {R P : Type 0} (old new : Charted R P) (edit : Edit) (e : Refusal) : Type 0 where
-  pub why : WhyRefused edit (edited old.cut.limits (forest old.cut) edit) e
-  pub unchanged : new ≡ old
+-- the step that an edit gives a cell, if it gives one, fits
+abbrev pub FitsEdit : {P : Type 0} → Behaviour P → Edit → Type 0
+FitsEdit b edit = fits_if_any b (step_in edit) ≡ true
+
+-- what an edit does to a chart. Ok: the edit is made, and branches begin from the same configuration
+-- and value as before. Err: the chart doesn't change, and the error is why (`WhyRefused`).
+abbrev pub Edits : {R P : Type 0} → Charted R P → Charted R P → Edit → Result (Unit {0}) Refusal → Type 0
+Edits old new edit (Ok done) = IsEdited old.cut new.cut edit × ((new.start ≡ old.start) × (new.value ≡ old.value))
+Edits old new edit (Err e) = WhyRefused edit (edited old.cut.limits (forest old.cut) edit) e × (new ≡ old)

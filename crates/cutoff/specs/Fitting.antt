@@ -1,16 +1,15 @@
 -- Stored runs: when they fit, and what a settle changes.
-use Rattle.std.specs.Prelude.{ℕ, ◌+◌, ◌-◌, ◌≡◌, ◌⊎◌, Bool, nat_eq, min, List, [], ◌∷◌, Option, Some, MatchOption, length, map, if◌then◌else◌}
+use Rattle.std.specs.Prelude.{ℕ, ◌+◌, ◌-◌, ◌≡◌, ◌⊎◌, Bool, nat_eq, List, [], ◌∷◌, Option, MatchOption, length, map, if◌then◌else◌}
 use Rattle.std.specs.Option.{option_map}
 use Rattle.std.specs.Arc.{arc_value}
 use Rattle.std.specs.declared.sync.Arc.{Arc}
 use Rattle.frames.specs.declared.types.Step.{Step}
-use Rattle.frames.specs.Behaviour.{Behaviour}
-use Rattle.frames.specs.Configuration.{Configuration, replayed}
+use Rattle.frames.specs.Configuration.{Configuration}
 use Rattle.frames.specs.Equality.{SameConfiguration}
 use Rattle.checkpoints.specs.Segment.{SegmentRun}
 use Rattle.schedule_trie.specs.declared.slot.Slot.{Slot}
 use Rattle.schedule_trie.specs.Forest.{step_of}
-use Rattle.schedule_trie.specs.Cut.{Cut, piece_at, slots_of, note_of, forest, IsNoted}
+use Rattle.schedule_trie.specs.Cut.{Cut, piece_at, slots_of, note_of, forest}
 
 -- a stored run, with its number and its link, if it has them; the link is the number of another
 -- run, at whose exit this one was found to begin
@@ -52,48 +51,6 @@ module _ {R P : Type 0} where
   -- the segment k, which begins at c, has a stored run that fits it
   abbrev pub Fits : (R → R → Bool) → Cut (StoredRun R P) → Configuration R P → ℕ → Type 0
   Fits E cut c k = MatchOption (run_at cut k) ⊥ (RunFits E c (steps_at cut k))
-
--- settling the segment k at c replays n steps: none if the segment's stored run fits there, and
--- `run` is then that stored run; otherwise all of the segment's steps
-abbrev pub IsWork : {R P : Type 0} → (R → R → Bool) → Cut (StoredRun R P) → Configuration R P → ℕ → SegmentRun R P → ℕ → Type 0
-IsWork E old c k run n = (Fits E old c k × (run_at old k ≡ Some run) × (n ≡ 0)) ⊎ ((Fits E old c k → ⊥) × (n ≡ length (steps_at old k)))
-
--- the segment k is settled at c, and n steps are replayed: the run of `part`, which fits, is now
--- stored there, and its first `place` steps count, or all if there are fewer
-pub record IsSettledAt {R P : Type 0} (E : R → R → Bool) (old new : Cut (StoredRun R P)) (c : Configuration R P) (place k : ℕ) (part : RunPart R P) (n : ℕ) : Type 0 where
-  pub stored : run_at new k ≡ Some part.run
-  pub fits : RunFits E c (steps_at old k) part.run
-  pub count : part.count ≡ min place (length (steps_at old k))
-  pub work : IsWork E old c k part.run n
-
-module _ {R P : Type 0} (E : R → R → Bool) (b : Behaviour P) (old : Cut (StoredRun R P)) where
-  -- these segments, of which the first begins at c, are settled one after another: `parts` are
-  -- their runs, each with how many of its steps are among the first `place` steps of these
-  -- segments; and n steps are replayed
-  abbrev pub Settles : Cut (StoredRun R P) → Configuration R P → ℕ → List ℕ → List (RunPart R P) → ℕ → Type 0
-  Settles new c place [] parts n = (parts ≡ []) × (n ≡ 0)
-  Settles new c place (k ∷ ks) [] n = ⊥
-  Settles new c place (k ∷ ks) (part ∷ parts) n =
-      (here : ℕ) × (below : ℕ) × (n ≡ here + below) × IsSettledAt E old new c place k part here
-      × Settles new (replayed b c (steps_at old k)) (place - length (steps_at old k)) ks parts below
-
-  -- the segment k, which begins at c, now has a stored run that fits it
-  abbrev pub HasFitting : Cut (StoredRun R P) → Configuration R P → ℕ → Type 0
-  HasFitting new c k = (run : SegmentRun R P) × (run_at new k ≡ Some run) × RunFits E c (steps_at old k) run
-
-  -- k is one of these segments, of which the first begins at c; no stored run fitted k, and a run
-  -- that fits k is now stored
-  abbrev pub IsFilled : Cut (StoredRun R P) → Configuration R P → List ℕ → ℕ → Type 0
-  IsFilled new c [] k = ⊥
-  IsFilled new c (j ∷ js) k =
-      ((k ≡ j) × (Fits E old c j → ⊥) × HasFitting new c j) ⊎ IsFilled new (replayed b c (steps_at old j)) js k
-
--- the segment k is settled at c, and n steps are replayed: `run`, which fits, is now stored there,
--- and nothing else changes
-pub record IsSegmentSettled {R P : Type 0} (E : R → R → Bool) (old new : Cut (StoredRun R P)) (c : Configuration R P) (k : ℕ) (run : SegmentRun R P) (n : ℕ) : Type 0 where
-  pub noted : (s : StoredRun R P) × IsNoted old new k (Some s) × (s.run ≡ run)
-  pub fits : RunFits E c (steps_at old k) run
-  pub work : IsWork E old c k run n
 
 -- the exit of the last of these runs, or c if there are none
 abbrev pub exit_of : {R P : Type 0} → Configuration R P → List (RunPart R P) → Configuration R P

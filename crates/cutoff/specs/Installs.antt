@@ -5,7 +5,7 @@ use Rattle.checkpoints.specs.Segment.{SegmentRun}
 use Rattle.schedule_trie.specs.Cut.{piece_at}
 use Rattle.cutoff.specs.declared.install.Installation.{Installation}
 use Rattle.cutoff.specs.declared.install.Installation.TheVariants.{Installed, Stale, Gone}
-use Rattle.cutoff.specs.Held.{Charted}
+use Rattle.cutoff.specs.Charts.{Charted}
 use Rattle.cutoff.specs.Plans.{CanInstall, CannotInstall, IsInstalled}
 
 -- the result of an install of `run` in the segment `key`: Gone if there is no such segment;

@@ -2,7 +2,8 @@ pub mod Fitting
 pub mod Links
 pub mod Numbers
 pub mod Prefixes
-pub mod Held
+pub mod Charts
+pub mod Settles
 pub mod Edits
 pub mod Plans
 pub mod Sights

@@ -7,7 +7,7 @@ use Rattle.frames.specs.Equality.{SameConfiguration}
 use Rattle.checkpoints.specs.Segment.{SegmentRun}
 use Rattle.schedule_trie.specs.Cut.{Cut, Strand, keys_in, has, IsNoted}
 use Rattle.cutoff.specs.Fitting.{StoredRun, RunFits, Fits, steps_at}
-use Rattle.cutoff.specs.Held.{Charted, keys_named}
+use Rattle.cutoff.specs.Charts.{Charted, keys_named}
 
 -- a job: the key of a segment, the configuration that replay reaches at its start, and its steps
 pub record Planned (R P : Type 0) : Type 0 where

@@ -9,7 +9,7 @@ use Rattle.checkpoints.specs.Segment.{SegmentRun, IsRun}
 use Rattle.schedule_trie.specs.Forest.{step_of}
 use Rattle.schedule_trie.specs.Cut.{Cut, piece_at, slots_of, note_of, keys_in, has, line}
 use Rattle.schedule_trie.specs.Climbs.{keys_to, keys_up_to, HasClimbedTo}
-use Rattle.cutoff.specs.Fitting.{StoredRun, RunPart, RunFits, Settles, counted, reached, run_at, steps_at}
+use Rattle.cutoff.specs.Fitting.{StoredRun, RunFits, reached, run_at, steps_at}
 
 -- the run stored at a key; `None` if there is no key or no run
 abbrev pub run_named : {R P : Type 0} → Cut (StoredRun R P) → Option ℕ → Option (SegmentRun R P)
@@ -116,20 +116,3 @@ pub record IsHung {R P : Type 0} (E : R → R → Bool) (is : R → Behaviour P)
 pub record IsLeft {R P : Type 0} (E : R → R → Bool) (is : R → Behaviour P) (cut : Cut (StoredRun R P)) (start : Configuration R P) (front : Option ℕ) (left : List ℕ) (hung key count place i : ℕ) : Type 0 where
   pub hanging : IsHung E is cut hung key i
   pub rest : IsRest E is cut start front (left ++ hanging.below) key count place i
-
--- the last of these parts is the run stored in the segment `key`, of which `count` steps count
-pub record EndsWith {R P : Type 0} (cut : Cut (StoredRun R P)) (key count : ℕ) (parts : List (RunPart R P)) : Type 0 where
-  pub before : List (RunPart R P)
-  pub stored : StoredRun R P
-  pub noted : note_of (piece_at cut.pieces key) ≡ Some stored
-  pub is : parts ≡ before ++ record { run = stored.run; count = count } ∷ []
-
--- a settle of the first `place` cells of branch i replays n steps; its last part is the run now
--- stored in the segment `key`, of which `count` steps count; and true runs that fit are now stored
--- from the branch's first segment down to `key`
-pub record SettlesTo {R P : Type 0} (E : R → R → Bool) (is : R → Behaviour P) (old new : Cut (StoredRun R P)) (start : Configuration R P) (key count place i n : ℕ) : Type 0 where
-  pub parts : List (RunPart R P)
-  pub settles : Settles E (is start.register) old new start place (reached old place (keys_in old.strands i)) parts n
-  pub sum : counted parts ≡ place
-  pub last : EndsWith new key count parts
-  pub down : RunsTo E is new start (Some key) (keys_in old.strands i)

@@ -7,7 +7,8 @@ ghost use Rattle.schedule_trie.specs.Forest.{index_of, opened, IsRefused, slots_
 ghost use Rattle.std.specs.Arc.{arc_value};
 ghost use Rattle.cutoff.specs.Plans.{IsPlan};
 ghost use Rattle.cutoff.specs.Installs.{Installs};
-ghost use Rattle.cutoff.specs.Held.{IsSettled, KeepsOrFills, StepsFit, look};
+ghost use Rattle.cutoff.specs.Charts.{StepsFit, look};
+ghost use Rattle.cutoff.specs.Settles.{IsSettled, KeepsOrFills};
 ghost use Rattle.schedule_trie.specs.Cut.{AreLimits, IsCut, IsBlank, forest, if_lacks};
 
 mod edits;
@@ -43,7 +44,7 @@ pub struct Chart<R: Register> {
 }
 
 impl<R: Register> Model for Chart<R> {
-    ghost use Rattle.cutoff.specs.Held.{Charted, IsCharted};
+    ghost use Rattle.cutoff.specs.Charts.{Charted, IsCharted};
 
     ghost Value = { Charted R R.Pending };
 

@@ -8,10 +8,11 @@ ghost use Rattle.std.specs.Option.{option_map};
 ghost use Rattle.checkpoints.specs.Segment.{SegmentRun, IsRun};
 ghost use Rattle.frames.specs.Recorded.{AllFit};
 ghost use Rattle.schedule_trie.specs.Cut.{forest, keys_in, line, piece_at, IsCut};
-ghost use Rattle.cutoff.specs.Fitting.{IsSegmentSettled, IsFilled, KeepsRuns, reached, run_at, steps_at};
-ghost use Rattle.cutoff.specs.Held.{StepsFit};
+ghost use Rattle.cutoff.specs.Fitting.{KeepsRuns, reached, run_at, steps_at};
+ghost use Rattle.cutoff.specs.Settles.{IsSegmentSettled, IsFilled, SettlesTo};
+ghost use Rattle.cutoff.specs.Charts.{StepsFit};
 ghost use Rattle.cutoff.specs.Links.{IsLinked, without_register};
-ghost use Rattle.cutoff.specs.Prefixes.{IsMarked, IsPlaceIn, IsLeft, SettlesTo, exit_or_start, exit_or, run_named};
+ghost use Rattle.cutoff.specs.Prefixes.{IsMarked, IsPlaceIn, IsLeft, exit_or_start, exit_or, run_named};
 
 use crate::prefix::{Rest, keys_down_to, rest_to};
 use crate::settle::{fitting, settle_segment};

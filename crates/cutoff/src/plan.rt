@@ -6,7 +6,7 @@ ghost use Rattle.frames.specs.Recorded.{AllFit};
 ghost use Rattle.schedule_trie.specs.Forest.{step_of};
 ghost use Rattle.schedule_trie.specs.Cut.{keys_in, forest, IsCut};
 ghost use Rattle.cutoff.specs.Fitting.{steps_at};
-ghost use Rattle.cutoff.specs.Held.{StepsFit};
+ghost use Rattle.cutoff.specs.Charts.{StepsFit};
 ghost use Rattle.cutoff.specs.Links.{IsLinked, without_register};
 ghost use Rattle.cutoff.specs.Plans.{Descends, Planned, Plans, with_job, job_of, keys_of};
 ghost use Rattle.cutoff.specs.Prefixes.{IsMarked, exit_or_start};

@@ -10,7 +10,7 @@ ghost use Rattle.schedule_trie.specs.Cut.{forest, has, keys_in, IsCut};
 ghost use Rattle.schedule_trie.specs.Climbs.{keys_up_to};
 ghost use Rattle.cutoff.specs.Links.{IsLinked, without_register};
 ghost use Rattle.cutoff.specs.Prefixes.{AreKeysAfter, IsMarked, IsKnown, IsPlaceIn, IsHung, IsLeft};
-ghost use Rattle.cutoff.specs.Held.{StepsFit};
+ghost use Rattle.cutoff.specs.Charts.{StepsFit};
 
 use crate::stored::Stored;
 use frames::config::Config;

@@ -7,7 +7,8 @@ ghost use Rattle.std.specs.Arc.{arc_value};
 ghost use Rattle.frames.specs.Recorded.{AllFit};
 ghost use Rattle.schedule_trie.specs.Forest.{step_of};
 ghost use Rattle.schedule_trie.specs.Cut.{piece_at, slots_of, note_of, keys_in, line, IsCut};
-ghost use Rattle.cutoff.specs.Fitting.{RunFits, Fits, IsSegmentSettled, steps_at, exit_of, part_of, reached, Settles, IsFilled, KeepsRuns, counted};
+ghost use Rattle.cutoff.specs.Fitting.{RunFits, Fits, steps_at, exit_of, part_of, reached, KeepsRuns, counted};
+ghost use Rattle.cutoff.specs.Settles.{IsSegmentSettled, Settles, IsFilled};
 ghost use Rattle.cutoff.specs.Links.{IsLinked, without_register};
 
 use crate::runs::Runs;

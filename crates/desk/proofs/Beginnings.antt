@@ -3,7 +3,7 @@ use Rattle.std.proofs.Common.{◌≡◌, List, [], refl, sym, ap, subst, ◌∙�
 use Rattle.frames.specs.Behaviour.{Behaviour}
 use Rattle.turn.specs.declared.view.View.{View}
 use Rattle.turn.specs.Histories.{first_view}
-use Rattle.sessions.specs.Held.{Held}
+use Rattle.sessions.specs.Books.{Held}
 use Rattle.desk.specs.declared.item.Item.{Item}
 use Rattle.desk.specs.Histories.{IsHistory}
 use Rattle.desk.specs.Items.{items}

@@ -9,12 +9,12 @@ use Rattle.schedule_trie.specs.declared.limits.Limits.{Limits}
 use Rattle.schedule_trie.specs.declared.refusal.Refusal.TheVariants.{Memory, LogFull, NoBranch}
 use Rattle.schedule_trie.specs.Cut.{Cut, strand}
 use Rattle.cutoff.specs.Fitting.{StoredRun}
-use Rattle.cutoff.specs.Held.{Charted}
+use Rattle.cutoff.specs.Charts.{Charted}
 use Rattle.turn.specs.declared.view.View.{View}
 use Rattle.sessions.specs.declared.command.Command.TheVariants as command
 use Rattle.sessions.specs.declared.reply.Reply.TheVariants.{Joined, No}
 use Rattle.sessions.specs.declared.log.Entry.{Entry}
-use Rattle.sessions.specs.Held.{Held, Staged, opening_of}
+use Rattle.sessions.specs.Books.{Held, Staged, opening_of}
 use Rattle.sessions.specs.Logs.{entry, world_after}
 use Rattle.desk.specs.declared.item.Item.{Item}
 use Rattle.desk.specs.declared.report.Report.{Report}

@@ -16,7 +16,7 @@ use Rattle.sessions.specs.declared.command.Command.{Command}
 use Rattle.sessions.specs.declared.log.Entry.{Entry}
 use Rattle.sessions.specs.declared.reply.Reply.TheVariants.{No}
 use Rattle.sessions.specs.World.{World}
-use Rattle.sessions.specs.Held.{Held, opening_of}
+use Rattle.sessions.specs.Books.{Held, opening_of}
 use Rattle.sessions.specs.Logs.{IsLegal, entry, is_logged, logged, world_after}
 use Rattle.sessions.proofs.Towers.{tower_after}
 use Rattle.desk.specs.declared.item.Item.{Item}

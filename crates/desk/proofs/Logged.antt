@@ -3,7 +3,7 @@ use Rattle.std.proofs.Common.{◌≡◌, ℕ, Bool, true, false, cond, List, [],
 use Rattle.std.proofs.lemmas.List.{append_cancel_left}
 use Rattle.turn.specs.Entries.{AtMostOne}
 use Rattle.sessions.specs.declared.log.Entry.{Entry}
-use Rattle.sessions.specs.Held.{Held}
+use Rattle.sessions.specs.Books.{Held}
 use Rattle.sessions.specs.World.{World}
 use Rattle.sessions.specs.Logs.{IsLegal, acted_by, is_logged, logged}
 use Rattle.desk.specs.declared.item.Item.{Item}

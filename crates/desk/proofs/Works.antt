@@ -17,7 +17,7 @@ use Rattle.sessions.specs.declared.reply.Reply.TheVariants.{No}
 use Rattle.sessions.specs.World.{World}
 use Rattle.sessions.specs.Acts.{command_result, is_full}
 use Rattle.sessions.specs.Looks.{looked_in, shown_in}
-use Rattle.sessions.specs.Held.{Held, IsHeld, ActsOnBook, RefusesMemoryLast, LacksMemory, opening_of, world_of}
+use Rattle.sessions.specs.Books.{Held, IsHeld, ActsOnBook, RefusesMemoryLast, LacksMemory, opening_of, world_of}
 use Rattle.sessions.specs.Logs.{IsLegal, entry, logged, is_logged, world_after}
 use Rattle.turn.specs.Entries.{AtMostOne}
 use Rattle.sessions.proofs.Ordinary.{acted_logged, acted_full}

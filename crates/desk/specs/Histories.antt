@@ -3,7 +3,7 @@ use Rattle.std.specs.Prelude.{◌≡◌, List}
 use Rattle.frames.specs.Behaviour.{Behaviour}
 use Rattle.turn.specs.declared.view.View.{View}
 use Rattle.sessions.specs.declared.log.Entry.{Entry}
-use Rattle.sessions.specs.Held.{Held, opening_of}
+use Rattle.sessions.specs.Books.{Held, opening_of}
 use Rattle.sessions.specs.Logs.{IsLegal}
 use Rattle.desk.specs.declared.item.Item.{Item}
 use Rattle.desk.specs.Items.{calls_in, items}

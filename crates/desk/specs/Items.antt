@@ -1,7 +1,7 @@
 -- In contracts, a desk's journal is a list of items: the opening, then the logged calls.
 use Rattle.std.specs.Prelude.{ℕ, List, [], ◌∷◌, map}
 use Rattle.sessions.specs.declared.log.Entry.{Entry}
-use Rattle.sessions.specs.Held.{Held}
+use Rattle.sessions.specs.Books.{Held}
 use Rattle.desk.specs.declared.item.Item.{Item}
 use Rattle.desk.specs.declared.item.Item.TheVariants.{Opening, Call}
 

@@ -16,7 +16,7 @@ use Rattle.sessions.specs.declared.reply.Reply.TheVariants.{No}
 use Rattle.sessions.specs.World.{World}
 use Rattle.sessions.specs.Looks.{looked_in, shown_in}
 use Rattle.sessions.specs.Saves.{IsSaved}
-use Rattle.sessions.specs.Held.{Held, opening_of}
+use Rattle.sessions.specs.Books.{Held, opening_of}
 use Rattle.sessions.specs.Logs.{IsLegal, entry, logged, world_after}
 use Rattle.desk.specs.declared.item.Item.{Item}
 use Rattle.desk.specs.declared.receipt.Receipt.{Receipt}

@@ -4,7 +4,7 @@
 ghost use Rattle.std.specs.Prelude.{◌≡◌};
 ghost use Rattle.std.specs.Arc.{arc_value};
 ghost use Rattle.cutoff.specs.Installs.{Installs};
-ghost use Rattle.sessions.specs.Held.{opening_of, world_of};
+ghost use Rattle.sessions.specs.Books.{opening_of, world_of};
 
 use crate::journal::Journal;
 use checkpoints::run::Run;

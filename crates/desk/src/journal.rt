@@ -2,7 +2,7 @@
 
 ghost use Rattle.std.specs.Prelude.{◌≡◌, ◌+◌, [], length, ◌↔◌, IfOk};
 ghost use Rattle.sessions.specs.Logs.{IsLegal};
-ghost use Rattle.sessions.specs.Held.{opening_of};
+ghost use Rattle.sessions.specs.Books.{opening_of};
 ghost use Rattle.desk.specs.Items.{calls_in, items, made_under};
 
 use crate::item::Item;
@@ -27,7 +27,7 @@ impl<R: Register> Model for Journal<R> {
     ghost use Rattle.std.specs.Prelude.{◌≡◌, List};
     ghost use Rattle.desk.specs.declared.item.Item.{Item};
     ghost use Rattle.desk.specs.Items.{items};
-    ghost use Rattle.sessions.specs.Held.{opening_of};
+    ghost use Rattle.sessions.specs.Books.{opening_of};
 
     ghost Value = { List (Item R R.Pending) };
 

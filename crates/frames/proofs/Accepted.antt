@@ -1,13 +1,13 @@
 -- A history that refuses nothing is accepted whole.
-use Rattle.std.proofs.Common.{◌≡◌, ℕ, Bool, true, false, List, [], ◌∷◌, refl, ap, ◌∙◌}
+use Rattle.std.proofs.Common.{◌≡◌, ℕ, true, false, List, [], ◌∷◌, refl, ap, ◌∙◌}
 use Rattle.std.specs.Prelude.{if◌then◌else◌}
 use Rattle.std.specs.List.{list_any}
 use Rattle.std.proofs.lemmas.Bool.{or_parts}
 use Rattle.frames.specs.declared.types.Op.TheVariants as op
 use Rattle.frames.specs.declared.types.Event.{Event}
 use Rattle.frames.specs.declared.types.Event.TheVariants.{Invoke, Got, Wrote, Refused, Void, Stop, Chosen}
-use Rattle.frames.specs.Verdicts.{refused_by, is_refused, counts, accepted}
-use Rattle.frames.specs.Regularity.{is_refusal, NoneRefused}
+use Rattle.frames.specs.correctness.Verdicts.{refused_by, is_refused, counts, accepted}
+use Rattle.frames.specs.correctness.Regularity.{is_refusal, NoneRefused}
 
 -- an event that counts is accepted, if the write in progress after it isn't refused
 pub accepted_one : (i : ℕ) (e : Event) (rest : List (ℕ × Event)) → is_refused rest ≡ false → counts e false ≡ true → accepted ((i, e) ∷ rest) ≡ (i, e) ∷ accepted rest

@@ -12,8 +12,8 @@ use Rattle.frames.specs.declared.types.Op.TheVariants as op
 use Rattle.frames.specs.declared.types.Event.TheVariants.{Invoke, Wrote}
 use Rattle.frames.specs.declared.verdict.Reading.{Reading}
 use Rattle.frames.specs.declared.verdict.Verdict.TheVariants.{Fresh, Overlap, Stray}
-use Rattle.frames.specs.Verdicts.{Known, after, invoked_now, returning, last_read, reading, is_value, has_returned, overlaps, judged}
-use Rattle.frames.specs.Regularity.{in_progress, overlapped, FreshAlone, NotStray}
+use Rattle.frames.specs.correctness.Verdicts.{Known, after, invoked_now, returning, last_read, reading, is_value, has_returned, overlaps, judged}
+use Rattle.frames.specs.correctness.Regularity.{in_progress, overlapped, FreshAlone, NotStray}
 use Rattle.frames.proofs.Seen.{Seen, Returned, among, verdict, now_last, sees, IsFreshAlone, IsNotStray}
 use Rattle.frames.proofs.Pointwise.{put, put_same, put_other}
 

@@ -23,8 +23,8 @@ use Rattle.frames.specs.OneWriter.{HasOneWriter}
 use Rattle.frames.specs.Configuration.{running_at, is_stopped, fits_step, stepped, history, events_of, acted_on, acting, acting_unless, invoking, going, return_of, still_running, chosen_of, in_order}
 use Rattle.frames.specs.Parked.{IsConfiguration}
 use Rattle.frames.specs.Recorded.{AllFit, Alone, at_index, indexed, first_configuration, recorded}
-use Rattle.frames.specs.Verdicts.{Known, initially, after}
-use Rattle.frames.specs.Regularity.{is_refusal, NoneRefused, OnReturn, EachRead, AlwaysReads}
+use Rattle.frames.specs.correctness.Verdicts.{Known, initially, after}
+use Rattle.frames.specs.correctness.Regularity.{is_refusal, NoneRefused, OnReturn, EachRead, AlwaysReads}
 use Rattle.frames.specs.laws.Steps.{IsReached, step_keeps, process_there}
 use Rattle.frames.specs.laws.OneWriter.{writer_zero, reader_some}
 use Rattle.frames.proofs.Seen.{Seen, Returned, opening, sees, refuses, refuses_none, after_step, got, read_in, reads, Always}

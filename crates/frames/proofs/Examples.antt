@@ -18,8 +18,8 @@ use Rattle.frames.specs.Behaviour.{Answers}
 use Rattle.frames.specs.Flat.{HasFramesFrom, HasReached, IsReached, stack_of, outermost}
 use Rattle.frames.specs.SafeBit.{safe_behaviour, SafeReaches}
 use Rattle.frames.specs.Configuration.{Configuration, initial_configuration, running_at}
-use Rattle.frames.specs.Verdicts.{initially}
-use Rattle.frames.specs.Regularity.{Numbered}
+use Rattle.frames.specs.correctness.Verdicts.{initially}
+use Rattle.frames.specs.correctness.Regularity.{Numbered}
 use Rattle.frames.specs.laws.Steps.{IsVoid}
 
 abbrev start : Configuration ⊤ SafePoint

@@ -3,7 +3,7 @@ use Rattle.std.proofs.Common.{◌≡◌, ℕ, Bool, true, false, [], Option, Som
 use Rattle.std.specs.Prelude.{◌==◌, ◌⊎◌, if◌then◌else◌}
 use Rattle.std.proofs.lemmas.Bool.{eqb-true}
 use Rattle.frames.specs.declared.verdict.Verdict.TheVariants.{Fresh, Overlap, Stray}
-use Rattle.frames.specs.Regularity.{in_progress}
+use Rattle.frames.specs.correctness.Regularity.{in_progress}
 use Rattle.frames.proofs.Seen.{Returned, among, verdict, IsNotStray}
 
 pub none_in : (w : Option ℕ) → in_progress w ≡ [] → w ≡ None

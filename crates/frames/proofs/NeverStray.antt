@@ -13,8 +13,8 @@ use Rattle.frames.specs.declared.types.Event.TheVariants.{Invoke, Got, Wrote, Re
 use Rattle.frames.specs.declared.verdict.Reading.{Reading}
 use Rattle.frames.specs.declared.verdict.Verdict.TheVariants.{Fresh, Overlap, Stray}
 use Rattle.frames.specs.Behaviour.{Behaviour}
-use Rattle.frames.specs.Verdicts.{Known, initially, after, returning, invoked_now, last_read, reading, overlaps}
-use Rattle.frames.specs.Regularity.{in_progress, OnReturn, EachRead, NotStray, NeverStray, IsRegular, IsAtomic, by_number, IsNumber, Numbered}
+use Rattle.frames.specs.correctness.Verdicts.{Known, initially, after, returning, invoked_now, last_read, reading, overlaps}
+use Rattle.frames.specs.correctness.Regularity.{in_progress, OnReturn, EachRead, NotStray, NeverStray, IsRegular, IsAtomic, by_number, IsNumber, Numbered}
 use Rattle.frames.proofs.Agreed.{found_last, is_among}
 
 -- a read's record is right: by its invocation no more writes had returned than by now, and what was

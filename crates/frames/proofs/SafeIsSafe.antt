@@ -26,7 +26,7 @@ use Rattle.frames.specs.Fitting.{process_of}
 use Rattle.frames.specs.OneWriter.{HasOneWriter, one_writer}
 use Rattle.frames.specs.Configuration.{running_at, is_stopped, stepped, events_of, fits_step, history, return_of, still_running, chosen_of, in_order}
 use Rattle.frames.specs.Recorded.{Alone, AllFit, first_configuration}
-use Rattle.frames.specs.Regularity.{IsSafe, FreshAlone}
+use Rattle.frames.specs.correctness.Regularity.{IsSafe, FreshAlone}
 use Rattle.frames.specs.laws.Steps.{IsVoid, void_unless_enabled, stopped_is_void}
 use Rattle.frames.specs.laws.Safe.{safe_lawful}
 use Rattle.frames.proofs.Seen.{Seen, opening, sees, now_last, IsFreshAlone, Always, Allowed}

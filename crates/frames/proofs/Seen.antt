@@ -14,7 +14,7 @@ use Rattle.frames.specs.declared.verdict.Verdict.TheVariants.{Fresh, Overlap, St
 use Rattle.frames.specs.Behaviour.{Behaviour}
 use Rattle.frames.specs.Configuration.{history}
 use Rattle.frames.specs.Recorded.{AllFit, first_configuration}
-use Rattle.frames.specs.Regularity.{in_progress}
+use Rattle.frames.specs.correctness.Regularity.{in_progress}
 use Rattle.frames.proofs.Pointwise.{put}
 
 -- a returned read: its process, its value, the value that was fresh at its invocation, and the

@@ -9,7 +9,7 @@ ghost use Rattle.frames.specs.Others.{LeavesOthers};
 ghost use Rattle.frames.specs.declared.types.Step.{Step};
 ghost use Rattle.frames.specs.Configuration.{Configuration, fits_step, is_enabled, is_stopped, stepped, replayed};
 ghost use Rattle.frames.specs.Parked.{IsConfiguration};
-ghost use Rattle.frames.specs.Regularity.{IsAtomic, IsRegular, IsSafe, NeverStray};
+ghost use Rattle.frames.specs.correctness.Regularity.{IsAtomic, IsRegular, IsSafe, NeverStray};
 ghost use Rattle.frames.specs.laws.Steps.{IsVoid, StaysStopped};
 
 use crate::register::{Behaves, Register};

@@ -13,8 +13,8 @@ use Rattle.frames.specs.Configuration.{running_at, history}
 use Rattle.frames.specs.Recorded.{Alone, AllFit, first_configuration}
 use Rattle.frames.proofs.Seen.{Seen, Returned, opening, Always, Allowed}
 use Rattle.frames.specs.OneWriter.{HasOneWriter}
-use Rattle.frames.specs.Verdicts.{Known}
-use Rattle.frames.specs.Regularity.{AlwaysReads}
+use Rattle.frames.specs.correctness.Verdicts.{Known}
+use Rattle.frames.specs.correctness.Regularity.{AlwaysReads}
 use Rattle.frames.proofs.Reached.{reached_first}
 use Rattle.frames.proofs.Agreed.{Alike}
 use Rattle.frames.proofs.Agreement.{always_known, always_seen}

@@ -27,8 +27,8 @@ use Rattle.frames.specs.OneWriter.{HasOneWriter}
 use Rattle.frames.specs.Configuration.{running_at, is_stopped, fits_step, stepped, history, events_of, acted_on, acting, acting_unless, invoking, going, return_of, still_running, chosen_of, in_order}
 use Rattle.frames.specs.Parked.{IsConfiguration}
 use Rattle.frames.specs.Recorded.{AllFit, Alone, at_index, indexed, first_configuration}
-use Rattle.frames.specs.Verdicts.{Known, refused_by, is_refused, counts, accepted, initially, after, invoked_now, returning, last_read, reading}
-use Rattle.frames.specs.Regularity.{in_progress, OnReturn, by_number, IsNumber, Numbered, IsAtomic}
+use Rattle.frames.specs.correctness.Verdicts.{Known, refused_by, is_refused, counts, accepted, initially, after, invoked_now, returning, last_read, reading}
+use Rattle.frames.specs.correctness.Regularity.{in_progress, OnReturn, by_number, IsNumber, Numbered, IsAtomic}
 use Rattle.frames.specs.laws.Steps.{IsReached, step_keeps, process_there}
 use Rattle.frames.specs.laws.OneWriter.{writer_zero, reader_some, reader_few}
 use Rattle.frames.proofs.Seen.{refuses, Allowed}

@@ -7,7 +7,7 @@ use Rattle.std.proofs.lemmas.List.Sums.{sum_by-set}
 use Rattle.lineage.specs.declared.node.Node.{Node}
 use Rattle.lineage.specs.Family.{has, path_in, EndsAlone}
 use Rattle.lineage.specs.Climbs.{IsClimb}
-use Rattle.lineage.specs.Held.{tip_at, is_key, is_above, node_at, above_node, links_to_key, family_on, IsOn, IsSoundFamily}
+use Rattle.lineage.specs.Lineages.{tip_at, is_key, is_above, node_at, above_node, links_to_key, family_on, IsOn, IsSoundFamily}
 use Rattle.lineage.proofs.Once.{has-head, has-reverse, has_not_from}
 use Rattle.lineage.proofs.Climbs.{climb_step, climb_unique}
 use Rattle.lineage.proofs.Walks.{path_at, path_to_is, last_is, no_end}

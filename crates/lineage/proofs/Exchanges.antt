@@ -8,7 +8,7 @@ use Rattle.std.proofs.lemmas.List.Sums.{sum_by-set, sum_by_push}
 use Rattle.lineage.specs.declared.node.Node.{Node}
 use Rattle.lineage.specs.Family.{has, item_at, path_in, IsExchanged}
 use Rattle.lineage.specs.Climbs.{IsClimb, Ends}
-use Rattle.lineage.specs.Held.{tip_at, is_key, node_at, item_in, above_in, above_node, path_to, with_holder, family_on, Stays, IsOn, IsSoundFamily, IsReleasing, IsPutLast}
+use Rattle.lineage.specs.Lineages.{tip_at, is_key, node_at, item_in, above_in, above_node, path_to, with_holder, family_on, Stays, IsOn, IsSoundFamily, IsReleasing, IsPutLast}
 use Rattle.lineage.proofs.Climbs.{climb_unique}
 use Rattle.lineage.proofs.Walks.{path_at, item_is}
 use Rattle.lineage.proofs.Counts.{one}

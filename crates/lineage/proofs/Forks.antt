@@ -7,7 +7,7 @@ use Rattle.std.proofs.lemmas.List.Sums.{sum_by_push}
 use Rattle.lineage.specs.declared.node.Node.{Node}
 use Rattle.lineage.specs.Family.{last_of, item_at, path_in, IsForked}
 use Rattle.lineage.specs.Climbs.{IsClimb, Ends}
-use Rattle.lineage.specs.Held.{tip_at, is_key, is_above, node, node_at, item_in, above_in, above_node, path_to, links_to_key, holders_of, with_holder, family_on, IsOn, IsSoundFamily}
+use Rattle.lineage.specs.Lineages.{tip_at, is_key, is_above, node, node_at, item_in, above_in, above_node, path_to, links_to_key, holders_of, with_holder, family_on, IsOn, IsSoundFamily}
 use Rattle.lineage.proofs.Once.{reverse_cons}
 use Rattle.lineage.proofs.Climbs.{climb_top}
 use Rattle.lineage.proofs.Walks.{path_to_is, item_is, climb_at}

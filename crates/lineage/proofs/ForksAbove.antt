@@ -5,12 +5,12 @@ use Rattle.std.specs.List.{count_by}
 use Rattle.std.proofs.lemmas.List.Concat.{flat_map-append}
 use Rattle.lineage.specs.declared.node.Node.{Node}
 use Rattle.lineage.specs.Family.{has, path_in, item_at, above_key, divided_keys, IsForkedAbove}
-use Rattle.lineage.specs.Held.{is_key, node_at, item_in, node_over, node_under, with_holder, family_on, IsSoundFamily}
+use Rattle.lineage.specs.Lineages.{is_key, node_at, item_in, node_over, node_under, with_holder, family_on, IsSoundFamily}
 use Rattle.lineage.proofs.Once.{has-reverse}
 use Rattle.lineage.proofs.Climbs.{not_again}
 use Rattle.lineage.proofs.Walks.{climb_at, item_is}
 use Rattle.lineage.proofs.Divisions.{divided_sound, divided_paths, divided_added}
-use Rattle.lineage.proofs.Forks.{forked, forked_sound, few_holders}
+use Rattle.lineage.proofs.Forks.{forked, forked_sound}
 
 module _ (key fresh : ℕ) where
   -- a list that doesn't have the key is not divided

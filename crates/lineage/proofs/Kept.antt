@@ -5,7 +5,7 @@ use Rattle.std.proofs.lemmas.List.{get_or_past}
 use Rattle.lineage.specs.declared.node.Node.{Node}
 use Rattle.lineage.specs.Family.{has}
 use Rattle.lineage.specs.Climbs.{IsClimb, Ends}
-use Rattle.lineage.specs.Held.{tip_at, is_key, is_above, node_at, above_in, above_node, path_to, links_to_key, holders_of, IsOn, IsSoundFamily}
+use Rattle.lineage.specs.Lineages.{tip_at, is_key, is_above, node_at, above_in, above_node, path_to, links_to_key, holders_of, IsOn, IsSoundFamily}
 use Rattle.lineage.proofs.Once.{stands}
 use Rattle.lineage.proofs.Climbs.{climb_kept, climb_from}
 use Rattle.lineage.proofs.Walks.{path_to_is, no_end}

@@ -6,7 +6,7 @@ use Rattle.std.proofs.lemmas.List.{length-map, ext_get_or}
 use Rattle.std.proofs.lemmas.List.Sums.{sum_by-cons}
 use Rattle.lineage.specs.Family.{has, keys_without}
 use Rattle.lineage.specs.Climbs.{IsClimb}
-use Rattle.lineage.specs.Held.{tip_at, is_key, is_above, past}
+use Rattle.lineage.specs.Lineages.{tip_at, is_key, is_above, past}
 use Rattle.lineage.proofs.Once.{has-head, has-tail, has_cases, reverse_cons}
 use Rattle.lineage.proofs.Counts.{one}
 

@@ -8,7 +8,7 @@ use Rattle.std.proofs.lemmas.List.Sums.{sum_by-set}
 use Rattle.lineage.specs.declared.node.Node.{Node}
 use Rattle.lineage.specs.Family.{path_in, IsAdded}
 use Rattle.lineage.specs.Climbs.{IsClimb, Ends}
-use Rattle.lineage.specs.Held.{tip_at, is_key, node, node_at, item_in, above_in, above_node, path_to, links_to_key, holders_of, family_on, IsOn, IsSoundFamily}
+use Rattle.lineage.specs.Lineages.{tip_at, is_key, node, node_at, item_in, above_in, above_node, path_to, links_to_key, holders_of, family_on, IsOn, IsSoundFamily}
 use Rattle.lineage.proofs.Once.{has-head, has-tail, reverse_cons}
 use Rattle.lineage.proofs.Walks.{path_to_is, path_at, item_is}
 use Rattle.lineage.proofs.Counts.{one, count_changed}

@@ -9,7 +9,7 @@ use Rattle.std.proofs.lemmas.List.Sums.{sum_by-remove}
 use Rattle.lineage.specs.declared.node.Node.{Node}
 use Rattle.lineage.specs.Family.{has}
 use Rattle.lineage.specs.Climbs.{IsClimb, Ends}
-use Rattle.lineage.specs.Held.{tip_at, is_key, is_above, node, node_at, above_in, above_node, keys_up, links_to_key, holders_of, next_up, less_one, IsOn, IsSoundFamily, IsReleasing}
+use Rattle.lineage.specs.Lineages.{tip_at, is_key, is_above, node, node_at, above_in, above_node, keys_up, links_to_key, holders_of, next_up, less_one, IsOn, IsSoundFamily, IsReleasing}
 use Rattle.lineage.proofs.Once.{has_cases, has_not_from}
 use Rattle.lineage.proofs.Climbs.{climb_unique, climb_kept, climb_step, not_again}
 use Rattle.lineage.proofs.Walks.{keys_up_is}

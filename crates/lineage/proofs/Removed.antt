@@ -1,7 +1,7 @@
 -- Removing a tip.
 use Rattle.std.proofs.Common.{◌≡◌, ◌≢◌, ℕ, zero, suc, List, [], ◌∷◌, map, Option, refl, ap}
 use Rattle.std.specs.List.{remove}
-use Rattle.lineage.specs.Held.{tip_at}
+use Rattle.lineage.specs.Lineages.{tip_at}
 
 -- each tip that is left was there before
 pub removed_from : (P : Option ℕ → Type 0) (tips : List (Option ℕ)) (path : ℕ) → ((i : ℕ) → P (tip_at tips i)) → (i : ℕ) → P (tip_at (remove tips path) i)

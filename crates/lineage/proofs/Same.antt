@@ -4,7 +4,7 @@ use Rattle.std.specs.Prelude.{is_some}
 use Rattle.std.proofs.lemmas.Bool.{cases_eq}
 use Rattle.std.proofs.lemmas.List.{get_or-set_same, get_or-set_other}
 use Rattle.lineage.specs.declared.node.Node.{Node}
-use Rattle.lineage.specs.Held.{tip_at, is_above, node, node_at, above_in, above_node, path_to, links_to_key, IsSoundFamily}
+use Rattle.lineage.specs.Lineages.{tip_at, is_above, node, node_at, above_in, above_node, path_to, links_to_key, IsSoundFamily}
 use Rattle.lineage.proofs.Walks.{link_within}
 use Rattle.lineage.proofs.Counts.{count_same}
 use Rattle.lineage.proofs.Kept.{over_climb, over_path, map_same}

@@ -8,7 +8,7 @@ use Rattle.std.proofs.lemmas.List.Sums.{sum_by-set, get_or-le-sum_by}
 use Rattle.lineage.specs.declared.node.Node.{Node}
 use Rattle.lineage.specs.Family.{has, keys_without, item_at}
 use Rattle.lineage.specs.Climbs.{IsClimb}
-use Rattle.lineage.specs.Held.{tip_at, is_key, is_above, node, node_at, item_in, above_in, above_node, path_to, links_to_key, holders_of, past, past_node, passed_on, family_on, IsSoundFamily}
+use Rattle.lineage.specs.Lineages.{tip_at, is_key, is_above, node, node_at, item_in, above_in, above_node, path_to, links_to_key, holders_of, past, past_node, passed_on, family_on, IsSoundFamily}
 use Rattle.lineage.proofs.Once.{has-head}
 use Rattle.lineage.proofs.Walks.{path_to_is, item_is, link_within}
 use Rattle.lineage.proofs.Counts.{one, count_changed, count_same, count_few}

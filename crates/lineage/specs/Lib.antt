@@ -1,4 +1,4 @@
 pub mod Words
 pub mod Family
 pub mod Climbs
-pub mod Held
+pub mod Lineages

@@ -4,7 +4,7 @@ ghost use Rattle.std.specs.Prelude.{ℕ, ◌≡◌, ◌≤◌, List, ◌++◌, l
 ghost use Rattle.std.specs.Option.{option_copied, option_map};
 ghost use Rattle.lineage.specs.Family.{item_at, path_in, last_of, EndsAlone, IsFamily};
 ghost use Rattle.lineage.specs.Climbs.{Ends};
-ghost use Rattle.lineage.specs.Held.{above_node, path_to, tip_at};
+ghost use Rattle.lineage.specs.Lineages.{above_node, path_to, tip_at};
 
 mod divide;
 mod exchange;
@@ -34,7 +34,7 @@ impl<X> Model for Lineage<X> {
 
     ghost Value = { Family X };
 
-    ghost use Rattle.lineage.specs.Held.{family_of, IsHeldFamily};
+    ghost use Rattle.lineage.specs.Lineages.{family_of, IsHeldFamily};
 
     ghost view = { family_of };
 

@@ -13,7 +13,7 @@ use Rattle.frames.specs.Behaviour.{Behaviour, IsLawful, Answers}
 use Rattle.frames.specs.Configuration.{in_order, chosen_of}
 use Rattle.frames.specs.OneWriter.{one_writer}
 use Rattle.frames.specs.laws.OneWriter as writer
-use Rattle.frames.specs.Regularity.{in_progress, IsSafe}
+use Rattle.frames.specs.correctness.Regularity.{in_progress, IsSafe}
 use Rattle.frames.proofs.Seen.{Seen, Returned, opening, sees, got, now_last, IsFreshAlone, ended}
 use Rattle.frames.proofs.Agreed.{fresh_alike}
 use Rattle.frames.proofs.Judged.{none_in, is_fresh, fresh_value}

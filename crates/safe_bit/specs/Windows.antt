@@ -1,5 +1,5 @@
 -- A stretch of a list, and a list with a stretch replaced.
-use Rattle.std.proofs.Common.{ℕ, ◌+◌, ◌-◌, List, ◌++◌, length, take, drop}
+use Rattle.std.proofs.Common.{ℕ, ◌+◌, List, ◌++◌, length, take, drop}
 
 -- the n items from index i on
 abbrev pub window : {A : Type 0} → ℕ → ℕ → List A → List A

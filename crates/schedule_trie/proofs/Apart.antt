@@ -7,7 +7,7 @@ use Rattle.indexmap.specs.IndexMap.{IsUnique}
 use Rattle.schedule_trie.specs.declared.trie.Trie.TheInside.{Inside}
 use Rattle.schedule_trie.specs.Forest.{name_of, AreNamedApart}
 use Rattle.schedule_trie.specs.Cut.{forest, piece_at}
-use Rattle.schedule_trie.specs.Held.{names_of, cut_of}
+use Rattle.schedule_trie.specs.Tries.{names_of, cut_of}
 use Rattle.schedule_trie.proofs.Strands.{names_on}
 
 -- a name that differs from each of these isn't one of them

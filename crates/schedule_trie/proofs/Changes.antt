@@ -11,7 +11,7 @@ use Rattle.schedule_trie.specs.declared.segment.Segment.{Segment}
 use Rattle.schedule_trie.specs.Forest.{slot, cell_of, with_step, replaced, everywhere}
 use Rattle.schedule_trie.specs.Slots.{set_step}
 use Rattle.schedule_trie.specs.Cut.{Piece, Strand, piece, piece_at, slots_of, line, branches_on, has, has_cell, Once, IsSegment, IsSoundCut}
-use Rattle.schedule_trie.specs.Held.{piece_of, pieces_of}
+use Rattle.schedule_trie.specs.Tries.{piece_of, pieces_of}
 use Rattle.schedule_trie.proofs.Once.{has_not_from, has-head, has-tail}
 
 -- one key has another segment, and each other key still has the segment that it had

@@ -4,7 +4,7 @@ use Rattle.std.proofs.lemmas.List.{length-append}
 use Rattle.lineage.specs.Family.{item_at, path_in, last_of}
 use Rattle.schedule_trie.specs.declared.trie.Trie.TheInside.{Inside}
 use Rattle.schedule_trie.specs.Cut.{Cut, Piece, piece_at, slots_of, line, keys_in, above_of, has, Once, IsWhole}
-use Rattle.schedule_trie.specs.Held.{cut_of, IsHeldCut}
+use Rattle.schedule_trie.specs.Tries.{cut_of, IsHeldCut}
 use Rattle.schedule_trie.proofs.Once.{Once-from_linked, has-head, has-tail}
 use Rattle.schedule_trie.specs.Climbs.{keys_to, HasClimbedTo}
 use Rattle.schedule_trie.proofs.Climbs.{IsLast, IsStepUp, last_is, step_up, cells_up, shorter_up}

@@ -6,7 +6,7 @@ use Rattle.schedule_trie.specs.declared.slot.Slot.{Slot}
 use Rattle.schedule_trie.specs.declared.segment.Segment.{Segment}
 use Rattle.schedule_trie.specs.declared.trie.Trie.TheInside.{Inside}
 use Rattle.schedule_trie.specs.Cut.{piece, piece_at}
-use Rattle.schedule_trie.specs.Held.{piece_of, cut_of}
+use Rattle.schedule_trie.specs.Tries.{piece_of, cut_of}
 use Rattle.schedule_trie.proofs.StepSet.{piece_seen, key_within}
 use Rattle.schedule_trie.proofs.Division.{Divides}
 

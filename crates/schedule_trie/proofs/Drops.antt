@@ -6,7 +6,7 @@ use Rattle.lineage.specs.Family.{path_in, IsReleased as IsReleasedIn}
 use Rattle.std.specs.Map.{keys_of}
 use Rattle.schedule_trie.specs.declared.trie.Trie.TheInside.{Inside}
 use Rattle.schedule_trie.specs.Cut.{IsWithin, Piece, Strand, piece_at, note_of, branch_on, branches_on, keys_in, has, Linked, IsSoundCut}
-use Rattle.schedule_trie.specs.Held.{piece_of, strands_of, names_of, cut_of, IsHeldCut}
+use Rattle.schedule_trie.specs.Tries.{piece_of, strands_of, names_of, cut_of, IsHeldCut}
 use Rattle.schedule_trie.specs.Releases.{IsDropped}
 use Rattle.schedule_trie.proofs.Strands.{keys_in-of, length-strands, strands-remove}
 use Rattle.schedule_trie.proofs.StepSet.{piece_seen, cut_from_sound, within_still}

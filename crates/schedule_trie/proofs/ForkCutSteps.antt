@@ -11,7 +11,7 @@ use Rattle.schedule_trie.specs.declared.segment.Segment.{Segment}
 use Rattle.schedule_trie.specs.declared.trie.Trie.TheInside.{Inside}
 use Rattle.schedule_trie.specs.Forest.{branch, index_of, slots_in}
 use Rattle.schedule_trie.specs.Cut.{Cut, Piece, piece, piece_at, slots_of, line, forest, keys_in, IsParted, IsWhole, divided_strand}
-use Rattle.schedule_trie.specs.Held.{pieces_of, names_of, cut_of, IsHeldCut}
+use Rattle.schedule_trie.specs.Tries.{pieces_of, names_of, cut_of, IsHeldCut}
 use Rattle.schedule_trie.specs.Forks.{IsBranchForked}
 use Rattle.schedule_trie.proofs.Division.{Divides, notes-divided}
 use Rattle.schedule_trie.proofs.DivisionSteps.{divides_from}

@@ -12,7 +12,7 @@ use Rattle.schedule_trie.specs.declared.trie.Trie.TheInside.{Inside}
 use Rattle.schedule_trie.specs.Forest.{index_of, name_of}
 use Rattle.schedule_trie.specs.Cut.{Cut, strand, forest, piece_at, line, branches_on, keys_in, IsWhole}
 use Rattle.schedule_trie.specs.Climbs.{keys_to, HasClimbedTo}
-use Rattle.schedule_trie.specs.Held.{pieces_of, strands_of, names_of, cut_of, IsHeldCut}
+use Rattle.schedule_trie.specs.Tries.{pieces_of, strands_of, names_of, cut_of, IsHeldCut}
 use Rattle.schedule_trie.specs.Forks.{IsBranchForked, IsForkedWhole}
 use Rattle.schedule_trie.proofs.Partings.{parting}
 use Rattle.schedule_trie.proofs.Forks.{with_front, front_whole, front_forked}

@@ -12,7 +12,7 @@ use Rattle.schedule_trie.specs.Cut.{Cut, forest, piece_at, slots_of, branch_on, 
 use Rattle.schedule_trie.specs.Copies.{IsDetached}
 use Rattle.schedule_trie.specs.Forks.{IsBranchForked}
 use Rattle.schedule_trie.specs.Releases.{IsDropped}
-use Rattle.schedule_trie.specs.Held.{names_of, cut_of, kept_in, AreLengths, AreNames, IsHeldCut, IsKept}
+use Rattle.schedule_trie.specs.Tries.{names_of, cut_of, kept_in, AreLengths, AreNames, IsHeldCut, IsKept}
 use Rattle.schedule_trie.proofs.Lengths.{relength_seen, relength_held, none_kept, same_lengths, length-everywhere, length-only_in, one_forgotten, lengths_left, lengths_more}
 use Rattle.schedule_trie.proofs.Lines.{index_is}
 use Rattle.schedule_trie.proofs.Renumbered.{length-renumbered}

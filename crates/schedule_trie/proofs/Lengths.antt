@@ -8,7 +8,7 @@ use Rattle.schedule_trie.specs.declared.slot.Slot.{Slot}
 use Rattle.schedule_trie.specs.declared.trie.Trie.TheInside.{Inside}
 use Rattle.schedule_trie.specs.Forest.{Branch, everywhere, only_in, slots_in}
 use Rattle.schedule_trie.specs.Cut.{IsWhole}
-use Rattle.schedule_trie.specs.Held.{pieces_of, strands_of, names_of, cut_of, kept_in, AreLengths, IsHeldCut}
+use Rattle.schedule_trie.specs.Tries.{pieces_of, strands_of, names_of, cut_of, kept_in, AreLengths, IsHeldCut}
 
 abbrev IsRight : Option ℕ → ℕ → Type 0
 IsRight kept len = IfSome kept (λ n. n ≡ len)

@@ -7,7 +7,7 @@ use Rattle.schedule_trie.specs.declared.mark.Mark.{Mark}
 use Rattle.schedule_trie.specs.declared.trie.Trie.TheInside.{Inside}
 use Rattle.schedule_trie.specs.Forest.{Forest, Branch}
 use Rattle.schedule_trie.specs.Cut.{Cut, piece_at}
-use Rattle.schedule_trie.specs.Held.{cut_of}
+use Rattle.schedule_trie.specs.Tries.{cut_of}
 use Rattle.schedule_trie.specs.Limbs.{limbs_after, limbs}
 use Rattle.schedule_trie.specs.Marks.{mark_at, IsMark, MarksFirst}
 use Rattle.schedule_trie.proofs.Shared.{take_more}

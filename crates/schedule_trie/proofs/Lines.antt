@@ -10,9 +10,9 @@ use Rattle.schedule_trie.specs.declared.trie.Trie.TheInside.{Inside}
 use Rattle.schedule_trie.specs.Forest.{step_of, cell_of, slots_in, index_of, name_in}
 use Rattle.std.specs.Cmp.Lexicographic.{pointwise}
 use Rattle.std.proofs.lemmas.Option.{slice_get-map}
-use Rattle.schedule_trie.specs.Cut.{forest, piece_at, Piece, Strand, line, slots_of, branches_on, keys_in, has, has_cell, Once, IsSegment, IsSoundCut, IsSpotInPath}
+use Rattle.schedule_trie.specs.Cut.{forest, piece_at, Piece, Strand, line, slots_of, branches_on, keys_in, has, has_cell, Once, IsSegment, IsSoundCut}
 use Rattle.lineage.specs.Family.{path_in}
-use Rattle.schedule_trie.specs.Held.{names_of, cut_of, IsHeldCut}
+use Rattle.schedule_trie.specs.Tries.{names_of, cut_of, IsHeldCut}
 use Rattle.schedule_trie.proofs.Strands.{names_on, length-strands, keys_in-of}
 use Rattle.schedule_trie.proofs.Once.{has-append, has-head, has-tail, Once-append, Once-bounded, has_not_from, Once-from_linked}
 use Rattle.schedule_trie.specs.declared.limits.TheConstants.{MOST_CELLS_MADE}

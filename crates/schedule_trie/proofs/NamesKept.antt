@@ -10,7 +10,7 @@ use Rattle.schedule_trie.specs.declared.trie.Trie.TheInside.{Inside}
 use Rattle.schedule_trie.specs.Forest.{index_of}
 use Rattle.schedule_trie.specs.Cut.{forest, piece_at}
 use Rattle.schedule_trie.specs.Limbs.{is_name, HaveNames}
-use Rattle.schedule_trie.specs.Held.{names_of, cut_of, AreNames}
+use Rattle.schedule_trie.specs.Tries.{names_of, cut_of, AreNames}
 use Rattle.schedule_trie.proofs.Lines.{index_is}
 use Rattle.schedule_trie.proofs.Strands.{names_on}
 

@@ -8,7 +8,7 @@ use Rattle.schedule_trie.specs.declared.limits.Limits.{Limits}
 use Rattle.schedule_trie.specs.declared.trie.Trie.TheInside.{Inside}
 use Rattle.schedule_trie.specs.Forest.{slot, numbered, lone_branch}
 use Rattle.schedule_trie.specs.Cut.{Cut, strand, keys_in, has, Linked, IsWhole, IsCut, AreLimits, forest}
-use Rattle.schedule_trie.specs.Held.{piece_of, strands_of, names_of, cut_of, IsHeldCut}
+use Rattle.schedule_trie.specs.Tries.{piece_of, strands_of, names_of, cut_of, IsHeldCut}
 use Rattle.schedule_trie.proofs.ForkSteps.{no_last}
 use Rattle.schedule_trie.proofs.StepSet.{cut_from_sound}
 

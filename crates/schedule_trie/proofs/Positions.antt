@@ -1,8 +1,8 @@
 -- The position of a key in the paths that have it.
-use Rattle.std.proofs.Common.{◌≡◌, ℕ, zero, suc, ◌+◌, ◌≤◌, Bool, true, false, ◌||◌, nat_eq, nat_lt, List, [], ◌∷◌, length, slice_get, Option, Some, None, refl, sym, ap, subst, ◌∙◌, true≢false, arith, eq-eqb}
+use Rattle.std.proofs.Common.{◌≡◌, ℕ, zero, suc, ◌+◌, true, List, [], ◌∷◌, length, slice_get, Option, Some, None, refl, sym, ap, subst, ◌∙◌, true≢false, arith}
 use Rattle.std.proofs.lemmas.Bool.Decides.{nat_tests}
 use Rattle.schedule_trie.specs.Cut.{has, Linked}
-use Rattle.schedule_trie.proofs.Once.{Ups, Ups-one, has_cases, has-head, has-tail}
+use Rattle.schedule_trie.proofs.Once.{Ups, Ups-one, has_cases}
 
 -- the way up from an index of a path
 ups_at : (above : ℕ → Option ℕ) (up : Option ℕ) (seen ks : List ℕ) (place k : ℕ) → Ups above up seen → Linked above up ks → slice_get ks place ≡ Some k

@@ -3,7 +3,7 @@ use Rattle.std.proofs.Common.{◌≡◌, ℕ, zero, suc, ◌+◌, ◌<◌, List,
 use Rattle.std.proofs.lemmas.List.{length-append, take_more}
 use Rattle.frames.specs.declared.types.Step.{Step}
 use Rattle.schedule_trie.specs.declared.slot.Slot.{Slot}
-use Rattle.schedule_trie.specs.Forest.{Branch, branch, slot, numbered, only_in, put_last, put_all, lone_branch}
+use Rattle.schedule_trie.specs.Forest.{Branch, branch, slot, numbered, only_in, put_last, put_all}
 use Rattle.schedule_trie.specs.Cut.{Cut, forest, IsPushed, ArePushed}
 use Rattle.schedule_trie.proofs.Notes.{blank_kept}
 use Rattle.schedule_trie.proofs.Openings.{numbered-push}

@@ -8,7 +8,7 @@ use Rattle.schedule_trie.specs.declared.segment.Segment.{Segment}
 use Rattle.schedule_trie.specs.declared.trie.Trie.TheInside.{Inside}
 use Rattle.schedule_trie.specs.Forest.{without, remove_cell, index_of}
 use Rattle.schedule_trie.specs.Cut.{IsWithin, Cut, piece, piece_at, slots_of, note_of, forest, branches_on, keys_in, keys_without, strand_without, IsSpotInPath, IsSoundCut, IsRemoved}
-use Rattle.schedule_trie.specs.Held.{piece_of, strands_of, names_of, cut_of, IsHeldCut}
+use Rattle.schedule_trie.specs.Tries.{piece_of, strands_of, names_of, cut_of, IsHeldCut}
 use Rattle.schedule_trie.proofs.Strands.{strands-without}
 use Rattle.schedule_trie.proofs.Notes.{notes_at}
 use Rattle.schedule_trie.proofs.StepSet.{IsSeen, seen_with, with_segment, within_still, slice_get_some, piece_seen, cut_from_sound, command_at, the_cell}

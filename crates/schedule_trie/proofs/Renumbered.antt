@@ -7,7 +7,7 @@ use Rattle.schedule_trie.specs.declared.slot.Slot.{Slot}
 use Rattle.schedule_trie.specs.declared.segment.Segment.{Segment}
 use Rattle.schedule_trie.specs.Forest.{slot, step_of, cell_of, numbered, renumbered}
 use Rattle.schedule_trie.specs.Cut.{Piece, piece, slots_of, note_of, line, has, has_cell, Once, IsSegment}
-use Rattle.schedule_trie.specs.Held.{piece_of}
+use Rattle.schedule_trie.specs.Tries.{piece_of}
 use Rattle.schedule_trie.specs.Copies.{AreCopies}
 use Rattle.schedule_trie.proofs.Once.{has_cases, has_not_from, has-head, has-tail}
 use Rattle.schedule_trie.proofs.Lines.{line-drop}

@@ -11,7 +11,7 @@ use Rattle.schedule_trie.specs.declared.slot.Slot.{Slot}
 use Rattle.schedule_trie.specs.declared.trie.Trie.TheInside.{Inside}
 use Rattle.schedule_trie.specs.Forest.{cell_of, slots_in, ShareUpTo, IsForest}
 use Rattle.schedule_trie.specs.Cut.{Piece, Strand, forest, piece_at, slots_of, line, branches_on, keys_in, has_cell, Once, Linked, IsSoundCut}
-use Rattle.schedule_trie.specs.Held.{cut_of, IsHeldCut}
+use Rattle.schedule_trie.specs.Tries.{cut_of, IsHeldCut}
 use Rattle.schedule_trie.proofs.Lines.{slots_in_on, slice_get_left, slice_get_right, once_at, given_at}
 use Rattle.schedule_trie.proofs.Changes.{has_cell_get}
 use Rattle.schedule_trie.proofs.Positions.{one_place, before_place}

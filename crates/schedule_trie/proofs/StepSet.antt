@@ -14,7 +14,7 @@ use Rattle.schedule_trie.specs.declared.refusal.Refusal.TheVariants.{NoPlace}
 use Rattle.schedule_trie.specs.Forest.{branch, cell_on_branch, cell_by, replace_step, at_cell, on_found, replaced_by, index_of, slots_in, cell_in, cell_of, everywhere}
 use Rattle.schedule_trie.specs.Slots.{set_step}
 use Rattle.schedule_trie.specs.Cut.{line, has_cell, Strand, IsNoted, with_note, branches_on, Cut, Piece, piece, piece_at, slots_of, forest, keys_in, IsSpotInPath, note_of, IsSoundCut, IsCut, IsWithin, IsSegment, KeepsNotesOff, HoldsCellAt, IsStepSet}
-use Rattle.schedule_trie.specs.Held.{piece_of, cut_of, IsHeldCut}
+use Rattle.schedule_trie.specs.Tries.{piece_of, cut_of, IsHeldCut}
 use Rattle.schedule_trie.specs.declared.limits.Limits.{Limits}
 use Rattle.schedule_trie.specs.declared.limits.TheConstants.{MOST_CELLS_MADE}
 use Rattle.schedule_trie.proofs.Changes.{SameCells, piece_at_set, Changes, has_cell_get, sound_same, replaced_everywhere, replaced_same}

@@ -3,7 +3,7 @@ use Rattle.std.proofs.Common.{◌≡◌, ℕ, zero, suc, List, [], ◌∷◌, �
 use Rattle.std.specs.List.{remove}
 use Rattle.schedule_trie.specs.Forest.{name_of}
 use Rattle.schedule_trie.specs.Cut.{Piece, strand, branches_on, keys_in, set_keys, divided_keys, divided_strand, keys_without, strand_without}
-use Rattle.schedule_trie.specs.Held.{strands_of}
+use Rattle.schedule_trie.specs.Tries.{strands_of}
 use Rattle.std.specs.Prelude.{Option}
 
 pub names_on : {T : Type 0} (at : ℕ → Option (Piece T)) (names paths : List (List ℕ)) → map name_of (branches_on at (strands_of names paths)) ≡ names

@@ -4,7 +4,6 @@ use Rattle.std.specs.Prelude.{codes}
 use Rattle.frames.specs.declared.types.Step.{Step}
 use Rattle.frames.specs.declared.types.Step.TheVariants.{Read, Write, Go}
 use Rattle.schedule_trie.specs.declared.slot.Slot.{Slot}
-use Rattle.schedule_trie.specs.declared.limits.Limits.{Limits}
 use Rattle.schedule_trie.specs.Forest.{slot, slots_in}
 use Rattle.schedule_trie.specs.Cut.{Cut, Piece, Strand, strand, piece, note_of, slots_of, has_cell, HoldsCellAt, IsInserted, IsOwnEnd}
 use Rattle.schedule_trie.specs.Edits.{Insert, Replace, IsEdited}

@@ -1,6 +1,8 @@
 -- Edits of branches as data, and their effect on a cut.
-use Rattle.std.specs.Prelude.{ℕ, ◌≡◌, List, Result, Ok, Err}
+use Rattle.std.specs.Prelude.{ℕ, ◌≡◌, List, Option, Some, None, Result, Ok, Err}
 use Rattle.frames.specs.declared.types.Step.{Step}
+use Rattle.schedule_trie.specs.declared.edit.Edit.{Edit as Borrowed}
+use Rattle.schedule_trie.specs.declared.edit.Edit.TheVariants as borrowed
 use Rattle.schedule_trie.specs.declared.refusal.Refusal.{Refusal}
 use Rattle.schedule_trie.specs.declared.limits.Limits.{Limits}
 use Rattle.schedule_trie.specs.Forest.{Forest, insert, remove_cell, replace_step, fork, detach, drop_branch, IsRefused}
@@ -16,6 +18,21 @@ pub data Edit : Type 0 where
   Fork : List ℕ → ℕ → List ℕ → Edit
   Detach : List ℕ → Edit
   Drop : List ℕ → Edit
+
+-- an edit that borrows its names, as data with the names themselves
+abbrev pub edit_in : Borrowed → Edit
+edit_in (borrowed.Insert name place step) = Insert name.now place step
+edit_in (borrowed.Remove name place) = Remove name.now place
+edit_in (borrowed.Replace name place step) = Replace name.now place step
+edit_in (borrowed.Fork name place new) = Fork name.now place new.now
+edit_in (borrowed.Detach name) = Detach name.now
+edit_in (borrowed.Drop name) = Drop name.now
+
+-- the step that an edit gives a cell; `None` if it gives none
+abbrev pub step_in : Edit → Option Step
+step_in (Insert name place step) = Some step
+step_in (Replace name place step) = Some step
+step_in edit = None
 
 -- the forest after an edit, or the first reason to refuse the edit
 abbrev pub edited : Limits → Forest → Edit → Result Forest Refusal

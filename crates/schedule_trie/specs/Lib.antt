@@ -6,7 +6,7 @@ pub mod Slots
 pub mod Cut
 pub mod Climbs
 pub mod Edits
-pub mod Held
+pub mod Tries
 pub mod Forks
 pub mod Releases
 pub mod Copies

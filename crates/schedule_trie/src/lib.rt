@@ -5,6 +5,7 @@
 //! branches with a common cell have the same cells up to that cell.
 #![tactic(auto)]
 
+pub mod edit;
 pub mod limb;
 mod limbs;
 pub mod limits;
@@ -15,6 +16,7 @@ mod segment;
 pub mod slot;
 pub mod trie;
 
+pub use edit::Edit;
 pub use limb::{Limb, Steps};
 pub use limbs::Limbs;
 pub use limits::Limits;

@@ -49,7 +49,7 @@ impl<T> Model for Trie<T> {
 
     ghost Value = { Cut T };
 
-    ghost use Rattle.schedule_trie.specs.Held.{cut_of, IsKept};
+    ghost use Rattle.schedule_trie.specs.Tries.{cut_of, IsKept};
 
     ghost view = { cut_of };
 

@@ -10,10 +10,10 @@ use Rattle.sessions.specs.declared.reply.Reply.TheVariants.{No}
 use Rattle.sessions.specs.World.{opening}
 use Rattle.sessions.specs.Acts.{command_result, is_full}
 use Rattle.sessions.specs.Logs.{IsLegal, is_logged, world_after, acted_by}
-use Rattle.sessions.specs.Held.{Held, IsHeld, Staged, ActsOnBook, opening_of, world_of}
+use Rattle.sessions.specs.Books.{Held, IsHeld, Staged, ActsOnBook, opening_of, world_of}
 use Rattle.std.specs.Prelude.{◌-◌, vec_capacity, vec_len}
 use Rattle.std.specs.Global.{Vec}
-use Rattle.cutoff.specs.Held.{Charted}
+use Rattle.cutoff.specs.Charts.{Charted}
 use Rattle.sessions.proofs.LegalLogs.{legal_more, after_more}
 use Rattle.sessions.proofs.Ordinary.{acted_logged, acted_full}
 

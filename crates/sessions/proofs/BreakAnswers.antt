@@ -12,7 +12,7 @@ use Rattle.sessions.specs.declared.reply.Reply.{Reply}
 use Rattle.sessions.specs.declared.reply.Reply.TheVariants.{BreakSet, BreakCleared}
 use Rattle.sessions.specs.Acts.{first_refusal, refused_if}
 use Rattle.sessions.specs.BreakLists.{breaks_at, has_break, with_break, without_break}
-use Rattle.sessions.specs.Held.{Staged, IsStaged, Does, IsCarriedOut, Undone, world_of}
+use Rattle.sessions.specs.Books.{Staged, IsStaged, Does, IsCarriedOut, Undone, world_of}
 
 module _ {R P : Type 0} (is : R → Behaviour P) (old : Staged R P) (who : ℕ) (b : Break) (new : List Break) where
   pub break_set : new ≡ with_break b (breaks_at old.breaks who)

@@ -13,7 +13,8 @@ use Rattle.schedule_trie.specs.Forest as forests
 use Rattle.schedule_trie.specs.Forest.{Forest, IsForest, IsRefused, index_of, slots_in}
 use Rattle.schedule_trie.specs.Cut.{forest}
 use Rattle.schedule_trie.specs.Edits.{Edit, Insert, Remove, Replace, Fork, Detach, Drop, edited, WhyRefused, IsEdited}
-use Rattle.cutoff.specs.Held.{Charted}
+use Rattle.cutoff.specs.Charts.{Charted}
+use Rattle.cutoff.specs.Edits.{Edits}
 use Rattle.sessions.specs.declared.cursor.Cursor.{Cursor}
 use Rattle.sessions.specs.declared.cursor.Shift.TheVariants as shift
 use Rattle.sessions.specs.declared.command.Command.{Command}
@@ -22,9 +23,9 @@ use Rattle.sessions.specs.declared.reply.Reply.{Reply}
 use Rattle.sessions.specs.declared.reply.Reply.TheVariants.{Edited}
 use Rattle.sessions.specs.World.{World}
 use Rattle.sessions.specs.Cursors.{shifted, is_occupied, AreAtPlaces, IsAtPlace}
-use Rattle.sessions.specs.Edits.{edit_of, moved_by, moved_if, drops_occupied, is_held_up}
+use Rattle.sessions.specs.Edits.{edit_of, moved_by, drops_occupied, is_held_up}
 use Rattle.sessions.specs.Acts.{late_by, first_refusal, refusal_in, refused_if, left_by, reply_to, edited_world, kept_or}
-use Rattle.sessions.specs.Held.{Staged, IsStaged, Changes, Does, IsCarriedOut, IsLate, world_of}
+use Rattle.sessions.specs.Books.{Staged, IsStaged, Does, IsCarriedOut, IsLate, world_of}
 use Rattle.sessions.proofs.Standing.{edited_stand, made_within, put_stands}
 use Rattle.views.specs.declared.breakpoint.Break.{Break}
 use Rattle.std.specs.Prelude.{slice_set, IfSome}
@@ -45,7 +46,7 @@ free_of f g name (Some i) occupied e h = by (nat_le (length f.branches) 1) refl 
     by true t d = absurd (cc)
     by false t d = sym (ap (λ b. b && occupied) (below_one (length f.branches) t)) ∙ h
 
-free : (limits : Limits) (f g : Forest) (edit : Edit) (cursors : List (Option Cursor)) → edited limits f edit ≡ Ok g → is_held_up (Some edit) f cursors ≡ false → drops_occupied edit cursors ≡ false
+free : (limits : Limits) (f g : Forest) (edit : Edit) (cursors : List (Option Cursor)) → edited limits f edit ≡ Ok g → is_held_up edit f cursors ≡ false → drops_occupied edit cursors ≡ false
 free limits f g (Insert name place step) cursors e h = refl
 free limits f g (Remove name place) cursors e h = refl
 free limits f g (Replace name place step) cursors e h = refl
@@ -64,14 +65,13 @@ held_up_of f (Some i) occupied h = by (nat_lt 1 (length f.branches)) refl h
     by false t d = absurd (cc)
 
 module _ {P : Type 0} (who : ℕ) (c : Command) (w : World P) where
-  pub held_up_by : (o : Option Edit) → is_held_up o w.forest w.cursors ≡ true → first_refusal (late_by o who c w) ≡ Some Occupied
-  held_up_by None h = absurd (cc)
-  held_up_by (Some (Insert name place step)) h = absurd (cc)
-  held_up_by (Some (Remove name place)) h = absurd (cc)
-  held_up_by (Some (Replace name place step)) h = absurd (cc)
-  held_up_by (Some (Fork name place new)) h = absurd (cc)
-  held_up_by (Some (Detach name)) h = absurd (cc)
-  held_up_by (Some (Drop name)) h =
+  held_up_by : (edit : Edit) → is_held_up edit w.forest w.cursors ≡ true → first_refusal (late_by (Some edit) who c w) ≡ Some Occupied
+  held_up_by (Insert name place step) h = absurd (cc)
+  held_up_by (Remove name place) h = absurd (cc)
+  held_up_by (Replace name place step) h = absurd (cc)
+  held_up_by (Fork name place new) h = absurd (cc)
+  held_up_by (Detach name) h = absurd (cc)
+  held_up_by (Drop name) h =
       let p = held_up_of w.forest (index_of w.forest.branches name) (is_occupied name w.cursors) h in
       ap (λ o. first_refusal (o ∷ refused_if (is_occupied name w.cursors) Occupied ∷ [])) p.0 ∙ ap (λ b. first_refusal (refused_if b Occupied ∷ [])) p.1
 
@@ -122,10 +122,9 @@ module _ {P : Type 0} (who : ℕ) (c : Command) (w : World P) where
       by (command.Break break) h = absurd (cc)
       by (command.Clear break) h = absurd (cc)
 
--- no cursor prevents a drop in a stage if none does in an equal stage
-pub not_held_up : {R P : Type 0} (o : Option Edit) (old now : Staged R P) (t : Bool) → old ≡ now → t ≡ is_held_up o (forest now.chart.cut) now.cursors → t ≡ false
-    → is_held_up o (forest old.chart.cut) old.cursors ≡ false
-not_held_up o old now t same is free = ap (λ s. is_held_up o (forest s.chart.cut) s.cursors) same ∙ sym is ∙ free
+pub not_held_up : (b : Bool) (done : Unit {0}) → (b ≡ true → Ok done ≡ Err Occupied) → b ≡ false
+not_held_up true done h = let clash = h refl in absurd (cc)
+not_held_up false done h = refl
 
 -- the stage after an edit
 abbrev pub after : {R P : Type 0} → Staged R P → Charted R P → List (Option Cursor) → Staged R P
@@ -139,21 +138,15 @@ sixteen (Fork name place new) f cursors = refl
 sixteen (Detach name) f cursors = refl
 sixteen (Drop name) f cursors = refl
 
-module _ {R P : Type 0} (is : R → Behaviour P) (old : Staged R P) (chart : Charted R P) (cursors : List (Option Cursor)) (held : IsStaged old) where
-  -- a refused edit changes nothing
-  pub unchanged : (o : Option Edit) (e : Refusal) → IsSome o → Changes o old.chart chart (Err e) → chart ≡ old.chart
-  unchanged (Some edit) e some h = h.unchanged
-  unchanged None e some h = absurd (cc)
-
-  edits : (edit : Edit) → IsEdited old.chart.cut chart.cut edit → edited old.limits (forest old.chart.cut) edit ≡ Ok (forest chart.cut)
-  edits edit h = subst (λ l. edited l (forest old.chart.cut) edit ≡ Ok (forest chart.cut)) held.same_limits h.forest
+module _ {R P : Type 0} (is : R → Behaviour P) (old : Staged R P) (chart : Charted R P) (cursors : List (Option Cursor)) (held : IsStaged old) (edit : Edit) where
+  edits : IsEdited old.chart.cut chart.cut edit → edited old.limits (forest old.chart.cut) edit ≡ Ok (forest chart.cut)
+  edits h = subst (λ l. edited l (forest old.chart.cut) edit ≡ Ok (forest chart.cut)) held.same_limits h.forest
 
   module _ (before : IsForest (forest old.chart.cut)) (behind : IsForest (forest chart.cut)) (room : old.logged < old.limits.log) where
-    pub staged_after : (o : Option Edit) (done : Unit {0}) → IsSome o → is_held_up o (forest old.chart.cut) old.cursors ≡ false → Changes o old.chart chart (Ok done)
-        → cursors ≡ moved_if o (forest old.chart.cut) old.cursors → IsStaged (after old chart cursors)
-    staged_after None done some h e m = absurd (cc)
-    staged_after (Some edit) done some h e m =
-        let made : edited old.limits (forest old.chart.cut) edit ≡ Ok (forest chart.cut) = edits edit e.0 in
+    pub staged_after : (done : Unit {0}) → is_held_up edit (forest old.chart.cut) old.cursors ≡ false → Edits old.chart chart edit (Ok done)
+        → cursors ≡ moved_by edit (forest old.chart.cut) old.cursors → IsStaged (after old chart cursors)
+    staged_after done h e m =
+        let made : edited old.limits (forest old.chart.cut) edit ≡ Ok (forest chart.cut) = edits e.0 in
         let stays = free old.limits (forest old.chart.cut) (forest chart.cut) edit old.cursors made h in
         let moved = edited_stand old.limits (forest old.chart.cut) (forest chart.cut) before behind.apart old.cursors held.all_placed edit made stays in
         let long : length cursors ≡ length old.cursors = ap length m ∙ sixteen edit (forest old.chart.cut) old.cursors in
@@ -168,25 +161,23 @@ module _ {R P : Type 0} (is : R → Behaviour P) (old : Staged R P) (chart : Cha
           few_logged = omega arith;
         }
 
-  module _ (who : ℕ) (c : Command) where
-    done_by : (o : Option Edit) (done : Unit {0}) → edit_of c ≡ o → IsSome o → is_held_up o (forest old.chart.cut) old.cursors ≡ false → Changes o old.chart chart (Ok done)
-        → cursors ≡ moved_if o (forest old.chart.cut) old.cursors → IsCarriedOut is who c old (after old chart cursors) (Edited (old.edits + 1))
-    done_by None done is_edit some h e m = absurd (cc)
-    done_by (Some edit) done is_edit some h e m =
+  module _ (who : ℕ) (c : Command) (is_edit : edit_of c ≡ Some edit) where
+    pub done_edit : (done : Unit {0}) → is_held_up edit (forest old.chart.cut) old.cursors ≡ false → Edits old.chart chart edit (Ok done)
+        → cursors ≡ moved_by edit (forest old.chart.cut) old.cursors → IsCarriedOut is who c old (after old chart cursors) (Edited (old.edits + 1))
+    done_edit done h e m =
         let w = world_of is old in
-        let made : edited old.limits (forest old.chart.cut) edit ≡ Ok (forest chart.cut) = edits edit e.0 in
+        let made : edited old.limits (forest old.chart.cut) edit ≡ Ok (forest chart.cut) = edits e.0 in
         let stays = free old.limits (forest old.chart.cut) (forest chart.cut) edit old.cursors made h in
         let forests_same : kept_or (edited old.limits (forest old.chart.cut) edit) (forest old.chart.cut) ≡ forest chart.cut = ap (λ x. kept_or x (forest old.chart.cut)) made in
-        let register : is old.chart.start.register ≡ is chart.start.register = sym (ap (λ s. is s.register) e.1.start) in
-        let value : old.chart.value ≡ chart.value = sym e.1.value in
-        let moved = sym m in
+        let register : is old.chart.start.register ≡ is chart.start.register = sym (ap (λ s. is s.register) e.1.0) in
+        let value : old.chart.value ≡ chart.value = sym e.1.1 in
         let leaves : edited_world edit w ≡ world_of is (after old chart cursors) =
         λ i. record {
           tower = register i;
           value = value i;
           limits = old.limits;
           forest = forests_same i;
-          cursors = moved i;
+          cursors = sym m i;
           breaks = old.breaks;
           edits = old.edits + 1;
           logged = old.logged + 1;
@@ -194,32 +185,28 @@ module _ {R P : Type 0} (is : R → Behaviour P) (old : Staged R P) (chart : Cha
         record {
           fine = ap (λ o. first_refusal (late_by o who c w)) is_edit ∙ fine who c w edit (forest chart.cut) made stays;
           leaves = ap (λ o. left_by o who c w) is_edit ∙ leaves;
-          replies = edit_reply who c w (subst IsSome (sym is_edit) some);
+          replies = edit_reply who c w (subst IsSome (sym is_edit) refl);
         }
 
-    pub done_edit : (done : Unit {0}) → IsSome (edit_of c) → is_held_up (edit_of c) (forest old.chart.cut) old.cursors ≡ false → Changes (edit_of c) old.chart chart (Ok done)
-        → cursors ≡ moved_if (edit_of c) (forest old.chart.cut) old.cursors → IsCarriedOut is who c old (after old chart cursors) (Edited (old.edits + 1))
-    done_edit done some h e m = done_by (edit_of c) done refl some h e m
-
-    why_by : (o : Option Edit) (e : Refusal) → IsSome o → Changes o old.chart chart (Err e)
-        → (first_refusal (late_by o who c (world_of is old)) ≡ Some e) ⊎ ((e ≡ Memory) × (first_refusal (late_by o who c (world_of is old)) ≡ None))
-    why_by None e some h = absurd (cc)
-    why_by (Some edit) e some h =
-        late_edit who c (world_of is old) edit e (subst (λ l. WhyRefused edit (edited l (forest old.chart.cut) edit) e) held.same_limits h.why)
-
-    pub why_edit : (e : Refusal) → IsSome (edit_of c) → Changes (edit_of c) old.chart chart (Err e) → IsLate who c (world_of is old) e
-    why_edit e some h = why_by (edit_of c) e some h
+    why_edit : (e : Refusal) → (is_held_up edit (forest old.chart.cut) old.cursors ≡ true → ◌≡◌ {A = Result (Unit {0}) Refusal} (Err e) (Err Occupied)) → (is_held_up edit (forest old.chart.cut) old.cursors ≡ false → Edits old.chart chart edit (Err e)) → IsLate who c (world_of is old) e
+    why_edit e up h = by (is_held_up edit (forest old.chart.cut) old.cursors) refl
+      where
+        by : (b : Bool) → is_held_up edit (forest old.chart.cut) old.cursors ≡ b → IsLate who c (world_of is old) e
+        by true held_up =
+            let occupied : e ≡ Occupied = (let failed = up held_up in cc) in
+            subst (IsLate who c (world_of is old)) (sym occupied) (inl (ap (λ o. first_refusal (late_by o who c (world_of is old))) is_edit ∙ held_up_by who c (world_of is old) edit held_up))
+        by false free =
+            rw is_edit (late_edit who c (world_of is old) edit e (subst (λ l. WhyRefused edit (edited l (forest old.chart.cut) edit) e) held.same_limits (h free).0))
 
     -- an edit that is refused, or runs out of memory
-    pub undone_edit : (r : Result Reply Refusal) (e : Refusal) (Is : Refusal → Type 0) → IsErrAnd r Is
-        → ((x : Refusal) → Is x → x ≡ e) → IsSome (edit_of c) → Changes (edit_of c) old.chart chart (Err e) → cursors ≡ old.cursors
+    pub undone_edit : (r : Result Reply Refusal) (e : Refusal) (Is : Refusal → Type 0) → IsErrAnd r Is → ((x : Refusal) → Is x → x ≡ e) → (is_held_up edit (forest old.chart.cut) old.cursors ≡ true → ◌≡◌ {A = Result (Unit {0}) Refusal} (Err e) (Err Occupied))
+        → (is_held_up edit (forest old.chart.cut) old.cursors ≡ false → Edits old.chart chart edit (Err e)) → (chart ≡ old.chart) × (cursors ≡ old.cursors)
         → Does is who c old (record old { chart = chart; cursors = cursors }) r
-    undone_edit (Ok reply) e Is told one some h kept = absurd told
-    undone_edit (Err x) e Is told one some h kept =
-        let same = unchanged (edit_of c) e some h in
+    undone_edit (Ok reply) e Is told one up h kept = absurd told
+    undone_edit (Err x) e Is told one up h kept =
         record {
-          why = subst (IsLate who c (world_of is old)) (sym (one x told)) (why_edit e some h);
-          same = λ i. world_of is (record old { chart = same i; cursors = kept i });
+          why = subst (IsLate who c (world_of is old)) (sym (one x told)) (why_edit e up h);
+          same = λ i. world_of is (record old { chart = kept.0 i; cursors = kept.1 i });
         }
 
 -- the stage after a command that puts a session's cursor keeps what stages guarantee

@@ -5,11 +5,11 @@ use Rattle.checkpoints.specs.Segment.{SegmentRun}
 use Rattle.schedule_trie.specs.Cut.{forest}
 use Rattle.cutoff.specs.declared.install.Installation.{Installation}
 use Rattle.cutoff.specs.declared.install.Installation.TheVariants.{Installed, Stale, Gone}
-use Rattle.cutoff.specs.Held.{Charted}
+use Rattle.cutoff.specs.Charts.{Charted}
 use Rattle.cutoff.specs.Installs.{Installs}
 use Rattle.views.specs.Looks.{IsChartKept}
 use Rattle.sessions.specs.Cursors.{AreAtPlaces}
-use Rattle.sessions.specs.Held.{Staged, IsStaged, world_of}
+use Rattle.sessions.specs.Books.{Staged, IsStaged, world_of}
 
 module _ {R P : Type 0} where
   same_kept : (old new : Charted R P) → new ≡ old → IsChartKept old new

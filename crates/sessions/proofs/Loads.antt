@@ -11,9 +11,9 @@ use Rattle.schedule_trie.specs.Forest as forests
 use Rattle.schedule_trie.specs.Cut.{forest}
 use Rattle.schedule_trie.specs.Limbs.{FitLimits, AreLawfulLimbs, cells_of, forest_of, limbs, loaded}
 use Rattle.schedule_trie.proofs.LimbLaws.{forest_made}
-use Rattle.cutoff.specs.Held.{Charted, LimbsFit}
+use Rattle.cutoff.specs.Charts.{Charted, LimbsFit}
 use Rattle.sessions.specs.World.{opening}
-use Rattle.sessions.specs.Held.{Staged, opening_over, world_of}
+use Rattle.sessions.specs.Books.{Staged, opening_over, world_of}
 use Rattle.sessions.specs.Saves.{IsSaved}
 
 pub loaded_is : (limits : Limits) (ls : List Limb) (f : Forest) → loaded limits ls ≡ Ok f → (f ≡ forest_of ls) × (f.made ≤ limits.cells)

@@ -11,7 +11,7 @@ use Rattle.sessions.specs.Edits.{edit_of}
 use Rattle.sessions.specs.World.{World}
 use Rattle.sessions.specs.Acts.{answered, first_refusal, left_by, refusals, refused}
 use Rattle.sessions.specs.Logs.{acted_by, world_after}
-use Rattle.sessions.specs.Held.{BeginsAtOpening, Held, IsHeld, opening_of}
+use Rattle.sessions.specs.Books.{BeginsAtOpening, Held, IsHeld, opening_of}
 
 module _ {P : Type 0} where
   abbrev SameTower : World P → World P → Type 0

@@ -9,7 +9,7 @@ use Rattle.schedule_trie.specs.Names.{is_well_formed}
 use Rattle.schedule_trie.specs.Forest as forests
 use Rattle.schedule_trie.specs.Forest.{Forest, on_found, index_of, slots_in, name_of, branch}
 use Rattle.schedule_trie.specs.Edits.{Edit, Insert, Remove, Replace, Fork, Detach, Drop, edited}
-use Rattle.cutoff.specs.Held.{looked_at}
+use Rattle.cutoff.specs.Charts.{looked_at}
 use Rattle.sessions.specs.declared.command.Command.{Command}
 use Rattle.sessions.specs.declared.command.Command.TheVariants as command
 use Rattle.sessions.specs.declared.cursor.Cursor.{Cursor}
@@ -20,7 +20,7 @@ use Rattle.sessions.specs.World.{World}
 use Rattle.sessions.specs.Acts.{command_result, answered, refusals, late_refusals, first_refusal, refused_if, refusal_in, refused, reply_to, hit_reply, hit_of, is_full, lacks_session, is_missed, fits_command, lacks_break, looked_by, late_by, left_by}
 use Rattle.sessions.specs.Edits.{edit_of, drops_occupied}
 use Rattle.sessions.specs.Logs.{is_logged}
-use Rattle.sessions.specs.Held.{IsLate}
+use Rattle.sessions.specs.Books.{IsLate}
 
 -- a refusal, if there is one, is logged
 abbrev IsOrdinary : Option Refusal → Type 0

@@ -12,8 +12,9 @@ use Rattle.frames.specs.Configuration.{Configuration, initial_configuration, ste
 use Rattle.frames.specs.Configuration.{events_of as events_of_step}
 use Rattle.schedule_trie.specs.Forest.{step_of}
 use Rattle.schedule_trie.specs.Cut.{Cut, piece_at, slots_of, line, forest}
-use Rattle.cutoff.specs.Fitting.{StoredRun, RunPart, RunFits, Settles, steps_at, reached, counted, part_of}
-use Rattle.cutoff.specs.Held.{Charted, IsSettled, keys_named}
+use Rattle.cutoff.specs.Fitting.{StoredRun, RunPart, RunFits, steps_at, reached, counted, part_of}
+use Rattle.cutoff.specs.Settles.{Settles, IsSettled}
+use Rattle.cutoff.specs.Charts.{Charted, keys_named}
 use Rattle.cutoff.specs.Links.{without_register}
 use Rattle.cutoff.proofs.Fits.{register_kept, alone_same}
 use Rattle.views.specs.declared.breakpoint.Break.{Break}

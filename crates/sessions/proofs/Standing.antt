@@ -22,7 +22,7 @@ use Rattle.schedule_trie.specs.Names.{is_well_formed}
 use Rattle.schedule_trie.specs.Edits.{Edit, Insert, Remove, Replace, Fork, Detach, Drop, edited}
 use Rattle.schedule_trie.specs.Forest as forests
 use Rattle.schedule_trie.specs.Forest.{Forest, Branch, IsForest, AreNamedApart, ShareUpTo, index_of, slots_in, name_in, name_of, changed, everywhere, only_in, before_cell, put_before, put_last, without, is_cell, is_other, cell_in, cell_of, cell_on_branch, cell_by, place_of, place_by, len_of}
-use Rattle.cutoff.specs.Held.{looked_at}
+use Rattle.cutoff.specs.Charts.{looked_at}
 use Rattle.views.specs.Looks.{steps_in}
 use Rattle.views.proofs.Spots.{length_told}
 use Rattle.sessions.specs.declared.cursor.Cursor.{Cursor}

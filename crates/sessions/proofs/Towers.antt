@@ -10,7 +10,7 @@ use Rattle.sessions.specs.World.{World}
 use Rattle.sessions.specs.Acts.{command_result, answered, first_refusal, left_by, refusals, refused}
 use Rattle.sessions.specs.Edits.{edit_of}
 use Rattle.sessions.specs.Logs.{acted_by, world_after}
-use Rattle.sessions.specs.Held.{Held, IsHeld, opening_of, world_of}
+use Rattle.sessions.specs.Books.{Held, IsHeld, opening_of, world_of}
 
 module _ {P : Type 0} (who : ℕ) (c : Command) (w : World P) where
   refused_tower : (r : Refusal) → (refused r w).tower ≡ w.tower

@@ -1,13 +1,17 @@
 -- If no cursor is after an edit's place, the edit moves none.
 use Rattle.std.proofs.Common.{◌≡◌, ℕ, Bool, true, false, not, ◌&&◌, ◌||◌, nat_lt, List, [], ◌∷◌, Option, Some, None, if◌then◌else◌, refl, sym, ap, ◌∙◌}
+use Rattle.std.specs.Borrow.{Bor}
 use Rattle.std.specs.Option.{option_map}
 use Rattle.std.specs.List.{list_any}
 use Rattle.schedule_trie.specs.Forest.{Forest, cell_on_branch}
-use Rattle.schedule_trie.specs.Edits.{Edit}
+use Rattle.frames.specs.declared.types.Step.{Step}
+use Rattle.schedule_trie.specs.Edits.{Edit, edit_in}
+use Rattle.schedule_trie.specs.declared.edit.Edit.{Edit as Borrowed}
+use Rattle.schedule_trie.specs.declared.edit.Edit.TheVariants as borrowed
 use Rattle.sessions.specs.declared.cursor.Cursor.{Cursor}
 use Rattle.sessions.specs.declared.cursor.Shift.{Shift}
 use Rattle.sessions.specs.Cursors.{acts_in, cursor, each_cursor, shifted, shifted_place, is_after_place}
-use Rattle.sessions.specs.Edits.{IsShift, moved_if}
+use Rattle.sessions.specs.Edits.{moved_by}
 
 as_it_was : {A : Type 0} (a b : Bool) (x y : A) → b ≡ false → (if a && b then x else y) ≡ y
 as_it_was true b x y h = ap (λ t. if t then x else y) h
@@ -28,10 +32,15 @@ module _ (way : Shift) (f : Forest) (branch : List ℕ) (place : ℕ) where
       by others true e g = absurd (cc)
       by others false e g = ap (λ x. x ∷ each_cursor (shifted way f branch place) rest) (one_stays o e) ∙ ap (λ xs. o ∷ xs) (others g)
 
-none_is : (t : Bool) → not t ≡ true → t ≡ false
-none_is true h = absurd (cc)
-none_is false h = refl
+pub unmoved : (edit : Edit) (branch : List ℕ) (place : ℕ) (shift : Shift) (cursors : List (Option Cursor)) → ((f : Forest) (old : List (Option Cursor)) → moved_by edit f old ≡ each_cursor (shifted shift f branch place) old)
+    → false ≡ list_any (is_after_place place) cursors → (f : Forest) → cursors ≡ moved_by edit f cursors
+unmoved edit branch place shift cursors is none f = sym (is f cursors ∙ all_stay shift f branch place cursors (sym none))
 
-pub unmoved : (edit : Option Edit) (at : List ℕ × ℕ × Shift) (cursors : List (Option Cursor)) (t : Bool) → IsShift edit (Some at)
-    → t ≡ list_any (is_after_place at.1) cursors → not t ≡ true → (f : Forest) → cursors ≡ moved_if edit f cursors
-unmoved edit at cursors t is any none f = sym (is f cursors ∙ all_stay at.2 f at.0 at.1 cursors (sym any ∙ none_is t none))
+pub unmoved_other : (edit : Borrowed) (cursors : List (Option Cursor)) (f : Forest) → ((branch : Bor (List ℕ)) (place : ℕ) (step : Step) → edit ≡ borrowed.Insert branch place step → ⊥)
+    → ((branch : Bor (List ℕ)) (place : ℕ) → edit ≡ borrowed.Remove branch place → ⊥) → cursors ≡ moved_by (edit_in edit) f cursors
+unmoved_other (borrowed.Insert branch place step) cursors f insert remove = absurd (insert branch place step refl)
+unmoved_other (borrowed.Remove branch place) cursors f insert remove = absurd (remove branch place refl)
+unmoved_other (borrowed.Replace branch place step) cursors f insert remove = refl
+unmoved_other (borrowed.Fork branch place name) cursors f insert remove = refl
+unmoved_other (borrowed.Detach branch) cursors f insert remove = refl
+unmoved_other (borrowed.Drop branch) cursors f insert remove = refl

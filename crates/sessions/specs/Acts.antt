@@ -4,12 +4,12 @@
 use Rattle.std.specs.Prelude.{ℕ, ◌+◌, Bool, true, false, not, ◌==◌, ◌&&◌, ◌||◌, nat_le, nat_lt, List, [], ◌∷◌, ◌++◌, Option, Some, None, Result, Ok, Err, is_none, slice_set, option_and_then, if◌then◌else◌}
 use Rattle.std.specs.Option.{option_map}
 use Rattle.frames.specs.Behaviour.{Behaviour}
-use Rattle.frames.specs.Configuration.{fits_step}
 use Rattle.schedule_trie.specs.declared.refusal.Refusal.{Refusal}
 use Rattle.schedule_trie.specs.declared.refusal.Refusal.TheVariants.{LogFull, NoSession, Newer, BadStep, Occupied, NoBreak}
 use Rattle.schedule_trie.specs.Forest.{Forest}
-use Rattle.schedule_trie.specs.Edits.{Edit, edited}
-use Rattle.cutoff.specs.Held.{look}
+use Rattle.schedule_trie.specs.Edits.{Edit, edited, step_in}
+use Rattle.cutoff.specs.Charts.{look}
+use Rattle.cutoff.specs.Edits.{fits_if_any}
 use Rattle.views.specs.declared.breakpoint.Break.{Break}
 use Rattle.views.specs.Looks.{steps_in}
 use Rattle.sessions.specs.declared.cursor.Cursor.{Cursor}
@@ -35,8 +35,7 @@ needs_session (command.Break break) = true
 needs_session (command.Clear break) = true
 needs_session c = false
 
--- whether there is no session `who`, or this session hasn't joined and the command needs it to have
--- joined
+-- whether there is no session `who`, or the command needs it to have joined and it hasn't
 abbrev pub lacks_session : ℕ → Command → List (Option Cursor) → Bool
 lacks_session who c cursors = nat_lt 15 who || (needs_session c && is_none (cursor_at cursors who))
 
@@ -47,12 +46,9 @@ is_missed (Some guard) edits = not (guard == edits)
 
 -- whether a command's step, if it has one, fits the register
 abbrev pub fits_command : {P : Type 0} → Behaviour P → Command → Bool
-fits_command b (command.Insert branch place step) = fits_step b step
-fits_command b (command.Replace branch place step) = fits_step b step
-fits_command b c = true
+fits_command b c = fits_if_any b (option_and_then step_in (edit_of c))
 
--- if the command is a `go` to a place that doesn't exist, why it is refused; otherwise Ok with the
--- branches, which it leaves unchanged
+-- why a `go` to a place that doesn't exist is refused; otherwise Ok with the branches, unchanged
 abbrev pub looked_by : Forest → Command → Result Forest Refusal
 looked_by f (command.Go branch place) = look f branch place
 looked_by f c = Ok f
@@ -92,9 +88,8 @@ module _ {P : Type 0} where
       ∷ refused_if (not (fits_command w.tower c)) BadStep
       ∷ []
 
-  -- the reasons to refuse an edit that are tested after those of `early_refusals`, in the order
-  -- they are tested: why the branches or the limits don't allow it, and that it drops a branch with
-  -- a cursor on it
+  -- the reasons to refuse an edit after those of `early_refusals`, in the order they are tested:
+  -- the branches or the limits don't allow it; it drops a branch with a cursor on it
   abbrev pub edit_refusals : Edit → World P → List (Option Refusal)
   edit_refusals edit w =
       refusal_in (edited w.limits w.forest edit)
@@ -116,13 +111,11 @@ module _ {P : Type 0} where
   late_by (Some edit) who c w = edit_refusals edit w
   late_by None who c w = other_refusals who c w
 
-  -- the reasons to refuse a command that are tested after those of `early_refusals`, in the order
-  -- they are tested
+  -- the reasons to refuse a command after those of `early_refusals`, in the order they are tested
   abbrev pub late_refusals : ℕ → Command → World P → List (Option Refusal)
   late_refusals who c w = late_by (edit_of c) who c w
 
-  -- all reasons to refuse a command, in the order they are tested; `None` for each that doesn't
-  -- apply
+  -- all reasons to refuse a command, in that order; `None` for each that doesn't apply
   abbrev pub refusals : ℕ → Option ℕ → Command → World P → List (Option Refusal)
   refusals who guard c w = early_refusals who guard c w ++ late_refusals who c w
 

@@ -4,7 +4,7 @@ use Rattle.std.specs.List.{list_any}
 use Rattle.std.specs.Option.{option_map}
 use Rattle.std.specs.Cmp.Lexicographic.{pointwise}
 use Rattle.schedule_trie.specs.Forest.{Forest, cell_on_branch, place_of, name_in}
-use Rattle.cutoff.specs.Held.{look}
+use Rattle.cutoff.specs.Charts.{look}
 use Rattle.sessions.specs.declared.cursor.Cursor.{Cursor}
 use Rattle.sessions.specs.declared.cursor.Shift.{Shift}
 use Rattle.sessions.specs.declared.cursor.Shift.TheVariants.{Up, Down}
@@ -17,8 +17,7 @@ cursor branch place = record { branch = branch; place = place }
 abbrev pub cursor_at : List (Option Cursor) → ℕ → Option Cursor
 cursor_at cursors who = slice_index_or cursors who None
 
--- the cursor of a session that joins, at the beginning of the first branch; `None` if there is no
--- branch
+-- a joining session's cursor, at the beginning of the first branch; `None` if there is no branch
 abbrev pub first_cursor : Forest → Option Cursor
 first_cursor f = option_map (λ name. cursor name 0) (name_in f.branches 0)
 
@@ -34,8 +33,7 @@ acts_in (Some cell) f branch other = is_some (place_of f other cell)
 abbrev pub is_shifted_by : Forest → List ℕ → ℕ → Cursor → Bool
 is_shifted_by f branch place c = acts_in (cell_on_branch f branch place) f branch c.branch && nat_lt place c.place
 
--- the new place of a cursor that an edit moves: one more for an insert (Up), one less for a remove
--- (Down)
+-- the new place of a cursor that an edit moves: one more (Up, an insert) or one less (Down)
 abbrev pub shifted_place : Shift → ℕ → ℕ
 shifted_place Up place = place + 1
 shifted_place Down place = place - 1

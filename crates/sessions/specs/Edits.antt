@@ -30,20 +30,7 @@ abbrev pub drops_occupied : Edit → List (Option Cursor) → Bool
 drops_occupied (Drop branch) cursors = is_occupied branch cursors
 drops_occupied edit cursors = false
 
--- whether a drop is refused only because of a cursor: its branch exists and isn't the only one, but
--- has a cursor on it; false without an edit, or for another edit
-abbrev pub is_held_up : Option Edit → Forest → List (Option Cursor) → Bool
-is_held_up (Some (Drop branch)) f cursors = is_some (len_of f branch) && (nat_lt 1 (length f.branches) && is_occupied branch cursors)
+-- whether only a cursor prevents a drop of a branch, which exists and isn't the only one
+abbrev pub is_held_up : Edit → Forest → List (Option Cursor) → Bool
+is_held_up (Drop branch) f cursors = is_some (len_of f branch) && (nat_lt 1 (length f.branches) && is_occupied branch cursors)
 is_held_up edit f cursors = false
-
--- the cursors after an edit of the branches f; without an edit (`None`) no cursor moves
-abbrev pub moved_if : Option Edit → Forest → List (Option Cursor) → List (Option Cursor)
-moved_if (Some edit) f cursors = moved_by edit f cursors
-moved_if None f cursors = cursors
-
--- the second argument says how an edit moves cursors, whatever the branches are: `None` says that
--- no cursor moves; a branch, a place and a direction say that each cursor becomes the one that
--- `shifted` gives for these. The first argument is the edit, or `None` if there is no edit.
-abbrev pub IsShift : Option Edit → Option (List ℕ × ℕ × Shift) → Type 0
-IsShift edit None = (f : Forest) (cursors : List (Option Cursor)) → moved_if edit f cursors ≡ cursors
-IsShift edit (Some at) = (f : Forest) (cursors : List (Option Cursor)) → moved_if edit f cursors ≡ each_cursor (shifted at.2 f at.0 at.1) cursors

@@ -6,7 +6,7 @@ pub mod World
 pub mod Acts
 pub mod Logs
 pub mod Edits
-pub mod Held
+pub mod Books
 pub mod Bounds
 pub mod Looks
 pub mod Saves

@@ -2,7 +2,7 @@
 use Rattle.std.specs.Prelude.{◌≡◌, ◌<◌, List, length}
 use Rattle.schedule_trie.specs.declared.limb.Limb.{Limb}
 use Rattle.schedule_trie.specs.Limbs.{FitLimits, AreLawfulLimbs, limbs}
-use Rattle.cutoff.specs.Held.{LimbsFit}
+use Rattle.cutoff.specs.Charts.{LimbsFit}
 use Rattle.sessions.specs.World.{World}
 
 -- `saved` are the limbs of a world's branches (a limb is a branch as a file has it). There is at

@@ -13,7 +13,7 @@ ghost use Rattle.views.specs.Strays.{IsRegularOrAtomic, ShowsNoStray};
 ghost use Rattle.sessions.specs.Logs.{IsLegal, world_after};
 ghost use Rattle.sessions.specs.Logs as spec;
 ghost use Rattle.sessions.specs.Looks.{looked_in, shown_in};
-ghost use Rattle.sessions.specs.Held.{ActsOnBook, BeginsAtOpening, IsHeld, RefusesMemoryLast, LacksMemory, opening_of, opening_over, world_of};
+ghost use Rattle.sessions.specs.Books.{ActsOnBook, BeginsAtOpening, IsHeld, RefusesMemoryLast, LacksMemory, opening_of, opening_over, world_of};
 
 mod limbs;
 
@@ -50,7 +50,7 @@ pub struct Book<R: Register> {
 
 impl<R: Register> Model for Book<R> {
     ghost use Rattle.std.specs.Prelude.{◌-◌, vec_capacity, vec_len};
-    ghost use Rattle.sessions.specs.Held.{Held, IsHeld};
+    ghost use Rattle.sessions.specs.Books.{Held, IsHeld};
 
     ghost Value = { Held R R.Pending };
 

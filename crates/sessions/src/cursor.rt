@@ -7,10 +7,8 @@ ghost use Rattle.schedule_trie.specs.Forest.{cell_on_branch};
 ghost use Rattle.schedule_trie.specs.Cut.{forest};
 ghost use Rattle.sessions.specs.Bounds.{AreWithin};
 ghost use Rattle.sessions.specs.Cursors as spec;
-ghost use Rattle.sessions.specs.Edits.{edit_of, IsShift};
 ghost use Rattle.schedule_trie.specs.declared.limits.TheConstants.{MOST_CELLS_MADE};
 
-use crate::command::Command;
 use cutoff::chart::Chart;
 use frames::register::Register;
 use schedule_trie::name::Name;
@@ -110,19 +108,6 @@ pub(crate) fn shifted<R: Register>(
         moved[i] = shifted_one(chart, cell, branch, place, shift, &cursors[i]);
     }
     moved
-}
-
-/// If the command is an insert or a remove: its branch, its place, and the direction in which it
-/// moves the cursors after that place. `None` for any other command, since no other edit moves
-/// cursors.
-pub(crate) fn shift_of(command: &Command) -> Option<(Name, u32, Shift)>
-    ensures { IsShift (edit_of command.now) result }
-{
-    match command {
-        Command::Insert { b, k, .. } => Some((*b, *k, Shift::Up)),
-        Command::Remove { b, k } => Some((*b, *k, Shift::Down)),
-        _ => None,
-    }
 }
 
 /// Whether some cursor, on any branch, is after `place`. If none is, an edit at `place` moves no

@@ -1,13 +1,16 @@
 //! The world of a desk, without its log.
 
-ghost use Rattle.std.specs.Prelude.{◌≡◌, ◌<◌, ◌≤◌, ◌+◌, ℕ, true, false, replicate, [], IfOk, OnErr};
+ghost use Rattle.std.specs.Prelude.{◌≡◌, ◌<◌, ◌≤◌, ◌+◌, ℕ, true, false, option_and_then, replicate, [], IfOk, OnErr};
 ghost use Rattle.std.specs.Arc.{arc_value};
 ghost use Rattle.cutoff.specs.Installs.{Installs};
 ghost use Rattle.schedule_trie.specs.Cut.{AreLimits, forest};
 ghost use Rattle.sessions.specs.World.{opening};
-ghost use Rattle.sessions.specs.Acts.{command_result, answered, early_refusals, first_refusal, late_refusals, refused};
+ghost use Rattle.std.specs.Option.{option_map};
+ghost use Rattle.sessions.specs.Acts.{command_result, answered, early_refusals, first_refusal, fits_command, late_refusals, needs_session, refused};
 ghost use Rattle.sessions.specs.Acts as spec;
-ghost use Rattle.sessions.specs.Held.{Does, NoneDue, NoneDueLate, world_of};
+ghost use Rattle.schedule_trie.specs.Edits.{edit_in, step_in};
+ghost use Rattle.sessions.specs.Edits.{edit_of};
+ghost use Rattle.sessions.specs.Books.{Does, NoneDue, NoneDueLate, world_of};
 ghost use Rattle.sessions.specs.Bounds.{CanLog};
 
 mod cursors;
@@ -25,6 +28,8 @@ use cutoff::chart::Chart;
 use cutoff::install::Installation;
 use frames::register::Register;
 use frames::roles::step_fits;
+use frames::types::Step;
+use schedule_trie::edit::Edit;
 use schedule_trie::limits::Limits;
 use schedule_trie::refusal::Refusal;
 use schedule_trie::trie::SegKey;
@@ -45,7 +50,7 @@ pub struct Stage<R: Register> {
 }
 
 impl<R: Register> Model for Stage<R> {
-    ghost use Rattle.sessions.specs.Held.{Staged, IsStaged};
+    ghost use Rattle.sessions.specs.Books.{Staged, IsStaged};
 
     ghost Value = { Staged R R.Pending };
 
@@ -131,18 +136,27 @@ impl<R: Register> Stage<R> {
         ensures memory { OnErr result
             (NoneDue who if_at command.now (world_of R.behaviour self.old)) }
     {
-        match self.early_refusal(who, if_at, command) {
+        let (session, step, edit) = sorted(command);
+        match self.early_refusal(who, if_at, session, step) {
             Some(refusal) => Ok(self.refuse(refusal)),
-            None => self.answer(alloc, who, command),
+            None => self.answer(alloc, who, command, edit),
         }
     }
 
-    /// Answers a command that `early_refusal` doesn't refuse. Fails as `act` does.
-    fn answer(&mut self, alloc: Global, who: u32, command: &Command) -> Result<Reply, AllocError>
+    /// Answers a command that `early_refusal` doesn't refuse; `edit` is its edit, if it is one.
+    /// Fails as `act` does.
+    fn answer(
+        &mut self,
+        alloc: Global,
+        who: u32,
+        command: &Command,
+        edit: Option<Edit<'_>>,
+    ) -> Result<Reply, AllocError>
         requires room { CanLog self.old }
         requires session { who < 16 }
-        requires fits { spec.fits_command (R.behaviour self.old.chart.start.register) command.now
+        requires fits { fits_command (R.behaviour self.old.chart.start.register) command.now
             ≡ true }
+        requires edit { edit_of command.now ≡ option_map edit_in edit }
         ensures ok { let w = world_of R.behaviour self.old in IfOk result
             (λ reply. answered (first_refusal (late_refusals who command.now w)) who command.now w
             ≡ record { world = world_of R.behaviour self.new; reply = reply }) }
@@ -150,7 +164,7 @@ impl<R: Register> Stage<R> {
         ensures memory { OnErr result
             (NoneDueLate who command.now (world_of R.behaviour self.old)) }
     {
-        match self.work(alloc, who, command) {
+        match self.work(alloc, who, command, edit) {
             Ok(reply) => Ok(reply),
             Err(refusal) => {
                 if refusal == Refusal::Memory {
@@ -174,61 +188,65 @@ impl<R: Register> Stage<R> {
         Reply::No(refusal)
     }
 
-    /// The first reason to refuse a command, among the reasons that are tested before its branch is
-    /// looked up; `None` if none of them applies.
-    fn early_refusal(&self, who: u32, if_at: Option<u64>, command: &Command) -> Option<Refusal>
-        ensures { result
-            ≡ first_refusal (early_refusals who if_at command.now (world_of R.behaviour self.now)) }
+    /// The first reason to refuse a command before its branch is looked up; `None` if there is none.
+    /// `session` says whether its session must have joined; `step` is its step, if it has one.
+    fn early_refusal(
+        &self,
+        who: u32,
+        if_at: Option<u64>,
+        session: bool,
+        step: Option<Step>,
+    ) -> Option<Refusal>
+        ensures { (c : Command) → needs_session c ≡ session
+            → option_and_then step_in (edit_of c) ≡ step
+            → result ≡ first_refusal (early_refusals who if_at c (world_of R.behaviour self.now)) }
     {
         if self.is_full() {
             return Some(Refusal::LogFull);
         }
-        if self.lacks_session(who, command) {
+        let index = who as usize;
+        if index >= SESSIONS || (session && self.cursors[index].is_none()) {
             return Some(Refusal::NoSession);
         }
         if is_missed(if_at, self.edits) {
             return Some(Refusal::Newer(self.edits));
         }
         let register = self.chart.initial().register();
-        if !fits_command(&register, command) {
+        if step.is_some_and(|step| !step_fits(&register, step)) {
             return Some(Refusal::BadStep);
         }
         None
     }
 
-    /// Whether there is no session `who`, or this session hasn't joined and the command needs it to
-    /// have joined.
-    fn lacks_session(&self, who: u32, command: &Command) -> bool
-        ensures { result ≡ spec.lacks_session who command.now self.now.cursors }
-    {
-        let index = who as usize;
-        index >= SESSIONS || (needs_session(command) && self.cursors[index].is_none())
-    }
-
-    /// Carries out a command that `early_refusal` doesn't refuse. Fails with the first reason that
-    /// `late_refusals` gives, if it gives one; otherwise with Memory, if memory runs out. After a
-    /// failure nothing that commands see is changed.
-    fn work(&mut self, alloc: Global, who: u32, command: &Command) -> Result<Reply, Refusal>
+    /// Carries out a command that `early_refusal` doesn't refuse; `edit` is its edit, if it is one.
+    /// Fails with the first reason that `late_refusals` gives, if it gives one; otherwise with
+    /// Memory, if memory runs out. After a failure nothing that commands see is changed.
+    fn work(
+        &mut self,
+        alloc: Global,
+        who: u32,
+        command: &Command,
+        edit: Option<Edit<'_>>,
+    ) -> Result<Reply, Refusal>
         requires room { CanLog self.old }
         requires session { who < 16 }
-        requires fits { spec.fits_command (R.behaviour self.old.chart.start.register) command.now
+        requires fits { fits_command (R.behaviour self.old.chart.start.register) command.now
             ≡ true }
+        requires edit { edit_of command.now ≡ option_map edit_in edit }
         ensures { Does R.behaviour who command.now self.old self.new result }
     {
+        if let Some(edit) = edit {
+            return self.edit(alloc, &edit);
+        }
         match command {
             Command::Join => Ok(self.join(alloc, who)),
             Command::Leave => Ok(self.leave(alloc, who)),
-            Command::Insert { .. }
-            | Command::Remove { .. }
-            | Command::Replace { .. }
-            | Command::Fork { .. }
-            | Command::Detach { .. }
-            | Command::Drop { .. } => self.edit(alloc, command),
             Command::Go { b, k } => self.go(who, b, *k),
             Command::Seek => self.seek(alloc, who, Way::Forth),
             Command::Back => self.seek(alloc, who, Way::Back),
             Command::Break(added) => self.set_break(who, *added),
             Command::Clear(gone) => self.clear_break(who, *gone),
+            _ => unreachable!(),
         }
     }
 }
@@ -244,19 +262,23 @@ fn no_breaks(alloc: Global) -> Result<Vec<Breaks>, AllocError>
     Ok(breaks)
 }
 
-/// Whether a command needs its session to have joined.
-fn needs_session(command: &Command) -> bool
-    ensures { result ≡ spec.needs_session command.now }
+/// Whether a command needs its session to have joined; the command's step, if it has one; and its
+/// edit, if it is one.
+fn sorted(command: &Command) -> (bool, Option<Step>, Option<Edit<'_>>)
+    ensures session { needs_session command.now ≡ result.0 }
+    ensures step { option_and_then step_in (edit_of command.now) ≡ result.1 }
+    ensures edit { edit_of command.now ≡ option_map edit_in result.2 }
 {
-    matches!(
-        command,
-        Command::Leave
-            | Command::Go { .. }
-            | Command::Seek
-            | Command::Back
-            | Command::Break(_)
-            | Command::Clear(_)
-    )
+    match command {
+        Command::Join => (false, None, None),
+        Command::Insert { b, k, step } => (false, Some(*step), Some(Edit::Insert(b, *k, *step))),
+        Command::Remove { b, k } => (false, None, Some(Edit::Remove(b, *k))),
+        Command::Replace { b, k, step } => (false, Some(*step), Some(Edit::Replace(b, *k, *step))),
+        Command::Fork { b, k, name } => (false, None, Some(Edit::Fork(b, *k, name))),
+        Command::Detach { b } => (false, None, Some(Edit::Detach(b))),
+        Command::Drop { b } => (false, None, Some(Edit::Drop(b))),
+        _ => (true, None, None),
+    }
 }
 
 /// Whether a guard is given and differs from the edit count.
@@ -266,15 +288,5 @@ fn is_missed(if_at: Option<u64>, edits: u64) -> bool
     match if_at {
         None => false,
         Some(guard) => guard != edits,
-    }
-}
-
-/// Whether a command's step, if it has one, fits the register.
-fn fits_command<R: Register>(register: &R, command: &Command) -> bool
-    ensures { result ≡ spec.fits_command (R.behaviour register.now) command.now }
-{
-    match command {
-        Command::Insert { step, .. } | Command::Replace { step, .. } => step_fits(register, *step),
-        _ => true,
     }
 }

@@ -1,14 +1,13 @@
 -- Worked examples of definitions that state an existence: one that holds, and a near miss.
-use Rattle.std.proofs.Common.{ℕ, ◌≡◌, List, [], ◌∷◌, ◌++◌, Option, Some, None, Result, Ok, Err, length, codes, ap, refl, sym, ◌∙◌, arith}
+use Rattle.std.proofs.Common.{ℕ, ◌≡◌, List, [], ◌∷◌, ◌++◌, Some, None, Result, Ok, Err, length, codes, ap, refl, arith}
 use Rattle.std.specs.Fmt.{digits}
 use Rattle.frames.specs.declared.types.Step.{Step}
 use Rattle.frames.specs.declared.types.Step.TheVariants.{Read}
-use Rattle.schedule_trie.specs.declared.limb.Limb.{Limb}
 use Rattle.tower_file.specs.declared.fault.FileFault.{FileFault}
 use Rattle.tower_file.specs.declared.tower.TowerSpec.TheVariants.{Safe}
 use Rattle.tower_file.specs.declared.version.Version.TheVariants.{One}
 use Rattle.tower_file.specs.Files.{File, file_of}
-use Rattle.tower_file.specs.Reading.{file_reading, steps_of}
+use Rattle.tower_file.specs.Reading.{steps_of}
 use Rattle.tower_file.specs.Spelling.{spelling, SpellsSteps}
 use Rattle.tower_file.specs.Benches.{Bench, bench_of}
 use Rattle.tower_file.specs.BenchSpelling.{bench_spelling, SpellsFront}

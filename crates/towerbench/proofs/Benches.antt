@@ -13,7 +13,6 @@ use Rattle.schedule_trie.specs.declared.limits.TheConstants.{MOST_CELLS_MADE}
 use Rattle.schedule_trie.specs.Limbs.{FitLimits, AreLawfulLimbs, are_lawful_after}
 use Rattle.tower_file.specs.declared.tower.TowerSpec.{TowerSpec}
 use Rattle.tower_file.specs.Towers.{fits, is_lawful_tower}
-use Rattle.towerbench.specs.Opening.{one_branch}
 use Rattle.tower_file.specs.Benches.{IsLawfulBench, are_lawful, bench_of, has_fit, is_some}
 
 is_below : (a n : ℕ) → a < n → nat_lt a n ≡ true

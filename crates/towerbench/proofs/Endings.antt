@@ -1,5 +1,5 @@
 -- How the program ends, given how its parts end.
-use Rattle.std.proofs.Common.{◌≡◌, ◌≤◌, ◌⊎◌, Bor, Bool, true, false, List, ℕ, Option, Some, None, Result, Ok, Err, OnOk, inl, inr, refl, sym, ap, subst, true≢false}
+use Rattle.std.proofs.Common.{◌≡◌, ◌⊎◌, Bor, Bool, true, false, List, ℕ, Option, Some, None, Result, Ok, Err, OnOk, inl, inr, refl, sym, ap, subst, true≢false}
 use Rattle.std.specs.Prelude.{⊤, IfErr, option_map}
 use Rattle.std.specs.Option.{is_some}
 use Rattle.std.specs.Result.{IsErrAnd}
@@ -20,7 +20,6 @@ use Rattle.towerbench.specs.declared.fault.Fault.{Fault}
 use Rattle.towerbench.specs.declared.fault.Fault.TheVariants as fault
 use Rattle.towerbench.specs.Opening.{opened_bench, FailsOver, IsDone, IsUnopened}
 use Rattle.towerbench.specs.Endings.{ending_of, FailsBy, IsLacking, WorksOut, RunsBy, IsPrinted, ProgramEndsBy}
-use Rattle.towerbench.proofs.Opened.{over_open, unopened}
 
 some_none : {A : Type 0} {s : A} → Some s ≡ None → ⊥
 some_none e = true≢false (ap is_some e)
@@ -31,16 +30,6 @@ is_named (Some p) = refl
 
 module _ (before after : Streams) where
   module _ (saves : Bool) (bytes : Option (List ℕ)) (limits : Limits) (b : Bench) (is : opened_bench bytes ≡ Ok b) where
-    -- a fault of a run over what was opened is one of the program's run
-    pub failed : (x : Fault) → FailsOver saves limits b before after x → FailsBy saves bytes limits before after x
-    failed (fault.File e) h = absurd h
-    failed (fault.Refused r) h = over_open saves bytes limits before after b is (fault.Refused r) h
-    failed fault.Read h = over_open saves bytes limits before after b is fault.Read h
-    failed fault.Write h = over_open saves bytes limits before after b is fault.Write h
-    failed fault.TooLong h = over_open saves bytes limits before after b is fault.TooLong h
-    failed fault.Memory h = over_open saves bytes limits before after b is fault.Memory h
-    failed fault.Save h = absurd h
-
     module _ (named : Bool) (read : is_some bytes ≡ named) where
       -- how the program ends, given the result of its run
       pub worked : (r : Result ⊤ Fault) (ending : Ending) → ending ≡ ending_of r → OnOk r (IsDone limits b before after)
@@ -54,10 +43,10 @@ module _ (before after : Streams) where
       saved (Ok done) ending e s h f = subst (WorksOut named limits saves before after) (sym e) (bytes, read, (b, (is, h)))
       saved (Err x) ending e s h (inl f) =
           subst (WorksOut named limits saves before after) (sym e)
-          (bytes, read, subst (FailsBy saves bytes limits before after) (sym f) (s, (b, (is, h))))
+          (bytes, read, inr (f, s, (b, (is, h))))
       saved (Err x) ending e s h (inr f) =
           subst (WorksOut named limits saves before after) (sym e)
-          (bytes, read, subst (FailsBy saves bytes limits before after) (sym f) (b, (is, inr (s, h))))
+          (bytes, read, inl (inr (b, (is, inr (inr (f, s, h))))))
 
   -- a run over what is set up
   module _ (read set_up : BenchFile) (options given : Options) (same_bench : set_up ≡ read) (same_options : given ≡ options) where
@@ -75,7 +64,7 @@ module _ (before after : Streams) where
     worked_over None named bytes (Err x) ending none has is e h f =
         let there = subst (λ o. FailsOver false (limits_of o) (as_bench set_up) before after x) same_options f in
         let fails = subst (λ s. FailsOver false (limits_of options) (as_bench s) before after x) same_bench there in
-        worked false bytes (limits_of options) (as_bench read) is named has (Err x) ending e tt (failed false bytes (limits_of options) (as_bench read) is x fails)
+        worked false bytes (limits_of options) (as_bench read) is named has (Err x) ending e tt (inl (inr (as_bench read, (is, fails))))
 
     -- how the program ends if the run fails and its branches were to be saved
     pub failed_over : (saves named : Bool) (bytes : Option (List ℕ)) (x : Fault) (ending : Ending) → saves ≡ true → is_some bytes ≡ named → opened_bench bytes ≡ Ok (as_bench read) → ending ≡ ending_of (Err x)
@@ -84,7 +73,7 @@ module _ (before after : Streams) where
         let there = subst (λ o. FailsOver true (limits_of o) (as_bench set_up) before after x) same_options f in
         let fails = subst (λ b. FailsOver true (limits_of options) (as_bench b) before after x) same_bench there in
         subst (λ (saves : Bool). WorksOut named (limits_of options) saves before after ending) (sym s)
-        (worked true bytes (limits_of options) (as_bench read) is named has (Err x) ending e tt (failed true bytes (limits_of options) (as_bench read) is x fails))
+        (worked true bytes (limits_of options) (as_bench read) is named has (Err x) ending e tt (inl (inr (as_bench read, (is, fails)))))
 
   module _ (words : List Text) where
     runs : (ending : Ending) (file : Option (Bor Text)) (options : Options) (save : Option (Bor Text)) → Says words (option_map (λ p. p.now) file) options (option_map (λ p. p.now) save)
@@ -122,21 +111,12 @@ module _ (before after : Streams) where
     helped (Faulted Memory) asks e h = absurd h
 
 -- how the program ends if there are no branches to work on
-pub lacking : (named saves : Bool) (limits : Limits) (some : 1 ≤ limits.branches) (before : Streams) (x : ProgramFault) → IsLacking named x
+pub lacking : (named saves : Bool) (limits : Limits) (before : Streams) (x : ProgramFault) → IsLacking named x
     → WorksOut named limits saves before before (Faulted x)
-lacking named saves limits some before (Source e) h = (h, refl)
-lacking named saves limits some before (Run e) h = (h.0, h.1, by e h.2)
-  where
-    by : (e : Fault) → IsUnopened h.0 e → FailsBy saves h.0 limits before before e
-    by (fault.File e) h = unopened saves _ limits some before (fault.File e) h
-    by (fault.Refused r) h = unopened saves _ limits some before (fault.Refused r) h
-    by fault.Read h = absurd h
-    by fault.Write h = absurd h
-    by fault.TooLong h = absurd h
-    by fault.Memory h = absurd h
-    by fault.Save h = absurd h
-lacking named saves limits some before Help h = absurd h
-lacking named saves limits some before Memory h = absurd h
+lacking named saves limits before (Source e) h = (h, refl)
+lacking named saves limits before (Run e) h = (h.0, h.1, inl (inl (h.2, refl)))
+lacking named saves limits before Help h = absurd h
+lacking named saves limits before Memory h = absurd h
 
 -- a call that passes on a fault of opening has no branches to work on
 pub lacks : (named : Bool) (bytes : Option (List ℕ)) (r : Result BenchFile ProgramFault) (Is : ProgramFault → Type 0) (e : Fault) → IsErrAnd r Is → ((x : ProgramFault) → Is x → x ≡ Run e)

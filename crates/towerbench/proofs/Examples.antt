@@ -1,5 +1,5 @@
 -- Worked examples of definitions that state an existence: one that holds, and a near miss.
-use Rattle.std.proofs.Common.{ℕ, ◌≡◌, true, false, inr, List, [], ◌∷◌, Option, Some, None, Ok, Err, slice_index_or, ap, refl, ◌∙◌, arith}
+use Rattle.std.proofs.Common.{ℕ, ◌≡◌, true, false, inl, inr, List, [], ◌∷◌, Option, Some, None, Ok, Err, slice_index_or, ap, refl, ◌∙◌, arith}
 use Rattle.std.specs.Fmt.{digits}
 use Rattle.clap.specs.Faults.{walk_fault, defaults_fault}
 use Rattle.schedule_trie.specs.declared.limits.Limits.{Limits}
@@ -11,14 +11,17 @@ use Rattle.tower_file.specs.Spelling.{spelling}
 use Rattle.tower_file.specs.Benches.{Bench}
 use Rattle.tower_file.specs.BenchSpelling.{bench_spelling}
 use Rattle.tower_file.proofs.Again.{reading_again}
+use Rattle.conversation.specs.declared.fault.StreamFault.TheVariants as stream
 use Rattle.conversation.specs.Moments.{Streams, streams}
+use Rattle.conversation.specs.Conversations.{Answering}
 use Rattle.command_line.specs.CommandLine.{Says, default_options}
 use Rattle.command_line.specs.Ranges.{AreOptionsInRange, limits_of}
 use Rattle.towerbench.specs.declared.fault.Fault.TheVariants as fault
 use Rattle.towerbench.specs.declared.fault.ProgramFault.TheVariants.{Memory}
 use Rattle.towerbench.specs.declared.ending.Ending.{Ending}
 use Rattle.towerbench.specs.declared.ending.Ending.TheVariants.{Done, Refused, Faulted}
-use Rattle.towerbench.specs.Opening.{one_branch, IsDone, Ran, AreSound, FailsOpen, RanLeaving, RanSaving, SavesInto}
+use Rattle.towerbench.specs.Streams.{IsOfStreams, EndsWithStreamFault}
+use Rattle.towerbench.specs.Opening.{one_branch, IsDone, Ran, AreSound, FailsOver, FailsOpen, RanLeaving, RanSaving, SavesInto}
 use Rattle.towerbench.specs.Endings.{WorksOut, RunsBy, IsPrinted, ProgramEndsBy, exit_status}
 
 -- a safe bit at 0 with one branch without steps, as without a file
@@ -37,6 +40,10 @@ nothing = streams empty empty
 
 abbrev one_byte : Streams
 one_byte = streams (Some (33 ∷ [])) empty
+
+-- lines are answered by nothing
+abbrev silent : Answering
+silent lines marks = []
 
 some_left : ◌≡◌ {A = List ℕ} (33 ∷ []) [] → ⊥
 some_left e = cc
@@ -74,13 +81,42 @@ AreSound-fails h = no_file _ h.0 (reading_again _ h.0 h.1)
     no_file : (e : FileFault) (f : File) → Err e ≡ Ok f → ⊥
     no_file e f is = cc
 
+-- a read of the script failed
+IsOfStreams-holds : IsOfStreams fault.Read
+IsOfStreams-holds = (stream.Read, refl)
+
+-- a save that failed isn't a fault of the script's streams
+IsOfStreams-fails : IsOfStreams fault.Save → ⊥
+IsOfStreams-fails (stream.Read, e) = cc
+IsOfStreams-fails (stream.Write, e) = cc
+IsOfStreams-fails (stream.TooLong, e) = cc
+IsOfStreams-fails (stream.Memory, e) = cc
+
+-- the first read failed, so nothing was read or written
+EndsWithStreamFault-holds : EndsWithStreamFault silent fault.Read one_byte one_byte
+EndsWithStreamFault-holds = (stream.Read, refl, record { seen = []; marks = λ number. false; text = []; read = refl; few = omega arith; wrote = refl; went = refl })
+
+-- a save that failed isn't a fault of the script's streams
+EndsWithStreamFault-fails : EndsWithStreamFault silent fault.Save one_byte one_byte → ⊥
+EndsWithStreamFault-fails h = IsOfStreams-fails (h.0, h.1)
+
+-- there was no memory to report the branches that a run left
+FailsOver-holds : FailsOver true limits bench nothing nothing fault.Memory
+FailsOver-holds = inr (inr (refl, refl, done))
+
+-- a run on a bench doesn't end with a failed save
+FailsOver-fails : (b : Bench) (before after : Streams) → FailsOver true limits b before after fault.Save → ⊥
+FailsOver-fails b before after (inl h) = cc
+FailsOver-fails b before after (inr (inl (e, is, h))) = IsOfStreams-fails (e, is)
+FailsOver-fails b before after (inr (inr h)) = cc
+
 -- there was no memory to report the branches that a run left
 FailsOpen-holds : FailsOpen true None limits nothing nothing fault.Memory
-FailsOpen-holds = (bench, (refl, inr (refl, done)))
+FailsOpen-holds = (bench, (refl, FailsOver-holds))
 
 -- a save that failed isn't a fault of this kind
 FailsOpen-fails : FailsOpen true None limits nothing nothing fault.Save → ⊥
-FailsOpen-fails h = h.1.1
+FailsOpen-fails h = FailsOver-fails h.0 nothing nothing h.1.1
 
 -- an empty script leaves the branches as they were opened
 RanLeaving-holds : RanLeaving None limits (bench_spelling bench) nothing nothing
@@ -103,11 +139,13 @@ RanSaving-fails h = no_bench h.0 h.1.left (h.1.spells.spelled) h.2
 
 -- the first write to the saver failed
 SavesInto-holds : SavesInto None limits nothing nothing empty empty fault.Save
-SavesInto-holds = (bench_spelling bench, leaving, ([], (bench_spelling bench, refl), refl))
+SavesInto-holds = inr (refl, (bench_spelling bench, leaving, ([], (bench_spelling bench, refl), refl)))
 
 -- a save failed, although a byte of the script was not read before
 SavesInto-fails : SavesInto None limits one_byte one_byte empty empty fault.Save → ⊥
-SavesInto-fails h = some_left h.1.leaves.done.answered.ended
+SavesInto-fails (inl (inl h, kept)) = absurd h.0
+SavesInto-fails (inl (inr h, kept)) = FailsOver-fails h.0 one_byte one_byte h.1.1
+SavesInto-fails (inr h) = some_left h.1.1.leaves.done.answered.ended
 
 -- no file is named, and an empty script was answered
 WorksOut-holds : WorksOut false limits false nothing nothing Done

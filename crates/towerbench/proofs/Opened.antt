@@ -1,6 +1,6 @@
 -- How a run of the program over a file ends, given how one over the file's tower and branches ends.
-use Rattle.std.proofs.Common.{◌≡◌, ◌≤◌, ℕ, Bool, true, false, cond, nat_lt, arith, refl, List, [], Option, Result, Ok, Err, subst, sym, ap, ◌∙◌, inl, inr}
-use Rattle.std.specs.Prelude.{⊤, IfErr, IsOk}
+use Rattle.std.proofs.Common.{◌≡◌, ◌≤◌, ℕ, Bool, true, false, arith, refl, List, Option, Result, Ok, Err, subst, sym, ap, ◌∙◌, inl, inr}
+use Rattle.std.specs.Prelude.{⊤, IfErr}
 use Rattle.std.specs.declared.alloc.Global.{Global}
 use Rattle.std.specs.declared.vec.Vec.{Vec}
 use Rattle.std.specs.Result.{IsErrAnd}
@@ -10,21 +10,16 @@ use Rattle.frames.specs.Behaviour.{Behaviour}
 use Rattle.frames.specs.Configuration.{fits_step}
 use Rattle.schedule_trie.specs.declared.limb.Limb.{Limb}
 use Rattle.schedule_trie.specs.declared.limits.Limits.{Limits}
-use Rattle.schedule_trie.specs.declared.refusal.Refusal.TheVariants.{Full, TooManyBranches}
-use Rattle.schedule_trie.specs.Forest.{IsRefused}
 use Rattle.schedule_trie.specs.Limbs.{forest_of, limbs, loaded}
 use Rattle.tower_file.specs.declared.tower.TowerSpec.{TowerSpec}
-use Rattle.tower_file.specs.declared.tower.TowerSpec.TheVariants.{Safe}
 use Rattle.tower_file.specs.Towers.{fits}
 use Rattle.tower_file.specs.Benches.{Bench, bench_of}
 use Rattle.towerbench.specs.declared.fault.Fault.{Fault}
-use Rattle.towerbench.specs.declared.fault.Fault.TheVariants as fault
 use Rattle.std.specs.Io.KnownBytes.{Appends}
 use Rattle.schedule_trie.specs.declared.limits.TheConstants.{MOST_CELLS_MADE}
 use Rattle.sessions.specs.World.{World}
 use Rattle.script.specs.Answers.{answer_line}
 use Rattle.conversation.specs.declared.fault.StreamFault.{StreamFault}
-use Rattle.conversation.specs.declared.fault.StreamFault.TheVariants as stream
 use Rattle.towerbench.specs.Streams.{of_stream}
 use Rattle.tower_file.specs.Said.{as_bench}
 use Rattle.tower_file.specs.declared.bench.BenchFile.{BenchFile}
@@ -36,7 +31,7 @@ use Rattle.command_line.specs.Ranges.{limits_of}
 use Rattle.towerbench.specs.declared.opening.Opening.{Opening}
 use Rattle.towerbench.specs.Opening.{Course, course_on, IsEndedByFault, IsLeftBench}
 use Rattle.towerbench.proofs.Grounds.{IsOn, ground_kept}
-use Rattle.towerbench.specs.Opening.{one_branch, opened_bench, opening_of_limbs, course_from, course_of, FailsOver, EndsOver, IsDone, IsUnopened, RanInto, SavesInto}
+use Rattle.towerbench.specs.Opening.{opened_bench, opening_of_limbs, course_from, course_of, FailsOver, EndsOver, IsDone, IsUnopened, RanInto, SavesInto}
 use Rattle.towerbench.specs.Openings.{Builds, CanOpen, opening_world}
 
 -- a register that behaves as a tower does builds that tower
@@ -49,61 +44,25 @@ builds_as is register value init b given tower register_is value_is tower_is ali
       course = λ limits ls. ap (λ t. course_of t limits ls) (sym tower_is) ∙ course limits ls ∙ ap (λ n. course_from (opening_of_limbs b n limits ls)) (sym value_is) ∙ ap (λ x. course_from (opening_of_limbs x value limits ls)) (sym register_is);
     }
 
--- one branch without steps is within all limits
-pub none_within : (limits : Limits) → 1 ≤ limits.branches → loaded limits (one_branch (Safe 0) []).limbs ≡ Ok (forest_of (one_branch (Safe 0) []).limbs)
-none_within limits some = by (nat_lt limits.cells 0) (nat_lt limits.branches 1) refl refl
-  where
-    by : (b c : Bool) → nat_lt limits.cells 0 ≡ b → nat_lt limits.branches 1 ≡ c
-        → cond b (Err Full) (cond c (Err TooManyBranches) (Ok (forest_of (one_branch (Safe 0) []).limbs))) ≡ Ok (forest_of (one_branch (Safe 0) []).limbs)
-    by true c e f = absurd (grind (arith, nat_tests))
-    by false true e f = absurd (grind (arith, nat_tests))
-    by false false e f = refl
-
-module _ (reports : Bool) (file : Option (List ℕ)) (limits : Limits) where
-  -- if nothing is opened, nothing is read or written
-  pub unopened : (some : 1 ≤ limits.branches) (before : Streams) (x : Fault) → IsUnopened file x → RanInto reports file limits before before x
-  unopened some before (fault.File e) h = (h, refl)
-  unopened some before (fault.Refused r) h =
-      let none : opened_bench file ≡ Ok (one_branch (Safe 0) []) = ap opened_bench h.0 in
-      let memory : IsRefused (loaded limits (one_branch (Safe 0) []).limbs) r = inr (h.1, subst IsOk (sym (none_within limits some)) refl) in
-      (one_branch (Safe 0) [], (none, (memory, refl)))
-  unopened some before fault.Read h = absurd h
-  unopened some before fault.Write h = absurd h
-  unopened some before fault.TooLong h = absurd h
-  unopened some before fault.Memory h = absurd h
-  unopened some before fault.Save h = absurd h
-
-  -- if nothing is opened, a call that passes the fault on ends as such a run of the program does
-  pub unopened_so : (some : 1 ≤ limits.branches) (before : Streams) (r : Result ⊤ Fault) (Is : Fault → Type 0) (e : Fault) → IsErrAnd r Is → ((x : Fault) → Is x → x ≡ e)
-      → IsUnopened file e → IfErr r (RanInto reports file limits before before)
-  unopened_so some before (Ok done) Is e k same h = tt
-  unopened_so some before (Err x) Is e k same h = unopened some before x (subst (IsUnopened file) (sym (same x k)) h)
-
-  module _ (before after : Streams) (b : Bench) (is : opened_bench file ≡ Ok b) where
-    -- a fault of a run over a file's tower and branches is a fault of a run over the file
-    pub over_open : (x : Fault) → FailsOver reports limits b before after x → RanInto reports file limits before after x
-    over_open (fault.File e) h = absurd h
-    over_open (fault.Refused r) h = (b, (is, h))
-    over_open fault.Read h = (b, (is, h))
-    over_open fault.Write h = (b, (is, h))
-    over_open fault.TooLong h = (b, (is, h))
-    over_open fault.Memory h = (b, (is, h))
-    over_open fault.Save h = absurd h
+-- if nothing is opened, a call that passes the fault on ends as such a run of the program does
+pub unopened : (reports : Bool) (file : Option (List ℕ)) (limits : Limits) (before : Streams) (r : Result ⊤ Fault) (Is : Fault → Type 0) (e : Fault) → IsErrAnd r Is → ((x : Fault) → Is x → x ≡ e)
+    → IsUnopened file e → IfErr r (RanInto reports file limits before before)
+unopened reports file limits before (Ok done) Is e k same h = tt
+unopened reports file limits before (Err x) Is e k same h = inl (subst (IsUnopened file) (sym (same x k)) h, refl)
 
 -- if nothing is opened, nothing is saved
-pub unsaved : (file : Option (List ℕ)) (limits : Limits) (some : 1 ≤ limits.branches) (before : Streams) (kept : Option (List ℕ)) (r : Result ⊤ Fault) (Is : Fault → Type 0) (e : Fault) → IsErrAnd r Is
-    → ((x : Fault) → Is x → x ≡ e) → IsUnopened file e → IfErr r (SavesInto file limits before before kept kept)
-unsaved file limits some before kept (Ok done) Is e k same h = tt
-unsaved file limits some before kept (Err x) Is e k same h = by x (subst (IsUnopened file) (sym (same x k)) h)
-  where
-    by : (x : Fault) → IsUnopened file x → SavesInto file limits before before kept kept x
-    by (fault.File e) h = (unopened true file limits some before (fault.File e) h, refl)
-    by (fault.Refused r) h = (unopened true file limits some before (fault.Refused r) h, refl)
-    by fault.Read h = absurd h
-    by fault.Write h = absurd h
-    by fault.TooLong h = absurd h
-    by fault.Memory h = absurd h
-    by fault.Save h = absurd h
+pub unsaved : (file : Option (List ℕ)) (limits : Limits) (before : Streams) (kept : Option (List ℕ)) (r : Result ⊤ Fault) (Is : Fault → Type 0) (e : Fault) → IsErrAnd r Is → ((x : Fault) → Is x → x ≡ e)
+    → IsUnopened file e → IfErr r (SavesInto file limits before before kept kept)
+unsaved file limits before kept (Ok done) Is e k same h = tt
+unsaved file limits before kept (Err x) Is e k same h = inl (inl (subst (IsUnopened file) (sym (same x k)) h, refl), refl)
+
+-- a fault of a run over what was opened is one of a run over the file
+pub ran_over : (read set_up : BenchFile) (options given : Options) (same_bench : set_up ≡ read) (same_options : given ≡ options) (file : Option (List ℕ)) (before after : Streams)
+    (is : opened_bench file ≡ Ok (as_bench read)) (r : Result ⊤ Fault) → IfErr r (FailsOver false (limits_of given) (as_bench set_up) before after) → IfErr r (RanInto false file (limits_of options) before after)
+ran_over read set_up options given same_bench same_options file before after is (Ok done) h = tt
+ran_over read set_up options given same_bench same_options file before after is (Err x) h =
+    let there = subst (λ o. FailsOver false (limits_of o) (as_bench set_up) before after x) same_options h in
+    inr (as_bench read, (is, subst (λ b. FailsOver false (limits_of options) (as_bench b) before after x) same_bench there))
 
 -- if a run fails, nothing is saved
 pub unsaved_over : (read set_up : BenchFile) (options given : Options) (same_bench : set_up ≡ read) (same_options : given ≡ options) (file : Option (List ℕ)) (before after : Streams) (kept : Option (List ℕ))
@@ -113,19 +72,7 @@ unsaved_over read set_up options given same_bench same_options file before after
 unsaved_over read set_up options given same_bench same_options file before after kept is (Err x) Is e k same h =
     let there = subst (λ o. FailsOver true (limits_of o) (as_bench set_up) before after e) same_options h in
     let fails = subst (λ b. FailsOver true (limits_of options) (as_bench b) before after e) same_bench there in
-    by x (subst (FailsOver true (limits_of options) (as_bench read) before after) (sym (same x k)) fails)
-  where
-    over : (x : Fault) → FailsOver true (limits_of options) (as_bench read) before after x → RanInto true file (limits_of options) before after x
-    over x f = over_open true file (limits_of options) before after (as_bench read) is x f
-
-    by : (x : Fault) → FailsOver true (limits_of options) (as_bench read) before after x → SavesInto file (limits_of options) before after kept kept x
-    by (fault.File e) f = absurd f
-    by (fault.Refused r) f = (over (fault.Refused r) f, refl)
-    by fault.Read f = (over fault.Read f, refl)
-    by fault.Write f = (over fault.Write f, refl)
-    by fault.TooLong f = (over fault.TooLong f, refl)
-    by fault.Memory f = (over fault.Memory f, refl)
-    by fault.Save f = absurd f
+    inl (inr (as_bench read, (is, subst (FailsOver true (limits_of options) (as_bench read) before after) (sym (same x k)) fails)), refl)
 
 -- a run that ended well with some bytes is done
 module _ (limits : Limits) (b : Bench) (before after : Streams) where
@@ -185,16 +132,8 @@ module _ {R P : Type 0} (is : R → Behaviour P) (o : Opening R) (can : CanOpen 
       pub branches_at : v.limits.branches ≤ 1024
       branches_at = subst (λ (l : Limits). l.branches ≤ 1024) (sym (ground.limits ∙ ap (λ (x : World P). x.limits) at)) can.limits.few_branches
 
--- a fault of the streams
-fails_by : (limits : Limits) (b : Bench) (reports : Bool) (before after : Streams) (e : StreamFault) → IsEndedByFault limits b e before after
-    → FailsOver reports limits b before after (of_stream e)
-fails_by limits b reports before after stream.Read h = h
-fails_by limits b reports before after stream.Write h = h
-fails_by limits b reports before after stream.TooLong h = h
-fails_by limits b reports before after stream.Memory h = inl h
-
 -- a call that passes on a fault of the streams ends as such a run of the program does
 pub stream_at : (limits : Limits) (b : Bench) (reports : Bool) (before after : Streams) (r : Result (Vec ℕ Global) Fault) (Is : Fault → Type 0) (e : StreamFault)
     → IsErrAnd r Is → ((x : Fault) → Is x → x ≡ of_stream e) → IsEndedByFault limits b e before after → EndsOver reports limits b before after r
 stream_at limits b reports before after (Ok bytes) Is e k same h = absurd k
-stream_at limits b reports before after (Err x) Is e k same h = subst (FailsOver reports limits b before after) (sym (same x k)) (fails_by limits b reports before after e h)
+stream_at limits b reports before after (Err x) Is e k same h = inr (inl (e, same x k, h))

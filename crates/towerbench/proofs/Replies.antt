@@ -11,7 +11,7 @@ use Rattle.sessions.specs.declared.log.Entry.{Entry}
 use Rattle.sessions.specs.declared.reply.Reply.TheVariants.{No}
 use Rattle.sessions.specs.World.{World}
 use Rattle.sessions.specs.Acts.{command_result}
-use Rattle.sessions.specs.Held.{Held, opening_of}
+use Rattle.sessions.specs.Books.{Held, opening_of}
 use Rattle.sessions.specs.Looks.{looked_in, shown_in}
 use Rattle.sessions.specs.Saves.{IsSaved}
 use Rattle.sessions.specs.Logs.{entry, logged, world_after}

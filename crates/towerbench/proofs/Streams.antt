@@ -1,25 +1,12 @@
 -- What answering a script at a desk gives, from what answering it at a seat gives.
-use Rattle.std.proofs.Common.{◌≡◌, Result, Ok, Err, sym, subst}
+use Rattle.std.proofs.Common.{◌≡◌, Result, Ok, Err}
 use Rattle.std.specs.Prelude.{⊤, IfErr}
 use Rattle.std.specs.Result.{IsErrAnd}
 use Rattle.conversation.specs.declared.fault.StreamFault.{StreamFault}
-use Rattle.conversation.specs.declared.fault.StreamFault.TheVariants as stream
 use Rattle.conversation.specs.Moments.{Streams}
 use Rattle.conversation.specs.Conversations.{Answering, EndsWithFault}
 use Rattle.towerbench.specs.declared.fault.Fault.{Fault}
 use Rattle.towerbench.specs.Streams.{of_stream, EndsWithStreamFault, IsOfStreams}
-
-is_of_streams : (e : StreamFault) → IsOfStreams (of_stream e)
-is_of_streams stream.Read = tt
-is_of_streams stream.Write = tt
-is_of_streams stream.TooLong = tt
-is_of_streams stream.Memory = tt
-
-ends_by_stream : (answering : Answering) (before after : Streams) (e : StreamFault) → EndsWithFault answering e before after → EndsWithStreamFault answering (of_stream e) before after
-ends_by_stream answering before after stream.Read h = h
-ends_by_stream answering before after stream.Write h = h
-ends_by_stream answering before after stream.TooLong h = h
-ends_by_stream answering before after stream.Memory h = h
 
 module _ (r : Result ⊤ Fault) (Is : Fault → Type 0) (e : StreamFault) (k : IsErrAnd r Is) (same : (x : Fault) → Is x → x ≡ of_stream e) where
   pub of_streams : IfErr r IsOfStreams
@@ -27,7 +14,7 @@ module _ (r : Result ⊤ Fault) (Is : Fault → Type 0) (e : StreamFault) (k : I
     where
       by : (r : Result ⊤ Fault) → IsErrAnd r Is → IfErr r IsOfStreams
       by (Ok done) k = tt
-      by (Err x) k = subst IsOfStreams (sym (same x k)) (is_of_streams e)
+      by (Err x) k = (e, same x k)
 
   pub ends_so : (answering : Answering) (before after : Streams) → EndsWithFault answering e before after
       → IfErr r (λ x. EndsWithStreamFault answering x before after)
@@ -35,4 +22,4 @@ module _ (r : Result ⊤ Fault) (Is : Fault → Type 0) (e : StreamFault) (k : I
     where
       by : (r : Result ⊤ Fault) → IsErrAnd r Is → IfErr r (λ x. EndsWithStreamFault answering x before after)
       by (Ok done) k = tt
-      by (Err x) k = subst (λ x. EndsWithStreamFault answering x before after) (sym (same x k)) (ends_by_stream answering before after e h)
+      by (Err x) k = (e, same x k, h)

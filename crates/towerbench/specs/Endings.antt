@@ -25,17 +25,12 @@ abbrev pub ending_of : Result ⊤ Fault → Ending
 ending_of (Ok done) = Done
 ending_of (Err e) = Faulted (Run e)
 
--- A run of the program over a file of these bytes, or without a file, ended with this fault. If the
--- fault is Save, saving was asked for (`saves`), and the script had ended well. After any other
--- fault, what was read and written is as `RanInto` says.
+-- A run of the program over a file of these bytes, or without a file, ended with this fault. Either
+-- the run itself did, as `RanInto` says; or the fault is Save: saving was asked for (`saves`), and
+-- the script had ended well.
 abbrev pub FailsBy : Bool → Option (List ℕ) → Limits → Streams → Streams → Fault → Type 0
-FailsBy saves bytes limits before after (fault.File e) = RanInto saves bytes limits before after (fault.File e)
-FailsBy saves bytes limits before after (fault.Refused r) = RanInto saves bytes limits before after (fault.Refused r)
-FailsBy saves bytes limits before after fault.Read = RanInto saves bytes limits before after fault.Read
-FailsBy saves bytes limits before after fault.Write = RanInto saves bytes limits before after fault.Write
-FailsBy saves bytes limits before after fault.TooLong = RanInto saves bytes limits before after fault.TooLong
-FailsBy saves bytes limits before after fault.Memory = RanInto saves bytes limits before after fault.Memory
-FailsBy saves bytes limits before after fault.Save = (saves ≡ true) × Ran bytes limits before after
+FailsBy saves bytes limits before after e =
+    RanInto saves bytes limits before after e ⊎ ((e ≡ fault.Save) × (saves ≡ true) × Ran bytes limits before after)
 
 -- The program has this fault before there are branches to work on: the named file can't be read, or
 -- its bytes have a fault, or, without a file, there is no memory for the branches.

@@ -21,6 +21,7 @@ use Rattle.tower_file.specs.BenchReading.{bench_reading, is_bench}
 use Rattle.tower_file.specs.BenchSpelling.{SpellsBench, SpellsFront}
 use Rattle.schedule_trie.specs.declared.limb.Limb.{Limb}
 use Rattle.schedule_trie.specs.declared.limits.Limits.{Limits}
+use Rattle.schedule_trie.specs.declared.refusal.Refusal.{Refusal}
 use Rattle.schedule_trie.specs.declared.refusal.Refusal.TheVariants.{Memory}
 use Rattle.schedule_trie.specs.Forest.{Forest, IsRefused}
 use Rattle.schedule_trie.specs.Limbs.{forest_of, limbs, loaded}
@@ -28,8 +29,8 @@ use Rattle.sessions.specs.World as sessions
 use Rattle.sessions.specs.World.{World}
 use Rattle.script.specs.Answers.{answer_line}
 use Rattle.conversation.specs.declared.fault.StreamFault.{StreamFault}
-use Rattle.conversation.specs.declared.fault.StreamFault.TheVariants as stream
 use Rattle.conversation.specs.Moments.{Streams}
+use Rattle.towerbench.specs.Streams.{of_stream}
 use Rattle.conversation.specs.Scripts.{Marks, after_lines, answers_to, lines_of}
 use Rattle.conversation.specs.Conversations.{Answering, IsAnswered, EndsWithFault, WroteFront}
 use Rattle.towerbench.specs.declared.fault.Fault.{Fault}
@@ -119,14 +120,10 @@ pub record IsEndedByFault (limits : Limits) (b : Bench) (fault : StreamFault) (b
 -- be reported (`reports`), memory may also have run out during the report, after a script that
 -- ended well.
 abbrev pub FailsOver : Bool → Limits → Bench → Streams → Streams → Fault → Type 0
-FailsOver reports limits b before after (fault.File e) = ⊥
-FailsOver reports limits b before after (fault.Refused r) = IsRefused (loaded limits b.limbs) r × IsUntouched before after
-FailsOver reports limits b before after fault.Read = IsEndedByFault limits b stream.Read before after
-FailsOver reports limits b before after fault.Write = IsEndedByFault limits b stream.Write before after
-FailsOver reports limits b before after fault.TooLong = IsEndedByFault limits b stream.TooLong before after
-FailsOver reports limits b before after fault.Memory =
-    IsEndedByFault limits b stream.Memory before after ⊎ ((reports ≡ true) × IsDone limits b before after)
-FailsOver reports limits b before after fault.Save = ⊥
+FailsOver reports limits b before after e =
+    ((r : Refusal) × (e ≡ fault.Refused r) × IsRefused (loaded limits b.limbs) r × IsUntouched before after)
+    ⊎ (((s : StreamFault) × (e ≡ of_stream s) × IsEndedByFault limits b s before after)
+    ⊎ ((e ≡ fault.Memory) × (reports ≡ true) × IsDone limits b before after))
 
 -- A run of the program that left the bench `left` returns these bytes: they spell `left` if the
 -- branches are to be reported; otherwise there are no bytes.
@@ -172,17 +169,12 @@ IsUnopened file fault.Save = ⊥
 abbrev pub FailsOpen : Bool → Option (List ℕ) → Limits → Streams → Streams → Fault → Type 0
 FailsOpen reports file limits before after e = (b : Bench) × ((opened_bench file ≡ Ok b) × FailsOver reports limits b before after e)
 
--- A run of the program ended with this fault. Either it is a fault of the run's file, and nothing
--- was read or written; or a bench was opened, and the run on that bench ended with this fault, as
--- `FailsOver` says.
+-- A run of the program ended with this fault. Either no bench was opened, and nothing was read or
+-- written; or a bench was opened, and the run on that bench ended with this fault, as `FailsOver`
+-- says.
 abbrev pub RanInto : Bool → Option (List ℕ) → Limits → Streams → Streams → Fault → Type 0
-RanInto reports file limits before after (fault.File e) = MatchOption file ⊥ (IsFileFault e) × IsUntouched before after
-RanInto reports file limits before after (fault.Refused r) = FailsOpen reports file limits before after (fault.Refused r)
-RanInto reports file limits before after fault.Read = FailsOpen reports file limits before after fault.Read
-RanInto reports file limits before after fault.Write = FailsOpen reports file limits before after fault.Write
-RanInto reports file limits before after fault.TooLong = FailsOpen reports file limits before after fault.TooLong
-RanInto reports file limits before after fault.Memory = FailsOpen reports file limits before after fault.Memory
-RanInto reports file limits before after fault.Save = ⊥
+RanInto reports file limits before after e =
+    (IsUnopened file e × IsUntouched before after) ⊎ FailsOpen reports file limits before after e
 
 -- A run of the program over a file, or without one, ended well and left the branches that these
 -- bytes spell.
@@ -198,15 +190,10 @@ pub record RanLeaving (file : Option (List ℕ)) (limits : Limits) (bytes : List
 abbrev pub RanSaving : Option (List ℕ) → Limits → Streams → Streams → Option (List ℕ) → Option (List ℕ) → Type 0
 RanSaving file limits before after kept saved = (bytes : List ℕ) × RanLeaving file limits bytes before after × Appends kept saved bytes
 
--- A run of the program that saves ended with this fault. If the fault is Save, the script had ended
--- well, and the saver took a prefix of the bytes that spell the tower and the branches that the
--- script left. After any other fault, the saver took nothing, and what was read and written is as
--- `RanInto` says.
+-- A run of the program that saves ended with this fault. Either the run itself did, as `RanInto`
+-- says, and the saver took nothing; or the fault is Save: the script had ended well, and the saver
+-- took a prefix of the bytes that spell the tower and the branches that the script left.
 abbrev pub SavesInto : Option (List ℕ) → Limits → Streams → Streams → Option (List ℕ) → Option (List ℕ) → Fault → Type 0
-SavesInto file limits before after kept saved fault.Save = (bytes : List ℕ) × RanLeaving file limits bytes before after × WroteFront kept saved bytes
-SavesInto file limits before after kept saved (fault.File e) = RanInto true file limits before after (fault.File e) × (saved ≡ kept)
-SavesInto file limits before after kept saved (fault.Refused r) = RanInto true file limits before after (fault.Refused r) × (saved ≡ kept)
-SavesInto file limits before after kept saved fault.Read = RanInto true file limits before after fault.Read × (saved ≡ kept)
-SavesInto file limits before after kept saved fault.Write = RanInto true file limits before after fault.Write × (saved ≡ kept)
-SavesInto file limits before after kept saved fault.TooLong = RanInto true file limits before after fault.TooLong × (saved ≡ kept)
-SavesInto file limits before after kept saved fault.Memory = RanInto true file limits before after fault.Memory × (saved ≡ kept)
+SavesInto file limits before after kept saved e =
+    (RanInto true file limits before after e × (saved ≡ kept))
+    ⊎ ((e ≡ fault.Save) × ((bytes : List ℕ) × RanLeaving file limits bytes before after × WroteFront kept saved bytes))

@@ -9,7 +9,7 @@ use Rattle.desk.specs.Histories.{seen}
 use Rattle.conversation.specs.Scripts.{Answered}
 use Rattle.frames.specs.Behaviour.{Behaviour}
 use Rattle.sessions.specs.declared.log.Entry.{Entry}
-use Rattle.sessions.specs.Held.{Held, opening_of}
+use Rattle.sessions.specs.Books.{Held, opening_of}
 use Rattle.sessions.specs.Logs.{world_after}
 use Rattle.sessions.specs.World.{World}
 

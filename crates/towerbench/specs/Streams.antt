@@ -1,5 +1,5 @@
 -- Faults of a script's streams.
-use Rattle.std.specs.Prelude.{⊤}
+use Rattle.std.specs.Prelude.{◌≡◌}
 use Rattle.conversation.specs.declared.fault.StreamFault.{StreamFault}
 use Rattle.conversation.specs.declared.fault.StreamFault.TheVariants as stream
 use Rattle.conversation.specs.Moments.{Streams}
@@ -14,23 +14,11 @@ of_stream stream.Write = fault.Write
 of_stream stream.TooLong = fault.TooLong
 of_stream stream.Memory = fault.Memory
 
--- the fault is a fault of the script's streams: Read, Write, TooLong or Memory
+-- the fault is a fault of the script's streams
 abbrev pub IsOfStreams : Fault → Type 0
-IsOfStreams fault.Read = ⊤
-IsOfStreams fault.Write = ⊤
-IsOfStreams fault.TooLong = ⊤
-IsOfStreams fault.Memory = ⊤
-IsOfStreams (fault.File e) = ⊥
-IsOfStreams (fault.Refused r) = ⊥
-IsOfStreams fault.Save = ⊥
+IsOfStreams e = (s : StreamFault) × (e ≡ of_stream s)
 
 -- The fault is a fault of the script's streams, and what was read and written before it is as
 -- `EndsWithFault` says for this fault. `answering` gives the answers to lines.
 abbrev pub EndsWithStreamFault : Answering → Fault → Streams → Streams → Type 0
-EndsWithStreamFault answering fault.Read before after = EndsWithFault answering stream.Read before after
-EndsWithStreamFault answering fault.Write before after = EndsWithFault answering stream.Write before after
-EndsWithStreamFault answering fault.TooLong before after = EndsWithFault answering stream.TooLong before after
-EndsWithStreamFault answering fault.Memory before after = EndsWithFault answering stream.Memory before after
-EndsWithStreamFault answering (fault.File e) before after = ⊥
-EndsWithStreamFault answering (fault.Refused r) before after = ⊥
-EndsWithStreamFault answering fault.Save before after = ⊥
+EndsWithStreamFault answering e before after = (s : StreamFault) × (e ≡ of_stream s) × EndsWithFault answering s before after

@@ -2,8 +2,8 @@
 //! schedule. A read is stray if it gives neither the value written last before it (the initial
 //! value, if none was) nor the value of a write that overlaps it.
 
-ghost use Rattle.frames.specs.Regularity.{NeverStray};
-ghost use Rattle.frames.specs.Regularity.{IsAtomic, IsRegular, IsSafe};
+ghost use Rattle.frames.specs.correctness.Regularity.{NeverStray};
+ghost use Rattle.frames.specs.correctness.Regularity.{IsAtomic, IsRegular, IsSafe};
 ghost use Rattle.unary_number.specs.Scans.{AlwaysFinds};
 ghost use Rattle.views.specs.Strays.{NeverShowsStray};
 

@@ -8,7 +8,7 @@ use lib.ListN.{get_elem?}
 use Rattle.atomic_table.specs.Table.{State, Me, opening, Final, Seen}
 use Rattle.turn.specs.declared.view.View.{View}
 use Rattle.turn.specs.Shares.{has_share, HasAll, shares_without, together, count, chair_number, next_least}
-use Rattle.turn.specs.ShareLaws.{below_every, has_without, given_inside, given_some, kept_some, count_some, number_held, together_some}
+use Rattle.turn.specs.laws.Shares.{below_every, has_without, given_inside, given_some, kept_some, count_some, number_held, together_some}
 use Rattle.turn.specs.Histories.{StartsWith, first_view, with_news, longer, joined, IsJoined, HoldsSome, under, OwnsItsCalls, kept, handed}
 use Rattle.turn.specs.Rule.{Kept, NewsReports}
 use Rattle.turn.proofs.Fronts.{nothing_new, under_kept}

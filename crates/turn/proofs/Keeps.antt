@@ -13,7 +13,7 @@ use Rattle.atomic_table.specs.Table.{State, Me, step, Act, keeps, takes, gives, 
 use Rattle.atomic_table.proofs.Lists.{at_set, set_else, set_again, at_longer, exchanged}
 use Rattle.turn.specs.declared.view.View.{View}
 use Rattle.turn.specs.Shares.{has_share}
-use Rattle.turn.specs.ShareLaws.{below_every, none_held, has_without, not_without, has_together, not_together}
+use Rattle.turn.specs.laws.Shares.{below_every, none_held, has_without, not_without, has_together, not_together}
 use Rattle.turn.specs.Entries.{AtMostOne}
 use Rattle.turn.specs.Histories.{StartsWith, first_view, spent_view, grabbed, published, released, with_news, longer, joined, HoldsSome, under, OwnsItsCalls, kept, handed}
 use Rattle.turn.specs.Rule.{ByChairs, Knows, Kept, grab_reports, publish_reports, release_reports, news_reports}

@@ -9,7 +9,7 @@ use Rattle.frames.specs.declared.types.Op.TheVariants.{Read, Write}
 use Rattle.frames.specs.declared.types.Event.{Event}
 use Rattle.frames.specs.declared.types.Event.TheVariants.{Invoke, Got, Wrote}
 use Rattle.frames.specs.declared.verdict.Verdict.TheVariants.{Fresh, Overlap, Stray}
-use Rattle.frames.specs.Regularity.{in_progress}
+use Rattle.frames.specs.correctness.Regularity.{in_progress}
 use Rattle.frames.proofs.Seen.{Seen, among, opening, sees, got, IsNotStray, ended}
 use Rattle.layers.proofs.Law.{Standing, View, Watch, Runs, IsKept, IsUser}
 use Rattle.unary_number.specs.declared.task.UnaryTask.{UnaryTask}
@@ -21,7 +21,7 @@ use Rattle.frames.specs.Behaviour.{Behaviour, IsLawful, Answers}
 use Rattle.frames.specs.Configuration.{in_order, chosen_of}
 use Rattle.frames.specs.OneWriter.{one_writer}
 use Rattle.frames.specs.laws.OneWriter as writer
-use Rattle.frames.specs.Regularity.{IsRegular}
+use Rattle.frames.specs.correctness.Regularity.{IsRegular}
 use Rattle.frames.proofs.Agreed.{stray_alike}
 use Rattle.frames.proofs.Pointwise.{put, put_same, put_other, put_zero, put_back, put_over, put_all}
 use Rattle.layers.specs.Nested.{Program, Ends, Asks, Table, layered}

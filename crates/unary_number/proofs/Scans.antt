@@ -1,10 +1,10 @@
 -- No read of the last bit gives 0. The proof compares the number with a variant that refuses a scan
 -- that finds no 1. Up to the first such refusal both do the same, and the variant, which is
 -- regular, never refuses.
-use Rattle.std.proofs.Common.{◌≡◌, ◌≢◌, ℕ, zero, suc, ◌+◌, ◌-◌, ◌<◌, ◌≤◌, ◌==◌, Bool, true, false, List, [], ◌∷◌, ◌++◌, Option, Some, None, refl, sym, ap, subst, arith, append_assoc}
+use Rattle.std.proofs.Common.{◌≡◌, ◌≢◌, ℕ, zero, suc, ◌+◌, ◌-◌, ◌≤◌, ◌==◌, Bool, true, false, List, [], ◌∷◌, ◌++◌, Option, Some, None, refl, sym, ap, subst, arith, append_assoc}
 use Rattle.std.specs.Prelude.{⊤, ◌||◌, if◌then◌else◌, MatchOption}
 use Rattle.std.specs.List.{AllByRecursion, list_any}
-use Rattle.std.proofs.lemmas.Bool.{eqb-true, eqb-false}
+use Rattle.std.proofs.lemmas.Bool.{eqb-true}
 use Rattle.std.proofs.lemmas.List.Elements.{All-nil, All-cons, All-append, All-head, All-tail, All-from_recursion}
 use Rattle.safe_bit.specs.Memory.{Memory}
 use Rattle.frames.specs.declared.types.Op.{Op}
@@ -21,19 +21,19 @@ use Rattle.frames.specs.declared.types.Next.{Next}
 use Rattle.frames.specs.declared.types.Next.TheVariants.{Pending, Done}
 use Rattle.frames.specs.declared.running.Running.{Running}
 use Rattle.frames.specs.Behaviour.{Behaviour, Begun, Moved, IsLawful}
-use Rattle.frames.specs.Configuration.{Configuration, in_order, return_of, chosen_of, acted, Acted, acting_unless, acted_on, events_of, stepped, replayed, history, put_acted, with_stop_mark, running_at, is_stopped, fits_step}
+use Rattle.frames.specs.Configuration.{in_order, return_of, chosen_of, acted, Acted, acting_unless, events_of, stepped, replayed, history, put_acted, with_stop_mark, running_at, is_stopped, fits_step}
 use Rattle.frames.specs.Fitting.{process_of}
 use Rattle.frames.specs.Flat.{IsReached}
 use Rattle.frames.specs.Parked.{IsConfiguration}
 use Rattle.frames.specs.Recorded.{Alone, AllFit, at_index, indexed, first_configuration}
-use Rattle.frames.specs.Regularity.{is_refusal, IsRegular}
+use Rattle.frames.specs.correctness.Regularity.{is_refusal, IsRegular}
 use Rattle.frames.specs.laws.Steps.{step_keeps}
 use Rattle.frames.proofs.Pending.{first_well}
 use Rattle.layers.specs.declared.nested.Nested.{Nested}
-use Rattle.layers.specs.Nested.{Program, Ends, Asks, Reads, Sets, Table, asked, pushed, after_part, advance, resume, layered}
+use Rattle.layers.specs.Nested.{Program, Ends, Table, asked, pushed, after_part, advance, resume, layered}
 use Rattle.layers.specs.Sound.{IsSoundTable, FitsBelow, LayerHolds, LayerReaches}
 use Rattle.layers.specs.laws.Layered.{layer_lawful}
-use Rattle.layers.specs.laws.Over.{LayerOver, over}
+use Rattle.layers.specs.laws.Over.{over}
 use Rattle.unary_number.specs.declared.task.UnaryTask.{UnaryTask}
 use Rattle.unary_number.specs.declared.task.UnaryTask.TheVariants.{Setting, Clearing, Looking}
 use Rattle.unary_number.specs.Program.{unary_table_with, unary_table, unary_program, unary_rest, unary_asks, clears_below, looks_above, after_look, UnaryMayBeAt}

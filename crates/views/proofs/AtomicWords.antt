@@ -1,26 +1,24 @@
 -- Returned reads can be numbered by what `Known` holds when they return exactly if they can be
 -- numbered in Lamport's words.
-use Rattle.std.proofs.Common.{◌≡◌, ℕ, zero, suc, ◌+◌, ◌<◌, ◌≤◌, Bool, true, false, ◌||◌, cond, List, [], ◌∷◌, ◌++◌, length, Option, Some, None, ◌⊎◌, inl, inr, refl, sym, ap, subst, ◌∙◌, true≢false, arith, get_or, append_assoc, length-append}
-use Rattle.std.specs.Prelude.{◌==◌, ◌↔◌, if◌then◌else◌}
+use Rattle.std.proofs.Common.{◌≡◌, ℕ, zero, suc, ◌+◌, ◌<◌, ◌≤◌, Bool, true, false, cond, List, [], ◌∷◌, ◌++◌, length, Option, Some, None, ◌⊎◌, inl, inr, refl, sym, ap, subst, ◌∙◌, true≢false, arith, get_or, append_assoc, length-append}
+use Rattle.std.specs.Prelude.{◌↔◌, if◌then◌else◌}
 use Rattle.std.specs.List.{list_any, list_all, filter}
-use Rattle.std.specs.Option.{unwrap_or}
 use Rattle.std.proofs.lemmas.Bool.{eqb-true, or_parts, and_parts, cases_lt}
 use Rattle.std.proofs.lemmas.List.{get_or_at, get_or_append_left}
 use Rattle.std.proofs.lemmas.List.Elements.{filter-append}
 use Rattle.frames.specs.declared.types.Op.TheVariants as op
 use Rattle.frames.specs.declared.types.Event.{Event}
-use Rattle.frames.specs.declared.types.Event.TheVariants.{Invoke, Got, Wrote, Refused, Void, Stop, Chosen}
-use Rattle.frames.specs.declared.types.Step.{Step}
+use Rattle.frames.specs.declared.types.Event.TheVariants.{Invoke, Got, Wrote}
 use Rattle.frames.specs.declared.verdict.Reading.{Reading}
 use Rattle.frames.specs.Behaviour.{Behaviour}
 use Rattle.frames.specs.OneWriter.{HasOneWriter}
-use Rattle.frames.specs.Recorded.{AllFit, recorded}
-use Rattle.frames.specs.Verdicts.{Known, is_refused, counts, accepted, initially, invoked_now, returning, after, reading}
-use Rattle.frames.specs.Regularity.{in_progress, OnReturn, by_number, IsNumber, Numbered, IsAtomic}
+use Rattle.frames.specs.Recorded.{recorded}
+use Rattle.frames.specs.correctness.Verdicts.{Known, is_refused, counts, accepted, initially, returning, reading}
+use Rattle.frames.specs.correctness.Regularity.{in_progress, OnReturn, by_number, IsNumber, Numbered, IsAtomic}
 use Rattle.views.specs.VerdictWords.{begins_or_ends, IsQuiet, InProgress, has_role, IsOneWriterHistory, ReturnedRead, during, afterwards, is_written, is_got, returned_reads, RecordsHistories}
 use Rattle.views.specs.LawWords.{returned_writes, IsWrite, NumbersRead, AreNumbered, IsAtomicInWords}
-use Rattle.views.proofs.VerdictKnown.{no_event, HaveRoles, roles-left, roles-right, history-left, noting, known, known-append, parted, known_writing, writing_of_progress, progress_of_writing, noting_returned, known_grows, EndsWrites, ends_behind, reading_of_progress}
-use Rattle.views.proofs.VerdictOverlaps.{write_ends, not_refused, still_unrefused, returned_unrefused, roles_since}
+use Rattle.views.proofs.VerdictKnown.{no_event, HaveRoles, roles-right, history-left, noting, known, known-append, parted, writing_of_progress, progress_of_writing, noting_returned, known_grows, EndsWrites, ends_behind, reading_of_progress}
+use Rattle.views.proofs.VerdictOverlaps.{write_ends, still_unrefused, returned_unrefused, roles_since}
 use Rattle.views.proofs.VerdictWords.{ends_writes, then_known, read_of}
 
 -- counts of returned writes

@@ -21,7 +21,7 @@ use Rattle.frames.specs.SafeBit.{safe_behaviour}
 use Rattle.frames.specs.Behaviour.{Behaviour}
 use Rattle.frames.specs.Configuration.{fits_step}
 use Rattle.frames.specs.Recorded.{AllFit, recorded}
-use Rattle.frames.specs.Verdicts.{verdicts}
+use Rattle.frames.specs.correctness.Verdicts.{verdicts}
 use Rattle.views.specs.VerdictWords.{begins_or_ends, IsQuiet, InProgress, Follows, ReturnedRead, IsLastWritten, IsVerdictOn, EndsBy, IsOverlapping, IsJudged}
 use Rattle.views.specs.LawWords.{IsWrite, AreNumbered}
 use Rattle.views.specs.Strays.{AreVerdictsOn}

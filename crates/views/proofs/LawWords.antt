@@ -12,8 +12,8 @@ use Rattle.frames.specs.Behaviour.{Behaviour}
 use Rattle.frames.specs.OneWriter.{HasOneWriter}
 use Rattle.frames.specs.Recorded.{AllFit, recorded}
 use Rattle.frames.specs.declared.types.Step.{Step}
-use Rattle.frames.specs.Verdicts.{Known, is_refused, counts, accepted, initially, invoked_now, reading, is_value, judged}
-use Rattle.frames.specs.Regularity.{in_progress, overlapped, OnReturn, EachRead, FreshAlone, NotStray, AlwaysReads, IsSafe, IsRegular}
+use Rattle.frames.specs.correctness.Verdicts.{Known, is_refused, counts, accepted, initially, invoked_now, reading, is_value, judged}
+use Rattle.frames.specs.correctness.Regularity.{in_progress, overlapped, OnReturn, EachRead, FreshAlone, NotStray, AlwaysReads, IsSafe, IsRegular}
 use Rattle.views.specs.VerdictWords.{InProgress, IsOneWriterHistory, ReturnedRead, during, afterwards, MatchVerdict, RecordsHistories}
 use Rattle.views.specs.LawWords.{Overlaps, FreshIfAlone, FreshOrOverlapping, AlwaysInWords, IsSafeInWords, IsRegularInWords}
 use Rattle.views.proofs.VerdictKnown.{history-left, noting, known, reading_of_progress}

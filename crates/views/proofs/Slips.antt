@@ -10,7 +10,7 @@ use Rattle.frames.specs.Behaviour.{Behaviour}
 use Rattle.frames.specs.Configuration.{Configuration}
 use Rattle.frames.specs.Recorded.{indexed, shown}
 use Rattle.cutoff.specs.Fitting.{RunPart, part_of}
-use Rattle.cutoff.specs.Held.{last_part}
+use Rattle.cutoff.specs.Settles.{last_part}
 use Rattle.views.specs.declared.query.PlaceKind.{PlaceKind}
 use Rattle.views.specs.declared.query.PlaceKind.TheVariants.{State, Process, Bits, Pending, History, Verdict}
 use Rattle.views.specs.declared.page.head.Head.{Head}

@@ -16,8 +16,9 @@ use Rattle.frames.specs.Equality.{SameConfiguration}
 use Rattle.schedule_trie.specs.Forest.{Forest, step_of, index_of, slots_in, path_by, len_of}
 use Rattle.schedule_trie.specs.Cut.{Cut, piece_at, slots_of, line, forest}
 use Rattle.schedule_trie.proofs.Lines.{slots_in_on}
-use Rattle.cutoff.specs.Fitting.{StoredRun, RunPart, RunFits, Settles, steps_at, reached, counted, part_of}
-use Rattle.cutoff.specs.Held.{Charted, keys_named, IsSettled}
+use Rattle.cutoff.specs.Fitting.{StoredRun, RunPart, RunFits, steps_at, reached, counted, part_of}
+use Rattle.cutoff.specs.Settles.{Settles, IsSettled}
+use Rattle.cutoff.specs.Charts.{Charted, keys_named}
 use Rattle.cutoff.specs.Links.{without_register}
 use Rattle.cutoff.proofs.Fits.{register_kept, replayed_same, alone_same}
 use Rattle.frames.specs.Recorded.{first_configuration}

@@ -13,13 +13,13 @@ use Rattle.frames.specs.declared.verdict.Verdict.TheVariants.{Stray}
 use Rattle.frames.specs.Behaviour.{Behaviour}
 use Rattle.frames.specs.Configuration.{Configuration, fits_step}
 use Rattle.frames.specs.Recorded.{AllFit, recorded}
-use Rattle.frames.specs.Verdicts.{Known, accepted, initially, after, verdict_of_event, verdicts_from, verdicts}
-use Rattle.frames.specs.Regularity.{OnReturn, EachRead, NotStray}
-use Rattle.frames.specs.Regularity.{NeverStray}
+use Rattle.frames.specs.correctness.Verdicts.{Known, accepted, initially, after, verdict_of_event, verdicts_from, verdicts}
+use Rattle.frames.specs.correctness.Regularity.{OnReturn, EachRead, NotStray}
+use Rattle.frames.specs.correctness.Regularity.{NeverStray}
 use Rattle.frames.proofs.NeverStray.{regular_never_stray, atomic_never_stray}
 use Rattle.schedule_trie.specs.Forest.{Forest, index_of, path_by}
 use Rattle.cutoff.specs.Fitting.{RunPart}
-use Rattle.cutoff.specs.Held.{StepsFit}
+use Rattle.cutoff.specs.Charts.{StepsFit}
 use Rattle.views.specs.declared.query.PlaceKind.{PlaceKind}
 use Rattle.views.specs.declared.query.PlaceKind.TheVariants as kind
 use Rattle.views.specs.declared.query.Query.TheVariants as query

@@ -10,7 +10,7 @@ use Rattle.frames.specs.declared.types.Op.TheVariants as op
 use Rattle.frames.specs.declared.types.Layer.{Layer}
 use Rattle.frames.specs.declared.types.Event.{Event}
 use Rattle.frames.specs.declared.types.Event.TheVariants.{Invoke, Got, Wrote, Refused, Void, Stop, Chosen}
-use Rattle.frames.specs.Verdicts.{refused_by, is_refused}
+use Rattle.frames.specs.correctness.Verdicts.{refused_by, is_refused}
 use Rattle.views.specs.VerdictWords.{begins_or_ends, IsQuiet, InProgress, has_role, Follows, IsOneWriterHistory, EndsBy, IsOverlapping}
 use Rattle.views.proofs.VerdictKnown.{HaveRoles, roles-left, roles-right, history-left, quiet_refused}
 

@@ -4,7 +4,7 @@ use Rattle.frames.specs.Behaviour.{Behaviour}
 use Rattle.schedule_trie.specs.Forest.{Forest}
 use Rattle.schedule_trie.specs.Cut.{forest}
 use Rattle.cutoff.specs.Fitting.{RunPart}
-use Rattle.cutoff.specs.Held.{Charted}
+use Rattle.cutoff.specs.Charts.{Charted}
 use Rattle.views.specs.declared.query.PlaceKind.{PlaceKind}
 use Rattle.views.specs.declared.query.Query.{Query}
 use Rattle.views.specs.declared.page.Page.{Page}

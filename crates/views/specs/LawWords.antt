@@ -9,7 +9,7 @@ use Rattle.frames.specs.declared.types.Step.{Step}
 use Rattle.frames.specs.Behaviour.{Behaviour}
 use Rattle.frames.specs.OneWriter.{HasOneWriter}
 use Rattle.frames.specs.Recorded.{AllFit, recorded}
-use Rattle.frames.specs.Regularity.{NoneRefused}
+use Rattle.frames.specs.correctness.Regularity.{NoneRefused}
 use Rattle.views.specs.VerdictWords.{ReturnedRead, during, afterwards, is_written, returned_reads, IsFresh, EndsBy, IsOverlapping}
 
 -- a write of the value v overlaps the read r

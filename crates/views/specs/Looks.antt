@@ -7,7 +7,7 @@ use Rattle.frames.specs.Behaviour.{Behaviour}
 use Rattle.schedule_trie.specs.declared.refusal.Refusal.{Refusal}
 use Rattle.schedule_trie.specs.Forest.{Forest, path_of}
 use Rattle.schedule_trie.specs.Cut.{forest}
-use Rattle.cutoff.specs.Held.{Charted, look}
+use Rattle.cutoff.specs.Charts.{Charted, look}
 use Rattle.views.specs.declared.query.PlaceKind.{PlaceKind}
 use Rattle.views.specs.declared.query.PlaceKind.TheVariants as kind
 use Rattle.views.specs.declared.query.Query.{Query}

@@ -6,10 +6,10 @@ use Rattle.frames.specs.declared.verdict.ReadVerdict.{ReadVerdict}
 use Rattle.frames.specs.declared.verdict.Verdict.TheVariants.{Stray}
 use Rattle.frames.specs.Behaviour.{Behaviour}
 use Rattle.frames.specs.Recorded.{AllFit, recorded}
-use Rattle.frames.specs.Regularity.{IsAtomic, IsRegular}
-use Rattle.frames.specs.Verdicts.{verdicts}
+use Rattle.frames.specs.correctness.Regularity.{IsAtomic, IsRegular}
+use Rattle.frames.specs.correctness.Verdicts.{verdicts}
 use Rattle.schedule_trie.specs.Forest.{Forest}
-use Rattle.cutoff.specs.Held.{StepsFit}
+use Rattle.cutoff.specs.Charts.{StepsFit}
 use Rattle.views.specs.declared.query.PlaceKind.{PlaceKind}
 use Rattle.views.specs.declared.query.PlaceKind.TheVariants as kind
 use Rattle.views.specs.declared.query.Query.{Query}

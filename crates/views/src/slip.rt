@@ -4,7 +4,7 @@ ghost use Rattle.std.specs.Prelude.{◌≡◌, ◌<◌, List, Some, None, true, 
 ghost use Rattle.schedule_trie.specs.Forest.{IsRefused};
 ghost use Rattle.schedule_trie.specs.Cut.{forest};
 ghost use Rattle.cutoff.specs.Fitting.{RunPart};
-ghost use Rattle.cutoff.specs.Held.{look};
+ghost use Rattle.cutoff.specs.Charts.{look};
 ghost use Rattle.views.specs.Looks as spec;
 ghost use Rattle.views.specs.Looks.{looked, steps_in, IsChartKept};
 ghost use Rattle.views.specs.ChartLooks.{shown_by, page_in, steps_page, IsSpotIn};

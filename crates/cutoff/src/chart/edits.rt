@@ -2,22 +2,42 @@
 //! change, cut or drop. Every edit except a fork of a whole branch clears the mark, the segment
 //! down to which stored runs are known to fit.
 
-ghost use Rattle.std.specs.Prelude.{◌≡◌, ◌⊎◌, Some, None, true, OnOk, IfErr};
+ghost use Rattle.std.specs.Prelude.{◌≡◌, ◌⊎◌, Some, None, true};
 ghost use Rattle.frames.specs.Configuration.{fits_step};
 ghost use Rattle.schedule_trie.specs.Forest.{len_of};
 ghost use Rattle.schedule_trie.specs.Cut.{forest};
-ghost use Rattle.schedule_trie.specs.Edits.{Insert, Remove, Replace, Fork, Detach, Drop, IsEdited};
-ghost use Rattle.cutoff.specs.Edits.{IsUneditedChart, KeepsBeginning};
+ghost use Rattle.schedule_trie.specs.Edits.{edit_in, Insert, Remove, Replace, Fork, Detach, Drop};
+ghost use Rattle.cutoff.specs.Edits.{Edits, FitsEdit};
 
 use super::Chart;
 use frames::register::Register;
 use frames::types::Step;
+use schedule_trie::edit::Edit;
 use schedule_trie::name::Name;
 use schedule_trie::refusal::Refusal;
 use schedule_trie::trie::{SegKey, Trie};
 use std::alloc::Global;
 
 impl<R: Register> Chart<R> {
+    /// Makes an edit by the call for its kind. Its step, if it has one, must fit the register.
+    ///
+    /// # Errors
+    ///
+    /// Those of that call. On an error nothing changes.
+    pub fn edit(&mut self, alloc: Global, edit: &Edit<'_>) -> Result<(), Refusal>
+        requires { FitsEdit (R.behaviour self.old.start.register) (edit_in edit.now) }
+        ensures { Edits self.old self.new (edit_in edit.now) result }
+    {
+        match *edit {
+            Edit::Insert(branch, place, step) => self.insert(alloc, branch, place, step),
+            Edit::Remove(branch, place) => self.remove(branch, place),
+            Edit::Replace(branch, place, step) => self.replace(branch, place, step),
+            Edit::Fork(branch, place, name) => self.fork(alloc, branch, place, *name),
+            Edit::Detach(branch) => self.detach(alloc, branch),
+            Edit::Drop(branch) => self.drop_branch(branch),
+        }
+    }
+
     /// Inserts a new cell with this step, which must fit the register, before the cell at `place`
     /// of a branch, in each branch that has that cell. The segment that had that cell loses its
     /// stored run. If `place` is the branch's length, the new cell goes to the end of that branch
@@ -36,11 +56,7 @@ impl<R: Register> Chart<R> {
         step: Step,
     ) -> Result<(), Refusal>
         requires { fits_step (R.behaviour self.old.start.register) step ≡ true }
-        ensures ok { OnOk result
-            (IsEdited self.old.cut self.new.cut (Insert branch.now place step)) }
-        ensures err { IfErr result
-            (IsUneditedChart self.old self.new (Insert branch.now place step)) }
-        ensures keeps { KeepsBeginning self.old self.new }
+        ensures { Edits self.old self.new (Insert branch.now place step) result }
     {
         self.mark = None;
         self.trie.insert(alloc, branch, place, step)
@@ -53,9 +69,7 @@ impl<R: Register> Chart<R> {
     ///
     /// NoBranch; NoPlace if the branch has no cell there. On an error nothing changes.
     pub fn remove(&mut self, branch: &Name, place: u32) -> Result<(), Refusal>
-        ensures ok { OnOk result (IsEdited self.old.cut self.new.cut (Remove branch.now place)) }
-        ensures err { IfErr result (IsUneditedChart self.old self.new (Remove branch.now place)) }
-        ensures keeps { KeepsBeginning self.old self.new }
+        ensures { Edits self.old self.new (Remove branch.now place) result }
     {
         self.mark = None;
         self.trie.remove(branch, place)
@@ -70,11 +84,7 @@ impl<R: Register> Chart<R> {
     /// NoBranch; NoPlace if the branch has no cell there. On an error nothing changes.
     pub fn replace(&mut self, branch: &Name, place: u32, step: Step) -> Result<(), Refusal>
         requires { fits_step (R.behaviour self.old.start.register) step ≡ true }
-        ensures ok { OnOk result
-            (IsEdited self.old.cut self.new.cut (Replace branch.now place step)) }
-        ensures err { IfErr result
-            (IsUneditedChart self.old self.new (Replace branch.now place step)) }
-        ensures keeps { KeepsBeginning self.old self.new }
+        ensures { Edits self.old self.new (Replace branch.now place step) result }
     {
         self.mark = None;
         self.trie.replace(branch, place, step)
@@ -96,10 +106,7 @@ impl<R: Register> Chart<R> {
         place: u32,
         name: Name,
     ) -> Result<(), Refusal>
-        ensures ok { OnOk result (IsEdited self.old.cut self.new.cut (Fork branch.now place name)) }
-        ensures err { IfErr result
-            (IsUneditedChart self.old self.new (Fork branch.now place name)) }
-        ensures keeps { KeepsBeginning self.old self.new }
+        ensures { Edits self.old self.new (Fork branch.now place name) result }
     {
         self.mark = mark_after_fork(&self.trie, self.mark, branch, place);
         self.trie.fork(alloc, branch, place, name)
@@ -113,9 +120,7 @@ impl<R: Register> Chart<R> {
     /// NoBranch; Full if the number of cells made would exceed its limit; Memory. On an error
     /// nothing changes.
     pub fn detach(&mut self, alloc: Global, branch: &Name) -> Result<(), Refusal>
-        ensures ok { OnOk result (IsEdited self.old.cut self.new.cut (Detach branch.now)) }
-        ensures err { IfErr result (IsUneditedChart self.old self.new (Detach branch.now)) }
-        ensures keeps { KeepsBeginning self.old self.new }
+        ensures { Edits self.old self.new (Detach branch.now) result }
     {
         self.mark = None;
         self.trie.detach(alloc, branch)
@@ -128,9 +133,7 @@ impl<R: Register> Chart<R> {
     ///
     /// NoBranch; LastBranch if it is the only one. On an error nothing changes.
     pub fn drop_branch(&mut self, branch: &Name) -> Result<(), Refusal>
-        ensures ok { OnOk result (IsEdited self.old.cut self.new.cut (Drop branch.now)) }
-        ensures err { IfErr result (IsUneditedChart self.old self.new (Drop branch.now)) }
-        ensures keeps { KeepsBeginning self.old self.new }
+        ensures { Edits self.old self.new (Drop branch.now) result }
     {
         self.mark = None;
         self.trie.drop_branch(branch)

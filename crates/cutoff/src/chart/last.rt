@@ -6,7 +6,8 @@ ghost use Rattle.frames.specs.Configuration.{initial_configuration};
 ghost use Rattle.schedule_trie.specs.Forest.{IsRefused, len_of};
 ghost use Rattle.schedule_trie.specs.Cut.{forest};
 ghost use Rattle.cutoff.specs.Fitting.{part_of};
-ghost use Rattle.cutoff.specs.Held.{IsSettledLast, KeepsOrFills, look};
+ghost use Rattle.cutoff.specs.Charts.{look};
+ghost use Rattle.cutoff.specs.Settles.{IsSettledLast, KeepsOrFills};
 
 use super::{Chart, branch_to};
 use crate::last::{Last, settle_to};

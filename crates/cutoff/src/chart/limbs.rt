@@ -8,7 +8,7 @@ ghost use Rattle.schedule_trie.specs.Cut.{AreLimits, IsBlank, IsCut, forest};
 ghost use Rattle.schedule_trie.specs.Limbs as spec;
 ghost use Rattle.schedule_trie.specs.Limbs.{FitLimits, AreLawfulLimbs, forest_of, limbs, loaded};
 ghost use Rattle.schedule_trie.specs.Renumbering.{IsRenumbered};
-ghost use Rattle.cutoff.specs.Held.{LimbsFit};
+ghost use Rattle.cutoff.specs.Charts.{LimbsFit};
 
 use super::Chart;
 use frames::register::Register;

@@ -3,7 +3,7 @@
 ghost use Rattle.std.specs.Prelude.{◌≡◌, ◌≢◌, ◌<◌, ◌+◌, ◌-◌, ◌^◌, ℕ, length, map, Some, None, IsSome, IfOk, OnOk, OnErr};
 ghost use Rattle.slab.specs.Slab.{get, slab_len, HasRoomFor, ContainsKey};
 ghost use Rattle.lineage.specs.Family.{IsAdded, item_at, divided_keys};
-ghost use Rattle.lineage.specs.Held.{node_over, node_under};
+ghost use Rattle.lineage.specs.Lineages.{node_over, node_under};
 
 use super::push::reserve_node;
 use super::{Key, Lineage};

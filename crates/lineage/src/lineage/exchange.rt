@@ -3,7 +3,7 @@
 ghost use Rattle.std.specs.Prelude.{◌≡◌, ◌<◌, ◌≤◌, ◌+◌, ◌^◌, length, OnOk, OnErr, vec_capacity};
 ghost use Rattle.slab.specs.Slab.{slab_len, HasRoomFor};
 ghost use Rattle.lineage.specs.Family.{IsExchanged};
-ghost use Rattle.lineage.specs.Held.{IsSoundFamily, IsPutLast};
+ghost use Rattle.lineage.specs.Lineages.{IsSoundFamily, IsPutLast};
 
 use super::Lineage;
 use super::push::push_node;

@@ -3,7 +3,7 @@
 ghost use Rattle.std.specs.Prelude.{◌≡◌, ◌<◌, ◌+◌, ◌^◌, ◌++◌, ◌∷◌, [], ℕ, length, Some, None, IfSome, IsSome, IfOk, OnOk, OnErr, vec_capacity};
 ghost use Rattle.slab.specs.Slab.{get, slab_len, ContainsKey};
 ghost use Rattle.lineage.specs.Family.{IsForked, IsForkedAbove, item_at};
-ghost use Rattle.lineage.specs.Held.{is_key, with_holder};
+ghost use Rattle.lineage.specs.Lineages.{is_key, with_holder};
 
 use super::divide::put_above;
 use super::exchange::reserve_path;

@@ -3,7 +3,7 @@
 ghost use Rattle.std.specs.Prelude.{◌≡◌, ◌≢◌, ◌<◌, ◌+◌, ◌^◌, ◌++◌, ◌∷◌, [], ℕ, length, slice_set, Some, None, IfOk, OnOk, OnErr};
 ghost use Rattle.slab.specs.Slab.{get, slab_len, HasRoomFor};
 ghost use Rattle.lineage.specs.Family.{IsAdded, path_in};
-ghost use Rattle.lineage.specs.Held.{node, tip_at};
+ghost use Rattle.lineage.specs.Lineages.{node, tip_at};
 
 use super::{Key, Lineage};
 use crate::node::{Above, Node};

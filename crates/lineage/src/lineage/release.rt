@@ -4,7 +4,7 @@ ghost use Rattle.std.specs.Prelude.{◌≡◌, ◌≢◌, ◌<◌, ℕ, List, Op
 ghost use Rattle.std.specs.List.{remove};
 ghost use Rattle.slab.specs.Slab.{get, ContainsKey};
 ghost use Rattle.lineage.specs.Family.{IsReleased};
-ghost use Rattle.lineage.specs.Held.{IsReleasing, IsSoundFamily, Stays, next_up, less_one};
+ghost use Rattle.lineage.specs.Lineages.{IsReleasing, IsSoundFamily, Stays, next_up, less_one};
 
 use super::{Key, Lineage};
 use crate::node::{Above, Node};

@@ -3,7 +3,7 @@
 ghost use Rattle.std.specs.Prelude.{◌≡◌, ◌≢◌, ◌<◌, ◌≤◌, ◌+◌, ◌-◌, ◌^◌, ℕ, length, map, Some, None, IfSome, IsSome};
 ghost use Rattle.slab.specs.Slab.{get, ContainsKey};
 ghost use Rattle.lineage.specs.Family.{item_at, keys_without};
-ghost use Rattle.lineage.specs.Held.{is_key, past, past_node, passed_on};
+ghost use Rattle.lineage.specs.Lineages.{is_key, past, past_node, passed_on};
 
 use super::{Key, Lineage};
 use crate::node::{Above, Node};

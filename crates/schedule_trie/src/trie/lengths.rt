@@ -5,7 +5,7 @@ ghost use Rattle.std.specs.Map.{keys_of};
 ghost use Rattle.indexmap.specs.IndexMap.{index_map_len, set_value_at};
 ghost use Rattle.schedule_trie.specs.Forest.{slots_in};
 ghost use Rattle.schedule_trie.specs.Cut.{forest, IsWhole};
-ghost use Rattle.schedule_trie.specs.Held.{kept_in};
+ghost use Rattle.schedule_trie.specs.Tries.{kept_in};
 
 use super::Trie;
 use crate::name::Name;

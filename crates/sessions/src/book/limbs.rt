@@ -4,9 +4,9 @@ ghost use Rattle.std.specs.Prelude.{◌≡◌, ◌<◌, Ok, OnOk, IfOk, IfErr, [
 ghost use Rattle.schedule_trie.specs.Forest.{IsRefused};
 ghost use Rattle.schedule_trie.specs.Cut.{AreLimits};
 ghost use Rattle.schedule_trie.specs.Limbs.{AreLawfulLimbs, forest_of, loaded};
-ghost use Rattle.cutoff.specs.Held.{LimbsFit};
+ghost use Rattle.cutoff.specs.Charts.{LimbsFit};
 ghost use Rattle.sessions.specs.World.{opening};
-ghost use Rattle.sessions.specs.Held.{opening_of, world_of};
+ghost use Rattle.sessions.specs.Books.{opening_of, world_of};
 ghost use Rattle.sessions.specs.Saves.{IsSaved};
 
 use super::Book;

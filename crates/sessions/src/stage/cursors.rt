@@ -4,7 +4,7 @@ ghost use Rattle.std.specs.Prelude.{◌≡◌, ◌<◌, IfOk, IfSome, length};
 ghost use Rattle.schedule_trie.specs.Cut.{forest};
 ghost use Rattle.sessions.specs.Cursors as spec;
 ghost use Rattle.sessions.specs.Cursors.{IsAtPlace};
-ghost use Rattle.sessions.specs.Held.{Does, IsCarriedOut, seek_command, world_of};
+ghost use Rattle.sessions.specs.Books.{Does, IsCarriedOut, seek_command, world_of};
 ghost use Rattle.sessions.specs.Bounds.{CanLog};
 ghost use Rattle.std.specs.Option.{option_map};
 ghost use Rattle.sessions.specs.Acts.{hit_of, hit_reply};

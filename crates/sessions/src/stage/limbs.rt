@@ -1,7 +1,7 @@
 //! Limbs of a world: its branches as a file has them.
 
 ghost use Rattle.std.specs.Prelude.{IfOk};
-ghost use Rattle.sessions.specs.Held.{world_of};
+ghost use Rattle.sessions.specs.Books.{world_of};
 ghost use Rattle.sessions.specs.Saves.{IsSaved};
 
 use super::Stage;

@@ -10,7 +10,7 @@ ghost use Rattle.views.specs.declared.page.Page.TheVariants as page;
 ghost use Rattle.sessions.specs.Cursors.{cursor_at};
 ghost use Rattle.sessions.specs.BreakLists.{breaks_at};
 ghost use Rattle.sessions.specs.Looks as spec;
-ghost use Rattle.sessions.specs.Held.{world_of};
+ghost use Rattle.sessions.specs.Books.{world_of};
 
 use super::Stage;
 use crate::cursor::SESSIONS;

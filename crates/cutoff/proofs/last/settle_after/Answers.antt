@@ -3,7 +3,8 @@ use Rattle.std.specs.Arc.{arc_value}
 use Rattle.frames.specs.Recorded.{AllFit}
 use Rattle.checkpoints.specs.Segment.{IsRun}
 use Rattle.schedule_trie.proofs.PushSteps.{on_err}
-use Rattle.cutoff.specs.Fitting.{IsSegmentSettled, steps_at}
+use Rattle.cutoff.specs.Fitting.{steps_at}
+use Rattle.cutoff.specs.Settles.{IsSegmentSettled}
 use Rattle.cutoff.specs.Links.{without_register, IsLinked}
 use Rattle.cutoff.specs.Prefixes.{exit_or_start, exit_or}
 use Rattle.cutoff.proofs.Links.{linked_none}

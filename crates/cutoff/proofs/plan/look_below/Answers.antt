@@ -1,4 +1,4 @@
-use Rattle.std.proofs.Common.{◌≡◌, ◌++◌, ◌∷◌, [], Some, refl, sym, ap, subst, ◌∙◌}
+use Rattle.std.proofs.Common.{◌++◌, ◌∷◌, [], refl, sym, ap, subst, ◌∙◌}
 use Rattle.frames.specs.Recorded.{AllFit}
 use Rattle.cutoff.specs.Fitting.{Fits, RunFits, steps_at}
 use Rattle.cutoff.proofs.Sights.{job, job_is}

@@ -1,5 +1,4 @@
-use Rattle.std.proofs.Common.{ap, sym, ◌∙◌}
-use Rattle.std.proofs.lemmas.List.{get_or-set_same, get_or-set_other}
+use Rattle.std.proofs.Common.{ap, ◌∙◌}
 use Rattle.cutoff.specs.Sights.{sight_at}
 use Rattle.cutoff.proofs.Sights.{unseen_more}
 use Rattle.cutoff.proofs.sight.see.Goals as goal

@@ -1,4 +1,4 @@
-use Rattle.std.proofs.Common.{◌≡◌, ◌+◌, ◌-◌, ℕ, length, vec_len}
+use Rattle.std.proofs.Common.{◌≡◌, ◌+◌, ◌-◌, ℕ, vec_len}
 use Rattle.cutoff.specs.Sights.{sight_at}
 use Rattle.cutoff.proofs.sight.see.Given as goal
 

@@ -1,7 +1,7 @@
 use Rattle.std.proofs.Common.{ℕ, ◌<◌, List, [], ◌∷◌, ◌++◌, length, subst, sym, ◌∙◌, ap}
 use Rattle.std.proofs.lemmas.List.{append_assoc}
 use Rattle.lineage.specs.Climbs.{Ends}
-use Rattle.lineage.specs.Held.{above_node, keys_up}
+use Rattle.lineage.specs.Lineages.{above_node, keys_up}
 use Rattle.lineage.proofs.Walks.{onward, no_end}
 use Rattle.lineage.proofs.lineage.keys_down_to.Goals as goal
 

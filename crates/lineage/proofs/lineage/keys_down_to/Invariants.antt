@@ -1,6 +1,6 @@
 use Rattle.std.proofs.Common.{◌≡◌, ◌++◌, length}
 use Rattle.lineage.specs.Climbs.{Ends}
-use Rattle.lineage.specs.Held.{above_node, keys_up}
+use Rattle.lineage.specs.Lineages.{above_node, keys_up}
 use Rattle.lineage.proofs.lineage.keys_down_to.Given as goal
 
 abbrev pub invariant-loop-at : goal.invariant-loop-at

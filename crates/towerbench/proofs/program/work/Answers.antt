@@ -7,7 +7,7 @@ use Rattle.towerbench.proofs.program.work.Goals as goal
 
 pub returns-in-Err : goal.returns-in-Err
 returns-in-Err g c =
-    lacking (is_some c.args.file) (is_some c.args.save) (limits_of c.args.options) c.requires.limits.some_branches _ c.in-Err.fault c.in-Err.ensures.err
+    lacking (is_some c.args.file) (is_some c.args.save) (limits_of c.args.options) _ c.in-Err.fault c.in-Err.ensures.err
 
 pub returns-in_default : goal.returns-in_default
 returns-in_default g c =

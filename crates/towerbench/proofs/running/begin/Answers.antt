@@ -60,4 +60,4 @@ returns-in-Err g c =
     let is = g.B.Behaves.behaviour in
     let o = c.args.opening in
     let can : CanOpen is o = record { value = c.requires.value; limits = c.requires.limits; builds = c.requires.builds } in
-    inr (c.in-Err.ensures.fault, done_at is o can (world_at is c.in_ok-seat.seat) c.in_ok-seat.ensures.opens _ _ c.in_ok-seat.ensures.room (world_at is c.serve_at.new.seat) (c.in_ok-serve_at.ensures.done c.in_ok-seat.ensures.alone))
+    inr (inr (refl, c.in-Err.ensures.fault, done_at is o can (world_at is c.in_ok-seat.seat) c.in_ok-seat.ensures.opens _ _ c.in_ok-seat.ensures.room (world_at is c.serve_at.new.seat) (c.in_ok-serve_at.ensures.done c.in_ok-seat.ensures.alone)))

@@ -4,7 +4,7 @@ use Rattle.towerbench.proofs.saving.run_saving.Goals as goal
 
 pub returns-in_err-open_file-clause-fault : goal.returns-in_err-open_file-clause-fault
 returns-in_err-open_file-clause-fault g c =
-    unsaved _ (limits_of c.args.options) c.requires.limits.some_branches _ _ c.from_residual.result _ c.in_err-open_file.field-0.0 c.from_residual.ensures.1 (λ x h. h) c.in_err-open_file.ensures.err
+    unsaved _ (limits_of c.args.options) _ _ c.from_residual.result _ c.in_err-open_file.field-0.0 c.from_residual.ensures.1 (λ x h. h) c.in_err-open_file.ensures.err
 
 pub returns-in_err-bytes-clause-fault : goal.returns-in_err-bytes-clause-fault
 returns-in_err-bytes-clause-fault g c =

@@ -1,6 +1,6 @@
 use Rattle.std.proofs.Common.{ℕ, ◌<◌, sym, ap, ◌∙◌, subst}
 use Rattle.turn.specs.Shares.{has_share}
-use Rattle.turn.specs.ShareLaws.{number_held}
+use Rattle.turn.specs.laws.Shares.{number_held}
 use Rattle.turn.proofs.Holds.{still_has, all_seen, one_more, put_ready, release_ready, still_owns, holding}
 use Rattle.turn.proofs.holding.hold.Goals as goal
 

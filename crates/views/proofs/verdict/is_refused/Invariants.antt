@@ -1,5 +1,5 @@
 use Rattle.std.proofs.Common.{◌≡◌, drop}
-use Rattle.frames.specs.Verdicts.{is_refused}
+use Rattle.frames.specs.correctness.Verdicts.{is_refused}
 use Rattle.views.proofs.verdict.is_refused.Given as goal
 
 -- the events so far don't decide whether the write is refused; the remaining ones do

@@ -1,5 +1,5 @@
 use Rattle.std.proofs.Common.{◌≡◌, ◌++◌, drop}
-use Rattle.frames.specs.Verdicts.{accepted, verdicts_from, verdicts}
+use Rattle.frames.specs.correctness.Verdicts.{accepted, verdicts_from, verdicts}
 use Rattle.views.proofs.verdict.verdicts.Given as goal
 
 -- the verdicts so far, and then those on the remaining events, are all verdicts

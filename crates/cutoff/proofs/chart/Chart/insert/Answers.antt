@@ -1,8 +1,7 @@
-use Rattle.std.specs.Prelude.{OnOk}
 use Rattle.std.proofs.Common.{◌≡◌, true, sym, subst}
 use Rattle.frames.specs.Configuration.{fits_step}
-use Rattle.schedule_trie.specs.Edits.{Insert, IsEdited}
-use Rattle.cutoff.proofs.Edited.{charted, chart_unedited}
+use Rattle.schedule_trie.specs.Edits.{Insert}
+use Rattle.cutoff.proofs.Edited.{charted, chart_edited}
 use Rattle.cutoff.proofs.chart.Chart.insert.Goals as goal
 
 pub invariant_of-self : goal.invariant_of-self
@@ -10,8 +9,5 @@ invariant_of-self g c =
     charted g.R.PartialEq.eq g.R.Behaves.behaviour c.self.inside.next c.self.inside.mark _ c.insert.new.self (Insert c.args.branch.now c.args.place c.args.step) c.insert.result c.self.invariant
     (subst (λ v. fits_step (g.R.Behaves.behaviour v.start.register) c.args.step ≡ true) (sym c.self.view_is) c.requires) c.insert.ensures.ok c.insert.ensures.err
 
-pub returns-clause-ok : goal.returns-clause-ok
-returns-clause-ok g c = subst (λ v. OnOk c.insert.result (IsEdited v.cut c.insert.new.self (Insert c.args.branch.now c.args.place c.args.step))) c.self.view_is c.insert.ensures.ok
-
-pub returns-clause-err : goal.returns-clause-err
-returns-clause-err g c = chart_unedited _ _ c.insert.new.self (Insert c.args.branch.now c.args.place c.args.step) c.insert.result c.self.view_is c.insert.ensures.err
+pub returns : goal.returns
+returns g c = chart_edited _ _ c.insert.new.self (Insert c.args.branch.now c.args.place c.args.step) c.insert.result c.self.view_is c.insert.ensures.ok c.insert.ensures.err

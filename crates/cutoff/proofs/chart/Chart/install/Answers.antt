@@ -1,7 +1,7 @@
 use Rattle.std.proofs.Common.{◌≡◌, IsSome, refl, sym, subst, ◌∙◌, true≢false}
 use Rattle.std.specs.Arc.{arc_value}
 use Rattle.schedule_trie.specs.Cut.{piece_at, keys_in}
-use Rattle.cutoff.specs.Held.{Charted}
+use Rattle.cutoff.specs.Charts.{Charted}
 use Rattle.cutoff.specs.Plans.{FitsDown, CanInstall, CannotInstall, IsInstalled}
 use Rattle.cutoff.proofs.Installed.{charted_installed}
 use Rattle.cutoff.proofs.chart.Chart.install.Goals as goal

@@ -1,6 +1,6 @@
 use Rattle.std.proofs.Common.{sym, subst}
 use Rattle.schedule_trie.specs.Cut.{forest}
-use Rattle.cutoff.specs.Held.{StepsFit}
+use Rattle.cutoff.specs.Charts.{StepsFit}
 use Rattle.cutoff.proofs.LimbFits.{limbs_fit}
 use Rattle.cutoff.proofs.chart.Chart.limbs.Goals as goal
 

@@ -1,9 +1,8 @@
-use Rattle.std.proofs.Common.{◌≡◌, [], ◌∷◌, map, Some, IsSome, refl, sym, ap, subst, ◌∙◌}
+use Rattle.std.proofs.Common.{◌≡◌, [], ◌∷◌, map, Some, sym, ap, subst}
 use Rattle.schedule_trie.specs.Forest.{index_of}
-use Rattle.schedule_trie.specs.Cut.{forest, if_lacks, keys_in}
-use Rattle.cutoff.specs.Held.{keys_named, keys_or}
+use Rattle.schedule_trie.specs.Cut.{forest, keys_in}
+use Rattle.cutoff.specs.Charts.{keys_named, keys_or}
 use Rattle.cutoff.specs.Plans.{IsPlan, Plans, keys_of}
-use Rattle.cutoff.proofs.Kept.{passed_up}
 use Rattle.cutoff.proofs.chart.Chart.plan.Goals as goal
 
 pub returns-clause-ok : goal.returns-clause-ok

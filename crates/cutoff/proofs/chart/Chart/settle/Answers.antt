@@ -2,8 +2,9 @@ use Rattle.std.proofs.Common.{◌≡◌, ℕ, ◌≤◌, Bool, List, length, Som
 use Rattle.frames.specs.Behaviour.{Behaviour}
 use Rattle.schedule_trie.specs.Forest.{slots_in, index_of, IsRefused}
 use Rattle.schedule_trie.specs.Cut.{Cut, forest, keys_in}
-use Rattle.cutoff.specs.Fitting.{StoredRun, RunPart, KeepsRuns, IsFilled, Settles, counted, reached}
-use Rattle.cutoff.specs.Held.{Charted, IsSettled, keys_named, reached_by, look}
+use Rattle.cutoff.specs.Fitting.{StoredRun, RunPart, KeepsRuns, counted, reached}
+use Rattle.cutoff.specs.Settles.{IsFilled, Settles, IsSettled}
+use Rattle.cutoff.specs.Charts.{Charted, keys_named, reached_by, look}
 use Rattle.cutoff.proofs.Kept.{charted_kept, passed_up, seen_begins, keys_there, look_there, len_there, fits_there}
 use Rattle.cutoff.proofs.chart.Chart.settle.Goals as goal
 

@@ -2,7 +2,8 @@ use Rattle.std.proofs.Common.{◌≡◌, ◌+◌, Some, None, Ok, IsOk, length, 
 use Rattle.schedule_trie.specs.Forest.{IsRefused, len_of}
 use Rattle.schedule_trie.specs.Cut.{line, piece_at, keys_in, forest}
 use Rattle.cutoff.specs.Fitting.{part_of}
-use Rattle.cutoff.specs.Held.{IsSettledLast, look}
+use Rattle.cutoff.specs.Charts.{look}
+use Rattle.cutoff.specs.Settles.{IsSettledLast}
 use Rattle.cutoff.proofs.Kept.{charted_kept, charted_marked, len_there, look_there, passed_up, seen_begins, all_kept}
 use Rattle.cutoff.proofs.Lasts.{place_found, found_fits, none_settled, last_settled, keeps_named}
 use Rattle.cutoff.proofs.chart.Chart.settle_last.Goals as goal

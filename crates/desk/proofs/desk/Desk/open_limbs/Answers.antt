@@ -1,6 +1,6 @@
 use Rattle.std.proofs.Common.{◌≡◌, ◌∙◌, ap}
 use Rattle.std.proofs.lemmas.Result.{IfOk-weaker}
-use Rattle.sessions.specs.Held.{opening_of}
+use Rattle.sessions.specs.Books.{opening_of}
 use Rattle.desk.specs.Chairs.{book_at_first}
 use Rattle.desk.proofs.desk.Desk.open_limbs.Goals as goal
 

@@ -1,6 +1,6 @@
 use Rattle.std.proofs.Common.{◌≡◌, Some, None, sym, ◌∙◌, ap}
 use Rattle.lineage.specs.Family.{path_in}
-use Rattle.lineage.specs.Held.{above_in, above_node}
+use Rattle.lineage.specs.Lineages.{above_in, above_node}
 use Rattle.lineage.proofs.Walks.{above_is}
 use Rattle.lineage.proofs.lineage.Lineage.above.Goals as goal
 

@@ -1,6 +1,6 @@
 use Rattle.std.proofs.Common.{◌≡◌, Some, sym, ◌∙◌, ap}
 use Rattle.lineage.specs.Family.{path_in, item_at}
-use Rattle.lineage.specs.Held.{item_in, above_in, above_node}
+use Rattle.lineage.specs.Lineages.{item_in, above_in, above_node}
 use Rattle.lineage.proofs.Walks.{above_is, item_is}
 use Rattle.lineage.proofs.lineage.Lineage.climb.Goals as goal
 

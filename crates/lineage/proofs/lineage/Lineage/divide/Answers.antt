@@ -2,7 +2,7 @@ use Rattle.std.proofs.Common.{refl, ◌+◌, sym, ◌∙◌, ap, subst, arith}
 use Rattle.std.specs.Prelude.{is_some, IsSome}
 use Rattle.std.specs.List.{count_by}
 use Rattle.lineage.specs.Family.{item_at}
-use Rattle.lineage.specs.Held.{IsSoundFamily, node_at, node_over, node_under}
+use Rattle.lineage.specs.Lineages.{IsSoundFamily, node_at, node_over, node_under}
 use Rattle.lineage.proofs.Forks.{some_node}
 use Rattle.lineage.proofs.Walks.{item_is}
 use Rattle.lineage.proofs.Divisions.{IsDivided, divided_all}

@@ -1,7 +1,7 @@
 use Rattle.std.proofs.Common.{◌<◌, length, map, sym, ◌∙◌, ap, subst}
 use Rattle.std.specs.List.{remove}
 use Rattle.lineage.specs.Family.{IsReleased}
-use Rattle.lineage.specs.Held.{IsSoundFamily, path_to, family_on}
+use Rattle.lineage.specs.Lineages.{IsSoundFamily, path_to, family_on}
 use Rattle.lineage.proofs.Drops.{dropped_paths, released, let_go_from}
 use Rattle.lineage.proofs.lineage.Lineage.drop_path.Goals as goal
 use Rattle.lineage.proofs.lineage.Lineage.drop_path.Given.{Over}

@@ -2,7 +2,7 @@ use Rattle.std.proofs.Common.{◌≡◌, ℕ, Option, Some, List, eq-eqb, true�
 use Rattle.std.specs.Prelude.{IsSome}
 use Rattle.std.proofs.lemmas.Bool.{eqb-true}
 use Rattle.lineage.specs.Family.{EndsAlone}
-use Rattle.lineage.specs.Held.{tip_at}
+use Rattle.lineage.specs.Lineages.{tip_at}
 use Rattle.lineage.proofs.Walks.{last_is}
 use Rattle.lineage.proofs.Alone.{tip_node, alone, not_alone}
 use Rattle.lineage.proofs.lineage.Lineage.ends_alone.Goals as goal

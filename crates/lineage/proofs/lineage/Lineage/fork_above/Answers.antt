@@ -3,7 +3,7 @@ use Rattle.std.specs.Prelude.{is_some, IsSome}
 use Rattle.std.specs.List.{count_by}
 use Rattle.lineage.specs.declared.node.Node.{Node}
 use Rattle.lineage.specs.Family.{item_at}
-use Rattle.lineage.specs.Held.{node_at, item_in, node_over, node_under}
+use Rattle.lineage.specs.Lineages.{node_at, item_in, node_over, node_under}
 use Rattle.lineage.proofs.Forks.{some_node}
 use Rattle.lineage.proofs.Walks.{item_is}
 use Rattle.lineage.proofs.ForksAbove.{above_sound, forked_above}

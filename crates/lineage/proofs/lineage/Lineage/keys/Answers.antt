@@ -2,7 +2,7 @@ use Rattle.std.proofs.Common.{◌≡◌, Option, ℕ, List, sym, ◌∙◌, ap, 
 use Rattle.std.proofs.lemmas.Result.{IfOk-weaker}
 use Rattle.lineage.specs.Family.{path_in}
 use Rattle.lineage.specs.Climbs.{Ends}
-use Rattle.lineage.specs.Held.{tip_at, above_node, path_to}
+use Rattle.lineage.specs.Lineages.{tip_at, above_node, path_to}
 use Rattle.lineage.proofs.Walks.{path_at}
 use Rattle.lineage.proofs.lineage.Lineage.keys.Goals as goal
 

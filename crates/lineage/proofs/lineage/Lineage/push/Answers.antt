@@ -2,7 +2,7 @@ use Rattle.std.proofs.Common.{◌≡◌, ◌+◌, length, map, sym, ◌∙◌, a
 use Rattle.std.proofs.lemmas.List.{length-map}
 use Rattle.std.specs.Prelude.{is_some}
 use Rattle.std.specs.List.{count_by}
-use Rattle.lineage.specs.Held.{IsSoundFamily, node_at, path_to}
+use Rattle.lineage.specs.Lineages.{IsSoundFamily, node_at, path_to}
 use Rattle.lineage.proofs.Pushes.{IsPushed, pushed_all}
 use Rattle.lineage.proofs.lineage.Lineage.push.Goals as goal
 use Rattle.lineage.proofs.lineage.Lineage.push.Given.{Over}

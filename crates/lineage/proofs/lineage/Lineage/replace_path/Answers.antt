@@ -1,5 +1,5 @@
 use Rattle.std.proofs.Common.{◌<◌, None, length, sym, subst, arith}
-use Rattle.lineage.specs.Held.{IsSoundFamily}
+use Rattle.lineage.specs.Lineages.{IsSoundFamily}
 use Rattle.lineage.proofs.Exchanges.{within_now, let_go_first, all_exchanged}
 use Rattle.lineage.proofs.lineage.Lineage.replace_path.Goals as goal
 

@@ -3,7 +3,7 @@ use Rattle.std.specs.Prelude.{is_some, IsSome}
 use Rattle.slab.specs.Slab.{Slab, get, slab_len, with_value, ContainsKey, Updates}
 use Rattle.slab.proofs.SlabLemmas.{Updates-with_value}
 use Rattle.lineage.specs.declared.node.Node.{Node}
-use Rattle.lineage.specs.Held.{node, node_over, node_under}
+use Rattle.lineage.specs.Lineages.{node, node_over, node_under}
 use Rattle.lineage.proofs.Counts.{one, count_changed}
 use Rattle.lineage.proofs.lineage.divide.put_above.Goals as goal
 

@@ -3,7 +3,7 @@ use Rattle.std.specs.Prelude.{IsSome, if◌then◌else◌}
 use Rattle.std.proofs.lemmas.Bool.{lt-leb}
 use Rattle.slab.proofs.SlabLemmas.{Updates-with_value}
 use Rattle.lineage.specs.declared.node.Node.{Node}
-use Rattle.lineage.specs.Held.{node, less_one}
+use Rattle.lineage.specs.Lineages.{node, less_one}
 use Rattle.lineage.proofs.lineage.release.free_node.Goals as goal
 
 -- a node with more than one holder stays

@@ -1,5 +1,5 @@
 use Rattle.std.proofs.Common.{ℕ, List, Option, length}
-use Rattle.lineage.specs.Held.{keys_up, IsReleasing}
+use Rattle.lineage.specs.Lineages.{keys_up, IsReleasing}
 use Rattle.lineage.proofs.lineage.release.free_up.Given as goal
 
 abbrev pub invariant-loop-key : goal.invariant-loop-key

@@ -3,7 +3,7 @@ use Rattle.std.specs.Prelude.{IsSome}
 use Rattle.slab.specs.Slab.{Slab, get, with_value, Updates}
 use Rattle.slab.proofs.SlabLemmas.{Updates-with_value}
 use Rattle.lineage.specs.declared.node.Node.{Node}
-use Rattle.lineage.specs.Held.{node, past, past_node}
+use Rattle.lineage.specs.Lineages.{node, past, past_node}
 use Rattle.lineage.proofs.lineage.take_out.skip_at.Goals as goal
 
 written : {X : Type 0} (s : Slab (Node X)) (place : ℕ) (n m : Node X) → Some n ≡ get s place → Updates s (with_value s place m) place (Some m)

@@ -1,6 +1,6 @@
 use Rattle.std.proofs.Common.{◌≡◌, ◌<◌, ◌≤◌, ℕ}
 use Rattle.slab.specs.Slab.{get}
-use Rattle.lineage.specs.Held.{past_node}
+use Rattle.lineage.specs.Lineages.{past_node}
 use Rattle.lineage.proofs.lineage.take_out.skip_in_nodes.Given as goal
 
 abbrev pub invariant-loop-place : goal.invariant-loop-place

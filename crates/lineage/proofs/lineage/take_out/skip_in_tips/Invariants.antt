@@ -1,5 +1,5 @@
 use Rattle.std.proofs.Common.{◌≡◌, ◌<◌, ◌≤◌, ℕ, length}
-use Rattle.lineage.specs.Held.{past, tip_at}
+use Rattle.lineage.specs.Lineages.{past, tip_at}
 use Rattle.lineage.proofs.lineage.take_out.skip_in_tips.Given as goal
 
 abbrev pub invariant-loop-place : goal.invariant-loop-place

@@ -1,5 +1,5 @@
 use Rattle.std.proofs.Common.{refl, sym, subst, ◌∙◌, []}
-use Rattle.schedule_trie.specs.Held.{AreNames}
+use Rattle.schedule_trie.specs.Tries.{AreNames}
 use Rattle.schedule_trie.proofs.NamesKept.{names_more}
 use Rattle.schedule_trie.proofs.Openings.{one_name, one_path, first_held, first_forest, first_cut}
 use Rattle.schedule_trie.proofs.Lengths.{first_lengths}

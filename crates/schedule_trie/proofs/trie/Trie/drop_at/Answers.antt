@@ -1,5 +1,5 @@
 use Rattle.schedule_trie.specs.Cut.{forest}
-use Rattle.schedule_trie.specs.Held.{cut_of, AreLengths, AreNames}
+use Rattle.schedule_trie.specs.Tries.{cut_of, AreLengths, AreNames}
 use Rattle.std.specs.Map.{keys_of}
 use Rattle.schedule_trie.proofs.NamesKept.{names_left}
 use Rattle.std.proofs.Common.{◌<◌, length, refl, sym, subst}

@@ -1,4 +1,4 @@
-use Rattle.schedule_trie.specs.Held.{cut_of}
+use Rattle.schedule_trie.specs.Tries.{cut_of}
 use Rattle.std.proofs.Common.{◌≡◌, ◌<◌, nat_eq, None, length, refl, sym, ap, subst, ◌∙◌}
 use Rattle.std.specs.Cmp.Lexicographic.{pointwise}
 use Rattle.indexmap.specs.IndexMap.{insert_entry}

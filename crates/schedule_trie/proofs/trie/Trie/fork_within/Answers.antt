@@ -5,7 +5,7 @@ use Rattle.indexmap.specs.IndexMap.{insert_entry}
 use Rattle.lineage.specs.Family.{with_item}
 use Rattle.schedule_trie.specs.Forest.{index_of}
 use Rattle.schedule_trie.specs.Cut.{forest, keys_in, piece_at, slots_of, has}
-use Rattle.schedule_trie.specs.Held.{cut_of}
+use Rattle.schedule_trie.specs.Tries.{cut_of}
 use Rattle.schedule_trie.proofs.DivisionSteps.{still_there}
 use Rattle.schedule_trie.proofs.ForkCutSteps.{cut_fork, cut_fork_told}
 use Rattle.schedule_trie.proofs.Partings.{parting}

@@ -1,7 +1,7 @@
 use Rattle.std.proofs.Common.{◌<◌, length, sym, ap, subst, ◌∙◌}
 use Rattle.std.specs.Option.{IfSome}
 use Rattle.std.proofs.lemmas.List.{length-map}
-use Rattle.schedule_trie.specs.Held.{names_of}
+use Rattle.schedule_trie.specs.Tries.{names_of}
 use Rattle.schedule_trie.proofs.Lines.{index_is}
 use Rattle.schedule_trie.proofs.Strands.{length-strands}
 use Rattle.schedule_trie.proofs.trie.Trie.index.Goals as goal

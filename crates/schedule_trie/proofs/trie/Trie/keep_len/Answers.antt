@@ -2,7 +2,7 @@ use Rattle.std.proofs.Common.{◌≡◌, Some, length, refl, sym, ap, subst, ◌
 use Rattle.std.specs.Map.{keys_of}
 use Rattle.schedule_trie.specs.Forest.{slots_in}
 use Rattle.schedule_trie.specs.Cut.{forest}
-use Rattle.schedule_trie.specs.Held.{cut_of}
+use Rattle.schedule_trie.specs.Tries.{cut_of}
 use Rattle.schedule_trie.proofs.Lengths.{names_set, relength_seen, one_kept}
 use Rattle.schedule_trie.proofs.LengthSteps.{entry_within, one_held}
 use Rattle.schedule_trie.proofs.trie.Trie.keep_len.Goals as goal

@@ -1,7 +1,7 @@
 use Rattle.std.proofs.Common.{length, ap, subst, ◌∙◌, sym, ◌≡◌}
 use Rattle.schedule_trie.specs.Forest.{slots_in}
 use Rattle.schedule_trie.specs.Cut.{forest, piece_at, line, IsWhole}
-use Rattle.schedule_trie.specs.Held.{cut_of}
+use Rattle.schedule_trie.specs.Tries.{cut_of}
 use Rattle.schedule_trie.proofs.ClimbSteps.{path_last}
 use Rattle.schedule_trie.proofs.Lengths.{kept_told}
 use Rattle.schedule_trie.proofs.Lines.{slots_in_on}

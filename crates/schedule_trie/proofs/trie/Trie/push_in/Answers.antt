@@ -1,6 +1,6 @@
 use Rattle.std.specs.Map.{keys_of}
 use Rattle.lineage.specs.Family.{with_item}
-use Rattle.schedule_trie.specs.Held.{cut_of}
+use Rattle.schedule_trie.specs.Tries.{cut_of}
 use Rattle.std.proofs.Common.{sym, subst, ap, refl, None, ◌∙◌, ◌+◌, ◌<◌, length}
 use Rattle.schedule_trie.specs.Cut.{IsOwnEnd, IsPushed}
 use Rattle.schedule_trie.proofs.PushSteps.{on_err, kept_held, own_there, cut_kept, in_held, in_pushed}

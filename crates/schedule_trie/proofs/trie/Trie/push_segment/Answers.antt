@@ -1,6 +1,6 @@
 use Rattle.std.specs.Map.{keys_of}
 use Rattle.schedule_trie.specs.Cut.{IsPushed}
-use Rattle.schedule_trie.specs.Held.{cut_of}
+use Rattle.schedule_trie.specs.Tries.{cut_of}
 use Rattle.std.proofs.Common.{◌+◌, ◌<◌, ◌∙◌, None, ap, length, refl, sym, subst}
 use Rattle.schedule_trie.proofs.Lines.{path_within}
 use Rattle.schedule_trie.proofs.PushFresh.{segment_held, segment_pushed}

@@ -1,5 +1,5 @@
 use Rattle.schedule_trie.specs.Cut.{IsPutBefore, piece_at, slots_of}
-use Rattle.schedule_trie.specs.Held.{cut_of}
+use Rattle.schedule_trie.specs.Tries.{cut_of}
 use Rattle.std.proofs.Common.{◌+◌, ◌<◌, length, refl, sym, subst}
 use Rattle.lineage.specs.Family.{with_item}
 use Rattle.schedule_trie.proofs.InsertSteps.{divided_held, divided_told}

@@ -1,6 +1,6 @@
 use Rattle.lineage.specs.Family.{with_item}
 use Rattle.schedule_trie.specs.Cut.{piece_at, slots_of, IsPutBefore}
-use Rattle.schedule_trie.specs.Held.{cut_of}
+use Rattle.schedule_trie.specs.Tries.{cut_of}
 use Rattle.std.proofs.Common.{sym, subst, refl, ◌∙◌, ◌+◌, ◌<◌, length, arith}
 use Rattle.schedule_trie.proofs.PushSteps.{on_err, kept_held, cut_written}
 use Rattle.schedule_trie.proofs.StepSet.{held_there, inside_from}

@@ -1,4 +1,4 @@
-use Rattle.schedule_trie.specs.Held.{cut_of}
+use Rattle.schedule_trie.specs.Tries.{cut_of}
 use Rattle.std.proofs.Common.{◌≡◌, length, refl, sym, subst}
 use Rattle.schedule_trie.specs.Cut.{piece_at, slots_of, IsRemoved}
 use Rattle.schedule_trie.proofs.RemoveSteps.{gone_held, gone_told}

@@ -1,5 +1,5 @@
 use Rattle.lineage.specs.Family.{with_item}
-use Rattle.schedule_trie.specs.Held.{cut_of}
+use Rattle.schedule_trie.specs.Tries.{cut_of}
 use Rattle.std.proofs.Common.{refl, sym, subst, ◌<◌, length}
 use Rattle.schedule_trie.specs.Cut.{piece_at, slots_of, IsRemoved}
 use Rattle.schedule_trie.proofs.StepSet.{inside_from}

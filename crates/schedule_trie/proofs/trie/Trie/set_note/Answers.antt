@@ -1,5 +1,5 @@
 use Rattle.lineage.specs.Family.{with_item}
-use Rattle.schedule_trie.specs.Held.{cut_of}
+use Rattle.schedule_trie.specs.Tries.{cut_of}
 use Rattle.schedule_trie.proofs.StepSet.{note_held, note_told_as}
 use Rattle.schedule_trie.proofs.LengthSteps.{noted_lengths}
 use Rattle.schedule_trie.proofs.trie.Trie.set_note.Goals as goal

@@ -1,7 +1,7 @@
 use Rattle.std.proofs.Common.{◌<◌, length, sym, subst}
 use Rattle.lineage.specs.Family.{with_item}
 use Rattle.schedule_trie.specs.Cut.{piece_at, slots_of}
-use Rattle.schedule_trie.specs.Held.{cut_of}
+use Rattle.schedule_trie.specs.Tries.{cut_of}
 use Rattle.schedule_trie.proofs.StepSet.{held_there, inside_from, set_held, set_told}
 use Rattle.schedule_trie.proofs.LengthSteps.{set_lengths}
 use Rattle.schedule_trie.proofs.trie.Trie.set_step.Goals as goal

@@ -1,6 +1,6 @@
 use Rattle.std.proofs.Common.{sym, ap, ◌∙◌}
 use Rattle.schedule_trie.specs.Cut.{slots_of}
-use Rattle.schedule_trie.specs.Held.{piece_of}
+use Rattle.schedule_trie.specs.Tries.{piece_of}
 use Rattle.schedule_trie.proofs.ClimbSteps.{each_up, ends_up}
 use Rattle.schedule_trie.proofs.StepSet.{piece_seen}
 use Rattle.schedule_trie.proofs.trie.Trie.slots_up.Goals as goal

@@ -1,6 +1,6 @@
 use Rattle.std.proofs.Common.{length, ap, ◌∙◌, None, slice_get, arith}
 use Rattle.std.specs.Map.{keys_of}
-use Rattle.schedule_trie.specs.Held.{kept_in}
+use Rattle.schedule_trie.specs.Tries.{kept_in}
 use Rattle.schedule_trie.proofs.Lengths.{names_set, count_set, one_more_gone, all_gone}
 use Rattle.schedule_trie.proofs.trie.lengths.forget_lengths.Goals as goal
 

@@ -5,7 +5,7 @@ use Rattle.sessions.specs.declared.reply.Reply.TheVariants.{No}
 use Rattle.sessions.specs.Acts.{is_full}
 use Rattle.sessions.specs.Logs.{entry}
 use Rattle.sessions.specs.World.{opening}
-use Rattle.sessions.specs.Held.{MayLackMemory, opening_of, world_of}
+use Rattle.sessions.specs.Books.{MayLackMemory, opening_of, world_of}
 use Rattle.sessions.proofs.Ordinary.{never_memory}
 use Rattle.sessions.proofs.Books.{below, kept, done_acts, full_acts, held_more, held_same, same_opening}
 use Rattle.sessions.proofs.book.Book.act.Goals as goal

@@ -1,7 +1,7 @@
 use Rattle.std.proofs.Common.{◌≡◌, subst}
 use Rattle.frames.specs.Configuration.{initial_configuration}
 use Rattle.schedule_trie.specs.Cut.{IsCut}
-use Rattle.sessions.specs.Held.{BeginsAtOpening}
+use Rattle.sessions.specs.Books.{BeginsAtOpening}
 use Rattle.sessions.proofs.Books.{kept}
 use Rattle.sessions.proofs.Openings.{begins_so}
 use Rattle.sessions.proofs.book.Book.held.Goals as goal

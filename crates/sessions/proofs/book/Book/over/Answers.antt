@@ -1,5 +1,5 @@
 use Rattle.std.proofs.Common.{ap}
-use Rattle.sessions.specs.Held.{opening_over}
+use Rattle.sessions.specs.Books.{opening_over}
 use Rattle.sessions.proofs.book.Book.over.Goals as goal
 
 pub returns-clause-opening : goal.returns-clause-opening

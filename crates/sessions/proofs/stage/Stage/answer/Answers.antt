@@ -1,4 +1,4 @@
-use Rattle.sessions.specs.Held.{world_of}
+use Rattle.sessions.specs.Books.{world_of}
 use Rattle.sessions.proofs.Answered.{late_done}
 use Rattle.sessions.proofs.stage.Stage.answer.Goals as goal
 

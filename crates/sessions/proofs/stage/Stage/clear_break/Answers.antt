@@ -2,7 +2,7 @@ use Rattle.std.proofs.Common.{◌∙◌, ◌<◌, [], length, sym, ap, subst, ar
 use Rattle.std.proofs.lemmas.List.{get_or_default}
 use Rattle.sessions.specs.Bounds.{CanLog}
 use Rattle.sessions.specs.BreakLists.{has_break, without_break}
-use Rattle.sessions.specs.Held.{Staged}
+use Rattle.sessions.specs.Books.{Staged}
 use Rattle.sessions.proofs.BreakAnswers.{break_cleared, break_lacks, break_staged}
 use Rattle.sessions.proofs.stage.Stage.clear_break.Goals as goal
 

@@ -2,7 +2,7 @@ use Rattle.std.proofs.Common.{◌∙◌, Some, sym, subst}
 use Rattle.schedule_trie.specs.Cut.{forest}
 use Rattle.sessions.specs.Bounds.{CanLog}
 use Rattle.sessions.specs.Cursors.{cursor}
-use Rattle.sessions.specs.Held.{Staged}
+use Rattle.sessions.specs.Books.{Staged}
 use Rattle.sessions.proofs.Standing.{goes_to}
 use Rattle.sessions.proofs.EditAnswers.{put_staged}
 use Rattle.sessions.proofs.stage.Stage.go.Goals as goal

@@ -7,7 +7,7 @@ use Rattle.views.specs.Looks.{steps_in}
 use Rattle.sessions.specs.Acts.{hit_from}
 use Rattle.sessions.specs.BreakLists.{breaks_at}
 use Rattle.sessions.specs.Cursors.{cursor, cursor_at}
-use Rattle.sessions.specs.Held.{world_of}
+use Rattle.sessions.specs.Books.{world_of}
 use Rattle.sessions.specs.Seeks.{hits, next_place}
 use Rattle.sessions.proofs.stage.Stage.hit_of.Goals as goal
 

@@ -1,6 +1,6 @@
 use Rattle.std.proofs.Common.{◌∙◌, ap}
 use Rattle.std.specs.Arc.{arc_value}
-use Rattle.sessions.specs.Held.{Staged, world_of}
+use Rattle.sessions.specs.Books.{Staged, world_of}
 use Rattle.sessions.proofs.Kept.{install_kept, kept_staged, kept_world}
 use Rattle.sessions.proofs.stage.Stage.install.Goals as goal
 

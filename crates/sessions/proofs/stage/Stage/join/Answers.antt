@@ -3,7 +3,7 @@ use Rattle.std.proofs.lemmas.List.{length-set}
 use Rattle.schedule_trie.specs.Cut.{forest}
 use Rattle.sessions.specs.Bounds.{CanLog}
 use Rattle.sessions.specs.Cursors.{IsAtPlace}
-use Rattle.sessions.specs.Held.{Staged}
+use Rattle.sessions.specs.Books.{Staged}
 use Rattle.sessions.proofs.Standing.{first_stands}
 use Rattle.sessions.proofs.EditAnswers.{put_staged}
 use Rattle.sessions.proofs.stage.Stage.join.Goals as goal

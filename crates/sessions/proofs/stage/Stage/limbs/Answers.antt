@@ -1,4 +1,4 @@
-use Rattle.sessions.specs.Held.{Staged}
+use Rattle.sessions.specs.Books.{Staged}
 use Rattle.sessions.proofs.Loads.{saved_so}
 use Rattle.sessions.proofs.stage.Stage.limbs.Goals as goal
 

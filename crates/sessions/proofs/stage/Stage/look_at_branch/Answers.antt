@@ -1,7 +1,7 @@
 use Rattle.std.proofs.Common.{◌≡◌, Some, Ok, OnOk, IfOk, IfErr, subst}
 use Rattle.schedule_trie.specs.Forest.{IsRefused}
 use Rattle.schedule_trie.specs.Cut.{forest}
-use Rattle.sessions.specs.Held.{Staged, world_of}
+use Rattle.sessions.specs.Books.{Staged, world_of}
 use Rattle.sessions.proofs.Looks.{shown_at, looked_at}
 use Rattle.sessions.proofs.Kept.{kept_staged}
 use Rattle.sessions.proofs.stage.Stage.look_at_branch.Goals as goal

@@ -1,7 +1,7 @@
 use Rattle.std.proofs.Common.{◌∙◌, ◌<◌, ◌≡◌, sym, ap, subst, IfSome, arith}
 use Rattle.schedule_trie.specs.Cut.{forest}
 use Rattle.sessions.specs.Cursors.{IsAtPlace}
-use Rattle.sessions.specs.Held.{Staged}
+use Rattle.sessions.specs.Books.{Staged}
 use Rattle.sessions.proofs.EditAnswers.{put_staged}
 use Rattle.sessions.proofs.stage.Stage.seek.Goals as goal
 use Rattle.sessions.proofs.stage.Stage.seek.Goals.{then-is_some, else-is_some}

@@ -2,7 +2,7 @@ use Rattle.std.proofs.Common.{◌∙◌, ◌<◌, [], length, ap, arith}
 use Rattle.std.proofs.lemmas.List.{get_or_default, set-get_or}
 use Rattle.std.specs.Prelude.{slice_set}
 use Rattle.sessions.specs.BreakLists.{with_break}
-use Rattle.sessions.specs.Held.{Staged}
+use Rattle.sessions.specs.Books.{Staged}
 use Rattle.sessions.proofs.BreakAnswers.{break_set, break_unset}
 use Rattle.sessions.proofs.stage.Stage.set_break.Goals as goal
 

@@ -4,7 +4,7 @@ use Rattle.turn.specs.Chairs.{view}
 use Rattle.sessions.specs.declared.reply.Reply.TheVariants.{No}
 use Rattle.schedule_trie.specs.declared.refusal.Refusal.TheVariants.{Memory}
 use Rattle.sessions.specs.Acts.{command_result}
-use Rattle.sessions.specs.Held.{opening_of}
+use Rattle.sessions.specs.Books.{opening_of}
 use Rattle.sessions.specs.Logs.{world_after}
 use Rattle.desk.specs.Histories.{seen}
 use Rattle.towerbench.specs.Seats.{Seated, IsAlone, world_at}

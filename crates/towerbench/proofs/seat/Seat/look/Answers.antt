@@ -1,7 +1,7 @@
 use Rattle.std.proofs.Common.{◌≡◌, ap, subst, sym}
 use Rattle.turn.specs.Shares.{HasAll}
 use Rattle.turn.specs.Chairs.{view}
-use Rattle.sessions.specs.Held.{opening_of}
+use Rattle.sessions.specs.Books.{opening_of}
 use Rattle.sessions.specs.Logs.{world_after}
 use Rattle.desk.specs.Histories.{seen}
 use Rattle.desk.specs.Works.{IsAnswer}

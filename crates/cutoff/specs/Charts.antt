@@ -1,5 +1,5 @@
 -- The invariant of a chart, and the results of looks and settles.
-use Rattle.std.specs.Prelude.{ℕ, ◌≡◌, ◌<◌, Bool, nat_lt, List, [], ◌∷◌, Option, None, Some, Result, Ok, Err, length, map, if◌then◌else◌}
+use Rattle.std.specs.Prelude.{ℕ, ◌≡◌, ◌<◌, Bool, nat_lt, List, [], Option, None, Some, Result, Ok, Err, length, map, if◌then◌else◌}
 use Rattle.std.specs.List.{All}
 use Rattle.frames.specs.Behaviour.{Behaviour}
 use Rattle.frames.specs.Configuration.{Configuration, initial_configuration}
@@ -9,7 +9,7 @@ use Rattle.schedule_trie.specs.declared.refusal.Refusal.{Refusal}
 use Rattle.schedule_trie.specs.declared.refusal.Refusal.TheVariants.{NoPlace}
 use Rattle.schedule_trie.specs.Forest.{Forest, slots_in, step_of, index_of, on_branch}
 use Rattle.schedule_trie.specs.Cut.{Cut, Strand, IsCut, forest, keys_in}
-use Rattle.cutoff.specs.Fitting.{StoredRun, RunPart, reached, Settles, KeepsRuns, IsFilled, counted}
+use Rattle.cutoff.specs.Fitting.{StoredRun, reached}
 use Rattle.cutoff.specs.Links.{without_register, IsLinked}
 use Rattle.cutoff.specs.Prefixes.{IsMarked}
 
@@ -61,27 +61,3 @@ look f name place = on_branch f name (looked_at f place)
 -- the keys of the segments that have at least one of the first `place` cells of the named branch
 abbrev pub reached_by : {R P : Type 0} → Cut (StoredRun R P) → List ℕ → ℕ → List ℕ
 reached_by cut name place = reached cut place (keys_named cut name)
-
--- all that a settle of the named branch's first `place` cells may change: a segment that has one of
--- these cells and no stored run that fits may have one that fits now
-abbrev pub KeepsOrFills : {R P : Type 0} → (R → R → Bool) → (R → Behaviour P) → Charted R P → Charted R P → List ℕ → ℕ → Type 0
-KeepsOrFills E is old new name place =
-    KeepsRuns old.cut new.cut (IsFilled E (is old.start.register) old.cut new.cut old.start (reached_by old.cut name place))
-
--- the result of a settle of the named branch's first `place` cells. `parts` are the runs now stored
--- in the segments that have at least one of these cells, in order. Each run fits its segment, and
--- comes with how many of its steps count; `place` steps count in all. n steps were replayed
-pub record IsSettled {R P : Type 0} (E : R → R → Bool) (b : Behaviour P) (old new : Charted R P) (name : List ℕ) (place : ℕ) (parts : List (RunPart R P)) (n : ℕ) : Type 0 where
-  pub settles : Settles E b old.cut new.cut old.start place (reached_by old.cut name place) parts n
-  pub sum : counted parts ≡ place
-
--- the last of these parts; `None` if there are none
-abbrev pub last_part : {R P : Type 0} → List (RunPart R P) → Option (RunPart R P)
-last_part [] = None
-last_part (part ∷ []) = Some part
-last_part (part ∷ next ∷ parts) = last_part (next ∷ parts)
-
--- the result of a settle of the named branch's first `place` cells, if only the last part is
--- returned: `last` is that part, or `None` if there are no parts; n steps were replayed
-abbrev pub IsSettledLast : {R P : Type 0} → (R → R → Bool) → Behaviour P → Charted R P → Charted R P → List ℕ → ℕ → Option (RunPart R P) → ℕ → Type 0
-IsSettledLast {R} {P} E b old new name place last n = (parts : List (RunPart R P)) × IsSettled E b old new name place parts n × (last_part parts ≡ last)

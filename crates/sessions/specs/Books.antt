@@ -6,9 +6,7 @@ use Rattle.schedule_trie.specs.declared.limits.Limits.{Limits}
 use Rattle.schedule_trie.specs.declared.refusal.Refusal.{Refusal}
 use Rattle.schedule_trie.specs.declared.refusal.Refusal.TheVariants.{Memory}
 use Rattle.schedule_trie.specs.Cut.{AreLimits, forest}
-use Rattle.schedule_trie.specs.Edits.{Edit, IsEdited}
-use Rattle.cutoff.specs.Held.{Charted}
-use Rattle.cutoff.specs.Edits.{IsUneditedChart, KeepsBeginning}
+use Rattle.cutoff.specs.Charts.{Charted}
 use Rattle.views.specs.declared.breakpoint.Break.{Break}
 use Rattle.sessions.specs.declared.cursor.Cursor.{Cursor}
 use Rattle.sessions.specs.declared.command.Command.{Command}
@@ -131,14 +129,6 @@ RefusesMemoryLast is h who guard c reply = reply ≡ No Memory → MayLackMemory
 -- reason that `late_refusals` gives, or Memory if `late_refusals` gives none
 abbrev pub IsLate : {P : Type 0} → ℕ → Command → World P → Refusal → Type 0
 IsLate who c w r = (first_refusal (late_refusals who c w) ≡ Some r) ⊎ ((r ≡ Memory) × NoneDueLate who c w)
-
--- what a command's edit does to a chart. If the result is Ok, the edit is made, and branches begin
--- from the same configuration and value as before. If not, the edit is refused, and the chart is
--- unchanged. If the command has no edit, the chart is unchanged.
-abbrev pub Changes : {R P : Type 0} → Option Edit → Charted R P → Charted R P → Result (Unit {0}) Refusal → Type 0
-Changes (Some edit) old new (Ok done) = IsEdited old.cut new.cut edit × KeepsBeginning old new
-Changes (Some edit) old new (Err e) = IsUneditedChart old new edit e
-Changes None old new result = new ≡ old
 
 -- a command is carried out: `late_refusals` gives no reason to refuse it, and its new world and its
 -- reply are those that `left` and `reply_to` give

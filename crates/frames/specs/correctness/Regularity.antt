@@ -9,7 +9,7 @@ use Rattle.frames.specs.declared.verdict.Verdict.TheVariants.{Fresh, Stray}
 use Rattle.frames.specs.Behaviour.{Behaviour}
 use Rattle.frames.specs.OneWriter.{HasOneWriter}
 use Rattle.frames.specs.Recorded.{AllFit, recorded}
-use Rattle.frames.specs.Verdicts.{Known, accepted, initially, after, reading, judged}
+use Rattle.frames.specs.correctness.Verdicts.{Known, accepted, initially, after, reading, judged}
 
 -- whether an event is the refusal of an operation
 abbrev pub is_refusal : Event → Bool

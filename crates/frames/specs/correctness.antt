@@ -1,0 +1,3 @@
+-- What a register has to do to be safe, regular or atomic, and the verdicts on its reads.
+pub mod Verdicts
+pub mod Regularity

@@ -1,0 +1,21 @@
+//! Edits of branches, as data.
+
+use crate::name::Name;
+use frames::types::Step;
+
+/// An edit of the branch with the first name; a place is one of this branch.
+#[derive(Clone, Copy, Debug)]
+pub enum Edit<'a> {
+    /// Adds a cell with this step before the cell that is at the place, if any.
+    Insert(&'a Name, u32, Step),
+    /// Removes the cell at the place.
+    Remove(&'a Name, u32),
+    /// Gives the cell at the place another step.
+    Replace(&'a Name, u32, Step),
+    /// Adds a branch with the second name that shares the cells before the place.
+    Fork(&'a Name, u32, &'a Name),
+    /// Gives the branch new cells, shared with no other branch, that have the same steps.
+    Detach(&'a Name),
+    /// Drops the branch.
+    Drop(&'a Name),
+}
