@@ -13,8 +13,10 @@ mod refusals;
 mod rows;
 
 use self::commands::go;
-use crate::charts::single::{page_of, run_of};
+use crate::charts::single::{Kept, only_run, page_once, text_once};
 use cutoff::install::Installation;
+use cutoff::plan::Job;
+use frames::register::Register;
 use frames::safe::Safe;
 use frames::types::Step;
 use schedule_trie::limits::Limits;
@@ -24,8 +26,9 @@ use sessions::book::Book;
 use sessions::command::Command;
 use sessions::reply::Reply;
 use std::alloc::Global;
-use views::page::{Page, page_text};
+use views::page::Page;
 use views::query::Query;
+use views::slip::Slip;
 
 /// What a book is asked, and the expected result.
 #[derive(Clone, Copy)]
@@ -61,14 +64,26 @@ enum Ask<'a> {
 const MISSED: Option<u64> = Some(9);
 
 /// A book's reply to a command.
-fn answer(
+pub(crate) fn answer<R: Register>(
     alloc: Global,
-    book: &mut Book<Safe>,
+    book: &mut Book<R>,
     who: u32,
     if_at: Option<u64>,
     command: &Command,
 ) -> Reply {
     book.act(alloc, 0, who, if_at, command)
+}
+
+/// Whether a command is refused for this reason.
+fn is_refused(
+    alloc: Global,
+    book: &mut Book<Safe>,
+    who: u32,
+    if_at: Option<u64>,
+    command: &Command,
+    refusal: Refusal,
+) -> bool {
+    answer(alloc, book, who, if_at, command) == Reply::No(refusal)
 }
 
 /// Gives a session's commands with this guard. Returns whether each is refused for this reason.
@@ -81,7 +96,7 @@ fn refuses_each(
     refusal: Refusal,
 ) -> bool {
     for command in commands {
-        if answer(alloc, book, who, if_at, command) != Reply::No(refusal) {
+        if !is_refused(alloc, book, who, if_at, command, refusal) {
             return false;
         }
     }
@@ -92,23 +107,30 @@ fn refuses_each(
 /// to it.
 fn refuses_all(alloc: Global, book: &mut Book<Safe>, rows: &[(Command, Refusal)]) -> bool {
     for (command, refusal) in rows {
-        if answer(alloc, book, 0, None, command) != Reply::No(*refusal) {
+        if !is_refused(alloc, book, 0, None, command, *refusal) {
             return false;
         }
     }
     true
 }
 
+/// The slip of a look.
+fn slip<R: Register>(alloc: Global, book: &mut Book<R>, query: Query) -> Result<Slip<R>, Refusal> {
+    book.look(alloc, query)
+}
+
 /// The page of a look.
-fn page(alloc: Global, book: &mut Book<Safe>, query: Query) -> Result<Page, Refusal> {
-    let slip = book.look(alloc, query)?;
-    page_of(alloc, &slip)
+fn page<R: Register>(alloc: Global, book: &mut Book<R>, query: Query) -> Result<Page, Refusal> {
+    page_once(alloc, slip(alloc, book, query)?)
 }
 
 /// The text of a look's page.
-fn text(alloc: Global, book: &mut Book<Safe>, query: Query) -> Result<Vec<u8>, Refusal> {
-    let page = page(alloc, book, query)?;
-    page_text(alloc, 0, &page).or(Err(Refusal::Memory))
+pub(crate) fn text<R: Register>(
+    alloc: Global,
+    book: &mut Book<R>,
+    query: Query,
+) -> Result<Vec<u8>, Refusal> {
+    text_once(alloc, slip(alloc, book, query)?)
 }
 
 /// Whether a look's page has this text.
@@ -126,16 +148,21 @@ fn hides(alloc: Global, book: &mut Book<Safe>, query: Query, refusal: Refusal) -
     page(alloc, book, query).err() == Some(refusal)
 }
 
+/// A session joins, and moves its cursor to a place of a branch. Returns whether both were
+/// accepted.
+fn goes_to(alloc: Global, book: &mut Book<Safe>, who: u32, branch: &Name, place: u32) -> bool {
+    let joined = answer(alloc, book, who, None, &Command::Join);
+    let moved = answer(alloc, book, who, None, &go(branch, place));
+    joined == Reply::Joined && moved == Reply::Moved(*branch, place)
+}
+
 /// Four sessions, numbered from `first` on, join and move their cursors to places 0 to 3 of a
 /// branch. Returns whether all were accepted.
 fn go_to_four_places(alloc: Global, book: &mut Book<Safe>, first: u32, branch: &Name) -> bool
     requires { first < 16 }
 {
     for place in 0..4 {
-        let who = first + place;
-        let joined = answer(alloc, book, who, None, &Command::Join);
-        let moved = answer(alloc, book, who, None, &go(branch, place));
-        if joined != Reply::Joined || moved != Reply::Moved(*branch, place) {
+        if !goes_to(alloc, book, first + place, branch, place) {
             return false;
         }
     }
@@ -180,21 +207,56 @@ fn is_cursor_at(page: &Page, branch: &Name, place: u32) -> bool {
     }
 }
 
+/// The jobs of a branch's plan.
+fn jobs_of(alloc: Global, book: &Book<Safe>, branch: &Name) -> Result<Vec<Job<Safe>>, Refusal> {
+    book.plan(alloc, branch)
+}
+
+/// The run of the only job in a branch's plan; `None` unless there is just one job.
+fn made_for(
+    alloc: Global,
+    book: &Book<Safe>,
+    branch: &Name,
+) -> Result<Option<Kept<Safe>>, Refusal> {
+    let jobs = jobs_of(alloc, book, branch)?;
+    only_run(alloc, &jobs)
+}
+
+/// Offers a run, and returns whether it was installed.
+fn installs(book: &mut Book<Safe>, made: Kept<Safe>) -> bool {
+    let (key, run) = made;
+    book.install(key, run) == Installation::Installed
+}
+
+/// Runs the only job of a branch, and installs the run. Returns whether there was just one job, and
+/// the run was installed.
+fn installs_only(alloc: Global, book: &mut Book<Safe>, branch: &Name) -> Result<bool, Refusal> {
+    match made_for(alloc, book, branch)? {
+        Some(made) => Ok(installs(book, made)),
+        None => Ok(false),
+    }
+}
+
 /// Runs the only job of a branch, and installs the run. Returns whether there was just one job, the
 /// run was installed, and no job is left.
 fn fills(alloc: Global, book: &mut Book<Safe>, branch: &Name) -> Result<bool, Refusal> {
-    let jobs = book.plan(alloc, branch)?;
-    let [job] = jobs.as_slice() else {
-        return Ok(false);
-    };
-    let run = run_of(alloc, job)?;
-    let answer = book.install(job.key, run);
-    Ok(answer == Installation::Installed && jobs_left(alloc, book, branch)? == 0)
+    Ok(installs_only(alloc, book, branch)? && jobs_left(alloc, book, branch)? == 0)
 }
 
 /// The number of jobs in a branch's plan.
 fn jobs_left(alloc: Global, book: &Book<Safe>, branch: &Name) -> Result<usize, Refusal> {
-    Ok(book.plan(alloc, branch)?.len())
+    let jobs = jobs_of(alloc, book, branch)?;
+    Ok(jobs.len())
+}
+
+/// Whether the log has this number of commands.
+fn logs(book: &Book<Safe>, count: u32) -> bool {
+    book.len() == count
+}
+
+/// Whether this number of edits was accepted.
+fn counts(book: &Book<Safe>, edits: u64) -> bool {
+    book.edits() == edits
 }
 
 /// Asks a book, and returns whether the result is the expected one.
@@ -202,7 +264,7 @@ fn answers(alloc: Global, book: &mut Book<Safe>, ask: &Ask<'_>) -> Result<bool, 
     match ask {
         Ask::Replies(command, reply) => Ok(answer(alloc, book, 0, None, command) == *reply),
         Ask::Refuses(command, refusal) => {
-            Ok(answer(alloc, book, 0, None, command) == Reply::No(*refusal))
+            Ok(is_refused(alloc, book, 0, None, command, *refusal))
         }
         Ask::RefusesEach(who, commands, refusal) => {
             Ok(refuses_each(alloc, book, *who, MISSED, commands, *refusal))
@@ -219,8 +281,8 @@ fn answers(alloc: Global, book: &mut Book<Safe>, ask: &Ask<'_>) -> Result<bool, 
         Ask::AreAt(first, branch, places) => {
             Ok(*first < 16 && are_cursors_at(alloc, book, *first, branch, places)?)
         }
-        Ask::Logs(count) => Ok(book.len() == *count),
-        Ask::Counts(edits) => Ok(book.edits() == *edits),
+        Ask::Logs(count) => Ok(logs(book, *count)),
+        Ask::Counts(edits) => Ok(counts(book, *edits)),
         Ask::Fills(branch) => fills(alloc, book, branch),
     }
 }

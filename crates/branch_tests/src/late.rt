@@ -2,11 +2,13 @@
 //! nothing, so such a read is stray. The register is a unary number, and a stamped register is
 //! below each of its bits. A write is refused halfway through if one of these has no stamp left.
 
+use crate::books::{answer, text};
 use crate::given::{GO, READ, name};
 use frames::register::Register;
 use frames::types::Step;
 use regular_bit::{NewRegularBit, RegularBit};
 use schedule_trie::limits::Limits;
+use schedule_trie::name::Name;
 use schedule_trie::refusal::Refusal;
 use sessions::book::Book;
 use sessions::command::Command;
@@ -16,10 +18,7 @@ use std::process::Abort;
 use std::test::Fail;
 use towers::stamped;
 use unary_number::{NewUnary, Unary};
-use views::lens::Lens;
-use views::page::page_text;
 use views::query::Query;
-use views::slip::Slip;
 
 const LIMITS: Limits = Limits {
     cells: 256,
@@ -77,11 +76,54 @@ fn in_a_row(alloc: Global, runs: &[(Step, u32)]) -> Result<Vec<Step>, AllocError
     Ok(steps)
 }
 
-/// The text of a slip's page.
-fn text_of<R: Register>(alloc: Global, slip: &Slip<R>) -> Result<Vec<u8>, AllocError> {
-    let mut lens = Lens::new(alloc)?;
-    let page = slip.page(alloc, &mut lens)?;
-    page_text(alloc, 0, &page)
+/// Whether an insert at a place of a branch is accepted.
+fn is_inserted<R: Register>(
+    alloc: Global,
+    book: &mut Book<R>,
+    branch: Name,
+    place: u32,
+    step: Step,
+) -> bool {
+    let insert = Command::Insert {
+        b: branch,
+        k: place,
+        step,
+    };
+    matches!(answer(alloc, book, 0, None, &insert), Reply::Edited(_))
+}
+
+/// Inserts steps from the beginning of a branch on; fails unless each insert is accepted. Returns
+/// the number of steps.
+fn insert_all<R: Register>(
+    rt: &impl Abort,
+    alloc: Global,
+    book: &mut Book<R>,
+    branch: Name,
+    steps: &[Step],
+) -> u32 {
+    let mut place: u32 = 0;
+    for step in steps {
+        assert!(rt; is_inserted(alloc, book, branch, place, *step));
+        place = place.wrapping_add(1);
+    }
+    place
+}
+
+/// The text of the verdicts at the end of `main`, the only branch of an empty book, after these
+/// steps.
+fn verdicts_after<R: Register>(
+    rt: &impl Abort,
+    alloc: Global,
+    book: &mut Book<R>,
+    steps: &[Step],
+) -> Result<Vec<u8>, Refusal> {
+    let branch = name(rt, b"main");
+    let place = insert_all(rt, alloc, book, branch, steps);
+    let query = Query::Verdict {
+        b: branch,
+        k: place,
+    };
+    text(alloc, book, query)
 }
 
 /// The text of the verdicts at the end of `main`, the only branch of a book, after these steps.
@@ -94,27 +136,7 @@ fn verdicts<R: Register>(
 ) -> Result<Vec<u8>, Refusal> {
     assert!(rt; value < register.values());
     let mut book = Book::new(alloc, register, value, LIMITS, &[])?;
-    let branch = name(rt, b"main");
-    let mut place: u32 = 0;
-    for step in steps {
-        let step = *step;
-        let insert = Command::Insert {
-            b: branch,
-            k: place,
-            step,
-        };
-        let reply = book.act(alloc, 0, 0, None, &insert);
-        assert!(rt; matches!(reply, Reply::Edited(_)));
-        place = place.wrapping_add(1);
-    }
-    let slip = book.look(
-        alloc,
-        Query::Verdict {
-            b: branch,
-            k: place,
-        },
-    )?;
-    text_of(alloc, &slip).or(Err(Refusal::Memory))
+    verdicts_after(rt, alloc, &mut book, steps)
 }
 
 /// Fails unless the verdicts on these steps, from an initial value, have the text `wanted`.

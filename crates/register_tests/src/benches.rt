@@ -5,8 +5,9 @@ use crate::spelling::{
 };
 use std::alloc::Global;
 use std::io::Write;
+use std::process::Abort;
 use std::test::Fail;
-use tower_file::{FaultKind, laws, parse_bench};
+use tower_file::{BenchFile, FaultKind, FileFault, laws, parse_bench};
 
 /// Three branches on a safe bit: `a` shares the first cell of `main`, and `b` both cells of `a`.
 const THREE_BRANCHES: &[u8] = b"bench 1\nsafe 0\nbranch main 0 0\nr 1\nw 0 1\n\
@@ -22,22 +23,39 @@ pub(crate) const SAMPLE: Sample = Sample {
     lines: 9,
 };
 
-#[test]
-fn three_branches(rt: HostRuntime) -> Result<(), Fail> {
-    let file = parse_bench(rt.alloc(), THREE_BRANCHES)?;
+/// The index of a limb's parent, the number of shared cells, and the number of its own cells.
+type Numbers = (u32, u32, usize);
+
+/// Asserts a limb's name and numbers.
+fn assert_limb(rt: &impl Abort, name: &[u8], numbers: Numbers, wanted: (&[u8], Numbers)) {
+    assert_eq!(rt; name, wanted.0);
+    assert_eq!(rt; numbers, wanted.1);
+}
+
+/// Asserts what `THREE_BRANCHES` says of each branch.
+fn assert_three_branches(rt: &impl Abort, file: &BenchFile) -> Result<(), Fail> {
     assert!(rt; file.spec.is_lawful());
     let [main, a, b] = file.limbs.as_slice() else {
         return Err("three limbs".into());
     };
-    assert_eq!(rt; main.name.as_bytes(), b"main".as_slice());
-    assert_eq!(rt;
-        (main.from, main.shared, main.steps.as_slice().len()),
-        (0, 0, 2)
-    );
-    assert_eq!(rt; a.name.as_bytes(), b"a".as_slice());
-    assert_eq!(rt; (a.from, a.shared, a.steps.as_slice().len()), (0, 1, 1));
-    assert_eq!(rt; b.name.as_bytes(), b"b".as_slice());
-    assert_eq!(rt; (b.from, b.shared, b.steps.as_slice().len()), (1, 2, 1));
+    let numbers = (main.from, main.shared, main.steps.as_slice().len());
+    assert_limb(rt, main.name.as_bytes(), numbers, (b"main", (0, 0, 2)));
+    let numbers = (a.from, a.shared, a.steps.as_slice().len());
+    assert_limb(rt, a.name.as_bytes(), numbers, (b"a", (0, 1, 1)));
+    let numbers = (b.from, b.shared, b.steps.as_slice().len());
+    assert_limb(rt, b.name.as_bytes(), numbers, (b"b", (1, 2, 1)));
+    Ok(())
+}
+
+/// Reads `THREE_BRANCHES`, and asserts what it says of each branch.
+fn assert_read(rt: &impl Abort, alloc: Global) -> Result<(), Fail> {
+    let file = parse_bench(alloc, THREE_BRANCHES)?;
+    assert_three_branches(rt, &file)
+}
+
+#[test]
+fn three_branches(rt: HostRuntime) -> Result<(), Fail> {
+    assert_read(&rt, rt.alloc())?;
     assert_same(&rt, Kind::Bench, THREE_BRANCHES)?;
     laws::one_bench_spelling();
     Ok(())
@@ -72,14 +90,23 @@ fn many_branches(alloc: Global, count: u32) -> Result<Vec<u8>, Fail> {
     Ok(bytes)
 }
 
+/// The number of limbs in a file.
+fn count_of_limbs(alloc: Global, bytes: &[u8]) -> Result<usize, FileFault> {
+    let file = parse_bench(alloc, bytes)?;
+    Ok(file.limbs.as_slice().len())
+}
+
+/// Asserts that bytes are a file with 1,000 limbs, and are printed as they were read.
+fn assert_thousand(rt: &(impl Abort + AllocGlobal), bytes: &[u8]) -> Result<(), Fail> {
+    assert_same(rt, Kind::Bench, bytes)?;
+    assert_eq!(rt; count_of_limbs(rt.alloc(), bytes)?, 1000);
+    Ok(())
+}
+
 #[test]
 fn printed_again_many(rt: HostRuntime) -> Result<(), Fail> {
     let mut bytes = many_branches(rt.alloc(), 999)?;
-    assert_same(&rt, Kind::Bench, &bytes)?;
-    assert_eq!(rt;
-        parse_bench(rt.alloc(), &bytes)?.limbs.as_slice().len(),
-        1000
-    );
+    assert_thousand(&rt, &bytes)?;
     bytes.extend_from_slice(b"branch b500 0 0\n")?;
     assert_fault(&rt, Kind::Bench, &bytes, FaultKind::BadBranch, 2102);
     Ok(())

@@ -4,6 +4,7 @@
 use frames::config::Config;
 use frames::safe::Safe;
 use frames::types::{Action, ActionKind, Event, Frame, FrameLayer, Op, Reason, Step, StepEvents};
+use safe_bit::Cell;
 use std::alloc::{AllocError, Global};
 use std::process::Abort;
 use std::test::Fail;
@@ -21,15 +22,18 @@ const WRITE_STARTED: Row = (Step::Go { p: 0, c: 0 }, None, None);
 /// A step, and the events that it should record.
 type Row = (Step, Option<Event>, Option<Event>);
 
+/// Makes a step, and asserts that it fits and records these events.
+fn make(rt: &impl Abort, config: &mut Config<Safe>, row: &Row) {
+    let (step, first, second) = *row;
+    assert!(rt; config.fits(step), "{step:?}");
+    let events = config.step(step);
+    assert_eq!(rt; events, StepEvents { first, second }, "{step:?}");
+}
+
 /// Makes each step, and asserts that it fits and records these events.
 fn run(rt: &impl Abort, config: &mut Config<Safe>, rows: &[Row]) {
-    for (step, first, second) in rows {
-        assert!(rt; config.fits(*step), "{step:?}");
-        let events = StepEvents {
-            first: *first,
-            second: *second,
-        };
-        assert_eq!(rt; config.step(*step), events, "{step:?}");
+    for row in rows {
+        make(rt, config, row);
     }
 }
 
@@ -39,6 +43,50 @@ fn ran(rt: &impl Abort, alloc: Global, rows: &[Row]) -> Result<Config<Safe>, All
     let mut config = Config::initial(alloc, Safe, 0)?;
     run(rt, &mut config, rows);
     Ok(config)
+}
+
+/// Asserts that a write of 1 to the cell has started and hasn't ended.
+fn assert_written(rt: &impl Abort, cell: Cell) {
+    assert_eq!(rt; cell.writing, Some(true));
+}
+
+/// Asserts that process 0 has stopped with its write of 1 pending, and no other has stopped.
+fn assert_0_stopped(rt: &impl Abort, config: &Config<Safe>) {
+    assert_eq!(rt; config.op(0), Some(Op::Write(1)));
+    assert_eq!(rt;
+        (config.stopped(0), config.stopped(1), config.stopped(2)),
+        (true, false, false)
+    );
+}
+
+/// Asserts that process 0 has one frame, of a write of 1 that has started.
+fn assert_one_frame(rt: &impl Abort, alloc: Global, config: &Config<Safe>) -> Result<(), Fail> {
+    let frame = Frame {
+        layer: FrameLayer::Safe,
+        op: Op::Write(1),
+        i: 1,
+        x: 0,
+    };
+    let stack = config.stack(alloc, 0).ok_or("idle")?;
+    assert_eq!(rt; stack.as_slice(), [frame].as_slice());
+    Ok(())
+}
+
+/// Asserts that process 0 has a write of 1 pending, which its next bit action ends, on a safe bit.
+fn assert_write_ends_next(rt: &impl Abort, config: &Config<Safe>) {
+    assert_eq!(rt; config.op(0), Some(Op::Write(1)));
+    let action = Action {
+        kind: ActionKind::WriteEnd,
+        cell: 0,
+    };
+    assert_eq!(rt; config.action(0), Some(action));
+    assert!(rt; config.register() == Safe);
+}
+
+/// Asserts that a process has no operation pending.
+fn assert_idle(rt: &impl Abort, alloc: Global, config: &Config<Safe>, p: u32) {
+    assert_eq!(rt; (config.op(p), config.action(p)), (None, None), "{p}");
+    assert!(rt; config.stack(alloc, p).is_none(), "{p}");
 }
 
 #[test]
@@ -87,11 +135,10 @@ fn voids(rt: HostRuntime) -> Result<(), Fail> {
 
 #[test]
 fn stopped_writer(rt: HostRuntime) -> Result<(), Fail> {
-    let mut config = Config::initial(rt.alloc(), Safe, 0)?;
     let void = Some(Event::Void(0, Reason::Stopped));
-    run(
+    let config = ran(
         &rt,
-        &mut config,
+        rt.alloc(),
         &[
             WRITE_INVOKED,
             WRITE_STARTED,
@@ -107,13 +154,9 @@ fn stopped_writer(rt: HostRuntime) -> Result<(), Fail> {
                 Some(Event::Got(1, 1)),
             ),
         ],
-    );
-    assert_eq!(rt; config.op(0), Some(Op::Write(1)));
-    assert_eq!(rt; config.store().cell(0).writing, Some(true));
-    assert_eq!(rt;
-        (config.stopped(0), config.stopped(1), config.stopped(2)),
-        (true, false, false)
-    );
+    )?;
+    assert_written(&rt, config.store().cell(0));
+    assert_0_stopped(&rt, &config);
     Ok(())
 }
 
@@ -134,48 +177,39 @@ fn copy_is_independent(rt: HostRuntime) -> Result<(), Fail> {
 
 #[test]
 fn pending_write(rt: HostRuntime) -> Result<(), Fail> {
-    let mut config = Config::initial(rt.alloc(), Safe, 0)?;
-    run(&rt, &mut config, &[WRITE_INVOKED, WRITE_STARTED]);
-    assert_eq!(rt; config.store().cell(0).writing, Some(true));
-    assert_eq!(rt; config.op(0), Some(Op::Write(1)));
-    let frame = Frame {
-        layer: FrameLayer::Safe,
-        op: Op::Write(1),
-        i: 1,
-        x: 0,
-    };
-    let stack = config.stack(rt.alloc(), 0).ok_or("idle")?;
-    assert_eq!(rt; stack.as_slice(), [frame].as_slice());
-    let action = Action {
-        kind: ActionKind::WriteEnd,
-        cell: 0,
-    };
-    assert_eq!(rt; config.action(0), Some(action));
-    assert!(rt; config.register() == Safe);
-    for p in [1, 2] {
-        assert_eq!(rt; (config.op(p), config.action(p)), (None, None), "{p}");
-        assert!(rt; config.stack(rt.alloc(), p).is_none(), "{p}");
-    }
-    Ok(())
+    let config = ran(&rt, rt.alloc(), &[WRITE_INVOKED, WRITE_STARTED])?;
+    assert_written(&rt, config.store().cell(0));
+    assert_write_ends_next(&rt, &config);
+    assert_idle(&rt, rt.alloc(), &config, 1);
+    assert_idle(&rt, rt.alloc(), &config, 2);
+    assert_one_frame(&rt, rt.alloc(), &config)
 }
+
+/// Asserts whether a step fits.
+fn assert_fits(rt: &impl Abort, config: &Config<Safe>, step: Step, fits: bool) {
+    assert_eq!(rt; config.fits(step), fits, "{step:?}");
+}
+
+/// Steps, and whether each fits a safe bit.
+const FITTING: [(Step, bool); 11] = [
+    (Step::Write { p: 0, v: 1 }, true),
+    (Step::Write { p: 0, v: 2 }, false),
+    (Step::Write { p: 1, v: 0 }, false),
+    (Step::Read { p: 1 }, true),
+    (Step::Read { p: 0 }, false),
+    (Step::Read { p: 2 }, false),
+    (Step::Go { p: 1, c: 1 }, true),
+    (Step::Go { p: 1, c: 2 }, false),
+    (Step::Go { p: 2, c: 0 }, false),
+    (Step::Stop { p: 1 }, true),
+    (Step::Stop { p: 2 }, false),
+];
 
 #[test]
 fn fits(rt: HostRuntime) -> Result<(), Fail> {
     let config = Config::initial(rt.alloc(), Safe, 0)?;
-    for (step, fits) in [
-        (Step::Write { p: 0, v: 1 }, true),
-        (Step::Write { p: 0, v: 2 }, false),
-        (Step::Write { p: 1, v: 0 }, false),
-        (Step::Read { p: 1 }, true),
-        (Step::Read { p: 0 }, false),
-        (Step::Read { p: 2 }, false),
-        (Step::Go { p: 1, c: 1 }, true),
-        (Step::Go { p: 1, c: 2 }, false),
-        (Step::Go { p: 2, c: 0 }, false),
-        (Step::Stop { p: 1 }, true),
-        (Step::Stop { p: 2 }, false),
-    ] {
-        assert_eq!(rt; config.fits(step), fits, "{step:?}");
+    for (step, fits) in FITTING {
+        assert_fits(&rt, &config, step, fits);
     }
     Ok(())
 }

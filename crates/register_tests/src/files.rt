@@ -8,7 +8,7 @@ use frames::types::Step;
 use std::alloc::{AllocError, Global};
 use std::process::Abort;
 use std::test::Fail;
-use tower_file::{FaultKind, TowerFile, TowerSpec, Version, laws, parse, print};
+use tower_file::{FaultKind, FileFault, TowerFile, TowerSpec, Version, laws, parse, print};
 
 /// A file with a stamped register of two values, and 16 steps.
 const STAMPED_BEST: &[u8] = b"tower 1\nstamped 2 1\nw 0 1\ng 0 0\ng 0 0\ng 0 0\n\
@@ -159,67 +159,105 @@ fn stopped_writer(rt: HostRuntime) -> Result<(), Fail> {
     assert_faults(&rt, Kind::Tower, &UNSTOPPED)
 }
 
-#[test]
-fn printed_again_long(rt: HostRuntime) -> Result<(), Fail> {
+/// A file of 1,000 steps: writes of a safe bit, of which the last has only begun.
+fn thousand_steps(alloc: Global) -> Result<Vec<u8>, AllocError> {
     let writes = b"w 0 1\ng 0 0\ng 0 0\nw 0 0\ng 0 0\ng 0 0\n";
-    let mut thousand = repeated(rt.alloc(), b"tower 1\nsafe 0\n", writes, 166)?;
-    thousand.extend_from_slice(b"w 0 1\ng 0 0\ng 0 0\nw 0 0\n")?;
-    assert_same(&rt, Kind::Tower, &thousand)?;
-    assert_eq!(rt; parse(rt.alloc(), &thousand)?.steps.as_slice().len(), 1000);
+    let mut bytes = repeated(alloc, b"tower 1\nsafe 0\n", writes, 166)?;
+    bytes.extend_from_slice(b"w 0 1\ng 0 0\ng 0 0\nw 0 0\n")?;
+    Ok(bytes)
+}
 
-    let overlap = repeated(
-        rt.alloc(),
+/// A file of 44 steps, with a write by each of the two processes of a matrix.
+fn two_writes(alloc: Global) -> Result<Vec<u8>, AllocError> {
+    let first = b"tower 1\nmatrix 2 2 1 3\nw 0 1\n";
+    let mut bytes = repeated(alloc, first, b"g 0 0\n", 12)?;
+    bytes.extend_from_slice(b"w 1 0\n")?;
+    for _ in 0..30 {
+        bytes.extend_from_slice(b"g 1 0\n")?;
+    }
+    Ok(bytes)
+}
+
+/// A file with a read that begins during a write of a unary number.
+fn overlap(alloc: Global) -> Result<Vec<u8>, AllocError> {
+    repeated(
+        alloc,
         b"tower 1\nunary 4 1 0\nw 0 3\ng 0 0\ng 0 0\nr 1\ng 0 0\n",
         b"g 1 0\n",
         8,
-    )?;
-    assert_same(&rt, Kind::Tower, &overlap)?;
+    )
+}
 
-    let mut matrix = repeated(
-        rt.alloc(),
-        b"tower 1\nmatrix 2 2 1 3\nw 0 1\n",
-        b"g 0 0\n",
-        12,
-    )?;
-    matrix.extend_from_slice(b"w 1 0\n")?;
-    for _ in 0..30 {
-        matrix.extend_from_slice(b"g 1 0\n")?;
-    }
-    assert_same(&rt, Kind::Tower, &matrix)?;
-    assert_eq!(rt; parse(rt.alloc(), &matrix)?.steps.as_slice().len(), 44);
+/// The number of steps in a file.
+fn count_of_steps(alloc: Global, bytes: &[u8]) -> Result<usize, FileFault> {
+    let file = parse(alloc, bytes)?;
+    Ok(file.steps.as_slice().len())
+}
+
+/// Asserts that bytes are a file with this number of steps, and are printed as they were read.
+fn assert_same_of(rt: &(impl Abort + AllocGlobal), bytes: &[u8], count: usize) -> Result<(), Fail> {
+    assert_same(rt, Kind::Tower, bytes)?;
+    assert_eq!(rt; count_of_steps(rt.alloc(), bytes)?, count);
     Ok(())
 }
 
 #[test]
-fn made_by_hand(rt: HostRuntime) -> Result<(), Fail> {
-    let spec = TowerSpec::Unary {
-        values: 4,
-        readers: 1,
-        init: 3,
-    };
-    assert!(rt; spec.is_lawful());
-    assert!(rt; spec.fits(Step::Go { p: 1, c: 1 }));
-    assert!(rt; !spec.fits(Step::Go { p: 2, c: 1 }));
-    let mut steps = Vec::new(rt.alloc());
-    steps.push(Step::Write { p: 0, v: 2 })?;
-    steps.push(Step::Read { p: 1 })?;
-    let file = TowerFile::new(Version::One, spec, steps).ok_or("the steps fit")?;
-    assert_eq!(rt; file.spec, spec);
+fn printed_again_long(rt: HostRuntime) -> Result<(), Fail> {
+    assert_same_of(&rt, &thousand_steps(rt.alloc())?, 1000)?;
+    assert_same(&rt, Kind::Tower, &overlap(rt.alloc())?)?;
+    assert_same_of(&rt, &two_writes(rt.alloc())?, 44)
+}
+
+/// A unary number for one reader.
+const NUMBER: TowerSpec = TowerSpec::Unary {
+    values: 4,
+    readers: 1,
+    init: 3,
+};
+
+/// Whether a tower and steps in this version are refused.
+fn is_refused(
+    alloc: Global,
+    version: Version,
+    spec: TowerSpec,
+    steps: &[Step],
+) -> Result<bool, AllocError> {
+    let steps = Vec::from_slice(alloc, steps)?;
+    Ok(TowerFile::new(version, spec, steps).is_none())
+}
+
+/// Asserts the tower and the text of a file of two steps of `NUMBER`.
+fn assert_two_steps(rt: &impl Abort, alloc: Global, file: &TowerFile) -> Result<(), Fail> {
+    assert_eq!(rt; file.spec, NUMBER);
     assert_eq!(rt; file.steps.as_slice().len(), 2);
-    let printed = print(rt.alloc(), &file)?;
+    let printed = print(alloc, file)?;
     assert_eq!(rt;
         printed.as_slice(),
         b"tower 1\nunary 4 1 3\nw 0 2\nr 1\n".as_slice()
     );
+    Ok(())
+}
 
-    let mut steps = Vec::new(rt.alloc());
-    steps.push(Step::Read { p: 2 })?;
-    assert!(rt; TowerFile::new(Version::One, spec, steps).is_none());
+/// Makes a file of a write of 2 and a read.
+fn assert_made(rt: &impl Abort, alloc: Global) -> Result<(), Fail> {
+    let steps = [Step::Write { p: 0, v: 2 }, Step::Read { p: 1 }];
+    let steps = Vec::from_slice(alloc, &steps)?;
+    let file = TowerFile::new(Version::One, NUMBER, steps).ok_or("the steps fit")?;
+    assert_two_steps(rt, alloc, &file)
+}
+
+#[test]
+fn made_by_hand(rt: HostRuntime) -> Result<(), Fail> {
+    assert!(rt; NUMBER.is_lawful());
+    assert!(rt; NUMBER.fits(Step::Go { p: 1, c: 1 }));
+    assert!(rt; !NUMBER.fits(Step::Go { p: 2, c: 1 }));
+    assert_made(&rt, rt.alloc())?;
+    let beyond = [Step::Read { p: 2 }];
+    assert!(rt; is_refused(rt.alloc(), Version::One, NUMBER, &beyond)?);
     let unlawful = TowerSpec::Safe { init: 2 };
-    assert!(rt; TowerFile::new(Version::Two, unlawful, Vec::new(rt.alloc())).is_none());
-    let mut steps = Vec::new(rt.alloc());
-    steps.push(Step::Stop { p: 1 })?;
-    assert!(rt; TowerFile::new(Version::One, spec, steps).is_none());
+    assert!(rt; is_refused(rt.alloc(), Version::Two, unlawful, &[])?);
+    let stop = [Step::Stop { p: 1 }];
+    assert!(rt; is_refused(rt.alloc(), Version::One, NUMBER, &stop)?);
     Ok(())
 }
 

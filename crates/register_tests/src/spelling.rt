@@ -3,6 +3,7 @@
 
 use crate::{benches, files};
 use std::alloc::{AllocError, Global};
+use std::fmt::Display;
 use std::process::Abort;
 use std::test::Fail;
 use tower_file::{FaultKind, FileFault, parse, parse_bench, print, print_bench};
@@ -22,17 +23,23 @@ pub(crate) fn fault_of(alloc: Global, kind: Kind, bytes: &[u8]) -> Option<FileFa
     }
 }
 
+/// Reads bytes as a tower file, and prints it.
+fn printed_tower(alloc: Global, bytes: &[u8]) -> Result<Vec<u8>, Fail> {
+    let file = parse(alloc, bytes)?;
+    Ok(print(alloc, &file)?)
+}
+
+/// Reads bytes as a bench file, and prints it.
+fn printed_bench(alloc: Global, bytes: &[u8]) -> Result<Vec<u8>, Fail> {
+    let file = parse_bench(alloc, bytes)?;
+    Ok(print_bench(alloc, &file)?)
+}
+
 /// Reads bytes as a file of this kind, and prints it.
 fn printed(alloc: Global, kind: Kind, bytes: &[u8]) -> Result<Vec<u8>, Fail> {
     match kind {
-        Kind::Tower => {
-            let file = parse(alloc, bytes)?;
-            Ok(print(alloc, &file)?)
-        }
-        Kind::Bench => {
-            let file = parse_bench(alloc, bytes)?;
-            Ok(print_bench(alloc, &file)?)
-        }
+        Kind::Tower => printed_tower(alloc, bytes),
+        Kind::Bench => printed_bench(alloc, bytes),
     }
 }
 
@@ -78,6 +85,17 @@ fn joined(alloc: Global, before: &[u8], text: &[u8]) -> Result<Vec<u8>, AllocErr
     Ok(bytes)
 }
 
+/// Asserts that a prefix and a text are together a file, and are printed as they were read.
+fn assert_same_joined(
+    rt: &(impl Abort + AllocGlobal),
+    file: Kind,
+    before: &[u8],
+    text: &[u8],
+) -> Result<(), Fail> {
+    let bytes = joined(rt.alloc(), before, text)?;
+    assert_same(rt, file, &bytes)
+}
+
 /// Asserts that `before`, followed by any of the texts, which bars separate, is a file, and is
 /// printed as it was read.
 pub(crate) fn assert_same_after(
@@ -87,7 +105,7 @@ pub(crate) fn assert_same_after(
     texts: &[u8],
 ) -> Result<(), Fail> {
     for text in texts.split(|byte| *byte == b'|') {
-        assert_same(rt, file, &joined(rt.alloc(), before, text)?)?;
+        assert_same_joined(rt, file, before, text)?;
     }
     Ok(())
 }
@@ -95,6 +113,23 @@ pub(crate) fn assert_same_after(
 /// The beginning of a file; texts that may follow it, which bars separate; and the kind and line of
 /// the fault that the file has with each of these texts.
 pub(crate) type Refused = (&'static [u8], &'static [u8], FaultKind, u64);
+
+/// Lines after a fault, which have faults too.
+const MORE_LINES: &[u8] = b"g 1 1\nbranch\n";
+
+/// Asserts the kind and the line of the fault of these three texts, joined.
+fn assert_fault_joined(
+    rt: &(impl Abort + AllocGlobal),
+    file: Kind,
+    texts: [&[u8]; 3],
+    kind: FaultKind,
+    line: u64,
+) -> Result<(), Fail> {
+    let mut bytes = joined(rt.alloc(), texts[0], texts[1])?;
+    bytes.extend_from_slice(texts[2])?;
+    assert_fault(rt, file, &bytes, kind, line);
+    Ok(())
+}
 
 /// For each row, asserts the fault of the beginning followed by each of the texts. If a text ends a
 /// line, the fault is also asserted with more lines after the text.
@@ -105,11 +140,9 @@ pub(crate) fn assert_faults(
 ) -> Result<(), Fail> {
     for (before, texts, kind, line) in rows {
         for text in texts.split(|byte| *byte == b'|') {
-            let mut bytes = joined(rt.alloc(), before, text)?;
-            assert_fault(rt, file, &bytes, *kind, *line);
+            assert_fault_joined(rt, file, [before, text, b""], *kind, *line)?;
             if text.ends_with(b"\n") {
-                bytes.extend_from_slice(b"g 1 1\nbranch\n")?;
-                assert_fault(rt, file, &bytes, *kind, *line);
+                assert_fault_joined(rt, file, [before, text, MORE_LINES], *kind, *line)?;
             }
         }
     }
@@ -136,25 +169,39 @@ pub(crate) struct Sample {
     pub(crate) lines: u64,
 }
 
+impl Sample {
+    /// The fault of the first `end` bytes, which are cut within this line, given what is left of
+    /// the line; `None` if these bytes are a file.
+    fn fault_of_cut(&self, end: usize, line: u64, text: &[u8]) -> Option<FileFault> {
+        let (kind, line) = if end < 8 {
+            (FaultKind::BadHeader, 1)
+        } else if end < self.name_end {
+            (FaultKind::UnknownTower, 2)
+        } else if end < self.second_end {
+            (FaultKind::BadField, 2)
+        } else {
+            (fault_of_cut(self.file, line, text)?, line)
+        };
+        Some(FileFault { kind, line })
+    }
+}
+
 /// Cuts a file before each of its bytes in turn, and asserts the fault of the bytes before the cut,
 /// or that these are a file.
 fn assert_cut_anywhere(rt: &(impl Abort + AllocGlobal), sample: &Sample) -> Result<(), Fail> {
-    let file = sample.file;
     let mut line = 1;
     let mut start = 0;
     for (end, byte) in sample.bytes.iter().enumerate() {
-        let bytes = &sample.bytes[..end];
-        if end < 8 {
-            assert_fault(rt, file, bytes, FaultKind::BadHeader, 1);
-        } else if end < sample.name_end {
-            assert_fault(rt, file, bytes, FaultKind::UnknownTower, 2);
-        } else if end < sample.second_end {
-            assert_fault(rt, file, bytes, FaultKind::BadField, 2);
-        } else {
-            match fault_of_cut(file, line, bytes.get(start..).unwrap_or_default()) {
-                Some(kind) => assert_fault(rt, file, bytes, kind, line),
-                None => assert_same(rt, file, bytes)?,
-            }
+        let text = sample.bytes[..end].get(start..).unwrap_or_default();
+        match sample.fault_of_cut(end, line, text) {
+            Some(fault) => assert_fault(
+                rt,
+                sample.file,
+                &sample.bytes[..end],
+                fault.kind,
+                fault.line,
+            ),
+            None => assert_same(rt, sample.file, &sample.bytes[..end])?,
         }
         if *byte == b'\n' {
             line = line.saturating_add(1);
@@ -162,7 +209,7 @@ fn assert_cut_anywhere(rt: &(impl Abort + AllocGlobal), sample: &Sample) -> Resu
         }
     }
     assert_eq!(rt; line, sample.lines.saturating_add(1));
-    assert_same(rt, file, sample.bytes)
+    assert_same(rt, sample.file, sample.bytes)
 }
 
 /// Replaces each byte in turn by one outside ASCII, and asserts the fault NotAscii on the line of
@@ -170,15 +217,25 @@ fn assert_cut_anywhere(rt: &(impl Abort + AllocGlobal), sample: &Sample) -> Resu
 fn assert_broken_anywhere(rt: &(impl Abort + AllocGlobal), sample: &Sample) -> Result<(), Fail> {
     let mut line = 1;
     for (at, byte) in sample.bytes.iter().enumerate() {
-        let mut bytes = Vec::from_slice(rt.alloc(), &sample.bytes[..at])?;
-        bytes.push(0x80)?;
-        bytes.extend_from_slice(&sample.bytes[at + 1..])?;
-        assert_fault(rt, sample.file, &bytes, FaultKind::NotAscii, line);
+        let after = &sample.bytes[at + 1..];
+        let texts = [&sample.bytes[..at], b"\x80", after];
+        assert_fault_joined(rt, sample.file, texts, FaultKind::NotAscii, line)?;
         if *byte == b'\n' {
             line = line.saturating_add(1);
         }
     }
     assert_eq!(rt; line, sample.lines.saturating_add(1));
+    Ok(())
+}
+
+/// Asserts the text of a fault, of a kind of fault, or of a refusal.
+pub(crate) fn assert_text<T: Display>(
+    rt: &(impl Abort + AllocGlobal),
+    fault: &T,
+    text: &str,
+) -> Result<(), Fail> {
+    let said = format!(in rt.alloc(); "{fault}")?;
+    assert_eq!(rt; said.as_str(), text);
     Ok(())
 }
 
@@ -193,12 +250,8 @@ pub(crate) fn assert_texts(
 ) -> Result<(), Fail> {
     assert_eq!(rt; kind.number(), number);
     assert_eq!(rt; kind.name(), name);
-    let alone = format!(in rt.alloc(); "{kind}")?;
-    assert_eq!(rt; alone.as_str(), texts[0]);
-    let fault = FileFault { kind, line: 4 };
-    let on_line = format!(in rt.alloc(); "{fault}")?;
-    assert_eq!(rt; on_line.as_str(), texts[1]);
-    Ok(())
+    assert_text(rt, &kind, texts[0])?;
+    assert_text(rt, &FileFault { kind, line: 4 }, texts[1])
 }
 
 /// Texts that aren't a second line, and their faults. Some texts are cut off, and some have other

@@ -7,43 +7,70 @@ use std::alloc::Global;
 use std::process::Abort;
 use std::test::Fail;
 
-/// Adds a bit action to `main`, and forks `a` from all of `main`.
-fn grown(alloc: Global, trie: &mut Trie<u32>, main: &Name, a: Name) -> Result<(), Refusal> {
-    trie.insert(alloc, main, 1, GO)?;
-    trie.fork(alloc, main, 2, a)
+/// A forest whose `main` is one read.
+fn opened(alloc: Global) -> Result<Trie<u32>, Refusal> {
+    Trie::new(alloc, limits(), &[READ])
 }
 
-/// Detaches `a`, which gives it cells of its own, and removes the last of these.
-fn parted(alloc: Global, trie: &mut Trie<u32>, a: &Name) -> Result<(), Refusal> {
-    trie.detach(alloc, a)?;
-    trie.remove(a, 1)
+/// Inserts a step at a place of a branch.
+fn insert(
+    alloc: Global,
+    trie: &mut Trie<u32>,
+    branch: &Name,
+    place: u32,
+    step: Step,
+) -> Result<(), Refusal> {
+    trie.insert(alloc, branch, place, step)
 }
 
-/// Forks `b` from the first cell of `main`, and drops `b`.
-fn forked(alloc: Global, trie: &mut Trie<u32>, main: &Name, b: Name) -> Result<(), Refusal> {
-    trie.fork(alloc, main, 1, b)?;
-    trie.drop_branch(&b)
+/// Forks a branch from the first cells of another.
+fn fork(
+    alloc: Global,
+    trie: &mut Trie<u32>,
+    branch: &Name,
+    place: u32,
+    name: Name,
+) -> Result<(), Refusal> {
+    trie.fork(alloc, branch, place, name)
 }
 
-/// Inserts a read at the beginning of `main`, and replaces this read by a write.
-fn preceded(alloc: Global, trie: &mut Trie<u32>, main: &Name) -> Result<(), Refusal> {
-    trie.insert(alloc, main, 0, READ)?;
-    trie.replace(main, 0, WRITE)
+/// Gives a branch cells of its own.
+fn detach(alloc: Global, trie: &mut Trie<u32>, branch: &Name) -> Result<(), Refusal> {
+    trie.detach(alloc, branch)
+}
+
+/// Removes the second cell of a branch.
+fn remove(trie: &mut Trie<u32>, branch: &Name) -> Result<(), Refusal> {
+    trie.remove(branch, 1)
+}
+
+/// Drops a branch.
+fn drop_branch(trie: &mut Trie<u32>, branch: &Name) -> Result<(), Refusal> {
+    trie.drop_branch(branch)
+}
+
+/// Replaces the first step of a branch by a write.
+fn replace(trie: &mut Trie<u32>, branch: &Name) -> Result<(), Refusal> {
+    trie.replace(branch, 0, WRITE)
 }
 
 /// Makes each edit. Then `main` is a write, a read and a bit action, and `a` is only the read.
 fn edit(rt: &impl Abort, alloc: Global, trie: &mut Trie<u32>) -> Result<(), Refusal> {
     let (main, a, b) = (name(rt, b"main"), name(rt, b"a"), name(rt, b"b"));
-    grown(alloc, trie, &main, a)?;
-    parted(alloc, trie, &a)?;
-    forked(alloc, trie, &main, b)?;
-    preceded(alloc, trie, &main)
+    insert(alloc, trie, &main, 1, GO)?;
+    fork(alloc, trie, &main, 2, a)?;
+    detach(alloc, trie, &a)?;
+    remove(trie, &a)?;
+    fork(alloc, trie, &main, 1, b)?;
+    drop_branch(trie, &b)?;
+    insert(alloc, trie, &main, 0, READ)?;
+    replace(trie, &main)
 }
 
 /// A forest after the edits of `edit`. The contract promises nothing, so that the tests' proofs
 /// stay small.
 fn edited(rt: &impl Abort, alloc: Global) -> Result<Trie<u32>, Refusal> {
-    let mut trie = Trie::new(alloc, limits(), &[READ])?;
+    let mut trie = opened(alloc)?;
     edit(rt, alloc, &mut trie)?;
     Ok(trie)
 }

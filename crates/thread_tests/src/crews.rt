@@ -126,15 +126,55 @@ fn few() -> Limits
     }
 }
 
+/// A chart on a safe bit, with a read on `main`. Unlike the chart's, this contract promises nothing
+/// about it.
+fn chart_of_read(alloc: Global) -> Result<Chart<Safe>, Refusal> {
+    Chart::new(alloc, Safe, 0, few(), &[READ])
+}
+
+/// Forks a branch from the beginning of `main`.
+fn fork_at_first(
+    alloc: Global,
+    chart: &mut Chart<Safe>,
+    main: &Name,
+    fresh: Name,
+) -> Result<(), Refusal> {
+    chart.fork(alloc, main, 0, fresh)
+}
+
+/// Gives a branch a write as its first step.
+fn insert_write(alloc: Global, chart: &mut Chart<Safe>, branch: &Name) -> Result<(), Refusal> {
+    chart.insert(alloc, branch, 0, WRITE)
+}
+
+/// Forks a branch from the beginning of `main`, and gives it a write.
+fn fork_and_write(
+    alloc: Global,
+    chart: &mut Chart<Safe>,
+    main: &Name,
+    fresh: Name,
+) -> Result<(), Refusal> {
+    fork_at_first(alloc, chart, main, fresh)?;
+    insert_write(alloc, chart, &fresh)
+}
+
+/// Forks `a` with a write, and plans the chart.
+fn plan_of_fork(
+    rt: &impl Abort,
+    alloc: Global,
+    chart: &mut Chart<Safe>,
+) -> Result<Vec<plan::Job<Safe>>, Refusal> {
+    let main = Name::new(b"main").expect(rt, "a short name");
+    let a = Name::new(b"a").expect(rt, "a short name");
+    fork_and_write(alloc, chart, &main, a)?;
+    chart.plan(alloc, &main)
+}
+
 /// The plan of a chart on a safe bit, with a read on `main` and a write on `a`. It has a job for
 /// each branch, from the initial state.
 fn plan_of_two(rt: &impl Abort, alloc: Global) -> Result<Vec<plan::Job<Safe>>, Refusal> {
-    let main = Name::new(b"main").expect(rt, "a short name");
-    let a = Name::new(b"a").expect(rt, "a short name");
-    let mut chart = Chart::new(alloc, Safe, 0, few(), &[READ])?;
-    chart.fork(alloc, &main, 0, a)?;
-    chart.insert(alloc, &a, 0, WRITE)?;
-    chart.plan(alloc, &main)
+    let mut chart = chart_of_read(alloc)?;
+    plan_of_fork(rt, alloc, &mut chart)
 }
 
 /// The outcome of a job of a chart.
@@ -163,43 +203,90 @@ fn run_by_two<W: Threads + Wait + Sync>(
     Crew::run(rt, alloc, jobs, 1, gate)
 }
 
+/// The keys of a plan's two jobs, each with its one step.
+fn wanted_of(rt: &impl Abort, jobs: &[plan::Job<Safe>]) -> [Option<(SegKey, Step)>; 2] {
+    let [read, write] = jobs else {
+        panic!(rt; "a job of each branch")
+    };
+    [Some((read.key, READ)), Some((write.key, WRITE))]
+}
+
+/// Whether the outcomes are runs of these jobs, each of this one step.
+fn have_steps(all: &[Ran], wanted: [Option<(SegKey, Step)>; 2]) -> bool {
+    all.iter().map(only_step).eq(wanted)
+}
+
+/// Runs the jobs of a plan of two, and compares the outcomes with the jobs. The offers have to
+/// meet.
+fn run_plan<W: Abort + Threads + Wait + Sync>(
+    rt: &W,
+    alloc: Global,
+    jobs: Vec<plan::Job<Safe>>,
+) -> Result<(), AllocError> {
+    let gate = Meeting::new();
+    let wanted = wanted_of(rt, &jobs);
+    let all = run_by_two(rt, alloc, jobs, &gate)?;
+    assert!(rt; gate.both_met());
+    assert!(rt; have_steps(&all, wanted));
+    Ok(())
+}
+
 /// The caller and one thief have one of two jobs each at the same time; otherwise the gate would
 /// hold the first offer until its limit. A crew that ran all jobs on one thread would have the same
 /// outcomes and meet each contract: only this test would fail.
 #[test]
 fn two_threads(rt: HostRuntime) -> Result<(), Fail> {
-    let gate = Meeting::new();
     let jobs = plan_of_two(&rt, rt.alloc())?;
-    let [read, write] = jobs.as_slice() else {
-        panic!(rt; "a job of each branch")
-    };
-    let wanted = [Some((read.key, READ)), Some((write.key, WRITE))];
-    let all = run_by_two(&rt, rt.alloc(), jobs, &gate)?;
-    assert!(rt; gate.both_met());
-    assert!(rt; all.iter().map(only_step).eq(wanted));
+    run_plan(&rt, rt.alloc(), jobs)?;
     Ok(())
 }
 
-/// A job for each letter. The job of `q` runs out of memory.
+/// How many letters there are.
+const LETTERS: u8 = 26;
+
+/// The letter at an index, and its place in the alphabet, counted from 1.
+fn letter(index: u8) -> (char, u64) {
+    let key = char::from(b'a'.wrapping_add(index));
+    (key, u64::from(index).wrapping_add(1))
+}
+
+/// The number of a letter's job. The job of `q` has none, so it runs out of memory.
+fn number_of(key: char, n: u64) -> Option<u64> {
+    if key == 'q' { None } else { Some(n) }
+}
+
+/// The job of the letter at an index.
+fn job_of(index: u8) -> Square {
+    let (key, n) = letter(index);
+    let number = number_of(key, n);
+    Square { key, number }
+}
+
+/// A job for each letter.
 fn letters(alloc: Global) -> Result<Vec<Square>, AllocError> {
     let mut jobs = Vec::new(alloc);
-    for (key, n) in ('a'..='z').zip(1..27u64) {
-        let number = if key == 'q' { None } else { Some(n) };
-        jobs.push(Square { key, number })?;
+    for index in 0..LETTERS {
+        jobs.push(job_of(index))?;
     }
     Ok(jobs)
+}
+
+/// The expected outcome of the job of the letter at an index.
+fn outcome_of(index: u8) -> Done<char, u64> {
+    let (key, n) = letter(index);
+    let outcome = if key == 'q' {
+        JobOutcome::NoMemory
+    } else {
+        JobOutcome::Ran(n.wrapping_mul(n))
+    };
+    Done { key, outcome }
 }
 
 /// The expected outcomes of the letters' jobs.
 fn squared_letters(alloc: Global) -> Result<Vec<Done<char, u64>>, AllocError> {
     let mut all = Vec::new(alloc);
-    for (key, n) in ('a'..='z').zip(1..27u64) {
-        let outcome = if key == 'q' {
-            JobOutcome::NoMemory
-        } else {
-            JobOutcome::Ran(n.wrapping_mul(n))
-        };
-        all.push(Done { key, outcome })?;
+    for index in 0..LETTERS {
+        all.push(outcome_of(index))?;
     }
     Ok(all)
 }

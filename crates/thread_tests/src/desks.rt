@@ -22,7 +22,7 @@ mod side_by_side;
 mod threads;
 
 use self::openings::limits;
-use desk::{Chair, Desk, Receipt};
+use desk::{Answer, Chair, Desk, Receipt};
 use frames::safe::Safe;
 use frames::types::Step;
 use schedule_trie::name::Name;
@@ -30,11 +30,12 @@ use schedule_trie::refusal::Refusal;
 use sessions::book::Book;
 use sessions::command::Command;
 use sessions::log::{Entry, Log};
+use sessions::reply::Reply;
 use std::alloc::Global;
 use std::process::Abort;
 use std::sync::Wait;
 use views::lens::Lens;
-use views::page::page_text;
+use views::page::{Page, page_text};
 use views::query::Query;
 
 const READ: Step = Step::Read { p: 1 };
@@ -93,6 +94,37 @@ impl<R: Wait> Room<'_, R> {
             .act(self.rt, self.alloc, chair, who, if_at, command)
     }
 
+    /// Gives the desk an edit of session 0, and returns whether it was accepted.
+    fn accepts(&self, chair: &mut Chair<Safe>, edit: &Command) -> bool
+        requires { IsChairOf (λ _. safe_behaviour) self.now.desk.now chair.old }
+        ensures { IsChairOf (λ _. safe_behaviour) self.now.desk.now chair.new }
+    {
+        let receipt = self.bring(chair, (0, None, edit));
+        matches!(receipt.reply, Reply::Edited(_))
+    }
+
+    /// Looks. Unlike the desk's, this contract promises nothing about the answer.
+    fn answered(&self, chair: &mut Chair<Safe>, lens: &mut Lens<Safe>, query: Query) -> Answer
+        requires { IsChairOf (λ _. safe_behaviour) self.now.desk.now chair.old }
+        ensures { IsChairOf (λ _. safe_behaviour) self.now.desk.now chair.new }
+    {
+        self.desk.look(self.rt, self.alloc, chair, lens, query)
+    }
+
+    /// The length of the history at a look by this lens, and the text of its page.
+    fn text_by(
+        &self,
+        chair: &mut Chair<Safe>,
+        lens: &mut Lens<Safe>,
+        query: &Query,
+    ) -> Result<(u64, Vec<u8>), Refusal>
+        requires { IsChairOf (λ _. safe_behaviour) self.now.desk.now chair.old }
+        ensures { IsChairOf (λ _. safe_behaviour) self.now.desk.now chair.new }
+    {
+        let answer = self.answered(chair, lens, *query);
+        text_of_answer(self.alloc, &answer)
+    }
+
     /// The length of the history at a look, and the text of its page.
     fn text_at(&self, chair: &mut Chair<Safe>, query: &Query) -> Result<(u64, Vec<u8>), Refusal>
         requires { IsChairOf (λ _. safe_behaviour) self.now.desk.now chair.old }
@@ -101,16 +133,27 @@ impl<R: Wait> Room<'_, R> {
         let Ok(mut lens) = Lens::new(self.alloc) else {
             return Err(Refusal::Memory);
         };
-        let answer = self
-            .desk
-            .look(self.rt, self.alloc, chair, &mut lens, *query);
-        let at = answer.at;
-        let page = answer.result?;
-        let Ok(text) = page_text(self.alloc, 0, &page) else {
-            return Err(Refusal::Memory);
-        };
-        Ok((at, text))
+        self.text_by(chair, &mut lens, query)
     }
+}
+
+/// The text of a page.
+fn text_of(alloc: Global, page: &Page) -> Result<Vec<u8>, Refusal> {
+    page_text(alloc, 0, page).or(Err(Refusal::Memory))
+}
+
+/// The length of the history in an answer, and the text of its page.
+fn text_of_answer(alloc: Global, answer: &Answer) -> Result<(u64, Vec<u8>), Refusal> {
+    match &answer.result {
+        Ok(page) => Ok((answer.at, text_of(alloc, page)?)),
+        Err(refusal) => Err(*refusal),
+    }
+}
+
+/// Whether two texts are equal. A test that owns a desk compares by this call, which promises
+/// nothing.
+fn is_text(text: &[u8], expected: &[u8]) -> bool {
+    text == expected
 }
 
 /// Asks for news. Unlike the desk's, this contract promises nothing about the answer.
@@ -138,19 +181,33 @@ fn closed(desk: Desk<Safe>, chair: Chair<Safe>) -> Option<Log>
     desk.close(chair).ok()
 }
 
+/// Joins two chairs, and closes the desk. Returns the log; `None` if the chairs together lack a
+/// share.
+fn closed_with(desk: Desk<Safe>, mut first: Chair<Safe>, second: Chair<Safe>) -> Option<Log>
+    requires { IsChairOf (λ _. safe_behaviour) desk first
+        × IsChairOf (λ _. safe_behaviour) desk second }
+{
+    take_in(&desk, &mut first, second);
+    closed(desk, first)
+}
+
 /// Gives a book a logged call, and returns whether its reply is the logged one.
 fn replies_so(alloc: Global, book: &mut Book<Safe>, entry: &Entry) -> bool {
     book.act(alloc, entry.chair, entry.who, entry.if_at, &entry.command) == entry.reply
 }
 
-/// A new book of these steps, after the calls of a log; `None` if a reply isn't the logged one.
-fn replayed(alloc: Global, log: &Log, steps: &[Step]) -> Result<Option<Book<Safe>>, Refusal>
+/// A new book of these steps. Unlike the book's, this contract promises nothing about it.
+fn book_of(alloc: Global, steps: &[Step]) -> Result<Book<Safe>, Refusal>
     requires { AllFit safe_behaviour steps.now }
 {
-    let mut book = Book::new(alloc, Safe, 0, limits(1024), steps)?;
+    Book::new(alloc, Safe, 0, limits(1024), steps)
+}
+
+/// Gives a book the calls of a log, and returns whether each reply is the logged one.
+fn replies_to(alloc: Global, book: &mut Book<Safe>, log: &Log) -> bool {
     let mut all = true;
     for entry in log.entries() {
-        all &= replies_so(alloc, &mut book, entry);
+        all &= replies_so(alloc, book, entry);
     }
-    Ok(if all { Some(book) } else { None })
+    all
 }

@@ -125,10 +125,9 @@ fn closed(turn: Turn<Notes>, mut first: Chair<Notes>, second: Chair<Notes>) -> O
     requires { IsOf turn first × IsOf turn second }
 {
     turn.join(&mut first, second);
-    if first.shares() != 16 {
-        return None;
-    }
-    turn.close(first).ok()
+    let all = first.shares() == 16;
+    let notes = turn.close(first).ok();
+    if all { notes } else { None }
 }
 
 /// Writes down 0 to `count` - 1. Returns the chair, and whether there was memory for all.
@@ -162,16 +161,35 @@ fn has_counted(notes: &Notes, chair: u32, count: u32) -> bool {
     next == count
 }
 
-/// Two chairs each write a number down, and then the first asks for news. Returns the notes.
+/// Two chairs each write a number down, and then the first asks for news.
+fn write_in_turn<R: Abort + Wait>(
+    rt: &R,
+    turn: &Turn<Notes>,
+    first: &mut Chair<Notes>,
+    second: &mut Chair<Notes>,
+)
+    requires { IsOf turn.now first.old × IsOf turn.now second.old }
+    ensures { IsOf turn.now first.new × IsOf turn.now second.new }
+{
+    assert_eq!(rt; asked(turn, second), 0);
+    assert!(rt; write_down(rt, turn, first, 7) && write_down(rt, turn, second, 9));
+    assert_eq!(rt; asked(turn, first), 2);
+}
+
+/// The notes of a new turn after `write_in_turn`.
 fn written_in_turn<R: Abort + Wait>(rt: &R, alloc: Global) -> Result<Option<Notes>, AllocError> {
     let (turn, first) = empty(alloc)?;
     assert_eq!(rt; first.shares(), 16);
     let (mut first, mut second) = parted(&turn, first, 8);
     assert!(rt; first.shares() == 8 && second.shares() == 8);
-    assert_eq!(rt; asked(&turn, &mut second), 0);
-    assert!(rt; write_down(rt, &turn, &mut first, 7) && write_down(rt, &turn, &mut second, 9));
-    assert_eq!(rt; asked(&turn, &mut first), 2);
+    write_in_turn(rt, &turn, &mut first, &mut second);
     Ok(closed(turn, first, second))
+}
+
+/// Whether these are the notes of `write_in_turn`.
+fn are_in_turn(notes: &Notes) -> bool {
+    let wanted = [Note { chair: 0, value: 7 }, Note { chair: 1, value: 9 }];
+    notes.all.as_slice() == wanted.as_slice()
 }
 
 #[test]
@@ -179,8 +197,7 @@ fn two_chairs(rt: HostRuntime) -> Result<(), Fail> {
     let Some(notes) = written_in_turn(&rt, rt.alloc())? else {
         panic!(rt; "a chair with every share")
     };
-    let wanted = [Note { chair: 0, value: 7 }, Note { chair: 1, value: 9 }];
-    assert!(rt; notes.all.as_slice() == wanted.as_slice());
+    assert!(rt; are_in_turn(&notes));
     Ok(())
 }
 

@@ -5,11 +5,14 @@ ghost use Rattle.frames.specs.Configuration.{fits_step};
 ghost use Rattle.frames.specs.SafeBit.{safe_behaviour};
 
 use super::rows::{Kind, limits, step_of};
-use super::single::{run_of, text_of};
+use super::single::{
+    Kept, drop_branch, first_run, fork_with, install, jobs_of, keep, replace, settle, state_text,
+};
 use crate::given::{Branch, name_of, none_wrong};
 use checkpoints::run::Run;
 use cutoff::chart::Chart;
 use cutoff::install::Installation;
+use cutoff::plan::Job;
 use frames::safe::Safe;
 use frames::types::Step;
 use schedule_trie::name::Name;
@@ -89,25 +92,56 @@ fn reported(pieces: Pieces, key: SegKey, is_one: bool) -> Installation {
     }
 }
 
+/// Another owner of an old run.
+fn clone_of(run: &Arc<Run<Safe>>) -> Result<Arc<Run<Safe>>, Refusal> {
+    Arc::try_clone(run).or(Err(Refusal::Memory))
+}
+
+/// Whether the install of an old run has the expected result at a key.
+fn is_reported_at(
+    chart: &mut Chart<Safe>,
+    pieces: Pieces,
+    old: &Old,
+    key: SegKey,
+) -> Result<bool, Refusal> {
+    let run = clone_of(&old.run)?;
+    Ok(install(chart, key, run) == reported(pieces, key, old.is_one))
+}
+
 /// Whether the install of an old run has the expected result at each key.
 fn is_reported(chart: &mut Chart<Safe>, pieces: Pieces, old: &Old) -> Result<bool, Refusal> {
     let mut all = true;
     for key in 0..KEYS {
-        let Ok(run) = Arc::try_clone(&old.run) else {
-            return Err(Refusal::Memory);
-        };
-        all &= chart.install(key, run) == reported(pieces, key, old.is_one);
+        all &= is_reported_at(chart, pieces, old, key)?;
     }
     Ok(all)
 }
 
 /// Whether the installs of all old runs have the expected results at each key.
-fn are_reported(shelf: &mut Shelf) -> Result<bool, Refusal> {
+fn are_reported(chart: &mut Chart<Safe>, pieces: Pieces, runs: &[Old]) -> Result<bool, Refusal> {
     let mut all = true;
-    for old in shelf.runs.iter() {
-        all &= is_reported(&mut shelf.chart, shelf.pieces, old)?;
+    for old in runs {
+        all &= is_reported(chart, pieces, old)?;
     }
     Ok(all)
+}
+
+/// The run of the first job of a branch's plan; `None` unless the job is of this write alone.
+fn made_for(
+    alloc: Global,
+    chart: &Chart<Safe>,
+    branch: &Name,
+    write: Step,
+) -> Result<Option<Kept<Safe>>, Refusal> {
+    let jobs = jobs_of(alloc, chart, branch)?;
+    first_run(alloc, &jobs, write)
+}
+
+/// Keeps a run of a write, and returns the write's segment.
+fn piece_of(runs: &mut Vec<Old>, is_one: bool, made: Kept<Safe>) -> Result<Piece, Refusal> {
+    let (key, run) = made;
+    keep(runs, Old { is_one, run })?;
+    Ok(Piece { key, is_one })
 }
 
 /// Forks a branch after the read, gives it a write, and keeps a run of the write. Returns the
@@ -119,20 +153,11 @@ fn forked(
     branch: &Name,
     is_one: bool,
 ) -> Result<Option<Piece>, Refusal> {
-    shelf.chart.fork(alloc, main, 1, *branch)?;
-    shelf.chart.insert(alloc, branch, 1, write_of(is_one))?;
-    let jobs = shelf.chart.plan(alloc, branch)?;
-    let Some(job) = jobs.first() else {
-        return Ok(None);
-    };
-    if job.steps.as_slice() != [write_of(is_one)].as_slice() {
-        return Ok(None);
-    }
-    let run = run_of(alloc, job)?;
-    let key = job.key;
-    match shelf.runs.push(Old { is_one, run }) {
-        Ok(()) => Ok(Some(Piece { key, is_one })),
-        Err(_) => Err(Refusal::Memory),
+    let write = write_of(is_one);
+    fork_with(alloc, &mut shelf.chart, main, *branch, write)?;
+    match made_for(alloc, &shelf.chart, branch, write)? {
+        Some(made) => Ok(Some(piece_of(&mut shelf.runs, is_one, made)?)),
+        None => Ok(None),
     }
 }
 
@@ -198,8 +223,29 @@ fn shows(rt: &impl Abort, alloc: Global, shelf: &mut Shelf, is_a: bool) -> Resul
     let Some(piece) = piece else {
         return Ok(false);
     };
-    let text = text_of(alloc, &mut shelf.chart, branch_of(rt, alloc, is_a), 2)?;
+    let text = state_text(alloc, &mut shelf.chart, branch_of(rt, alloc, is_a), 2)?;
     Ok(text.as_slice() == state_of(is_a, piece.is_one))
+}
+
+/// Drops `a` or `b`.
+fn drops(rt: &impl Abort, alloc: Global, shelf: &mut Shelf, is_a: bool) -> Result<(), Refusal> {
+    drop_branch(&mut shelf.chart, &branch_of(rt, alloc, is_a))?;
+    put(&mut shelf.pieces, is_a, None);
+    Ok(())
+}
+
+/// Replaces the read by itself.
+fn unsettles(shelf: &mut Shelf, main: &Name) -> Result<(), Refusal> {
+    replace(&mut shelf.chart, main, 0, step_of(Kind::Read))?;
+    shelf.pieces.is_settled = false;
+    Ok(())
+}
+
+/// Stores a run at the read.
+fn settles(alloc: Global, shelf: &mut Shelf, main: &Name) -> Result<(), Refusal> {
+    settle(alloc, &mut shelf.chart, main, 1)?;
+    shelf.pieces.is_settled = true;
+    Ok(())
 }
 
 /// Does what is asked, and returns whether the result is the expected one.
@@ -208,20 +254,20 @@ fn goes(rt: &impl Abort, alloc: Global, shelf: &mut Shelf, ask: Ask) -> Result<b
     match ask {
         Ask::Forks(is_a, is_one) => return forks(rt, alloc, shelf, is_a, is_one),
         Ask::Shows(is_a) => return shows(rt, alloc, shelf, is_a),
-        Ask::Drops(is_a) => {
-            shelf.chart.drop_branch(&branch_of(rt, alloc, is_a))?;
-            put(&mut shelf.pieces, is_a, None);
-        }
-        Ask::Unsettles => {
-            shelf.chart.replace(&main, 0, step_of(Kind::Read))?;
-            shelf.pieces.is_settled = false;
-        }
-        Ask::Settles => {
-            shelf.chart.settle(alloc, &main, 1)?;
-            shelf.pieces.is_settled = true;
-        }
+        Ask::Drops(is_a) => drops(rt, alloc, shelf, is_a)?,
+        Ask::Unsettles => unsettles(shelf, &main)?,
+        Ask::Settles => settles(alloc, shelf, &main)?,
     }
     Ok(true)
+}
+
+/// Does what is asked. Returns whether the result is the expected one, and the installs of all old
+/// runs then have the expected results at each key.
+fn goes_well(rt: &impl Abort, alloc: Global, shelf: &mut Shelf, ask: Ask) -> Result<bool, Refusal> {
+    if !goes(rt, alloc, shelf, ask)? {
+        return Ok(false);
+    }
+    are_reported(&mut shelf.chart, shelf.pieces, &shelf.runs)
 }
 
 /// The index of the first of `asks` that has a wrong result, or after which the install of an old
@@ -233,33 +279,62 @@ fn first_wrong(
     asks: &[Ask],
 ) -> Result<Option<usize>, Refusal> {
     for (i, ask) in asks.iter().enumerate() {
-        if !goes(rt, alloc, shelf, *ask)? || !are_reported(shelf)? {
+        if !goes_well(rt, alloc, shelf, *ask)? {
             return Ok(Some(i));
         }
     }
     Ok(None)
 }
 
-/// The index that `first_wrong` returns for a new chart of one read; 0 if the chart has no job.
-fn tried(rt: &impl Abort, alloc: Global, asks: &[Ask]) -> Result<Option<usize>, Refusal> {
-    let steps = [step_of(Kind::Read)];
-    let chart = Chart::new(alloc, Safe, 0, limits(), &steps)?;
-    let jobs = chart.plan(alloc, &name_of(rt, alloc, Branch::Main))?;
-    let Some(job) = jobs.first() else {
-        return Ok(Some(0));
-    };
+/// The key of the first job of a branch's plan; `None` if the plan has no job.
+fn first_key(alloc: Global, chart: &Chart<Safe>, branch: &Name) -> Result<Option<SegKey>, Refusal> {
+    let jobs = jobs_of(alloc, chart, branch)?;
+    Ok(key_of(&jobs))
+}
+
+/// The key of the first job, if there is one.
+fn key_of(jobs: &[Job<Safe>]) -> Option<SegKey> {
+    match jobs.first() {
+        Some(job) => Some(job.key),
+        None => None,
+    }
+}
+
+/// A chart of one read, without runs. Its shared segment isn't known yet.
+fn shelf_of(alloc: Global) -> Result<Shelf, Refusal> {
     let pieces = Pieces {
-        shared: job.key,
+        shared: 0,
         is_settled: false,
         a: None,
         b: None,
     };
-    let mut shelf = Shelf {
-        chart,
+    Ok(Shelf {
+        chart: Chart::new(alloc, Safe, 0, limits(), &[step_of(Kind::Read)])?,
         pieces,
         runs: Vec::new(alloc),
+    })
+}
+
+/// The index that `first_wrong` returns for a chart of one read, without runs; 0 if the chart has
+/// no job.
+fn first_wrong_from(
+    rt: &impl Abort,
+    alloc: Global,
+    shelf: &mut Shelf,
+    asks: &[Ask],
+) -> Result<Option<usize>, Refusal> {
+    let main = name_of(rt, alloc, Branch::Main);
+    let Some(shared) = first_key(alloc, &shelf.chart, &main)? else {
+        return Ok(Some(0));
     };
-    first_wrong(rt, alloc, &mut shelf, asks)
+    shelf.pieces.shared = shared;
+    first_wrong(rt, alloc, shelf, asks)
+}
+
+/// The index that `first_wrong` returns for a new chart of one read; 0 if the chart has no job.
+fn tried(rt: &impl Abort, alloc: Global, asks: &[Ask]) -> Result<Option<usize>, Refusal> {
+    let mut shelf = shelf_of(alloc)?;
+    first_wrong_from(rt, alloc, &mut shelf, asks)
 }
 
 const A: bool = true;

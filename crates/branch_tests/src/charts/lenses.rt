@@ -5,47 +5,32 @@ ghost use Rattle.std.specs.Prelude.{◌≡◌, ◌<◌, true};
 ghost use Rattle.views.specs.Looks.{is_at_branch};
 
 use super::counting::Counting;
-use super::rows::{Kind, limits, step_of, writes};
+use super::rows::{Kind, chart_of, step_of, writes};
+use super::single::{new_lens, replace, slip_of, text_of, text_once_through, text_through};
 use crate::given::{name, none_wrong};
 use cutoff::chart::Chart;
 use schedule_trie::name::Name;
 use schedule_trie::refusal::Refusal;
-use std::alloc::{AllocError, Global};
+use std::alloc::Global;
 use std::process::Abort;
 use std::sync::atomic::{AtomicU64, Ordering};
 use views::lens::Lens;
-use views::page::{Page, page_text};
 use views::query::Query;
 use views::slip::Slip;
 
-/// A slip's page, through a lens.
-fn page_of<'a>(
-    alloc: Global,
-    slip: &Slip<Counting<'a>>,
-    lens: &mut Lens<Counting<'a>>,
-) -> Result<Page, AllocError> {
-    slip.page(alloc, lens)
-}
-
-/// The text of a slip's page.
-fn text_of<'a>(
-    alloc: Global,
-    slip: &Slip<Counting<'a>>,
-    lens: &mut Lens<Counting<'a>>,
-) -> Result<Vec<u8>, AllocError> {
-    let page = page_of(alloc, slip, lens)?;
-    page_text(alloc, 0, &page)
-}
-
-/// The text of a slip's page through a new lens.
-fn new_text_of<'a>(alloc: Global, slip: &Slip<Counting<'a>>) -> Result<Vec<u8>, AllocError> {
-    let mut lens = Lens::new(alloc)?;
-    text_of(alloc, slip, &mut lens)
-}
-
 /// Whether a slip's page through a new lens has this text.
-fn is_own(alloc: Global, slip: &Slip<Counting<'_>>, text: &[u8]) -> Result<bool, AllocError> {
-    Ok(new_text_of(alloc, slip)?.as_slice() == text)
+fn is_own(alloc: Global, slip: &Slip<Counting<'_>>, text: &[u8]) -> Result<bool, Refusal> {
+    Ok(text_of(alloc, slip)?.as_slice() == text)
+}
+
+/// Whether a slip's page is the same through `lens` as through a new lens.
+fn is_same<'a>(
+    alloc: Global,
+    slip: &Slip<Counting<'a>>,
+    lens: &mut Lens<Counting<'a>>,
+) -> Result<bool, Refusal> {
+    let text = text_through(alloc, slip, lens)?;
+    is_own(alloc, slip, &text)
 }
 
 /// How many steps were made for a slip's page through `lens`; `None` if the page differs from the
@@ -55,11 +40,30 @@ fn steps_for<'a>(
     calls: &AtomicU64,
     slip: &Slip<Counting<'a>>,
     lens: &mut Lens<Counting<'a>>,
-) -> Result<Option<u64>, AllocError> {
+) -> Result<Option<u64>, Refusal> {
     let before = calls.load(Ordering::SeqCst);
-    let text = text_of(alloc, slip, lens)?;
+    let text = text_through(alloc, slip, lens)?;
     let made = calls.load(Ordering::SeqCst).wrapping_sub(before);
     Ok(is_own(alloc, slip, &text)?.then_some(made))
+}
+
+/// What `is_same` returns for a slip that isn't used again.
+fn is_same_once<'a>(
+    alloc: Global,
+    slip: Slip<Counting<'a>>,
+    lens: &mut Lens<Counting<'a>>,
+) -> Result<bool, Refusal> {
+    is_same(alloc, &slip, lens)
+}
+
+/// What `steps_for` returns for a slip that isn't used again.
+fn steps_once<'a>(
+    alloc: Global,
+    calls: &AtomicU64,
+    slip: Slip<Counting<'a>>,
+    lens: &mut Lens<Counting<'a>>,
+) -> Result<Option<u64>, Refusal> {
+    steps_for(alloc, calls, &slip, lens)
 }
 
 /// A chart of the 1,000 steps of `writes` on `main`, on a register that counts its calls.
@@ -81,22 +85,24 @@ impl<'a> Counted<'a> {
     ) -> Result<Counted<'a>, Refusal>
         requires { value < 2 }
     {
-        let steps = writes(alloc).expect(rt, "memory");
-        let chart = Chart::new(alloc, Counting::new(calls), value, limits(), &steps)?;
         let main = name(rt, b"main");
+        let steps = writes(alloc).expect(rt, "memory");
         Ok(Counted {
             alloc,
             calls,
             main,
-            chart,
+            chart: chart_of(alloc, calls, value, &steps)?,
         })
     }
 
-    /// The slip of a look.
-    fn slip(&mut self, query: Query) -> Result<Slip<Counting<'a>>, Refusal>
-        requires { is_at_branch query ≡ true }
+    /// The query for the page of the state at a place.
+    fn state_at(&self, place: u32) -> Query
+        ensures { is_at_branch result ≡ true }
     {
-        Slip::at(self.alloc, &mut self.chart, query)
+        Query::State {
+            b: self.main,
+            k: place,
+        }
     }
 
     /// How many steps were made for the page of the state at a place; `None` if the page differs
@@ -106,14 +112,17 @@ impl<'a> Counted<'a> {
         lens: &mut Lens<Counting<'a>>,
         place: u32,
     ) -> Result<Option<u64>, Refusal> {
-        let branch = self.main;
-        let slip = self.slip(Query::State {
-            b: branch,
-            k: place,
-        })?;
-        match steps_for(self.alloc, self.calls, &slip, lens) {
-            Ok(made) => Ok(made),
-            Err(_) => Err(Refusal::Memory),
+        let query = self.state_at(place);
+        let slip = slip_of(self.alloc, &mut self.chart, query)?;
+        steps_once(self.alloc, self.calls, slip, lens)
+    }
+
+    /// Whether the page of the state at a place is as through a new lens, and takes at most one
+    /// step.
+    fn is_cheap_at(&mut self, lens: &mut Lens<Counting<'a>>, place: u32) -> Result<bool, Refusal> {
+        match self.steps_at(lens, place)? {
+            Some(made) => Ok(made <= 1),
+            None => Ok(false),
         }
     }
 
@@ -125,9 +134,8 @@ impl<'a> Counted<'a> {
         places: u32,
     ) -> Result<Option<usize>, Refusal> {
         for place in 0..places {
-            match self.steps_at(lens, place)? {
-                Some(made) if made <= 1 => {}
-                _ => return Ok(Some(place as usize)),
+            if !self.is_cheap_at(lens, place)? {
+                return Ok(Some(place as usize));
             }
         }
         Ok(None)
@@ -175,7 +183,7 @@ impl<'a> Counted<'a> {
 fn first_wrong(rt: &impl Abort, alloc: Global, places: u32) -> Result<Option<usize>, Refusal> {
     let calls = AtomicU64::new(0);
     let mut chart = Counted::new(rt, alloc, &calls, 0)?;
-    let mut lens = Lens::new(alloc).expect(rt, "memory");
+    let mut lens = new_lens(rt, alloc);
     chart.first_wrong_place(&mut lens, places)
 }
 
@@ -190,45 +198,54 @@ fn three_hundred_places_up_and_down(rt: HostRuntime) {
     none_wrong(&rt, first_wrong(&rt, rt.alloc(), 300));
 }
 
-/// Whether the pages of two charts at a place, through a shared lens, are as through a new lens, and
-/// the second chart's page also through a lens of its own.
-fn are_own_at<'a>(
-    zero: &mut Counted<'a>,
-    one: &mut Counted<'a>,
-    shared: &mut Lens<Counting<'a>>,
-    own: &mut Lens<Counting<'a>>,
-    place: u32,
-) -> Result<bool, Refusal> {
-    let of_zero = zero.steps_at(shared, place)?.is_some();
-    let of_one = one.steps_at(shared, place)?.is_some();
-    let alone = one.steps_at(own, place)?.is_some();
-    Ok(of_zero && of_one && alone)
+/// Two charts of the same steps, a lens that they share, and a lens of the second chart alone.
+#[derive(Drop)]
+struct Turns<'a> {
+    zero: Counted<'a>,
+    one: Counted<'a>,
+    shared: Lens<Counting<'a>>,
+    own: Lens<Counting<'a>>,
 }
 
-/// Goes upwards through 40 places, and returns the first place at which `are_own_at` is false.
-fn first_foreign<'a>(
-    zero: &mut Counted<'a>,
-    one: &mut Counted<'a>,
-    shared: &mut Lens<Counting<'a>>,
-    own: &mut Lens<Counting<'a>>,
-) -> Result<Option<usize>, Refusal> {
-    for place in 0..40 {
-        if !are_own_at(zero, one, shared, own, place)? {
-            return Ok(Some(place as usize));
-        }
+impl<'a> Turns<'a> {
+    /// Two charts, from the initial values 0 and 1. Their registers have equal numbers of cells and
+    /// words.
+    fn new(rt: &impl Abort, alloc: Global, calls: &'a AtomicU64) -> Result<Turns<'a>, Refusal> {
+        let zero = Counted::new(rt, alloc, calls, 0)?;
+        let one = Counted::new(rt, alloc, calls, 1)?;
+        Ok(Turns {
+            zero,
+            one,
+            shared: new_lens(rt, alloc),
+            own: new_lens(rt, alloc),
+        })
     }
-    Ok(None)
+
+    /// Whether the pages of both charts at a place, through the shared lens, are as through a new
+    /// lens, and the second chart's page also through its own lens.
+    fn are_own_at(&mut self, place: u32) -> Result<bool, Refusal> {
+        let of_zero = self.zero.steps_at(&mut self.shared, place)?.is_some();
+        let of_one = self.one.steps_at(&mut self.shared, place)?.is_some();
+        let alone = self.one.steps_at(&mut self.own, place)?.is_some();
+        Ok(of_zero && of_one && alone)
+    }
+
+    /// Goes upwards through 40 places, and returns the first place at which `are_own_at` is false.
+    fn first_foreign(&mut self) -> Result<Option<usize>, Refusal> {
+        for place in 0..40 {
+            if !self.are_own_at(place)? {
+                return Ok(Some(place as usize));
+            }
+        }
+        Ok(None)
+    }
 }
 
-/// The first place that `first_foreign` finds for two charts of the same steps, from the initial
-/// values 0 and 1. Their registers have equal numbers of cells and words.
+/// The first place that `Turns::first_foreign` finds.
 fn first_foreign_place(rt: &impl Abort, alloc: Global) -> Result<Option<usize>, Refusal> {
     let calls = AtomicU64::new(0);
-    let mut zero = Counted::new(rt, alloc, &calls, 0)?;
-    let mut one = Counted::new(rt, alloc, &calls, 1)?;
-    let mut shared = Lens::new(alloc).expect(rt, "memory");
-    let mut own = Lens::new(alloc).expect(rt, "memory");
-    first_foreign(&mut zero, &mut one, &mut shared, &mut own)
+    let mut turns = Turns::new(rt, alloc, &calls)?;
+    turns.first_foreign()
 }
 
 #[test]
@@ -288,9 +305,8 @@ impl<'a> Counted<'a> {
     fn is_page_own(&mut self, lens: &mut Lens<Counting<'a>>, query: Query) -> Result<bool, Refusal>
         requires { is_at_branch query ≡ true }
     {
-        let slip = self.slip(query)?;
-        let text = text_of(self.alloc, &slip, lens)?;
-        Ok(is_own(self.alloc, &slip, &text)?)
+        let slip = slip_of(self.alloc, &mut self.chart, query)?;
+        is_same_once(self.alloc, slip, lens)
     }
 
     /// Goes up through 40 places and down again. Returns how many places were passed before a page
@@ -308,12 +324,15 @@ impl<'a> Counted<'a> {
         Ok(None)
     }
 
-    /// The text of the page that a query asks for.
-    fn text(&mut self, lens: &mut Lens<Counting<'a>>, query: Query) -> Result<Vec<u8>, Refusal>
-        requires { is_at_branch query ≡ true }
-    {
-        let slip = self.slip(query)?;
-        Ok(text_of(self.alloc, &slip, lens)?)
+    /// The text of the page of the state at a place.
+    fn state_text(
+        &mut self,
+        lens: &mut Lens<Counting<'a>>,
+        place: u32,
+    ) -> Result<Vec<u8>, Refusal> {
+        let query = self.state_at(place);
+        let slip = slip_of(self.alloc, &mut self.chart, query)?;
+        text_once_through(self.alloc, slip, lens)
     }
 }
 
@@ -321,7 +340,7 @@ impl<'a> Counted<'a> {
 fn first_wrong_of_all_kinds(rt: &impl Abort, alloc: Global) -> Result<Option<usize>, Refusal> {
     let calls = AtomicU64::new(0);
     let mut chart = Counted::new(rt, alloc, &calls, 0)?;
-    let mut lens = Lens::new(alloc).expect(rt, "memory");
+    let mut lens = new_lens(rt, alloc);
     chart.first_wrong_of_all_kinds(&mut lens)
 }
 
@@ -337,9 +356,7 @@ const LAST_STATE: &[u8] =
 impl<'a> Counted<'a> {
     /// Whether the page of the state after all 1,000 steps has the text `LAST_STATE`.
     fn shows_the_last_state(&mut self, lens: &mut Lens<Counting<'a>>) -> Result<bool, Refusal> {
-        let branch = self.main;
-        let query = Query::State { b: branch, k: 1000 };
-        Ok(self.text(lens, query)?.as_slice() == LAST_STATE)
+        Ok(self.state_text(lens, 1000)?.as_slice() == LAST_STATE)
     }
 
     /// Makes three pages of the last place. Page 0 is made before a choice is replaced; pages 1 and
@@ -354,7 +371,7 @@ impl<'a> Counted<'a> {
             return Ok(Some(0));
         }
         let branch = self.main;
-        self.chart.replace(&branch, 10, step_of(Kind::Go1))?;
+        replace(&mut self.chart, &branch, 10, step_of(Kind::Go1))?;
         if !self.shows_the_last_state(lens)? {
             return Ok(Some(1));
         }
@@ -366,8 +383,8 @@ impl<'a> Counted<'a> {
 fn first_wrong_after_an_edit(rt: &impl Abort, alloc: Global) -> Result<Option<usize>, Refusal> {
     let calls = AtomicU64::new(0);
     let mut chart = Counted::new(rt, alloc, &calls, 0)?;
-    let mut lens = Lens::new(alloc).expect(rt, "memory");
-    let mut new = Lens::new(alloc).expect(rt, "memory");
+    let mut lens = new_lens(rt, alloc);
+    let mut new = new_lens(rt, alloc);
     chart.first_wrong_after_an_edit(&mut lens, &mut new)
 }
 

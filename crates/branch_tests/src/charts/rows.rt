@@ -1,26 +1,26 @@
 //! Tests of how many steps a settle replays, and that no other call of a chart makes a step. The
 //! calls are data, so that only one function makes a chart.
 
-ghost use Rattle.std.specs.Prelude.{◌≡◌, true, IfOk};
+ghost use Rattle.std.specs.Prelude.{◌≡◌, ◌<◌, true, IfOk};
 ghost use Rattle.frames.specs.Configuration.{fits_step};
 ghost use Rattle.frames.specs.SafeBit.{safe_behaviour};
 ghost use Rattle.frames.specs.Recorded.{AllFit};
 ghost use Rattle.schedule_trie.specs.Cut.{AreLimits};
 
 use super::counting::Counting;
+use super::single::{
+    Kept, drop_branch, fork, insert, installs_first, is_of, jobs_of, keeps_only, replace, settle,
+    settle_last,
+};
 use crate::given::{Branch, name, name_of, none_wrong};
-use checkpoints::run::{Run, run_segment};
 use cutoff::chart::Chart;
-use cutoff::install::Installation;
 use cutoff::plan::Job;
 use frames::types::Step;
 use schedule_trie::limits::Limits;
 use schedule_trie::name::Name;
 use schedule_trie::refusal::Refusal;
-use schedule_trie::trie::SegKey;
 use std::alloc::{AllocError, Global};
 use std::process::Abort;
-use std::sync::Arc;
 use std::sync::atomic::{AtomicU64, Ordering};
 
 /// A step of a safe bit.
@@ -97,9 +97,6 @@ pub(super) enum Ask {
     Left(usize),
 }
 
-/// A run, and the key of its segment.
-type Kept<'a> = (SegKey, Arc<Run<Counting<'a>>>);
-
 /// What a settle is asked for: all runs, or the last one alone. It replays the same steps for both.
 #[derive(Clone, Copy)]
 pub(super) enum Wanted {
@@ -116,34 +113,26 @@ pub(super) struct Bench<'a> {
     wanted: Wanted,
     tries: u32,
     chart: Chart<Counting<'a>>,
-    runs: Vec<Kept<'a>>,
+    runs: Vec<Kept<Counting<'a>>>,
 }
 
 /// The number of jobs in a plan.
 fn jobs_left(alloc: Global, chart: &Chart<Counting<'_>>, branch: &Name) -> Result<usize, Refusal> {
-    Ok(chart.plan(alloc, branch)?.len())
+    let jobs = jobs_of(alloc, chart, branch)?;
+    Ok(jobs.len())
 }
 
-/// The run of the only job, if there is just one and it is of this step alone; else `None`.
-fn only_run<'a>(
+/// Keeps the run of the only job, if there is just one and it is of this step alone. Returns
+/// whether it did.
+fn keeps_only_of<'a>(
     alloc: Global,
     jobs: &[Job<Counting<'a>>],
     step: Step,
-) -> Result<Option<Kept<'a>>, Refusal> {
+    runs: &mut Vec<Kept<Counting<'a>>>,
+) -> Result<bool, Refusal> {
     match jobs {
-        [job] if job.steps.as_slice() == [step].as_slice() => Ok(Some(run_of(alloc, job)?)),
-        _ => Ok(None),
-    }
-}
-
-/// The run of a job.
-fn run_of<'a>(alloc: Global, job: &Job<Counting<'a>>) -> Result<Kept<'a>, Refusal> {
-    let Ok(run) = run_segment(alloc, &job.entry, job.steps.as_slice()) else {
-        return Err(Refusal::Memory);
-    };
-    match Arc::new(alloc, run) {
-        Ok(run) => Ok((job.key, run)),
-        Err(_) => Err(Refusal::Memory),
+        [job] if is_of(job, step) => keeps_only(alloc, jobs, runs),
+        _ => Ok(false),
     }
 }
 
@@ -156,10 +145,10 @@ fn edited(
     ask: Ask,
 ) -> Result<(), Refusal> {
     match ask {
-        Ask::Replace(place, kind) => chart.replace(branch, place, step_of(kind)),
-        Ask::Insert(place, kind) => chart.insert(alloc, branch, place, step_of(kind)),
-        Ask::Fork => chart.fork(alloc, &name(rt, b"main"), 1, *branch),
-        Ask::Drop => chart.drop_branch(branch),
+        Ask::Replace(place, kind) => replace(chart, branch, place, step_of(kind)),
+        Ask::Insert(place, kind) => insert(alloc, chart, branch, place, step_of(kind)),
+        Ask::Fork => fork(alloc, chart, &name(rt, b"main"), *branch),
+        Ask::Drop => drop_branch(chart, branch),
         _ => Ok(()),
     }
 }
@@ -171,31 +160,29 @@ impl Bench<'_> {
     /// The number of steps that a settle reports as replayed.
     fn replayed(&mut self, branch: &Name, place: u32) -> Result<u32, Refusal> {
         match self.wanted {
-            Wanted::All => Ok(self.chart.settle(self.alloc, branch, place)?.replayed),
-            Wanted::Last => Ok(self.chart.settle_last(self.alloc, branch, place)?.replayed),
+            Wanted::All => settle(self.alloc, &mut self.chart, branch, place),
+            Wanted::Last => settle_last(self.alloc, &mut self.chart, branch, place),
         }
     }
 
     /// Makes and keeps the run of the only job in a plan, if the job is of this step alone. Returns
     /// whether it did.
     fn keeps_run(&mut self, branch: &Name, kind: Kind) -> Result<bool, Refusal> {
-        let jobs = self.chart.plan(self.alloc, branch)?;
-        let Some(kept) = only_run(self.alloc, &jobs, step_of(kind))? else {
-            return Ok(false);
-        };
-        match self.runs.push(kept) {
-            Ok(()) => Ok(true),
-            Err(_) => Err(Refusal::Memory),
-        }
+        let jobs = jobs_of(self.alloc, &self.chart, branch)?;
+        keeps_only_of(self.alloc, &jobs, step_of(kind), &mut self.runs)
     }
 
-    /// Offers the run that was kept first, and returns whether it was installed.
-    fn installs(&mut self) -> bool {
-        if self.runs.is_empty() {
-            return false;
-        }
-        let (key, run) = self.runs.remove(0);
-        self.chart.install(key, run) == Installation::Installed
+    /// Settles a place. Returns whether at least `least` and at most `most` steps were replayed,
+    /// and how many.
+    fn settles(
+        &mut self,
+        branch: &Name,
+        place: u32,
+        least: u32,
+        most: u32,
+    ) -> Result<(bool, u32), Refusal> {
+        let steps = self.replayed(branch, place)?;
+        Ok((least <= steps && steps <= most, steps))
     }
 
     /// Asks the chart. Returns whether the result is the expected one, and how many steps the chart
@@ -207,12 +194,14 @@ impl Bench<'_> {
         ask: Ask,
     ) -> Result<(bool, u32), Refusal> {
         match ask {
-            Ask::Settle(place, least, most) => {
-                let steps = self.replayed(branch, place)?;
-                Ok((least <= steps && steps <= most, steps))
-            }
+            Ask::Settle(place, least, most) => self.settles(branch, place, least, most),
             Ask::Plan(kind) => Ok((self.keeps_run(branch, kind)?, 1)),
-            Ask::Install(is_wanted) => Ok((self.installs() == is_wanted, 0)),
+            Ask::Install(is_wanted) => {
+                Ok((
+                    installs_first(&mut self.chart, &mut self.runs) == is_wanted,
+                    0,
+                ))
+            }
             Ask::Left(jobs) => Ok((jobs_left(self.alloc, &self.chart, branch)? == jobs, 0)),
             _ => {
                 edited(rt, self.alloc, &mut self.chart, branch, ask)?;
@@ -258,7 +247,20 @@ impl Bench<'_> {
     }
 }
 
-/// A chart of these steps, on a register that counts its calls in `calls`.
+/// A chart of these steps, from an initial value, on a register that counts its calls in `calls`.
+pub(super) fn chart_of<'a>(
+    alloc: Global,
+    calls: &'a AtomicU64,
+    value: u32,
+    steps: &[Step],
+) -> Result<Chart<Counting<'a>>, Refusal>
+    requires value { value < 2 }
+    requires fits { AllFit safe_behaviour steps.now }
+{
+    Chart::new(alloc, Counting::new(calls), value, limits(), steps)
+}
+
+/// A bench for these steps, on a register that counts its calls in `calls`.
 pub(super) fn bench_of<'a>(
     alloc: Global,
     calls: &'a AtomicU64,
@@ -273,9 +275,24 @@ pub(super) fn bench_of<'a>(
         calls,
         wanted,
         tries,
-        chart: Chart::new(alloc, Counting::new(calls), 0, limits(), steps)?,
+        chart: chart_of(alloc, calls, 0, steps)?,
         runs: Vec::new(alloc),
     })
+}
+
+/// The index of the first row that goes wrong in a chart of these steps. Each call is made once.
+fn first_wrong_if(
+    rt: &impl Abort,
+    alloc: Global,
+    steps: &[Step],
+    wanted: Wanted,
+    rows: &[Row],
+) -> Result<Option<usize>, Refusal>
+    requires { AllFit safe_behaviour steps.now }
+{
+    let calls = AtomicU64::new(0);
+    let mut bench = bench_of(alloc, &calls, steps, wanted, 1)?;
+    bench.first_wrong(rt, rows)
 }
 
 /// The index of the first row that goes wrong in a chart of these steps: first all runs are wanted,
@@ -288,15 +305,10 @@ fn first_wrong(
 ) -> Result<Option<usize>, Refusal>
     requires { AllFit safe_behaviour steps.now }
 {
-    for wanted in [Wanted::All, Wanted::Last] {
-        let calls = AtomicU64::new(0);
-        let mut bench = bench_of(alloc, &calls, steps, wanted, 1)?;
-        let wrong = bench.first_wrong(rt, rows)?;
-        if wrong.is_some() {
-            return Ok(wrong);
-        }
+    match first_wrong_if(rt, alloc, steps, Wanted::All, rows)? {
+        Some(index) => Ok(Some(index)),
+        None => first_wrong_if(rt, alloc, steps, Wanted::Last, rows),
     }
-    Ok(None)
 }
 
 /// Settles a chart of 1,000 steps, edits it, and settles it twice up to a place: the first time

@@ -1,9 +1,8 @@
 //! Registers of one kind are equal if they have the same numbers, and a configuration returns the
 //! register that it was made from.
 
+use super::spent_row::replayed;
 use crate::steps::{GO_0, GO_1, GO_2, READ_1, READ_2, WRITE};
-use checkpoints::replay;
-use frames::config::Config;
 use frames::register::Register;
 use frames::safe::Safe;
 use frames::types::Step;
@@ -30,10 +29,7 @@ fn compared<R: Register>(
 ) -> Result<(), AllocError> {
     assert!(rt; of_four == of_four);
     assert!(rt; of_four != of_two);
-    assert!(rt; 0 < of_two.values());
-    let config = Config::initial(alloc, of_two, 0)?;
-    assert!(rt; steps.iter().all(|step| config.fits(*step)));
-    let replayed = replay(alloc, of_two, 0, steps)?;
+    let replayed = replayed(rt, alloc, of_two, steps)?;
     assert!(rt; replayed.config.register() == of_two);
     Ok(())
 }

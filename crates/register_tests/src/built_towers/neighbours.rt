@@ -136,26 +136,60 @@ impl<R: Register> Neighbours<R> {
     }
 }
 
+/// Asserts that a neighbour has these cells and words.
+fn assert_content<R: Register>(
+    rt: &(impl Abort + AllocGlobal),
+    both: &Neighbours<R>,
+    side: Side,
+    cells: &[Cell],
+    words: &[u32],
+) -> Result<(), AllocError> {
+    let content = both.content(rt.alloc(), side)?;
+    assert_eq!(rt; content.0.as_slice(), cells);
+    assert_eq!(rt; content.1.as_slice(), words);
+    Ok(())
+}
+
+/// Writes a value to one neighbour, and asserts that both readers read it.
+fn write_and_read<R: Register>(rt: &impl Abort, both: &mut Neighbours<R>, side: Side, value: u32) {
+    let written = both.whole(rt, side, 0, Op::Write(value));
+    assert_eq!(rt; written, Some(Outcome::Written));
+    for who in [1, 2] {
+        let read = both.whole(rt, side, who, Op::Read);
+        assert_eq!(rt; read, Some(Outcome::Value(value)));
+    }
+}
+
+/// Writes to one neighbour and reads it. Asserts that the other stays as it is, in the middle of a
+/// write of 0 to a unary number that was 2.
+fn assert_other_left<R: Register>(
+    rt: &(impl Abort + AllocGlobal),
+    both: &mut Neighbours<R>,
+    side: Side,
+    other: Side,
+) -> Result<(), AllocError> {
+    let (cells, words) = both.content(rt.alloc(), other)?;
+    assert_eq!(rt; (cells.len(), words.as_slice()), (6, [1, 0, 1].as_slice()));
+    for value in [2, 0, 1, 1] {
+        write_and_read(rt, both, side, value);
+        assert_content(rt, both, other, &cells, &words)?;
+    }
+    Ok(())
+}
+
+/// Writes 2 to one neighbour, a unary number, and begins to write 0 to it.
+fn begin_write<R: Register>(rt: &impl Abort, both: &mut Neighbours<R>, side: Side) {
+    let written = both.whole(rt, side, 0, Op::Write(2));
+    assert_eq!(rt; written, Some(Outcome::Written));
+    both.leave_pending(rt, side, 0, Op::Write(0));
+}
+
 #[test]
 fn work_on_one_leaves_the_other(rt: HostRuntime) -> Result<(), Fail> {
     for (side, beside) in [(Side::First, Side::Second), (Side::Second, Side::First)] {
         let mut both = Neighbours::new(&rt, rt.alloc(), unary(3, 2), 1)?;
-        let written = both.whole(&rt, beside, 0, Op::Write(2));
-        assert_eq!(rt; written, Some(Outcome::Written));
-        both.leave_pending(&rt, beside, 0, Op::Write(0));
-        let (cells, words) = both.content(rt.alloc(), beside)?;
-        assert_eq!(rt; (cells.len(), words.as_slice()), (6, [1, 0, 1].as_slice()));
-        for value in [2, 0, 1, 1] {
-            let written = both.whole(&rt, side, 0, Op::Write(value));
-            assert_eq!(rt; written, Some(Outcome::Written));
-            for who in [1, 2] {
-                let read = both.whole(&rt, side, who, Op::Read);
-                assert_eq!(rt; read, Some(Outcome::Value(value)));
-            }
-            let content = both.content(rt.alloc(), beside)?;
-            assert_eq!(rt; content.0, cells);
-            assert_eq!(rt; content.1, words);
-        }
+        begin_write(&rt, &mut both, beside);
+        assert_other_left(&rt, &mut both, side, beside)?;
     }
     Ok(())
 }

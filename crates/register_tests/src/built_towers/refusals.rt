@@ -1,6 +1,7 @@
 //! Tests of the constructors of layers: what they refuse, and the size, values, processes and depth
 //! of what they build.
 
+use crate::spelling::assert_text;
 use frames::register::Register;
 use frames::safe::Safe;
 use layers::fit::LayerError;
@@ -40,14 +41,24 @@ fn shape_of<R: Register>(built: Result<R, LayerError>) -> Built {
     }
 }
 
+/// Asserts the result of a constructor, which got these numbers.
+fn assert_built(rt: &impl Abort, built: Built, wanted: Built, numbers: &[u32]) {
+    assert_eq!(rt; built, wanted, "{numbers:?}");
+}
+
 /// Asserts for how many readers a safe bit can be copied.
 fn copies_of<S: Register>(rt: &impl Abort, bit: S) {
     for readers in [0, 5, u32::MAX] {
-        assert_eq!(rt; shape_of(Copies::new(bit, readers)), BAD_SIZE, "{readers}");
+        assert_built(
+            rt,
+            shape_of(Copies::new(bit, readers)),
+            BAD_SIZE,
+            &[readers],
+        );
     }
     for (readers, cells, processes) in [(1, 1, 2), (2, 2, 3), (3, 3, 4), (4, 4, 5)] {
         let wanted = Ok((size(cells, 0), 2, processes, 2));
-        assert_eq!(rt; shape_of(Copies::new(bit, readers)), wanted, "{readers}");
+        assert_built(rt, shape_of(Copies::new(bit, readers)), wanted, &[readers]);
     }
 }
 
@@ -71,11 +82,11 @@ fn over_safe_bits(rt: HostRuntime) -> Result<(), Fail> {
 /// a word.
 fn numbers_of<S: Register>(rt: &impl Abort, bits: S) {
     for values in [0, 1, 513, u32::MAX] {
-        assert_eq!(rt; shape_of(Unary::new(bits, values)), BAD_SIZE, "{values}");
+        assert_built(rt, shape_of(Unary::new(bits, values)), BAD_SIZE, &[values]);
     }
     for (values, cells, words) in [(2, 8, 2), (3, 12, 3), (512, 2048, 512)] {
         let wanted = Ok((size(cells, words), values, 5, 4));
-        assert_eq!(rt; shape_of(Unary::new(bits, values)), wanted, "{values}");
+        assert_built(rt, shape_of(Unary::new(bits, values)), wanted, &[values]);
     }
 }
 
@@ -90,14 +101,24 @@ fn most_bits<S: Register>(rt: &impl Abort, of_16_cells: S) {
         Ok(most) => assert_eq!(rt; most.size().cell, 4096),
         Err(error) => assert!(rt; false, "{error}"),
     }
-    assert_eq!(rt; shape_of(Unary::new(of_16_cells, 257)), TOO_MANY_BITS);
+    assert_built(
+        rt,
+        shape_of(Unary::new(of_16_cells, 257)),
+        TOO_MANY_BITS,
+        &[257],
+    );
 }
 
 /// Asserts for how many readers registers of 1,024 and of 1,028 cells can be copied.
 fn most_copies<S: Register>(rt: &impl Abort, of_1024_cells: S, of_1028_cells: S) {
     assert!(rt; Copies::new(of_1024_cells, 4).is_ok());
     assert!(rt; Copies::new(of_1028_cells, 3).is_ok());
-    assert_eq!(rt; shape_of(Copies::new(of_1028_cells, 4)), TOO_MANY_BITS);
+    assert_built(
+        rt,
+        shape_of(Copies::new(of_1028_cells, 4)),
+        TOO_MANY_BITS,
+        &[4],
+    );
 }
 
 #[test]
@@ -127,11 +148,12 @@ fn stamped_of<S: Register>(rt: &impl Abort, of_4: S, of_512: S, of_two_readers: 
         (512, 0, Ok((size(512, 514), 512, 2, 5))),
     ] {
         let built = shape_of(Stamped::new(of_512, values, last));
-        assert_eq!(rt; built, wanted, "{values} {last}");
+        assert_built(rt, built, wanted, &[values, last]);
     }
     let small = Ok((size(4, 6), 2, 2, 5));
-    assert_eq!(rt; shape_of(Stamped::new(of_4, 2, 1)), small);
-    assert_eq!(rt; shape_of(Stamped::new(of_two_readers, 2, 1)), BAD_SIZE);
+    assert_built(rt, shape_of(Stamped::new(of_4, 2, 1)), small, &[2, 1]);
+    let refused = shape_of(Stamped::new(of_two_readers, 2, 1));
+    assert_built(rt, refused, BAD_SIZE, &[2, 1]);
 }
 
 #[test]
@@ -149,7 +171,7 @@ fn matrices_of<S: Register>(rt: &impl Abort, parts: S, rows: &[([u32; 3], Built)
     for (numbers, wanted) in rows {
         let [processes, values, last_tag] = *numbers;
         let built = shape_of(Matrix::new(parts, processes, values, last_tag));
-        assert_eq!(rt; built, *wanted, "{numbers:?}");
+        assert_built(rt, built, *wanted, numbers);
     }
 }
 
@@ -210,8 +232,7 @@ fn numbers_and_texts(rt: HostRuntime) -> Result<(), Fail> {
         (LayerError::TooManyBits, 2, "2 TooManyBits"),
     ] {
         assert_eq!(rt; error.number(), number);
-        let said = format!(in rt.alloc(); "{error}")?;
-        assert_eq!(rt; said.as_str(), text);
+        assert_text(&rt, &error, text)?;
     }
     Ok(())
 }

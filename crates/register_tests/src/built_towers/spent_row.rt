@@ -1,7 +1,8 @@
 //! A write to a matrix whose parts have to be read before they can be written.
 
 use super::read_first::ReadFirst;
-use checkpoints::{Replayed, replay};
+use crate::steps::{GO_0, WRITE};
+use checkpoints::{Events, Replayed, replay};
 use frames::config::Config;
 use frames::register::Register;
 use frames::safe::Safe;
@@ -39,20 +40,9 @@ pub(super) fn replayed<R: Register>(
     replay(alloc, register, 0, steps)
 }
 
-/// Asserts that a write to a matrix, refused because the second part of its row is spent, has left
-/// the first part written.
-fn spent_part_of_a_row<R: Register>(
-    rt: &impl Abort,
-    alloc: Global,
-    register: R,
-) -> Result<(), AllocError> {
-    let mut steps = Vec::new(alloc);
-    steps.push(Step::Write { p: 0, v: 1 })?;
-    for _ in 0..16 {
-        steps.push(Step::Go { p: 0, c: 0 })?;
-    }
-    let replayed = replayed(rt, alloc, register, &steps)?;
-    let history = replayed.events.indexed(alloc)?;
+/// Asserts that the write was refused at its 16th bit action.
+fn assert_refused(rt: &impl Abort, alloc: Global, events: &Events) -> Result<(), AllocError> {
+    let history = events.indexed(alloc)?;
     assert_eq!(rt;
         history.as_slice(),
         [
@@ -61,15 +51,47 @@ fn spent_part_of_a_row<R: Register>(
         ]
         .as_slice()
     );
-    let store = first_part_written(alloc)?;
-    assert!(rt; *replayed.config.store() == store);
+    Ok(())
+}
+
+/// Asserts that the first part of the row is written, and nothing else.
+fn assert_first_part_written(
+    rt: &impl Abort,
+    alloc: Global,
+    store: &Store,
+) -> Result<(), AllocError> {
+    let wanted = first_part_written(alloc)?;
+    assert!(rt; *store == wanted);
+    Ok(())
+}
+
+/// Asserts that a write to a matrix, refused because the second part of its row is spent, has left
+/// the first part written.
+fn spent_part_of_a_row<R: Register>(
+    rt: &impl Abort,
+    alloc: Global,
+    register: R,
+) -> Result<(), AllocError> {
+    let mut steps = [GO_0; 17];
+    steps[0] = WRITE;
+    let replayed = replayed(rt, alloc, register, &steps)?;
     assert!(rt; replayed.config.stack(alloc, 0).is_none());
+    assert_refused(rt, alloc, &replayed.events)?;
+    assert_first_part_written(rt, alloc, replayed.config.store())
+}
+
+/// As `spent_part_of_a_row`, for the matrix of these parts.
+fn spent_part_of_a_matrix<S: Register>(
+    rt: &impl Abort,
+    alloc: Global,
+    parts: S,
+) -> Result<(), Fail> {
+    spent_part_of_a_row(rt, alloc, Matrix::new(parts, 2, 2, 1)?)?;
     Ok(())
 }
 
 #[test]
 fn row_of_parts_to_be_read_first(rt: HostRuntime) -> Result<(), Fail> {
     let parts = Layered::over(Unary::new(Safe, 8)?, ReadFirst)?;
-    spent_part_of_a_row(&rt, rt.alloc(), Matrix::new(parts, 2, 2, 1)?)?;
-    Ok(())
+    spent_part_of_a_matrix(&rt, rt.alloc(), parts)
 }

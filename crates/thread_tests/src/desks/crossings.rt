@@ -7,7 +7,7 @@ ghost use Rattle.turn.specs.Chairs.{view};
 ghost use Rattle.desk.specs.Chairs.{IsChairOf};
 
 use super::openings::{limits, thousand};
-use super::{READ, Room, halves, name};
+use super::{READ, Room, halves, is_text, name};
 use desk::{Chair, Desk, Item, Journal, Report};
 use frames::register::Register;
 use frames::safe::Safe;
@@ -131,20 +131,36 @@ fn is_crossed(report: Report) -> bool {
 const STATE: &[u8] =
     b"0: state main 2 of 2\n  p0 write 0 next ws 0\n  p1 read next rs 0\n  bits 0\n  words -\n";
 
+/// Fills by one chair while the other edits, and then looks.
+fn cross_and_look<R: Abort + Threads + Wait + Sync>(
+    room: &Room<'_, R>,
+    first: &mut Chair<Safe>,
+    second: Chair<Safe>,
+) -> Result<(), Refusal>
+    requires { IsChairOf (λ _. safe_behaviour) room.now.desk.now first.old
+        × IsChairOf (λ _. safe_behaviour) room.now.desk.now second }
+{
+    let report = filled_beside(room.rt, room.alloc, room.desk, first, second)?;
+    assert!(room.rt; is_crossed(report));
+    let (at, text) = room.text_at(first, &state_at(room.rt, 2))?;
+    assert_eq!(room.rt; at, 1);
+    assert!(room.rt; is_text(&text, STATE));
+    Ok(())
+}
+
+/// The query for the state at a place of `main`.
+fn state_at(rt: &impl Abort, place: u32) -> Query {
+    Query::State {
+        b: name(rt, b"main"),
+        k: place,
+    }
+}
+
 #[test]
 fn crossing_install(rt: HostRuntime) -> Result<(), Fail> {
     let (desk, first) = of_one_read(rt.alloc())?;
     let (mut first, second) = halves(&desk, first);
-    let report = filled_beside(&rt, rt.alloc(), &desk, &mut first, second)?;
-    assert!(rt; is_crossed(report));
-    let query = Query::State {
-        b: name(&rt, b"main"),
-        k: 2,
-    };
-    let room = Room::new(&rt, rt.alloc(), &desk);
-    let (at, text) = room.text_at(&mut first, &query)?;
-    assert_eq!(rt; at, 1);
-    assert!(rt; text.as_slice() == STATE);
+    cross_and_look(&Room::new(&rt, rt.alloc(), &desk), &mut first, second)?;
     Ok(())
 }
 
@@ -169,24 +185,44 @@ fn crossing_a_long_branch(rt: HostRuntime) -> Result<(), Fail> {
     Ok(())
 }
 
+/// Fills by one chair while the other edits. Either the report is allowed, or memory ran out.
+fn cross<R: Abort + Threads + Wait + Sync>(
+    room: &Room<'_, R>,
+    first: &mut Chair<Safe>,
+    second: Chair<Safe>,
+)
+    requires { IsChairOf (λ _. safe_behaviour) room.now.desk.now first.old
+        × IsChairOf (λ _. safe_behaviour) room.now.desk.now second }
+    ensures { IsChairOf (λ _. safe_behaviour) room.now.desk.now first.new }
+{
+    match filled_beside(room.rt, room.alloc, room.desk, first, second) {
+        Ok(report) => assert!(room.rt; report.memory <= 1),
+        Err(refusal) => assert!(room.rt; refusal == Refusal::Memory),
+    }
+}
+
+/// Fills and looks by one of two chairs of a new desk.
+fn cross_at<R: Abort + Threads + Wait + Sync>(
+    rt: &R,
+    alloc: Global,
+    desk: &Desk<Safe>,
+    chair: Chair<Safe>,
+)
+    requires chair { IsChairOf (λ _. safe_behaviour) desk.now chair }
+    requires every { (view chair).shares ≡ every_share }
+{
+    let (mut first, second) = halves(desk, chair);
+    let room = Room::new(rt, alloc, desk);
+    cross(&room, &mut first, second);
+    let (at, _) = room.text_again(&mut first, &state_at(rt, 0));
+    assert!(rt; at <= 1);
+}
+
 /// If memory runs out, the other chair's edit may be refused, and a run may be missing. The desk
 /// still works after that.
 #[test]
 fn crossing_out_of_memory(rt: HostRuntime) {
-    let alloc = rt.alloc();
-    let Ok((desk, first)) = of_one_read(alloc) else {
-        return;
-    };
-    let (mut first, second) = halves(&desk, first);
-    match filled_beside(&rt, alloc, &desk, &mut first, second) {
-        Ok(report) => assert!(rt; report.memory <= 1),
-        Err(refusal) => assert!(rt; refusal == Refusal::Memory),
+    if let Ok((desk, chair)) = of_one_read(rt.alloc()) {
+        cross_at(&rt, rt.alloc(), &desk, chair);
     }
-    let query = Query::State {
-        b: name(&rt, b"main"),
-        k: 0,
-    };
-    let room = Room::new(&rt, alloc, &desk);
-    let (at, _) = room.text_again(&mut first, &query);
-    assert!(rt; at <= 1);
 }

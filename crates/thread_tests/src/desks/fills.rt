@@ -3,28 +3,29 @@
 
 ghost use Rattle.std.specs.Prelude.{◌≤◌};
 ghost use Rattle.frames.specs.SafeBit.{safe_behaviour};
+ghost use Rattle.frames.specs.Recorded.{AllFit};
 ghost use Rattle.schedule_trie.specs.Cut.{AreLimits};
 ghost use Rattle.desk.specs.Chairs.{IsChairOf};
 
 use super::openings::{thousand, writes, written};
 use super::side_by_side::{Work, log_and_text};
-use super::{Room, halves, name, replayed};
+use super::{Room, book_of, halves, is_text, name, replies_to, text_of};
 use desk::{Chair, Report};
 use frames::safe::Safe;
+use frames::types::Step;
 use schedule_trie::limits::Limits;
 use schedule_trie::name::Name;
 use schedule_trie::refusal::Refusal;
 use sessions::book::Book;
 use sessions::command::Command;
 use sessions::log::Log;
-use sessions::reply::Reply;
 use std::alloc::Global;
 use std::process::Abort;
 use std::sync::Wait;
 use std::test::Fail;
 use std::thread::Threads;
 use views::lens::Lens;
-use views::page::{Page, page_text};
+use views::page::Page;
 use views::query::Query;
 use views::slip::Slip;
 
@@ -55,20 +56,68 @@ pub(super) fn all_installed(count: u64) -> Report {
     }
 }
 
+impl<R: Threads + Wait + Sync> Room<'_, R> {
+    /// Fills a branch, and returns whether the report has `count` jobs, all of them installed.
+    fn installs(
+        &self,
+        chair: &mut Chair<Safe>,
+        branch: &Name,
+        thieves: u32,
+        count: u64,
+    ) -> Result<bool, Refusal>
+        requires at { IsChairOf (λ _. safe_behaviour) self.now.desk.now chair.old }
+        requires thieves { thieves ≤ 4 }
+        ensures { IsChairOf (λ _. safe_behaviour) self.now.desk.now chair.new }
+    {
+        let report = self.filled(chair, branch, thieves)?;
+        Ok(report == all_installed(count))
+    }
+
+    /// Fills a branch, and returns the refusal; `None` if there is a report.
+    fn refused(&self, chair: &mut Chair<Safe>, branch: &Name, thieves: u32) -> Option<Refusal>
+        requires at { IsChairOf (λ _. safe_behaviour) self.now.desk.now chair.old }
+        requires thieves { thieves ≤ 4 }
+        ensures { IsChairOf (λ _. safe_behaviour) self.now.desk.now chair.new }
+    {
+        self.filled(chair, branch, thieves).err()
+    }
+}
+
+/// Fills a branch that isn't there, and `main` twice, at a desk of the thousand steps.
+fn fill_at<R: Abort + Threads + Wait + Sync>(
+    room: &Room<'_, R>,
+    chair: &mut Chair<Safe>,
+    thieves: u32,
+) -> Result<(), Refusal>
+    requires at { IsChairOf (λ _. safe_behaviour) room.now.desk.now chair.old }
+    requires thieves { thieves ≤ 4 }
+{
+    let (main, zed) = (name(room.rt, b"main"), name(room.rt, b"zed"));
+    let missing = room.refused(chair, &zed, thieves);
+    assert!(room.rt; missing == Some(Refusal::NoBranch));
+    assert!(room.rt; room.installs(chair, &main, thieves, 8)?);
+    assert!(room.rt; room.installs(chair, &main, thieves, 0)?);
+    Ok(())
+}
+
+/// Fills the thousand steps with `thieves` thieves.
+fn fill_thousand<R: Abort + Threads + Wait + Sync>(
+    rt: &R,
+    alloc: Global,
+    thieves: u32,
+) -> Result<(), Refusal>
+    requires { thieves ≤ 4 }
+{
+    let (desk, mut chair) = thousand(alloc, 1024)?;
+    fill_at(&Room::new(rt, alloc, &desk), &mut chair, thieves)
+}
+
 /// A segment has at most 128 cells, so the thousand steps have 8 segments. Each round installs the
 /// run of one segment, since there is only one branch.
 #[test]
 fn thousand_steps(rt: HostRuntime) -> Result<(), Fail> {
-    let (main, zed) = (name(&rt, b"main"), name(&rt, b"zed"));
     for thieves in [0, 1, 2, 4] {
-        let (desk, mut chair) = thousand(rt.alloc(), 1024)?;
-        let room = Room::new(&rt, rt.alloc(), &desk);
-        let missing = room.filled(&mut chair, &zed, thieves);
-        assert!(rt; missing == Err(Refusal::NoBranch));
-        let first = room.filled(&mut chair, &main, thieves)?;
-        assert!(rt; first == all_installed(8));
-        let again = room.filled(&mut chair, &main, thieves)?;
-        assert!(rt; again == all_installed(0));
+        fill_thousand(&rt, rt.alloc(), thieves)?;
     }
     Ok(())
 }
@@ -84,16 +133,24 @@ fn long() -> Limits
     }
 }
 
+/// Fills 66 segments in two fills.
+fn fill_long<R: Abort + Threads + Wait + Sync>(
+    room: &Room<'_, R>,
+    chair: &mut Chair<Safe>,
+) -> Result<(), Refusal>
+    requires { IsChairOf (λ _. safe_behaviour) room.now.desk.now chair.old }
+{
+    let main = name(room.rt, b"main");
+    assert!(room.rt; room.installs(chair, &main, 0, 64)?);
+    assert!(room.rt; room.installs(chair, &main, 0, 2)?);
+    Ok(())
+}
+
 /// A fill ends after 64 rounds, though some segments have no run yet.
 #[test]
 fn sixty_four_rounds(rt: HostRuntime) -> Result<(), Fail> {
-    let main = name(&rt, b"main");
     let (desk, mut chair) = written(rt.alloc(), 66 * 128, long())?;
-    let room = Room::new(&rt, rt.alloc(), &desk);
-    let first = room.filled(&mut chair, &main, 0)?;
-    assert!(rt; first == all_installed(64));
-    let rest = room.filled(&mut chair, &main, 0)?;
-    assert!(rt; rest == all_installed(2));
+    fill_long(&Room::new(&rt, rt.alloc(), &desk), &mut chair)?;
     Ok(())
 }
 
@@ -143,20 +200,7 @@ impl<R: Abort + Threads + Wait + Sync> Room<'_, R> {
     {
         let all = self.insert_all(chair, count);
         let branch = name(self.rt, b"a");
-        let receipt = self.bring(chair, (0, None, &Command::Drop { b: branch }));
-        all && matches!(receipt.reply, Reply::Edited(_))
-    }
-}
-
-/// The text of a look's page, on a new book of 1,000 steps after the calls of a log; `None` if a
-/// reply isn't the logged one.
-fn replayed_text(alloc: Global, log: &Log, query: &Query) -> Result<Option<Vec<u8>>, Refusal> {
-    let Ok(steps) = writes(alloc, 1000) else {
-        return Err(Refusal::Memory);
-    };
-    match replayed(alloc, log, &steps)? {
-        Some(book) => Ok(Some(text_on(alloc, book, query)?)),
-        None => Ok(None),
+        self.accepts(chair, &Command::Drop { b: branch }) && all
     }
 }
 
@@ -180,13 +224,54 @@ fn page_on(alloc: Global, book: &mut Book<Safe>, query: &Query) -> Result<Page, 
 }
 
 /// The text of a look's page on a book.
-pub(super) fn text_on(
+fn text_on(alloc: Global, book: &mut Book<Safe>, query: &Query) -> Result<Vec<u8>, Refusal> {
+    let page = page_on(alloc, book, query)?;
+    text_of(alloc, &page)
+}
+
+/// Whether the page of a look at a book has this text.
+fn shows(
     alloc: Global,
-    mut book: Book<Safe>,
+    book: &mut Book<Safe>,
     query: &Query,
-) -> Result<Vec<u8>, Refusal> {
-    let page = page_on(alloc, &mut book, query)?;
-    page_text(alloc, 0, &page).or(Err(Refusal::Memory))
+    text: &[u8],
+) -> Result<bool, Refusal> {
+    let shown = text_on(alloc, book, query)?;
+    Ok(is_text(text, &shown))
+}
+
+/// Whether a look's page has this text on a new book of these steps, after the calls of a log. Each
+/// reply has to be the logged one.
+pub(super) fn is_replayed(
+    rt: &impl Abort,
+    alloc: Global,
+    steps: &[Step],
+    log: &Log,
+    query: &Query,
+    text: &[u8],
+) -> Result<bool, Refusal>
+    requires { AllFit safe_behaviour steps.now }
+{
+    let mut book = book_of(alloc, steps)?;
+    if !replies_to(alloc, &mut book, log) {
+        panic!(rt; "a legal log")
+    }
+    shows(alloc, &mut book, query, text)
+}
+
+/// Whether a look's page has this text on a new book of the thousand steps, after the calls of a
+/// log.
+fn is_replayed_on_thousand(
+    rt: &impl Abort,
+    alloc: Global,
+    log: &Log,
+    query: &Query,
+    text: &[u8],
+) -> Result<bool, Refusal> {
+    let Ok(steps) = writes(alloc, 1000) else {
+        return Err(Refusal::Memory);
+    };
+    is_replayed(rt, alloc, &steps, log, query, text)
 }
 
 /// The command that forks `a` from the first 500 cells of `main`.
@@ -198,6 +283,35 @@ fn fork_in_the_middle(rt: &impl Abort) -> Command {
     }
 }
 
+/// A filler and an editor work at a new desk of the thousand steps. Returns the log and the text of
+/// a look's page; `None` if something went wrong.
+fn filled_and_edited<R: Abort + Threads + Wait + Sync>(
+    rt: &R,
+    alloc: Global,
+    query: &Query,
+) -> Result<Option<(Log, Vec<u8>)>, Refusal> {
+    let (desk, chair) = thousand(alloc, 1024)?;
+    let (mut editor, filler) = halves(&desk, chair);
+    let fork = fork_in_the_middle(rt);
+    Room::new(rt, alloc, &desk).bring(&mut editor, (0, None, &fork));
+    let editor = (editor, Work::InsertsAndDrop(INSERTS));
+    log_and_text(rt, alloc, desk, editor, (filler, Work::Fills), query)
+}
+
+/// Compares the log and the text of one pair with a book's.
+fn fill_and_edit<R: Abort + Threads + Wait + Sync>(
+    rt: &R,
+    alloc: Global,
+    query: &Query,
+) -> Result<(), Refusal> {
+    let Some((log, text)) = filled_and_edited(rt, alloc, query)? else {
+        panic!(rt; "reports, accepted edits and a log")
+    };
+    assert_eq!(rt; log.entries().len(), 2 + INSERTS as usize);
+    assert!(rt; is_replayed_on_thousand(rt, alloc, &log, query, &text)?);
+    Ok(())
+}
+
 #[test]
 fn fills_beside_an_editor(rt: HostRuntime) -> Result<(), Fail> {
     let query = Query::History {
@@ -205,21 +319,7 @@ fn fills_beside_an_editor(rt: HostRuntime) -> Result<(), Fail> {
         k: 1000 + INSERTS,
     };
     for _ in 0..PAIRS {
-        let (desk, chair) = thousand(rt.alloc(), 1024)?;
-        let (mut editor, filler) = halves(&desk, chair);
-        let fork = fork_in_the_middle(&rt);
-        Room::new(&rt, rt.alloc(), &desk).bring(&mut editor, (0, None, &fork));
-        let editor = (editor, Work::InsertsAndDrop(INSERTS));
-        let filler = (filler, Work::Fills);
-        let reported = log_and_text(&rt, rt.alloc(), desk, editor, filler, &query)?;
-        let Some((log, text)) = reported else {
-            panic!(rt; "reports, accepted edits and a log")
-        };
-        assert_eq!(rt; log.entries().len(), 2 + INSERTS as usize);
-        let Some(replayed) = replayed_text(rt.alloc(), &log, &query)? else {
-            panic!(rt; "a legal log")
-        };
-        assert!(rt; text.as_slice() == replayed.as_slice());
+        fill_and_edit(&rt, rt.alloc(), &query)?;
     }
     Ok(())
 }

@@ -18,7 +18,6 @@ use schedule_trie::name::Name;
 use schedule_trie::refusal::Refusal;
 use schedule_trie::trie::{SegKey, Trie};
 use sessions::command::Command;
-use sessions::reply::Reply;
 use std::alloc::{AllocError, Global};
 use std::process::Abort;
 use std::sync::Wait;
@@ -200,19 +199,25 @@ impl Forest {
         Ok(jobs)
     }
 
+    /// How many jobs the next round of a fill has, by the model. Notes a run for each job.
+    fn round(&mut self) -> Result<u64, Refusal> {
+        let jobs = self.plan()?;
+        for key in jobs.as_slice() {
+            self.trie.set_note(*key, Some(0));
+        }
+        Ok(jobs.len() as u64)
+    }
+
     /// How many jobs each round of a fill has, by the model.
     fn rounds(&mut self) -> Result<Vec<u64>, Refusal> {
         let mut counts = Vec::new(self.alloc);
         for _ in 0..ROUNDS {
-            let jobs = self.plan()?;
-            if jobs.is_empty() {
+            let jobs = self.round()?;
+            if jobs == 0 {
                 break;
             }
-            if counts.push(jobs.len() as u64).is_err() {
+            if counts.push(jobs).is_err() {
                 return Err(Refusal::Memory);
-            }
-            for key in jobs.as_slice() {
-                self.trie.set_note(*key, Some(0));
             }
         }
         Ok(counts)
@@ -278,8 +283,7 @@ impl<R: Abort + Threads + Wait + Sync> Room<'_, R> {
     {
         let mut all = true;
         for command in commands {
-            let receipt = self.bring(chair, (0, None, command));
-            all &= matches!(receipt.reply, Reply::Edited(_));
+            all &= self.accepts(chair, command);
         }
         all
     }
@@ -320,6 +324,24 @@ impl Tally for Offers {
     }
 }
 
+/// Makes a forest by its commands at a new desk, and fills it by the caller and `thieves` thieves.
+/// Returns whether the report and the gate agree with the model's counts of jobs.
+fn is_filled_at<R: Abort + Threads + Wait + Sync, G: Gate<R> + Tally + Sync>(
+    room: &Room<'_, R>,
+    chair: &mut Chair<Safe>,
+    commands: &[Command],
+    counts: &[u64],
+    thieves: u32,
+    offers: &G,
+) -> Result<bool, Refusal>
+    requires at { IsChairOf (λ _. safe_behaviour) room.now.desk.now chair.old }
+    requires thieves { thieves ≤ 4 }
+{
+    let brought = room.bring_all(chair, commands);
+    let report = room.filled_with(chair, thieves, offers)?;
+    Ok(brought && report == all_installed(sum_of(counts)) && offers.agrees(counts))
+}
+
 /// Makes a forest by its commands, and fills it by the caller and `thieves` thieves. Returns
 /// whether the report and the gate agree with the model's counts of jobs.
 fn is_filled_by<R: Abort + Threads + Wait + Sync, G: Gate<R> + Tally + Sync>(
@@ -334,9 +356,31 @@ fn is_filled_by<R: Abort + Threads + Wait + Sync, G: Gate<R> + Tally + Sync>(
 {
     let (desk, mut chair) = written(alloc, 0, wide())?;
     let room = Room::new(rt, alloc, &desk);
-    let brought = room.bring_all(&mut chair, commands);
-    let report = room.filled_with(&mut chair, thieves, offers)?;
-    Ok(brought && report == all_installed(sum_of(counts)) && offers.agrees(counts))
+    is_filled_at(&room, &mut chair, commands, counts, thieves, offers)
+}
+
+/// Whether a forest is filled as in the model without thieves.
+fn is_filled_alone<R: Abort + Threads + Wait + Sync>(
+    rt: &R,
+    alloc: Global,
+    commands: &[Command],
+    counts: &[u64],
+) -> Result<bool, Refusal> {
+    let offers = OffersByRound::new(alloc)?;
+    is_filled_by(rt, alloc, commands, counts, 0, &offers)
+}
+
+/// Whether a forest is filled as in the model, without thieves and with two.
+fn is_filled_twice<R: Abort + Threads + Wait + Sync>(
+    rt: &R,
+    alloc: Global,
+    commands: &[Command],
+    counts: &[u64],
+) -> Result<bool, Refusal> {
+    Ok(
+        is_filled_alone(rt, alloc, commands, counts)?
+            && is_filled_by(rt, alloc, commands, counts, 2, &Offers::new())?,
+    )
 }
 
 /// Whether the forest from a seed is filled as in the model, without thieves and with two.
@@ -347,12 +391,7 @@ fn is_filled<R: Abort + Threads + Wait + Sync>(
 ) -> Result<bool, Refusal> {
     let mut forest = forest_from(rt, alloc, seed)?;
     let counts = forest.rounds()?;
-    let commands = forest.commands.as_slice();
-    let alone = OffersByRound::new(alloc)?;
-    Ok(
-        is_filled_by(rt, alloc, commands, &counts, 0, &alone)?
-            && is_filled_by(rt, alloc, commands, &counts, 2, &Offers::new())?,
-    )
+    is_filled_twice(rt, alloc, forest.commands.as_slice(), &counts)
 }
 
 #[test]

@@ -3,14 +3,16 @@
 //! call hadn't been made. With a thousand steps, a fill is refused, or reports the jobs that ran
 //! out of memory; later fills install the missing runs.
 
-ghost use Rattle.std.specs.Prelude.{◌≤◌};
+ghost use Rattle.std.specs.Prelude.{◌≡◌, ◌≤◌};
 ghost use Rattle.frames.specs.SafeBit.{safe_behaviour};
+ghost use Rattle.turn.specs.Shares.{every_share};
+ghost use Rattle.turn.specs.Chairs.{view};
 ghost use Rattle.desk.specs.Chairs.{IsChairOf};
 
 use super::openings::{opened, thousand};
 use super::rows::{STATE, state_after_one};
-use super::{Room, asked, halves, insert_at, name};
-use desk::{Chair, Receipt};
+use super::{Room, asked, halves, insert_at, is_text, name};
+use desk::{Chair, Desk, Receipt};
 use frames::safe::Safe;
 use schedule_trie::refusal::Refusal;
 use sessions::command::Command;
@@ -32,41 +34,53 @@ fn are_allowed(first: Receipt, second: Receipt) -> bool {
     }
 }
 
-impl<R: Abort + Wait> Room<'_, R> {
-    /// The text of the page of the state after the first step of `main`; `None` if memory ran out.
-    fn shown(&self, chair: &mut Chair<Safe>) -> Option<Vec<u8>>
-        requires { IsChairOf (λ _. safe_behaviour) self.now.desk.now chair.old }
-        ensures { IsChairOf (λ _. safe_behaviour) self.now.desk.now chair.new }
-    {
-        match self.text_at(chair, &state_after_one(self.rt)) {
-            Ok((_, text)) => Some(text),
-            Err(refusal) => {
-                assert!(self.rt; refusal == Refusal::Memory);
-                None
-            }
-        }
+/// Looks at the state after the first step of `main`, and compares the page's text, unless memory
+/// runs out.
+fn look_once<R: Abort + Wait>(room: &Room<'_, R>, chair: &mut Chair<Safe>)
+    requires { IsChairOf (λ _. safe_behaviour) room.now.desk.now chair.old }
+{
+    match room.text_at(chair, &state_after_one(room.rt)) {
+        Ok((_, text)) => assert!(room.rt; is_text(&text, STATE)),
+        Err(refusal) => assert!(room.rt; refusal == Refusal::Memory),
     }
+}
+
+/// Two chairs each insert a read at the beginning. Returns the length of the history in the last
+/// receipt.
+fn insert_once_each<R: Abort + Wait>(
+    room: &Room<'_, R>,
+    first: &mut Chair<Safe>,
+    second: &mut Chair<Safe>,
+) -> u64
+    requires { IsChairOf (λ _. safe_behaviour) room.now.desk.now first.old
+        × IsChairOf (λ _. safe_behaviour) room.now.desk.now second.old }
+    ensures { IsChairOf (λ _. safe_behaviour) room.now.desk.now first.new }
+{
+    let insert = insert_at(room.rt, 0);
+    let done = room.bring(first, (0, Some(0), &insert));
+    let late = room.bring(second, (1, Some(0), &insert));
+    let at = late.at;
+    assert!(room.rt; are_allowed(done, late));
+    at
+}
+
+/// Two chairs of a new desk each make an insert; then the first asks for news and looks.
+fn insert_and_look<R: Abort + Wait>(rt: &R, alloc: Global, desk: &Desk<Safe>, chair: Chair<Safe>)
+    requires chair { IsChairOf (λ _. safe_behaviour) desk.now chair }
+    requires every { (view chair).shares ≡ every_share }
+{
+    let (mut first, mut second) = halves(desk, chair);
+    let room = Room::new(rt, alloc, desk);
+    let at = insert_once_each(&room, &mut first, &mut second);
+    assert_eq!(rt; asked(desk, &mut first), at);
+    look_once(&room, &mut first);
 }
 
 #[test]
 fn two_chairs_out_of_memory(rt: HostRuntime) {
-    let alloc = rt.alloc();
-    let (desk, first) = match opened(alloc, 16) {
-        Ok(opened) => opened,
-        Err(refusal) => {
-            assert!(rt; refusal == Refusal::Memory);
-            return;
-        }
-    };
-    let (mut first, mut second) = halves(&desk, first);
-    let room = Room::new(&rt, alloc, &desk);
-    let insert = insert_at(&rt, 0);
-    let done = room.bring(&mut first, (0, Some(0), &insert));
-    let late = room.bring(&mut second, (1, Some(0), &insert));
-    assert!(rt; are_allowed(done, late));
-    assert_eq!(rt; asked(&desk, &mut first), late.at);
-    if let Some(text) = room.shown(&mut first) {
-        assert!(rt; text.as_slice() == STATE);
+    match opened(rt.alloc(), 16) {
+        Ok((desk, chair)) => insert_and_look(&rt, rt.alloc(), &desk, chair),
+        Err(refusal) => assert!(rt; refusal == Refusal::Memory),
     }
 }
 
@@ -105,21 +119,59 @@ impl<R: Abort + Wait> Room<'_, R> {
     }
 }
 
+/// Two chairs each insert a read at the beginning, again and again until there is memory.
+fn insert_again_each<R: Abort + Wait>(
+    room: &Room<'_, R>,
+    first: &mut Chair<Safe>,
+    second: &mut Chair<Safe>,
+)
+    requires { IsChairOf (λ _. safe_behaviour) room.now.desk.now first.old
+        × IsChairOf (λ _. safe_behaviour) room.now.desk.now second.old }
+    ensures { IsChairOf (λ _. safe_behaviour) room.now.desk.now first.new }
+{
+    let insert = insert_at(room.rt, 0);
+    let done = room.bring_again(first, 0, &insert);
+    assert!(room.rt; done.at == 1 && done.reply == Reply::Edited(1));
+    let late = room.bring_again(second, 1, &insert);
+    assert!(room.rt; late.at == 2 && late.reply == Reply::No(Refusal::Newer(1)));
+}
+
+/// Looks again and again until there is memory, and compares the length of the history and the
+/// text of the page.
+fn look_again<R: Abort + Wait>(
+    room: &Room<'_, R>,
+    chair: &mut Chair<Safe>,
+    query: &Query,
+    expected: (u64, &[u8]),
+)
+    requires { IsChairOf (λ _. safe_behaviour) room.now.desk.now chair.old }
+{
+    let (at, text) = room.text_again(chair, query);
+    assert!(room.rt; at == expected.0 && is_text(&text, expected.1));
+}
+
+/// Two chairs of a new desk each make an insert, and then the first looks. All calls are made again
+/// and again until there is memory.
+fn insert_and_look_again<R: Abort + Wait>(
+    rt: &R,
+    alloc: Global,
+    desk: &Desk<Safe>,
+    chair: Chair<Safe>,
+)
+    requires chair { IsChairOf (λ _. safe_behaviour) desk.now chair }
+    requires every { (view chair).shares ≡ every_share }
+{
+    let (mut first, mut second) = halves(desk, chair);
+    let room = Room::new(rt, alloc, desk);
+    insert_again_each(&room, &mut first, &mut second);
+    look_again(&room, &mut first, &state_after_one(rt), (2, STATE));
+}
+
 #[test]
 fn two_chairs_asking_again(rt: HostRuntime) {
-    let alloc = rt.alloc();
-    let Ok((desk, first)) = opened(alloc, 16) else {
-        return;
-    };
-    let (mut first, mut second) = halves(&desk, first);
-    let room = Room::new(&rt, alloc, &desk);
-    let insert = insert_at(&rt, 0);
-    let done = room.bring_again(&mut first, 0, &insert);
-    assert!(rt; (done.at, done.reply) == (1, Reply::Edited(1)));
-    let late = room.bring_again(&mut second, 1, &insert);
-    assert!(rt; (late.at, late.reply) == (2, Reply::No(Refusal::Newer(1))));
-    let (at, text) = room.text_again(&mut first, &state_after_one(&rt));
-    assert!(rt; at == 2 && text.as_slice() == STATE);
+    if let Ok((desk, chair)) = opened(rt.alloc(), 16) {
+        insert_and_look_again(&rt, rt.alloc(), &desk, chair);
+    }
 }
 
 impl<R: Abort + Threads + Wait + Sync> Room<'_, R> {
@@ -156,22 +208,44 @@ impl<R: Abort + Threads + Wait + Sync> Room<'_, R> {
 const FILLED: &[u8] =
     b"0: state main 1000 of 1000\n  p0 write 0 next ws 0\n  p1 idle\n  bits 1\n  words -\n";
 
+/// Fills a desk of the thousand steps, and counts the installed runs.
+fn fill_thousand<R: Abort + Threads + Wait + Sync>(
+    room: &Room<'_, R>,
+    chair: &mut Chair<Safe>,
+    thieves: u32,
+)
+    requires at { IsChairOf (λ _. safe_behaviour) room.now.desk.now chair.old }
+    requires thieves { thieves ≤ 4 }
+    ensures { IsChairOf (λ _. safe_behaviour) room.now.desk.now chair.new }
+{
+    let (installed, all) = room.fill_again(chair, thieves);
+    assert!(room.rt; installed == 8 || (installed < 8 && !all));
+}
+
 /// Fills a thousand steps with `thieves` thieves, and looks at the state at their end.
+fn fill_and_look<R: Abort + Threads + Wait + Sync>(
+    room: &Room<'_, R>,
+    chair: &mut Chair<Safe>,
+    thieves: u32,
+)
+    requires at { IsChairOf (λ _. safe_behaviour) room.now.desk.now chair.old }
+    requires thieves { thieves ≤ 4 }
+{
+    fill_thousand(room, chair, thieves);
+    let state = Query::State {
+        b: name(room.rt, b"main"),
+        k: 1000,
+    };
+    look_again(room, chair, &state, (0, FILLED));
+}
+
+/// Fills and looks at a new desk of a thousand steps.
 fn thousand_with<R: Abort + Threads + Wait + Sync>(rt: &R, alloc: Global, thieves: u32)
     requires { thieves ≤ 4 }
 {
-    let Ok((desk, mut chair)) = thousand(alloc, 1024) else {
-        return;
-    };
-    let room = Room::new(rt, alloc, &desk);
-    let (installed, all) = room.fill_again(&mut chair, thieves);
-    assert!(rt; installed == 8 || (installed < 8 && !all));
-    let state = Query::State {
-        b: name(rt, b"main"),
-        k: 1000,
-    };
-    let (at, text) = room.text_again(&mut chair, &state);
-    assert!(rt; at == 0 && text.as_slice() == FILLED);
+    if let Ok((desk, mut chair)) = thousand(alloc, 1024) {
+        fill_and_look(&Room::new(rt, alloc, &desk), &mut chair, thieves);
+    }
 }
 
 #[test]

@@ -4,10 +4,10 @@
 ghost use Rattle.frames.specs.SafeBit.{safe_behaviour};
 ghost use Rattle.desk.specs.Chairs.{IsChairOf};
 
-use super::fills::text_on;
+use super::fills::is_replayed;
 use super::openings::opened;
 use super::side_by_side::{Work, log_and_text};
-use super::{READ, Room, halves, name, replayed};
+use super::{READ, Room, halves, name};
 use desk::{Chair, Receipt};
 use frames::safe::Safe;
 use frames::types::Step;
@@ -19,6 +19,7 @@ use std::alloc::Global;
 use std::process::Abort;
 use std::sync::Wait;
 use std::test::Fail;
+use std::thread::Threads;
 use views::query::Query;
 
 /// How many edits each chair makes.
@@ -85,13 +86,38 @@ fn edits_of(log: &Log, chair: u32) -> usize {
     edits.count()
 }
 
-/// The text of a look's page, on a new book after the calls of a log; `None` if a reply isn't the
-/// logged one.
-fn replayed_text(alloc: Global, log: &Log, query: &Query) -> Result<Option<Vec<u8>>, Refusal> {
-    match replayed(alloc, log, &[])? {
-        Some(book) => Ok(Some(text_on(alloc, book, query)?)),
-        None => Ok(None),
-    }
+/// Two chairs make their guarded edits at a new desk. Returns the log and the text of a look's
+/// page; `None` if something went wrong.
+fn guarded_by_two<R: Abort + Threads + Wait + Sync>(
+    rt: &R,
+    alloc: Global,
+    query: &Query,
+) -> Result<Option<(Log, Vec<u8>)>, Refusal> {
+    let (desk, chair) = opened(alloc, 1024)?;
+    let (first, second) = halves(&desk, chair);
+    let first = (first, Work::GuardedInserts(0));
+    log_and_text(
+        rt,
+        alloc,
+        desk,
+        first,
+        (second, Work::GuardedInserts(1)),
+        query,
+    )
+}
+
+/// Counts the edits of each chair, and compares the text of a look's page with a book's.
+fn guard_edits<R: Abort + Threads + Wait + Sync>(
+    rt: &R,
+    alloc: Global,
+    query: &Query,
+) -> Result<(), Refusal> {
+    let Some((log, text)) = guarded_by_two(rt, alloc, query)? else {
+        panic!(rt; "guarded edits that are made or newer, and a log")
+    };
+    assert!(rt; edits_of(&log, 0) == 50 && edits_of(&log, 1) == 50);
+    assert!(rt; is_replayed(rt, alloc, &[], &log, query, &text)?);
+    Ok(())
 }
 
 #[test]
@@ -100,19 +126,7 @@ fn fifty_guarded_edits_each(rt: HostRuntime) -> Result<(), Fail> {
         b: name(&rt, b"main"),
     };
     for _ in 0..10 {
-        let (desk, chair) = opened(rt.alloc(), 1024)?;
-        let (first, second) = halves(&desk, chair);
-        let first = (first, Work::GuardedInserts(0));
-        let second = (second, Work::GuardedInserts(1));
-        let reported = log_and_text(&rt, rt.alloc(), desk, first, second, &query)?;
-        let Some((log, text)) = reported else {
-            panic!(rt; "guarded edits that are made or newer, and a log")
-        };
-        assert!(rt; edits_of(&log, 0) == 50 && edits_of(&log, 1) == 50);
-        let Some(replayed) = replayed_text(rt.alloc(), &log, &query)? else {
-            panic!(rt; "a legal log")
-        };
-        assert!(rt; text.as_slice() == replayed.as_slice());
+        guard_edits(&rt, rt.alloc(), &query)?;
     }
     Ok(())
 }

@@ -5,12 +5,13 @@ ghost use Rattle.std.specs.Prelude.{◌≡◌, ◌<◌, Some, IfOk, length};
 ghost use Rattle.frames.specs.SafeBit.{safe_behaviour};
 ghost use Rattle.schedule_trie.specs.Names.{name_of_bytes};
 ghost use Rattle.schedule_trie.specs.Limbs.{AreLawfulLimbs};
-ghost use Rattle.cutoff.specs.Held.{LimbsFit};
+ghost use Rattle.cutoff.specs.Charts.{LimbsFit};
+ghost use Rattle.desk.specs.Chairs.{IsChairOf};
 
 use super::READ;
 use super::openings::limits;
 use cutoff::chart::Chart;
-use desk::Desk;
+use desk::{Chair, Desk, Saved};
 use frames::safe::Safe;
 use frames::types::Step;
 use schedule_trie::limb::{Limb, Steps};
@@ -65,15 +66,31 @@ fn three_branches(rt: &impl Abort, alloc: Global) -> Result<Vec<Limb>, AllocErro
     Ok(limbs)
 }
 
+/// Whether two limbs have the same own steps.
+fn has_same_steps(a: &Limb, b: &Limb) -> bool {
+    a.steps.as_slice() == b.steps.as_slice()
+}
+
 /// Whether two limbs are equal.
 fn is_same(a: &Limb, b: &Limb) -> bool {
-    a.name == b.name
-        && (a.from, a.shared) == (b.from, b.shared)
-        && a.steps.as_slice() == b.steps.as_slice()
+    a.name == b.name && a.from == b.from && a.shared == b.shared && has_same_steps(a, b)
 }
 
 fn are_same(some: &[Limb], others: &[Limb]) -> bool {
     some.len() == others.len() && some.iter().zip(others).all(|(a, b)| is_same(a, b))
+}
+
+/// A chart that is loaded from limbs. Unlike the chart's, this contract promises nothing about it.
+fn loaded_chart(alloc: Global, limbs: &[Limb]) -> Result<Chart<Safe>, Refusal>
+    requires { AreLawfulLimbs limbs.now × (0 < length limbs.now)
+        × LimbsFit safe_behaviour limbs.now }
+{
+    Chart::load(alloc, Safe, 0, limits(1), limbs)
+}
+
+/// Whether a chart has these limbs.
+fn chart_has(alloc: Global, chart: &Chart<Safe>, limbs: &[Limb]) -> Result<bool, Refusal> {
+    Ok(are_same(&chart.limbs(alloc)?, limbs))
 }
 
 /// Whether a chart that is loaded from limbs has the same limbs.
@@ -81,8 +98,21 @@ fn chart_keeps(alloc: Global, limbs: &[Limb]) -> Result<bool, Refusal>
     requires { AreLawfulLimbs limbs.now × (0 < length limbs.now)
         × LimbsFit safe_behaviour limbs.now }
 {
-    let chart = Chart::load(alloc, Safe, 0, limits(1), limbs)?;
-    Ok(are_same(&chart.limbs(alloc)?, limbs))
+    let chart = loaded_chart(alloc, limbs)?;
+    chart_has(alloc, &chart, limbs)
+}
+
+/// A book that is loaded from limbs. Unlike the book's, this contract promises nothing about it.
+fn loaded_book(alloc: Global, limbs: &[Limb]) -> Result<Book<Safe>, Refusal>
+    requires { AreLawfulLimbs limbs.now × (0 < length limbs.now)
+        × LimbsFit safe_behaviour limbs.now }
+{
+    Book::load(alloc, Safe, 0, limits(1), limbs)
+}
+
+/// Whether a book has these limbs.
+fn book_has(alloc: Global, book: &Book<Safe>, limbs: &[Limb]) -> Result<bool, Refusal> {
+    Ok(are_same(&book.limbs(alloc)?, limbs))
 }
 
 /// Whether a book that is loaded from limbs has the same limbs.
@@ -90,8 +120,50 @@ fn book_keeps(alloc: Global, limbs: &[Limb]) -> Result<bool, Refusal>
     requires { AreLawfulLimbs limbs.now × (0 < length limbs.now)
         × LimbsFit safe_behaviour limbs.now }
 {
-    let book = Book::load(alloc, Safe, 0, limits(1), limbs)?;
-    Ok(are_same(&book.limbs(alloc)?, limbs))
+    let book = loaded_book(alloc, limbs)?;
+    book_has(alloc, &book, limbs)
+}
+
+/// A desk that is opened from limbs, and its first chair.
+fn loaded_desk(alloc: Global, limbs: &[Limb]) -> Result<(Desk<Safe>, Chair<Safe>), Refusal>
+    requires { AreLawfulLimbs limbs.now × (0 < length limbs.now)
+        × LimbsFit safe_behaviour limbs.now }
+    ensures { IfOk result (λ r. IsChairOf (λ _. safe_behaviour) r.0 r.1) }
+{
+    Desk::open_limbs(alloc, Safe, 0, limits(1), limbs)
+}
+
+/// Saves a desk. Unlike the desk's, this contract promises nothing about the limbs.
+fn saved_by<R: Wait>(
+    rt: &R,
+    alloc: Global,
+    desk: &Desk<Safe>,
+    chair: &mut Chair<Safe>,
+) -> Result<Saved, Refusal>
+    requires { IsChairOf (λ _. safe_behaviour) desk.now chair.old }
+    ensures { IsChairOf (λ _. safe_behaviour) desk.now chair.new }
+{
+    desk.limbs(rt, alloc, chair)
+}
+
+/// Whether a save was made before the first call, and has these limbs.
+fn is_first_with(saved: &Saved, limbs: &[Limb]) -> bool {
+    saved.at == 0 && are_same(saved.limbs.as_slice(), limbs)
+}
+
+/// Whether a desk has these limbs before its first call.
+fn desk_has<R: Wait>(
+    rt: &R,
+    alloc: Global,
+    desk: &Desk<Safe>,
+    chair: &mut Chair<Safe>,
+    limbs: &[Limb],
+) -> Result<bool, Refusal>
+    requires { IsChairOf (λ _. safe_behaviour) desk.now chair.old }
+    ensures { IsChairOf (λ _. safe_behaviour) desk.now chair.new }
+{
+    let saved = saved_by(rt, alloc, desk, chair)?;
+    Ok(is_first_with(&saved, limbs))
 }
 
 /// Whether a desk that is opened from limbs has the same limbs before its first call.
@@ -99,16 +171,23 @@ fn desk_keeps<R: Wait>(rt: &R, alloc: Global, limbs: &[Limb]) -> Result<bool, Re
     requires { AreLawfulLimbs limbs.now × (0 < length limbs.now)
         × LimbsFit safe_behaviour limbs.now }
 {
-    let (desk, mut chair) = Desk::open_limbs(alloc, Safe, 0, limits(1), limbs)?;
-    let saved = desk.limbs(rt, alloc, &mut chair)?;
-    Ok(saved.at == 0 && are_same(saved.limbs.as_slice(), limbs))
+    let (desk, mut chair) = loaded_desk(alloc, limbs)?;
+    desk_has(rt, alloc, &desk, &mut chair, limbs)
+}
+
+/// Whether a chart, a book and a desk that are loaded from limbs have the same limbs.
+fn are_kept<R: Wait>(rt: &R, alloc: Global, limbs: &[Limb]) -> Result<bool, Refusal>
+    requires { AreLawfulLimbs limbs.now × (0 < length limbs.now)
+        × LimbsFit safe_behaviour limbs.now }
+{
+    let reported = chart_keeps(alloc, limbs)? && book_keeps(alloc, limbs)?;
+    Ok(reported && desk_keeps(rt, alloc, limbs)?)
 }
 
 /// Whether a chart, a book and a desk that are loaded from three branches have the same limbs.
 fn all_keep<R: Abort + Wait>(rt: &R, alloc: Global) -> Result<bool, Refusal> {
     let limbs = three_branches(rt, alloc)?;
-    let reported = chart_keeps(alloc, &limbs)? && book_keeps(alloc, &limbs)?;
-    Ok(reported && desk_keeps(rt, alloc, &limbs)?)
+    are_kept(rt, alloc, &limbs)
 }
 
 #[test]

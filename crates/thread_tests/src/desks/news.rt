@@ -8,8 +8,11 @@ use super::{Room, asked, halves, take_in};
 use crate::flags::Flags;
 use desk::{Chair, Desk};
 use frames::safe::Safe;
+use schedule_trie::refusal::Refusal;
 use sessions::command::Command;
 use sessions::reply::Reply;
+use std::alloc::Global;
+use std::process::Abort;
 use std::sync::Wait;
 use std::test::Fail;
 use std::thread;
@@ -102,17 +105,38 @@ fn news_beside_seeks<R: Threads + Wait + Sync>(
     (first, released, news)
 }
 
+/// One thread seeks while another asks for news at a desk of the thousand steps. Returns whether
+/// the seeks ended by the signal, the last news, and the news after the chairs join.
+fn news_of_two<R: Abort + Threads + Wait + Sync>(
+    room: &Room<'_, R>,
+    mut first: Chair<Safe>,
+    second: Chair<Safe>,
+) -> (bool, Option<u64>, u64)
+    requires { IsChairOf (λ _. safe_behaviour) room.now.desk.now first
+        × IsChairOf (λ _. safe_behaviour) room.now.desk.now second }
+{
+    let flags = Flags::new();
+    room.set_break(&mut first);
+    let (mut chair, released, news) = news_beside_seeks(room, first, second, &flags);
+    (released, news, asked(room.desk, &mut chair))
+}
+
+/// The result of `news_of_two` at a new desk.
+fn news_at_a_desk<R: Abort + Threads + Wait + Sync>(
+    rt: &R,
+    alloc: Global,
+) -> Result<(bool, Option<u64>, u64), Refusal> {
+    let (desk, chair) = thousand(alloc, 65_536)?;
+    let (first, second) = halves(&desk, chair);
+    Ok(news_of_two(&Room::new(rt, alloc, &desk), first, second))
+}
+
 #[test]
 fn news_while_held(rt: HostRuntime) -> Result<(), Fail> {
-    let flags = Flags::new();
-    let (desk, chair) = thousand(rt.alloc(), 65_536)?;
-    let (mut first, second) = halves(&desk, chair);
-    let room = Room::new(&rt, rt.alloc(), &desk);
-    room.set_break(&mut first);
-    let (mut chair, released, news) = news_beside_seeks(&room, first, second, &flags);
+    let (released, news, last) = news_at_a_desk(&rt, rt.alloc())?;
     let Some(news) = news else {
         panic!(rt; "a seek")
     };
-    assert!(rt; released && 2 < news && news <= asked(&desk, &mut chair));
+    assert!(rt; released && 2 < news && news <= last);
     Ok(())
 }

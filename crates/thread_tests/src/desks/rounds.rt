@@ -9,12 +9,11 @@ ghost use Rattle.desk.specs.Chairs.{IsChairOf};
 use super::fills::all_installed;
 use super::openings::written;
 use super::{READ, Room, name};
-use desk::{Chair, Desk, Report};
+use desk::{Chair, Report};
 use frames::safe::Safe;
 use schedule_trie::limits::Limits;
 use schedule_trie::refusal::Refusal;
 use sessions::command::Command;
-use sessions::reply::Reply;
 use std::alloc::Global;
 use std::process::Abort;
 use std::sync::Wait;
@@ -83,17 +82,14 @@ impl<R: Abort + Threads + Wait + Sync> Room<'_, R> {
             k: FULL,
             name: branch,
         };
-        let mut all = matches!(self.bring(chair, (0, None, &fork)).reply, Reply::Edited(_));
+        let mut all = self.accepts(chair, &fork);
         for place in FULL..41 * FULL {
             let insert = Command::Insert {
                 b: branch,
                 k: place,
                 step: READ,
             };
-            all &= matches!(
-                self.bring(chair, (0, None, &insert)).reply,
-                Reply::Edited(_)
-            );
+            all &= self.accepts(chair, &insert);
         }
         all
     }
@@ -115,9 +111,25 @@ impl<R: Abort + Threads + Wait + Sync> Room<'_, R> {
     }
 }
 
+/// Forks and grows `a` at a desk whose `main` has 41 segments, and fills the desk with `thieves`
+/// thieves. Returns whether all 81 runs were installed, how many offers there were, and in how many
+/// rounds.
+fn grown_and_filled<R: Abort + Threads + Wait + Sync>(
+    room: &Room<'_, R>,
+    chair: &mut Chair<Safe>,
+    thieves: u32,
+) -> Result<(bool, (u64, u64)), Refusal>
+    requires at { IsChairOf (λ _. safe_behaviour) room.now.desk.now chair.old }
+    requires thieves { thieves ≤ 4 }
+{
+    let grown = room.grow_a(chair);
+    let offers = Offers::new();
+    let report = room.filled_with(chair, thieves, &offers)?;
+    Ok((grown && report == all_installed(81), offers.counted()))
+}
+
 /// Fills a desk with `thieves` thieves. Its branches `main` and `a` have 41 segments each, and
-/// share the first. Returns whether all 81 runs were installed, how many offers there were, and in
-/// how many rounds.
+/// share the first. Returns the result of `grown_and_filled`.
 fn filled_by<R: Abort + Threads + Wait + Sync>(
     rt: &R,
     alloc: Global,
@@ -125,12 +137,8 @@ fn filled_by<R: Abort + Threads + Wait + Sync>(
 ) -> Result<(bool, (u64, u64)), Refusal>
     requires { thieves ≤ 4 }
 {
-    let (desk, mut chair): (Desk<Safe>, Chair<Safe>) = written(alloc, 41 * FULL, two_long())?;
-    let room = Room::new(rt, alloc, &desk);
-    let grown = room.grow_a(&mut chair);
-    let offers = Offers::new();
-    let report = room.filled_with(&mut chair, thieves, &offers)?;
-    Ok((grown && report == all_installed(81), offers.counted()))
+    let (desk, mut chair) = written(alloc, 41 * FULL, two_long())?;
+    grown_and_filled(&Room::new(rt, alloc, &desk), &mut chair, thieves)
 }
 
 /// The two branches share one segment, and have 40 each of their own. So the first round has one

@@ -5,7 +5,7 @@ ghost use Rattle.frames.specs.SafeBit.{safe_behaviour};
 ghost use Rattle.desk.specs.Chairs.{IsChairOf};
 
 use super::openings::opened;
-use super::{Room, asked, closed, halves, insert_at, name, take_in};
+use super::{Call, Room, asked, closed_with, halves, insert_at, is_text, name};
 use desk::{Chair, Desk, Receipt};
 use frames::safe::Safe;
 use schedule_trie::refusal::Refusal;
@@ -22,8 +22,41 @@ use views::query::Query;
 pub(super) const STATE: &[u8] =
     b"0: state main 1 of 1\n  p0 idle\n  p1 read next rs 0\n  bits 0\n  words -\n";
 
+impl<R: Wait> Room<'_, R> {
+    /// Gives the desk a command, and returns whether it gets this receipt.
+    fn gets(&self, chair: &mut Chair<Safe>, call: Call<'_>, receipt: Receipt) -> bool
+        requires { IsChairOf (λ _. safe_behaviour) self.now.desk.now chair.old }
+        ensures { IsChairOf (λ _. safe_behaviour) self.now.desk.now chair.new }
+    {
+        self.bring(chair, call) == receipt
+    }
+}
+
+/// The receipt with this length of the history and this reply.
+fn receipt(at: u64, reply: Reply) -> Receipt {
+    Receipt { at, reply }
+}
+
 /// Two chairs each insert a read at the beginning. Both inserts are guarded by edit count 0, so the
 /// second is refused.
+fn insert_by_both<R: Abort + Wait>(
+    room: &Room<'_, R>,
+    first: &mut Chair<Safe>,
+    second: &mut Chair<Safe>,
+)
+    requires { IsChairOf (λ _. safe_behaviour) room.now.desk.now first.old
+        × IsChairOf (λ _. safe_behaviour) room.now.desk.now second.old }
+    ensures { IsChairOf (λ _. safe_behaviour) room.now.desk.now first.new
+        × IsChairOf (λ _. safe_behaviour) room.now.desk.now second.new }
+{
+    let insert = insert_at(room.rt, 0);
+    let done = receipt(1, Reply::Edited(1));
+    assert!(room.rt; room.gets(first, (0, Some(0), &insert), done));
+    let late = receipt(2, Reply::No(Refusal::Newer(1)));
+    assert!(room.rt; room.gets(second, (1, Some(0), &insert), late));
+}
+
+/// A desk and two chairs of it, after the inserts of `insert_by_both`.
 fn two_inserts<R: Abort + Wait>(
     rt: &R,
     alloc: Global,
@@ -33,22 +66,7 @@ fn two_inserts<R: Abort + Wait>(
 {
     let (desk, first) = opened(alloc, 16)?;
     let (mut first, mut second) = halves(&desk, first);
-    let room = Room::new(rt, alloc, &desk);
-    let insert = insert_at(rt, 0);
-    let done = room.bring(&mut first, (0, Some(0), &insert));
-    assert!(rt;
-        done == Receipt {
-            at: 1,
-            reply: Reply::Edited(1)
-        }
-    );
-    let late = room.bring(&mut second, (1, Some(0), &insert));
-    assert!(rt;
-        late == Receipt {
-            at: 2,
-            reply: Reply::No(Refusal::Newer(1))
-        }
-    );
+    insert_by_both(&Room::new(rt, alloc, &desk), &mut first, &mut second);
     Ok((desk, first, second))
 }
 
@@ -60,14 +78,26 @@ pub(super) fn state_after_one(rt: &impl Abort) -> Query {
     }
 }
 
+/// Looks at the state after the first step of `main`, and compares the length of the history and
+/// the text of the page with those after two inserts.
+fn look_after_two<R: Abort + Wait>(
+    room: &Room<'_, R>,
+    chair: &mut Chair<Safe>,
+) -> Result<(), Refusal>
+    requires { IsChairOf (λ _. safe_behaviour) room.now.desk.now chair.old }
+    ensures { IsChairOf (λ _. safe_behaviour) room.now.desk.now chair.new }
+{
+    let (at, text) = room.text_at(chair, &state_after_one(room.rt))?;
+    assert_eq!(room.rt; at, 2);
+    assert!(room.rt; is_text(&text, STATE));
+    Ok(())
+}
+
 #[test]
 fn two_chairs(rt: HostRuntime) -> Result<(), Fail> {
     let (desk, mut first, second) = two_inserts(&rt, rt.alloc())?;
     assert_eq!(rt; asked(&desk, &mut first), 2);
-    let room = Room::new(&rt, rt.alloc(), &desk);
-    let (at, text) = room.text_at(&mut first, &state_after_one(&rt))?;
-    assert_eq!(rt; at, 2);
-    assert!(rt; text.as_slice() == STATE);
+    look_after_two(&Room::new(&rt, rt.alloc(), &desk), &mut first)?;
     assert!(rt; first.shares() == 8 && second.shares() == 8);
     Ok(())
 }
@@ -83,12 +113,37 @@ fn closed_by_both(
     requires { IsChairOf (λ _. safe_behaviour) desk first
         × IsChairOf (λ _. safe_behaviour) desk second }
 {
-    let Err((out, desk, mut first)) = desk.close(first) else {
-        return None;
-    };
-    assert_eq!(rt; out.number(), 50);
-    take_in(&desk, &mut first, second);
-    closed(desk, first)
+    match desk.close(first) {
+        Ok(_) => None,
+        Err((out, desk, first)) => {
+            assert_eq!(rt; out.number(), 50);
+            closed_with(desk, first, second)
+        }
+    }
+}
+
+/// Whether a log has one call of each of two chairs, in order.
+fn is_by_both(log: &Log) -> bool {
+    let chairs = log.entries().iter().map(|entry| entry.chair);
+    chairs.eq([0, 1])
+}
+
+/// Two sessions join at a desk whose log has place for one call, so the second is refused.
+fn join_twice<R: Abort + Wait>(room: &Room<'_, R>, chair: &mut Chair<Safe>)
+    requires { IsChairOf (λ _. safe_behaviour) room.now.desk.now chair.old }
+    ensures { IsChairOf (λ _. safe_behaviour) room.now.desk.now chair.new }
+{
+    let joined = receipt(1, Reply::Joined);
+    assert!(room.rt; room.gets(chair, (0, None, &Command::Join), joined));
+    let full = receipt(1, Reply::No(Refusal::LogFull));
+    assert!(room.rt; room.gets(chair, (0, None, &Command::Join), full));
+}
+
+/// Fills the log of a new desk.
+fn fill_a_log<R: Abort + Wait>(rt: &R, alloc: Global) -> Result<(), Fail> {
+    let (desk, mut chair) = opened(alloc, 1)?;
+    join_twice(&Room::new(rt, alloc, &desk), &mut chair);
+    Ok(())
 }
 
 #[test]
@@ -97,15 +152,6 @@ fn chairs_out(rt: HostRuntime) -> Result<(), Fail> {
     let Some(log) = closed_by_both(&rt, desk, first, second) else {
         panic!(rt; "a chair with every share")
     };
-    let chairs = log.entries().iter().map(|entry| entry.chair);
-    assert!(rt; chairs.eq([0, 1]));
-    let (desk, mut chair) = opened(rt.alloc(), 1)?;
-    let room = Room::new(&rt, rt.alloc(), &desk);
-    let joined = room.bring(&mut chair, (0, None, &Command::Join));
-    let reply = Reply::Joined;
-    assert!(rt; joined == Receipt { at: 1, reply });
-    let full = room.bring(&mut chair, (0, None, &Command::Join));
-    let reply = Reply::No(Refusal::LogFull);
-    assert!(rt; full == Receipt { at: 1, reply });
-    Ok(())
+    assert!(rt; is_by_both(&log));
+    fill_a_log(&rt, rt.alloc())
 }

@@ -78,6 +78,19 @@ impl<R: Abort + Threads + Wait + Sync> Room<'_, R> {
     }
 }
 
+/// A log and a text, unless something went wrong.
+fn both(
+    fine: bool,
+    log: Option<Log>,
+    text: Result<(u64, Vec<u8>), Refusal>,
+) -> Result<Option<(Log, Vec<u8>)>, Refusal> {
+    let (_, text) = text?;
+    match log {
+        Some(log) if fine => Ok(Some((log, text))),
+        _ => Ok(None),
+    }
+}
+
 /// Two chairs do their work at the same time; then a look is made, and the desk is closed. Returns
 /// the log and the text of the look's page; `None` if something went wrong.
 pub(super) fn log_and_text<R: Abort + Threads + Wait + Sync>(
@@ -93,9 +106,7 @@ pub(super) fn log_and_text<R: Abort + Threads + Wait + Sync>(
 {
     let room = Room::new(rt, alloc, &desk);
     let (mut chair, fine) = room.side_by_side(first, second);
-    let (_, text) = room.text_at(&mut chair, query)?;
-    let Some(log) = closed(desk, chair) else {
-        return Ok(None);
-    };
-    Ok(if fine { Some((log, text)) } else { None })
+    let text = room.text_at(&mut chair, query);
+    let log = closed(desk, chair);
+    both(fine, log, text)
 }

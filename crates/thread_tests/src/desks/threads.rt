@@ -9,13 +9,14 @@ ghost use Rattle.desk.specs.Chairs.{IsChairOf};
 
 use super::openings::opened;
 use super::side_by_side::Work;
-use super::{Room, asked, closed, halves, insert_at, name, replayed, take_in};
+use super::{
+    Room, asked, book_of, closed, closed_with, halves, insert_at, name, replies_to, take_in,
+};
 use desk::{Chair, Desk};
 use frames::safe::Safe;
 use schedule_trie::refusal::Refusal;
 use sessions::command::Command;
 use sessions::log::{Entry, Log};
-use sessions::reply::Reply;
 use std::alloc::Global;
 use std::process::Abort;
 use std::sync::Wait;
@@ -34,8 +35,7 @@ impl<R: Abort + Wait> Room<'_, R> {
     {
         let mut all = true;
         for place in 0..count {
-            let receipt = self.bring(chair, (0, None, &insert_at(self.rt, place)));
-            all &= matches!(receipt.reply, Reply::Edited(_));
+            all &= self.accepts(chair, &insert_at(self.rt, place));
         }
         all
     }
@@ -57,10 +57,8 @@ pub(super) fn inserted_by_two<R: Abort + Threads + Wait + Sync>(
     let room = Room::new(rt, alloc, &desk);
     let work = Work::Inserts(count);
     let (chair, all) = room.side_by_side((first, work), (second, work));
-    if !all {
-        return None;
-    }
-    closed(desk, chair)
+    let log = closed(desk, chair);
+    if all { log } else { None }
 }
 
 /// The place of a logged insert; `None` if the entry is another command.
@@ -77,16 +75,30 @@ fn has_inserts(log: &Log, chair: u32, count: u32) -> bool {
     made.map(place_of).eq((0..count).map(Some))
 }
 
+/// The log after two threads have made 100 inserts each at a new desk; `None` if something went
+/// wrong.
+fn log_of_two<R: Abort + Threads + Wait + Sync>(
+    rt: &R,
+    alloc: Global,
+) -> Result<Option<Log>, Refusal> {
+    let (desk, chair) = opened(alloc, 1024)?;
+    Ok(inserted_by_two(rt, alloc, desk, chair, 100))
+}
+
+/// Compares the log of two threads with their inserts.
+fn insert_by_two<R: Abort + Threads + Wait + Sync>(rt: &R, alloc: Global) -> Result<(), Refusal> {
+    let Some(log) = log_of_two(rt, alloc)? else {
+        panic!(rt; "accepted inserts")
+    };
+    assert_eq!(rt; log.entries().len(), 200);
+    assert!(rt; has_inserts(&log, 0, 100) && has_inserts(&log, 1, 100));
+    Ok(())
+}
+
 #[test]
 fn two_threads(rt: HostRuntime) -> Result<(), Fail> {
-    let alloc = rt.alloc();
     for _ in 0..50 {
-        let (desk, chair) = opened(alloc, 1024)?;
-        let Some(log) = inserted_by_two(&rt, alloc, desk, chair, 100) else {
-            panic!(rt; "accepted inserts")
-        };
-        assert_eq!(rt; log.entries().len(), 200);
-        assert!(rt; has_inserts(&log, 0, 100) && has_inserts(&log, 1, 100));
+        insert_by_two(&rt, rt.alloc())?;
     }
     Ok(())
 }
@@ -113,13 +125,36 @@ impl<R: Abort + Wait> Room<'_, R> {
         ensures { IsChairOf (λ _. safe_behaviour) self.now.desk.now chair.new }
     {
         let branch = name(self.rt, b"main");
-        let query = Query::Steps { b: branch };
-        self.desk.look(self.rt, self.alloc, chair, lens, query).at
+        self.answered(chair, lens, Query::Steps { b: branch }).at
     }
 
-    /// One round. A second chair is split off; it makes an edit and asks for news. The first chair
-    /// looks, asks for news and makes a guarded edit; then the two join. Returns whether no chair
-    /// got a length of the history that is less than one it got before.
+    /// The calls of one round by two chairs. The second makes an edit and asks for news; the first
+    /// looks, asks for news and makes a guarded edit. Returns whether no chair got a length of the
+    /// history that is less than one it got before.
+    fn round_of_two(
+        &self,
+        chair: &mut Chair<Safe>,
+        other: &mut Chair<Safe>,
+        lens: &mut Lens<Safe>,
+        who: u32,
+    ) -> bool
+        requires { IsChairOf (λ _. safe_behaviour) self.now.desk.now chair.old
+            × IsChairOf (λ _. safe_behaviour) self.now.desk.now other.old }
+        ensures { IsChairOf (λ _. safe_behaviour) self.now.desk.now chair.new
+            × IsChairOf (λ _. safe_behaviour) self.now.desk.now other.new }
+    {
+        let insert = insert_at(self.rt, 0);
+        let edited = self.bring(other, (who, None, &insert)).at;
+        let news = asked(self.desk, other);
+        let seen = self.looked(chair, lens);
+        let later = asked(self.desk, chair);
+        let insert = insert_at(self.rt, 1);
+        let guarded = self.bring(chair, (who, Some(later), &insert)).at;
+        edited <= news && seen <= later && later <= guarded
+    }
+
+    /// One round. A second chair is split off; both make their calls, and then the two join.
+    /// Returns the result of `round_of_two`.
     fn round(&self, chair: &mut Chair<Safe>, lens: &mut Lens<Safe>, who: u32) -> bool
         requires { IsChairOf (λ _. safe_behaviour) self.now.desk.now chair.old }
         ensures { IsChairOf (λ _. safe_behaviour) self.now.desk.now chair.new }
@@ -127,15 +162,21 @@ impl<R: Abort + Wait> Room<'_, R> {
         let Some(mut other) = part(self.desk, chair, 2) else {
             return false;
         };
-        let insert = insert_at(self.rt, 0);
-        let edited = self.bring(&mut other, (who, None, &insert)).at;
-        let news = asked(self.desk, &mut other);
-        let seen = self.looked(chair, lens);
-        let later = asked(self.desk, chair);
-        let insert = insert_at(self.rt, 1);
-        let guarded = self.bring(chair, (who, Some(later), &insert)).at;
+        let fine = self.round_of_two(chair, &mut other, lens, who);
         take_in(self.desk, chair, other);
-        edited <= news && seen <= later && later <= guarded
+        fine
+    }
+
+    /// Makes the rounds of a thread by this lens. Returns whether everything went well.
+    fn rounds_by(&self, chair: &mut Chair<Safe>, lens: &mut Lens<Safe>, who: u32) -> bool
+        requires { IsChairOf (λ _. safe_behaviour) self.now.desk.now chair.old }
+        ensures { IsChairOf (λ _. safe_behaviour) self.now.desk.now chair.new }
+    {
+        let mut all = true;
+        for _ in 0..ROUNDS {
+            all &= self.round(chair, lens, who);
+        }
+        all
     }
 
     /// Makes the rounds of a thread. Returns whether everything went well.
@@ -146,19 +187,18 @@ impl<R: Abort + Wait> Room<'_, R> {
         let Ok(mut lens) = Lens::new(self.alloc) else {
             return false;
         };
-        let mut all = true;
-        for _ in 0..ROUNDS {
-            all &= self.round(chair, &mut lens, who);
-        }
-        all
+        self.rounds_by(chair, &mut lens, who)
     }
 }
+
+/// Two chairs of a desk.
+type Two = (Chair<Safe>, Chair<Safe>);
 
 /// Two chairs make the rounds of two sessions, each on a thread. Returns the chair joined from
 /// them, and whether everything went well.
 fn rounds_of_two<R: Abort + Threads + Wait + Sync>(
     room: &Room<'_, R>,
-    chairs: (Chair<Safe>, Chair<Safe>),
+    chairs: Two,
     sessions: (u32, u32),
 ) -> (Chair<Safe>, bool)
     requires { IsChairOf (λ _. safe_behaviour) room.now.desk.now chairs.0
@@ -177,8 +217,8 @@ fn rounds_of_four<R: Abort + Threads + Wait + Sync>(
     rt: &R,
     alloc: Global,
     desk: Desk<Safe>,
-    one: (Chair<Safe>, Chair<Safe>),
-    other: (Chair<Safe>, Chair<Safe>),
+    one: Two,
+    other: Two,
 ) -> Option<Log>
     requires one { IsChairOf (λ _. safe_behaviour) desk one.0
         × IsChairOf (λ _. safe_behaviour) desk one.1 }
@@ -186,7 +226,7 @@ fn rounds_of_four<R: Abort + Threads + Wait + Sync>(
         × IsChairOf (λ _. safe_behaviour) desk other.1 }
 {
     let shared = &desk;
-    let ((mut chair, fine), (last, well)) = thread::join(
+    let ((chair, fine), (last, well)) = thread::join(
         rt,
         move || -> (Chair<Safe>, bool)
             requires sync { IsSync R.row }
@@ -201,15 +241,12 @@ fn rounds_of_four<R: Abort + Threads + Wait + Sync>(
             ensures { IsChairOf (λ _. safe_behaviour) shared.entry.now result.0 }
         { rounds_of_two(&Room::new(rt, alloc, shared), other, (2, 3)) },
     );
-    take_in(&desk, &mut chair, last);
-    if !(fine && well) {
-        return None;
-    }
-    closed(desk, chair)
+    let log = closed_with(desk, chair, last);
+    if fine && well { log } else { None }
 }
 
 /// Splits a chair into two, each with half its shares; `None` if the chair has only one share.
-fn halved(desk: &Desk<Safe>, mut chair: Chair<Safe>) -> Option<(Chair<Safe>, Chair<Safe>)>
+fn halved(desk: &Desk<Safe>, mut chair: Chair<Safe>) -> Option<Two>
     requires { IsChairOf (λ _. safe_behaviour) desk.now chair }
     ensures { IfSome result (λ r. IsChairOf (λ _. safe_behaviour) desk.now r.0
         × IsChairOf (λ _. safe_behaviour) desk.now r.1) }
@@ -219,6 +256,21 @@ fn halved(desk: &Desk<Safe>, mut chair: Chair<Safe>) -> Option<(Chair<Safe>, Cha
     Some((chair, other))
 }
 
+/// Splits a chair into four, each with a quarter of its shares; `None` if the chair has fewer than
+/// four shares.
+fn quarters(desk: &Desk<Safe>, chair: Chair<Safe>) -> Option<(Two, Two)>
+    requires { IsChairOf (λ _. safe_behaviour) desk.now chair }
+    ensures one { IfSome result (λ r. IsChairOf (λ _. safe_behaviour) desk.now r.0.0
+        × IsChairOf (λ _. safe_behaviour) desk.now r.0.1) }
+    ensures other { IfSome result (λ r. IsChairOf (λ _. safe_behaviour) desk.now r.1.0
+        × IsChairOf (λ _. safe_behaviour) desk.now r.1.1) }
+{
+    let (one, other) = halved(desk, chair)?;
+    let one = halved(desk, one)?;
+    let other = halved(desk, other)?;
+    Some((one, other))
+}
+
 /// The log after four threads, with a quarter of the shares each, have made their rounds; `None` if
 /// something went wrong.
 fn log_of_four<R: Abort + Threads + Wait + Sync>(
@@ -226,16 +278,16 @@ fn log_of_four<R: Abort + Threads + Wait + Sync>(
     alloc: Global,
 ) -> Result<Option<Log>, Refusal> {
     let (desk, chair) = opened(alloc, 1024)?;
-    let Some((one, other)) = halved(&desk, chair) else {
-        return Ok(None);
-    };
-    let Some(one) = halved(&desk, one) else {
-        return Ok(None);
-    };
-    let Some(other) = halved(&desk, other) else {
-        return Ok(None);
-    };
-    Ok(rounds_of_four(rt, alloc, desk, one, other))
+    match quarters(&desk, chair) {
+        Some((one, other)) => Ok(rounds_of_four(rt, alloc, desk, one, other)),
+        None => Ok(None),
+    }
+}
+
+/// Whether a new book's replies to the calls of a log are the logged ones.
+fn is_legal(alloc: Global, log: &Log) -> Result<bool, Refusal> {
+    let mut book = book_of(alloc, &[])?;
+    Ok(replies_to(alloc, &mut book, log))
 }
 
 #[test]
@@ -244,6 +296,6 @@ fn four_threads(rt: HostRuntime) -> Result<(), Fail> {
         panic!(rt; "rounds without fault")
     };
     assert_eq!(rt; log.entries().len(), 4 * 2 * ROUNDS as usize);
-    assert!(rt; replayed(rt.alloc(), &log, &[])?.is_some());
+    assert!(rt; is_legal(rt.alloc(), &log)?);
     Ok(())
 }
