@@ -1,0 +1,148 @@
+"""What the costs are on two kinds of schedule, at three sizes, against those of plain Rust."""
+import glob
+import os
+import re
+import subprocess
+
+from costs import runs
+from costs.mixed import mixed_operations, numbers
+from costs.runs import PAD, SHORT_WRITES, heap_at_reads
+
+WORDS = ["--cells", "2000000", "--branches", "1024"]
+LENGTHS = (10_000, 100_000, 1_000_000)
+# (a fill stores at most 64 runs of a branch, and these need no more)
+FILLED = (2_000, 4_000, 8_000)
+SHARED, FORKS = 100_000, (250, 500, 1_000)
+FRONT, FEW_FORKS = 20_000, (50, 100, 200)
+EDITS, LOOKS = 50, 20
+KINDS = {
+    "cycle": lambda count: [SHORT_WRITES[i % len(SHORT_WRITES)] for i in range(count)],
+    "random": mixed_operations,
+}
+# Those of another program of the kind in plain Rust, which wrote the same bytes, taken once. It stores runs, has early cutoff and a
+# mark of what fits, has no threads and no log, and its forks share segments.
+PLAIN = {
+    ("cycle", "a step of a first look"): (59.5, 54.6, 54.6),
+    ("cycle", "a look after an edit"): (13_579, 38_289, 284_404),
+    ("cycle", "a step of a fill"): (60.4, 61.6, 65.4),
+    ("cycle", "a shared insert anywhere"): (8_894, 10_152, 12_677),
+    ("cycle", "a look at `main` after it"): (42_121, 42_108, 42_088),
+    ("cycle", "a look at a fork after these"): (4_442, 4_442, 4_442),
+    ("cycle", "a shared insert at 0"): (3_861, 4_111, 4_616),
+    ("cycle", "bytes of the heap a fork"): (112.0, 104.1, 100.2),
+    ("random", "a step of a first look"): (59.5, 54.6, 54.6),
+    ("random", "a look after an edit"): (13_414, 38_129, 284_745),
+    ("random", "a step of a fill"): (60.4, 61.6, 65.5),
+    ("random", "a shared insert anywhere"): (8_898, 10_159, 12_681),
+    ("random", "a look at `main` after it"): (41_646, 41_634, 41_590),
+    ("random", "a look at a fork after these"): (3_915, 3_915, 3_915),
+    ("random", "a shared insert at 0"): (3_861, 4_111, 4_616),
+    ("random", "bytes of the heap a fork"): (112.0, 104.1, 100.2),
+}
+# The last line of a piece. No branch is so long, so that its answer is one line.
+LAST = "0 state main 99999999\n"
+
+
+def places(count, below):
+    drawn = numbers(7)
+    return [next(drawn) % below for _ in range(count)]
+
+
+def counted(out):
+    """Returns the instructions that callgrind has written into files named after `out`, and removes the files."""
+    total = 0
+    for path in glob.glob(f"{out}.*"):
+        with open(path) as file:
+            total += int(re.search(r"^totals: (\d+)", file.read(), re.M).group(1))
+        os.remove(path)
+    return total
+
+
+def pieces_cost(words, pieces, room):
+    """Returns what each of these pieces of a script costs, less an empty one; each is sent after the answers to the one before."""
+    out, taken = f"{room}/callgrind", []
+    tool = ["valgrind", "--tool=callgrind", f"--callgrind-out-file={out}", "--dump-before=write"]
+    how = {"stdin": subprocess.PIPE, "stdout": subprocess.PIPE, "stderr": subprocess.DEVNULL, "text": True}
+    with subprocess.Popen([*tool, runs.PROGRAM, *words], **how) as program:
+        # (the first one comes after the opening)
+        for piece in ["", "", *pieces]:
+            program.stdin.write(piece + LAST)
+            program.stdin.flush()
+            lines = piece.splitlines()
+            for _ in range(len(lines) + 1 + 4 * sum(" state " in it for it in lines)):
+                program.stdout.readline()
+            taken.append(counted(out))
+        program.stdin.close()
+    counted(out)
+    return [it - taken[1] for it in taken[2:]]
+
+
+class Kind:
+    """Schedules of one kind, and the rows of their table: of each, a figure at each size."""
+
+    def __init__(self, name, room):
+        self.name, self.room, self.rows = name, room, {}
+
+    def path(self, count):
+        path = f"{self.room}/{self.name}-{count}"
+        with open(path, "w") as file:
+            file.write("tower 1\nsafe 0\n" + "".join(f"{it}\n" for it in KINDS[self.name](count)))
+        return path
+
+    def costs(self, count, *pieces):
+        return pieces_cost([self.path(count), *WORDS], pieces, self.room)
+
+    def add(self, row, figure):
+        self.rows.setdefault(row, []).append(figure)
+
+
+def of_one_branch(kind):
+    for n in LENGTHS:
+        look = f"0 state main {n}\n"
+        edits, others = ([f"0 replace main {place} g 0 {(i + k) % 2}\n" for i, place in enumerate(places(LOOKS, n))] for k in (0, 1))
+        first, alone, _, both = kind.costs(n, look, "".join(edits), look, "".join(it + look for it in others))
+        kind.add("a step of a first look", first / n)
+        kind.add("a look after an edit", (both - alone) / LOOKS)
+    for n in FILLED:
+        kind.add("a step of a fill", kind.costs(n, "0 fill main\n")[0] / n)
+
+
+def forked(count, forks):
+    return "".join(f"0 fork main {count} a{i}\n" for i in range(forks))
+
+
+def of_shared_steps(kind):
+    drawn = [f"0 insert main {place} r 1\n" for place in places(2 * EDITS, SHARED)]
+    edits, others = drawn[:EDITS], drawn[EDITS:]
+    long = SHARED + EDITS
+    for k in FORKS:
+        looked = "".join(f"{it}0 state main {long + i + 1}\n" for i, it in enumerate(others))
+        begun = f"0 state main {SHARED}\n" + forked(SHARED, k)
+        _, alone, _, both, fork = kind.costs(
+            SHARED, begun, "".join(edits), f"0 state main {long}\n", looked, f"0 state a{k // 2} {long + EDITS}\n")
+        kind.add("a shared insert anywhere", alone / EDITS)
+        kind.add("a look at `main` after it", (both - alone) / EDITS)
+        kind.add("a look at a fork after these", fork)
+    for k in FEW_FORKS:
+        kind.add("a shared insert at 0", kind.costs(FRONT, forked(FRONT, k), "0 insert main 0 r 1\n" * EDITS)[1] / EDITS)
+
+
+def bytes_of_a_fork(kind):
+    for k in FORKS:
+        reads = heap_at_reads([kind.path(SHARED), *WORDS], PAD + forked(SHARED, k) + PAD, kind.room)
+        kind.add("bytes of the heap a fork", (reads[-1][0] - reads[0][0]) / k)
+
+
+def kinds(room):
+    """Prints a table for each kind of schedule, and how many of the figures are at most those of plain Rust."""
+    ratios = []
+    for name in KINDS:
+        print(f"on schedules of safe 0, {name}, at three sizes: what is taken, and its ratio to what plain Rust takes")
+        kind = Kind(name, room)
+        for part in (of_one_branch, of_shared_steps, bytes_of_a_fork):
+            part(kind)
+        for row, figures in kind.rows.items():
+            against = [taken / of_plain for taken, of_plain in zip(figures, PLAIN.get((name, row), ()))]
+            ratios += against
+            print(f"  {row:40}" + "".join(f"{it:11.1f}" for it in figures) + "".join(f"{it:8.2f}" for it in against), flush=True)
+    print(f"  at most 1.0: {sum(it < 1.005 for it in ratios)} of {len(ratios)}")
