@@ -10,7 +10,7 @@ use Rattle.frames.specs.declared.types.Step.TheVariants as step
 use Rattle.frames.specs.declared.types.StepEvents.{StepEvents}
 use Rattle.frames.specs.Fitting.{process_of}
 use Rattle.checkpoints.specs.declared.mark.Mark.{Mark}
-use Rattle.checkpoints.specs.declared.mark.Mark.TheVariants.{Nothing, First, Second, Both, Invoked, Wrote, Busy, Idle, Stopped}
+use Rattle.checkpoints.specs.declared.mark.Mark.TheVariants.{Nothing, First, Second, Both, Invoked, Wrote, Busy, Idle, Stopped, GotZero, GotOne}
 use Rattle.checkpoints.specs.declared.events.Reported.{Reported}
 use Rattle.checkpoints.specs.Kept.{kept_events}
 
@@ -32,6 +32,8 @@ own_event s Wrote = Some (event.Wrote (process_of s))
 own_event s Busy = Some (event.Void (process_of s) reason.Busy)
 own_event s Idle = Some (event.Void (process_of s) reason.Idle)
 own_event s Stopped = Some (event.Void (process_of s) reason.Stopped)
+own_event s GotZero = Some (event.Got (process_of s) 0)
+own_event s GotOne = Some (event.Got (process_of s) 1)
 
 -- the first of the events that are left; `None` if there are none
 abbrev pub next_event : List Event → Option Event

@@ -22,6 +22,8 @@ pub(crate) enum Mark {
     Busy,
     Idle,
     Stopped,
+    GotZero,
+    GotOne,
 }
 
 /// The event that a step and its mark determine, if they determine one.
@@ -36,6 +38,8 @@ pub(crate) fn own_event(step: Step, mark: Mark) -> Option<Event>
         Mark::Busy => Some(Event::Void(step.process(), Reason::Busy)),
         Mark::Idle => Some(Event::Void(step.process(), Reason::Idle)),
         Mark::Stopped => Some(Event::Void(step.process(), Reason::Stopped)),
+        Mark::GotZero => Some(Event::Got(step.process(), 0)),
+        Mark::GotOne => Some(Event::Got(step.process(), 1)),
     }
 }
 
@@ -60,6 +64,8 @@ pub(crate) fn own_mark(step: Step, event: Event) -> Option<Mark>
     match event {
         Event::Invoke(..) if invocation(step) == Some(event) => Some(Mark::Invoked),
         Event::Wrote(who) if who == step.process() => Some(Mark::Wrote),
+        Event::Got(who, 0) if who == step.process() => Some(Mark::GotZero),
+        Event::Got(who, 1) if who == step.process() => Some(Mark::GotOne),
         Event::Void(who, reason) if who == step.process() => Some(mark_of(reason)),
         _ => None,
     }

@@ -2,7 +2,6 @@
 use Rattle.std.proofs.Common.{◌≡◌, ℕ, Bool, true, false, nat_eq, List, [], ◌∷◌, ◌++◌, Option, Some, None, refl, sym, ap, subst, ◌∙◌, true≢false, eq-eqb}
 use Rattle.std.specs.Prelude.{⊤}
 use Rattle.std.specs.Option.{option_eq, option_map}
-use Rattle.std.proofs.lemmas.Bool.{eqb-true}
 use Rattle.std.specs.Cmp.{IsEquivalence, IsPartialEquivalence}
 use Rattle.frames.specs.Behaviour.{Behaviour}
 use Rattle.frames.specs.Configuration.{Configuration, replayed}
@@ -53,12 +52,6 @@ module _ {R P : Type 0} (E : R → R → Bool) (per : IsPartialEquivalence E) (i
           → RunsDown E is cut (is start.register) start (keys_up_to k keys) entry
       up_same entry same d =
           down_same (is start.register) start (keys_up_to k keys) entry (exit_or_start cut start (Some k)) (subst (SameConfiguration E entry) (sym come_here) same) d
-
-pub same_key : (a b : Option ℕ) → option_eq nat_eq a b ≡ true → a ≡ b
-same_key None None e = refl
-same_key None (Some k) e = cc
-same_key (Some j) None e = cc
-same_key (Some j) (Some k) e = ap Some (eqb-true j k e)
 
 -- if a climb is at the key k and not at the key f, the two differ
 pub other_key : (f k : ℕ) (at front : Option ℕ) → front ≡ Some f → at ≡ Some k → option_eq nat_eq at front ≡ false → f ≡ k → ⊥

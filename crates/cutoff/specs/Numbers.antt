@@ -1,18 +1,9 @@
--- The numbers of a stored run: its own, and its link.
-use Rattle.std.specs.Prelude.{ℕ, Option, Some, None}
-use Rattle.cutoff.specs.declared.stored.Numbers.{Numbers}
-use Rattle.cutoff.specs.declared.stored.Numbers.TheVariants.{Neither, Own, Linked, Both}
+-- The number of a stored run or no number, in one word. The greatest word means no number.
+use Rattle.std.specs.Prelude.{ℕ, ◌-◌, ◌^◌, nat_eq, Option, Some, None, if◌then◌else◌}
 
--- a run's own number, if it has one
-abbrev pub own_number : Numbers → Option ℕ
-own_number Neither = None
-own_number (Own id) = Some id
-own_number (Linked link) = None
-own_number (Both id link) = Some id
+abbrev pub number_of_word : ℕ → Option ℕ
+number_of_word word = if nat_eq word (2 ^ 64 - 1) then None else Some word
 
--- a run's link, if it has one: the number of a run at whose exit it begins
-abbrev pub link_number : Numbers → Option ℕ
-link_number Neither = None
-link_number (Own id) = None
-link_number (Linked link) = Some link
-link_number (Both id link) = Some link
+abbrev pub word_of : Option ℕ → ℕ
+word_of None = 2 ^ 64 - 1
+word_of (Some number) = number

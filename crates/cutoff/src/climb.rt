@@ -9,6 +9,7 @@ ghost use Rattle.cutoff.specs.Links.{IsLinked, without_register};
 ghost use Rattle.cutoff.specs.Plans.{FitsDownTo};
 ghost use Rattle.cutoff.specs.Prefixes.{IsMarked, RunsDown};
 
+use crate::number::Number;
 use crate::prefix::is_marked;
 use crate::stored::Stored;
 use frames::config::Config;
@@ -39,7 +40,7 @@ pub(crate) fn comes_down<R: Register>(
         × (FitsDownTo R.PartialEq.eq b trie.now start.now down config.now → result ≡ true) }
 {
     let mut entry = config;
-    let mut link = None;
+    let mut link = Number::none();
     let mut at = last;
     // a branch has at most one segment for each cell ever made
     for _ in 0..trie.made() {

@@ -12,6 +12,7 @@ ghost use Rattle.cutoff.specs.Plans.{FitsDown};
 ghost use Rattle.cutoff.specs.Prefixes.{RunGoesOn, IsMarked};
 
 use crate::climb::comes_down;
+use crate::number::Number;
 use crate::settle::segment_cells;
 use crate::stored::Stored;
 use checkpoints::run::Run;
@@ -41,7 +42,7 @@ pub(crate) fn fits_down<R: Register>(
     mark: Option<SegKey>,
     key: SegKey,
     run: &Run<R>,
-) -> (bool, Option<u64>)
+) -> (bool, Number)
     requires linked { (next : ℕ) × IsLinked R.PartialEq.eq start.now.register next None
         (without_register start.now) trie.now }
     requires cut { IsCut trie.now }
@@ -60,11 +61,11 @@ pub(crate) fn fits_down<R: Register>(
     ensures kept { result.0 ≡ true → IsRun (R.behaviour run.now.entry.register) run.now }
 {
     if !has_steps(trie, key, run.steps()) {
-        return (false, None);
+        return (false, Number::none());
     }
     let above = trie.above(key);
     if !comes_down(trie, start, mark, above, run.entry()) {
-        return (false, None);
+        return (false, Number::none());
     }
     (true, number_at(trie, above))
 }
@@ -79,15 +80,22 @@ pub(crate) fn has_segment<R: Register>(trie: &Trie<Stored<R>>, key: SegKey) -> b
 
 /// The number of the run stored in a segment; `None` if there is no segment or no run, or if the
 /// run has no number.
-fn number_at<R: Register>(trie: &Trie<Stored<R>>, key: Option<SegKey>) -> Option<u64>
+fn number_at<R: Register>(trie: &Trie<Stored<R>>, key: Option<SegKey>) -> Number
     ensures number { result ≡ number_at trie.now key }
     ensures kept { (k : ℕ) (s : StoredRun R R.Pending) → key ≡ Some k
         → note_of (piece_at trie.now.pieces k) ≡ Some s
         → IsRun (R.behaviour s.run.entry.register) s.run }
 {
-    let stored = trie.note(key?)?;
-    let _exit = stored.exit();
-    stored.id()
+    let Some(key) = key else {
+        return Number::none();
+    };
+    match trie.note(key) {
+        Some(stored) => {
+            let _exit = stored.exit();
+            stored.id()
+        }
+        None => Number::none(),
+    }
 }
 
 /// Whether the segment `key` has these steps.

@@ -14,6 +14,7 @@ ghost use Rattle.cutoff.specs.Charts.{StepsFit};
 ghost use Rattle.cutoff.specs.Links.{IsLinked, without_register};
 ghost use Rattle.cutoff.specs.Prefixes.{IsMarked, IsPlaceIn, IsLeft, exit_or_start, exit_or, run_named};
 
+use crate::number::Number;
 use crate::prefix::{Rest, keys_down_to, rest_to};
 use crate::settle::{fitting, settle_segment};
 use crate::stored::Stored;
@@ -56,7 +57,7 @@ pub(crate) fn exit_named<'a, R: Register>(
     trie: &'a Trie<Stored<R>>,
     start: &'a Config<R>,
     key: Option<SegKey>,
-) -> (&'a Config<R>, Option<u64>)
+) -> (&'a Config<R>, Number)
     requires linked { (next : ℕ) × IsLinked R.PartialEq.eq start.now.register next None
         (without_register start.now) trie.now }
     ensures exit { result.0.now ≡ exit_or_start trie.now start.now key }
@@ -67,11 +68,11 @@ pub(crate) fn exit_named<'a, R: Register>(
         (without_register result.0.now) trie.now }
 {
     let Some(key) = key else {
-        return (start, None);
+        return (start, Number::none());
     };
     match trie.note(key) {
         Some(stored) => (stored.exit(), stored.id()),
-        None => (start, None),
+        None => (start, Number::none()),
     }
 }
 

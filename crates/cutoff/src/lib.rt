@@ -12,6 +12,7 @@ mod climb;
 pub mod install;
 pub mod last;
 pub mod laws;
+mod number;
 pub mod plan;
 mod prefix;
 pub mod runs;

@@ -82,7 +82,7 @@ fn hung_from<R: Register>(trie: &Trie<Stored<R>>, mark: Option<SegKey>, key: Seg
     };
     let _entry = stored.entry();
     let mut hung = key;
-    let mut link = stored.link();
+    let mut lower = stored;
     let mut at = above;
     // a branch has at most one segment for each cell ever made
     for _ in 0..trie.made() {
@@ -96,12 +96,12 @@ fn hung_from<R: Register>(trie: &Trie<Stored<R>>, mark: Option<SegKey>, key: Seg
         let Some(stored) = note else {
             break;
         };
-        if !stored.is_before(link) {
+        if !stored.is_linked_from(lower) {
             break;
         }
         let _entry = stored.entry();
         hung = key;
-        link = stored.link();
+        lower = stored;
         at = above;
     }
     hung

@@ -11,6 +11,7 @@ ghost use Rattle.cutoff.specs.Fitting.{RunFits, Fits, steps_at, exit_of, part_of
 ghost use Rattle.cutoff.specs.Settles.{IsSegmentSettled, Settles, IsFilled};
 ghost use Rattle.cutoff.specs.Links.{IsLinked, without_register};
 
+use crate::number::Number;
 use crate::runs::Runs;
 use crate::stored::Stored;
 use checkpoints::run::{Run, run_of};
@@ -34,7 +35,7 @@ pub struct Spot<R: Register> {
 #[derive(Drop)]
 pub(crate) struct Settled<R: Register> {
     run: Arc<Run<R>>,
-    id: Option<u64>,
+    id: Number,
     replayed: u32,
 }
 
@@ -60,7 +61,7 @@ pub(crate) fn fitting<'a, R: Register>(
     trie: &'a Trie<Stored<R>>,
     key: SegKey,
     config: &Config<R>,
-    above: Option<u64>,
+    above: Number,
 ) -> Option<&'a Stored<R>>
     requires linked { (next : ℕ) × IsLinked R.PartialEq.eq config.now.register next above
         (without_register config.now) trie.now }
@@ -88,16 +89,16 @@ pub(crate) fn segment_cells<R: Register>(trie: &Trie<Stored<R>>, key: SegKey) ->
 
 /// Returns the next number for a run, and adds 1 to `next`. If all numbers are used, returns
 /// `None`, and changes nothing.
-pub(crate) fn take_number(next: &mut u64) -> Option<u64>
+pub(crate) fn take_number(next: &mut u64) -> Number
     ensures { ((result ≡ None) × (next.new ≡ next.old))
         ⊎ ((result ≡ Some next.old) × (next.new ≡ next.old + 1)) }
 {
     if *next == u64::MAX {
-        return None;
+        return Number::none();
     }
-    let number = *next;
+    let number = Number::of(*next);
     *next += 1;
-    Some(number)
+    number
 }
 
 /// Replays the segment `key`, which no stored run fits at `config`, from `config`, and stores the
@@ -108,7 +109,7 @@ fn replay_segment<R: Register>(
     next: &mut u64,
     key: SegKey,
     config: &Arc<Config<R>>,
-    above: Option<u64>,
+    above: Number,
 ) -> Result<Settled<R>, AllocError>
     requires linked { IsLinked R.PartialEq.eq (arc_value config.now).register next.old above
         (without_register (arc_value config.now)) trie.old }
@@ -141,7 +142,7 @@ pub(crate) fn settle_segment<R: Register>(
     next: &mut u64,
     key: SegKey,
     config: &Arc<Config<R>>,
-    above: Option<u64>,
+    above: Number,
 ) -> Result<Settled<R>, AllocError>
     requires linked { IsLinked R.PartialEq.eq (arc_value config.now).register next.old above
         (without_register (arc_value config.now)) trie.old }
@@ -223,7 +224,7 @@ pub(crate) fn settle_along<R: Register>(
 {
     let mut runs = Vec::new(alloc);
     let mut replayed = 0;
-    let mut above = None;
+    let mut above = Number::none();
     let mut rest = place;
     for key in keys {
         if rest == 0 {

@@ -1,10 +1,10 @@
 -- An insert, in terms of the fields.
-use Rattle.std.proofs.Common.{◌≡◌, ℕ, ◌+◌, ◌<◌, ◌≤◌, Bool, true, false, nat_eq, cond, List, ◌++◌, length, map, set, slice_get, Option, Some, None, IsSome, ◌⊎◌, inl, inr, refl, sym, ap, subst, ◌∙◌, arith, eq-eqb}
+use Rattle.std.proofs.Common.{◌≡◌, ℕ, zero, suc, ◌+◌, ◌-◌, ◌<◌, ◌≤◌, Bool, true, false, nat_eq, cond, List, [], ◌∷◌, ◌++◌, take, drop, length, map, set, slice_get, Option, Some, None, IsSome, ◌⊎◌, inl, inr, refl, sym, ap, subst, ◌∙◌, arith, eq-eqb}
 use Rattle.std.specs.List.{insert}
 use Rattle.std.proofs.lemmas.Bool.{eqb-true}
 use Rattle.std.proofs.lemmas.Option.{slice_get_within}
 use Rattle.std.specs.Option.{IfSome, option_map}
-use Rattle.std.proofs.lemmas.List.{length-append, length-map}
+use Rattle.std.proofs.lemmas.List.{length-append, length-map, take-append-drop}
 use Rattle.std.proofs.lemmas.List.Edits.{length-insert}
 use Rattle.std.specs.Global.{Vec}
 use Rattle.lineage.specs.Family.{Family, item_at, with_item, divided_keys, IsAdded}
@@ -37,6 +37,19 @@ within_more l made branches h room = record {
 
 pub slots_seen : {T : Type 0} (t : Inside T) (key : ℕ) (v : Segment T) (c : Cut T) → cut_of t ≡ c → item_at t.segments key ≡ Some v → slots_of (piece_at c.pieces key) ≡ v.slots.items
 slots_seen t key v c seen there = ap (λ b. slots_of (piece_at b.pieces key)) (sym seen) ∙ ap slots_of (piece_seen t key ∙ ap piece_of there)
+
+-- an insert in the first n items of a list, and in the others
+pub insert-front : (slots : List Slot) (n offset : ℕ) (s : Slot) → offset ≤ n → insert (take n slots) offset s ++ drop n slots ≡ insert slots offset s
+insert-front slots n zero s less = ap (λ l. s ∷ l) (take-append-drop n slots)
+insert-front slots zero (suc offset) s less = absurd (omega arith)
+insert-front [] (suc n) (suc offset) s less = refl
+insert-front (x ∷ slots) (suc n) (suc offset) s less = ap (λ l. x ∷ l) (insert-front slots n offset s (omega arith))
+
+pub insert-back : (slots : List Slot) (n offset : ℕ) (s : Slot) → n ≤ length slots → n ≤ offset → take n slots ++ insert (drop n slots) (offset - n) s ≡ insert slots offset s
+insert-back slots zero offset s short less = ap (λ o. insert slots o s) (omega arith)
+insert-back [] (suc n) offset s short less = absurd (omega arith)
+insert-back (x ∷ slots) (suc n) zero s short less = absurd (omega arith)
+insert-back (x ∷ slots) (suc n) (suc offset) s short less = ap (λ l. x ∷ l) (ap (λ o. take n slots ++ insert (drop n slots) o s) (omega arith) ∙ insert-back slots n offset s (omega arith) (omega arith))
 
 -- an insert in a segment that isn't full
 module _ {T : Type 0} (t : Inside T) (key offset : ℕ) (step : Step) (v w : Segment T) (held : IsHeldCut t) (there : item_at t.segments key ≡ Some v)

@@ -23,7 +23,7 @@ use Rattle.schedule_trie.proofs.Once.{has_cases, has-head, has-append, has_not_f
 use Rattle.schedule_trie.proofs.Partings.{parting}
 use Rattle.schedule_trie.proofs.Positions.{one_place}
 use Rattle.schedule_trie.proofs.Pushes.{line-append}
-use Rattle.schedule_trie.proofs.Shared.{same_before}
+use Rattle.schedule_trie.proofs.Shared.{same_front}
 use Rattle.schedule_trie.proofs.Touched.{some_slots}
 
 -- membership of a cell, in its two definitions
@@ -91,17 +91,6 @@ line_has at k x (j ∷ ks) h g =
     ∙ has_cases k j ks ((has_cell x (slots_of (at j)) || has_cell x (line at ks)) ≡ true) h
     (λ e. or_left (has_cell x (slots_of (at j))) (has_cell x (line at ks)) (subst (λ i. has_cell x (slots_of (at i)) ≡ true) e g))
     (λ r. or_right (has_cell x (slots_of (at j))) (has_cell x (line at ks)) (line_has at k x ks r g))
-
--- paths with a common key have the same keys before it
-same_front : (above : ℕ → Option ℕ) (f b g d : List ℕ) (k : ℕ) → Linked above None (f ++ k ∷ b) → Linked above None (g ++ k ∷ d) → f ≡ g
-same_front above f b g d k lf lg =
-    let n = one_place above (f ++ k ∷ b) (g ++ k ∷ d) (length f) (length g) k lf lg (here f b) (here g d) in
-    let same = same_before above (f ++ k ∷ b) (g ++ k ∷ d) (length f) k lf lg (here f b) (ap (slice_get (g ++ k ∷ d)) n ∙ here g d) in
-    sym (take-append_seam f (k ∷ b)) ∙ same ∙ ap (λ m. take m (g ++ k ∷ d)) n ∙ take-append_seam g (k ∷ d)
-  where
-    here : (xs ys : List ℕ) → slice_get (xs ++ k ∷ ys) (length xs) ≡ Some k
-    here [] ys = refl
-    here (x ∷ xs) ys = here xs ys
 
 -- the mark after which a path goes on
 stem_cases : (marks : List (Option Mark)) (front : List ℕ) (m : Mark) (P : Type 0) → IsMarkOf marks (last_of front) m → (front ≡ [] → m ≡ mark 0 0 → P)

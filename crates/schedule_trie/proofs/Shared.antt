@@ -3,10 +3,11 @@ use Rattle.std.proofs.Common.{◌≡◌, ℕ, zero, suc, ◌+◌, ◌-◌, ◌<�
 use Rattle.std.specs.Option.{IfSome}
 use Rattle.std.proofs.lemmas.List.{take-append-le}
 use Rattle.std.proofs.lemmas.Bool.Decides.{nat_tests}
-use Rattle.std.proofs.Math.Seq.{take-append-add}
+use Rattle.std.proofs.Math.Seq.{take-append-add, take-append_seam}
 use Rattle.std.specs.Cmp.Lexicographic.{pointwise}
 use Rattle.std.specs.Prelude.{nat_eq}
 use Rattle.indexmap.specs.IndexMap.{IsUnique}
+use Rattle.lineage.specs.Family.{last_of}
 use Rattle.schedule_trie.specs.declared.slot.Slot.{Slot}
 use Rattle.schedule_trie.specs.declared.trie.Trie.TheInside.{Inside}
 use Rattle.schedule_trie.specs.Forest.{cell_of, slots_in, ShareUpTo, IsForest}
@@ -16,6 +17,8 @@ use Rattle.schedule_trie.proofs.Lines.{slots_in_on, slice_get_left, slice_get_ri
 use Rattle.schedule_trie.proofs.Changes.{has_cell_get}
 use Rattle.schedule_trie.proofs.Positions.{one_place, before_place}
 use Rattle.schedule_trie.proofs.Apart.{branches_apart}
+use Rattle.schedule_trie.proofs.Climbs.{last_parts}
+use Rattle.schedule_trie.proofs.ForkSteps.{no_last}
 
 -- taking one more item adds the item at that index
 pub take_more : {X : Type 0} (xs : List X) (n : ℕ) (x : X) → slice_get xs n ≡ Some x → take (suc n) xs ≡ take n xs ++ x ∷ []
@@ -34,6 +37,26 @@ same_before above xs ys (suc n) k a b e f =
     let same : p.0 ≡ q.0 = cc in
     let there : slice_get ys n ≡ Some p.0 = q.1 ∙ ap Some (sym same) in
     take_more xs n p.0 p.1 ∙ ap (λ l. l ++ p.0 ∷ []) (same_before above xs ys n p.0 a b p.1 there) ∙ sym (take_more ys n p.0 there)
+
+-- the keys before a common key are the same
+pub same_front : (above : ℕ → Option ℕ) (f b g d : List ℕ) (k : ℕ) → Linked above None (f ++ k ∷ b) → Linked above None (g ++ k ∷ d) → f ≡ g
+same_front above f b g d k lf lg =
+    let n = one_place above (f ++ k ∷ b) (g ++ k ∷ d) (length f) (length g) k lf lg (here f b) (here g d) in
+    let same = same_before above (f ++ k ∷ b) (g ++ k ∷ d) (length f) k lf lg (here f b) (ap (slice_get (g ++ k ∷ d)) n ∙ here g d) in
+    sym (take-append_seam f (k ∷ b)) ∙ same ∙ ap (λ m. take m (g ++ k ∷ d)) n ∙ take-append_seam g (k ∷ d)
+  where
+    here : (xs ys : List ℕ) → slice_get (xs ++ k ∷ ys) (length xs) ≡ Some k
+    here [] ys = refl
+    here (x ∷ xs) ys = here xs ys
+
+-- paths with the same last key are the same
+pub same_path : (above : ℕ → Option ℕ) (xs ys : List ℕ) (last : Option ℕ) → Linked above None xs → Linked above None ys → last_of xs ≡ last → last_of ys ≡ last → xs ≡ ys
+same_path above xs ys None lx ly ex ey = no_last xs ex ∙ sym (no_last ys ey)
+same_path above xs ys (Some k) lx ly ex ey =
+    let p = last_parts xs k ex in
+    let q = last_parts ys k ey in
+    let front = same_front above p.0 [] q.0 [] k (subst (Linked above None) p.1 lx) (subst (Linked above None) q.1 ly) in
+    p.1 ∙ ap (λ l. l ++ k ∷ []) front ∙ sym q.1
 
 -- a cell has only one offset in a segment
 one_offset : (slots : List Slot) (m n : ℕ) (s t : Slot) → Once (map cell_of slots) → slice_get slots m ≡ Some s → slice_get slots n ≡ Some t

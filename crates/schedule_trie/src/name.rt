@@ -20,7 +20,7 @@ const MOST_BYTES: usize = 16;
 #[derive(Debug, Drop)]
 pub struct Name {
     bytes: [u8; MOST_BYTES],
-    len: usize,
+    len: u32,
 }
 
 impl Model for Name {
@@ -94,7 +94,7 @@ impl Name {
         bytes[..text.len()].copy_from_slice(text);
         Some(Name {
             bytes,
-            len: text.len(),
+            len: text.len() as u32,
         })
     }
 
@@ -103,7 +103,7 @@ impl Name {
         ensures bytes { result.now ≡ self.now }
         ensures short { length self.now ≤ 16 }
     {
-        &self.bytes[..self.len]
+        &self.bytes[..self.len as usize]
     }
 
     /// Whether the name is a lower-case letter, followed by lower-case letters or digits only. A

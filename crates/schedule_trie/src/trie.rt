@@ -42,6 +42,7 @@ pub struct Trie<T> {
     branches: IndexMap<Name, Option<u32>>,
     made: u32,
     limits: Limits,
+    learnt: usize,
 }
 
 impl<T> Model for Trie<T> {
@@ -118,6 +119,7 @@ impl<T: Drop> Trie<T> {
             branches,
             made: 0,
             limits,
+            learnt: 0,
         })
     }
 

@@ -30,7 +30,8 @@ abbrev pub drops_occupied : Edit → List (Option Cursor) → Bool
 drops_occupied (Drop branch) cursors = is_occupied branch cursors
 drops_occupied edit cursors = false
 
--- whether only a cursor prevents a drop of a branch, which exists and isn't the only one
+-- whether only a cursor prevents a drop of a branch, which exists and isn't the only one; false for
+-- any other edit
 abbrev pub is_held_up : Edit → Forest → List (Option Cursor) → Bool
 is_held_up (Drop branch) f cursors = is_some (len_of f branch) && (nat_lt 1 (length f.branches) && is_occupied branch cursors)
 is_held_up edit f cursors = false

@@ -1,17 +1,22 @@
-//! Books over `Switch`.
+//! Books over `Switch`. Each call that promises much is in a function without `ensures` clauses, so
+//! that no later proof carries what it promises.
+
+ghost use Rattle.std.specs.Prelude.{◌<◌, length};
+ghost use Rattle.schedule_trie.specs.Limbs.{AreLawfulLimbs};
+ghost use Rattle.cutoff.specs.Charts.{LimbsFit};
+ghost use Rattle.surface_tests.specs.Switch.{switch};
 
 use crate::given::{GO, READ, WRITE, limits, name};
+use crate::jobs::run_of;
 use crate::pages::{both_texts, is_text, page_of};
 use crate::switch::Switch;
-use checkpoints::run_segment;
 use cutoff::{Installation, Job};
-use schedule_trie::Refusal;
+use schedule_trie::{Limb, Name, Refusal};
 use sessions::{Book, Command, Entry, Reply};
 use std::alloc::{AllocError, Global};
 use std::process::Abort;
-use std::sync::Arc;
 use std::test::Fail;
-use views::{Break, Page, Query};
+use views::{Break, Page, Query, Slip};
 
 /// Each command once, by session 0, and the expected reply.
 fn calls(rt: &impl Abort) -> [(Command, Reply); 13] {
@@ -54,14 +59,23 @@ fn calls(rt: &impl Abort) -> [(Command, Reply); 13] {
     ]
 }
 
-/// A book after these calls, and whether each reply was the expected one.
-fn called(rt: &impl Abort, alloc: Global) -> Result<(Book<Switch>, bool), Refusal> {
-    let mut book = Book::new(alloc, Switch, 0, limits(), &[READ])?;
+/// A book whose `main` is one read.
+fn opened(alloc: Global) -> Result<Book<Switch>, Refusal> {
+    Book::new(alloc, Switch, 0, limits(), &[READ])
+}
+
+/// Whether the reply to a command of session 0 is this one.
+fn replies(alloc: Global, book: &mut Book<Switch>, command: &Command, reply: &Reply) -> bool {
+    book.act(alloc, 0, 0, None, command) == *reply
+}
+
+/// Makes the calls of `calls`. Returns whether each reply was the expected one.
+fn called(rt: &impl Abort, alloc: Global, book: &mut Book<Switch>) -> bool {
     let mut all = true;
-    for (command, reply) in calls(rt) {
-        all &= book.act(alloc, 0, 0, None, &command) == reply;
+    for (command, reply) in &calls(rt) {
+        all &= replies(alloc, book, command, reply);
     }
-    Ok((book, all))
+    all
 }
 
 /// Runs a job, and installs its run.
@@ -70,33 +84,63 @@ fn installed(
     book: &mut Book<Switch>,
     job: &Job<Switch>,
 ) -> Result<Installation, AllocError> {
-    let run = Arc::new(alloc, run_segment(alloc, &job.entry, job.steps.as_slice())?)?;
+    let run = run_of(alloc, job)?;
     Ok(book.install(job.key, run))
+}
+
+/// The slip of a look.
+fn look(alloc: Global, book: &mut Book<Switch>, query: Query) -> Result<Slip<Switch>, Refusal> {
+    book.look(alloc, query)
 }
 
 /// Looks, and makes the page.
 fn page(alloc: Global, book: &mut Book<Switch>, query: Query) -> Result<Page, Refusal> {
-    let slip = book.look(alloc, query)?;
+    let slip = look(alloc, book, query)?;
     page_of(alloc, &slip).or(Err(Refusal::Memory))
 }
 
-/// Runs and installs all jobs of `main`'s plan. Returns whether each run was installed.
-fn planned(rt: &impl Abort, alloc: Global, book: &mut Book<Switch>) -> Result<bool, Refusal> {
-    let jobs = book.plan(alloc, &name(rt, b"main"))?;
+/// The jobs of a branch's plan.
+fn plan(alloc: Global, book: &Book<Switch>, branch: &Name) -> Result<Vec<Job<Switch>>, Refusal> {
+    book.plan(alloc, branch)
+}
+
+/// Runs and installs all these jobs. Returns whether each run was installed.
+fn install_all(
+    alloc: Global,
+    book: &mut Book<Switch>,
+    jobs: &[Job<Switch>],
+) -> Result<bool, Refusal> {
     let mut all = true;
-    for job in jobs.as_slice() {
-        let Ok(answer) = installed(alloc, book, job) else {
-            return Err(Refusal::Memory);
-        };
-        all &= answer == Installation::Installed;
+    for job in jobs {
+        all &= installed(alloc, book, job)? == Installation::Installed;
     }
     Ok(all)
 }
 
+/// Runs and installs all jobs of `main`'s plan. Returns whether each run was installed.
+fn planned(rt: &impl Abort, alloc: Global, book: &mut Book<Switch>) -> Result<bool, Refusal> {
+    let jobs = plan(alloc, book, &name(rt, b"main"))?;
+    install_all(alloc, book, jobs.as_slice())
+}
+
+/// A book that is loaded from these limbs.
+fn loaded(alloc: Global, limbs: &[Limb]) -> Result<Book<Switch>, Refusal>
+    requires lawful { AreLawfulLimbs limbs.now }
+    requires some { 0 < length limbs.now }
+    requires fits { LimbsFit switch limbs.now }
+{
+    Book::load(alloc, Switch, 0, limits(), limbs)
+}
+
+/// A book that is loaded from this book's limbs.
+fn reloaded(alloc: Global, book: &Book<Switch>) -> Result<Book<Switch>, Refusal> {
+    let limbs = book.limbs(alloc)?;
+    loaded(alloc, limbs.as_slice())
+}
+
 /// The length of the log of a book that is loaded from this book's limbs.
 fn calls_of_loaded(alloc: Global, book: &Book<Switch>) -> Result<u32, Refusal> {
-    let limbs = book.limbs(alloc)?;
-    let loaded = Book::load(alloc, Switch, 0, limits(), limbs.as_slice())?;
+    let loaded = reloaded(alloc, book)?;
     Ok(loaded.len())
 }
 
@@ -127,8 +171,8 @@ fn counts(book: &Book<Switch>) -> (u32, u64) {
 
 #[test]
 fn each_call_of_a_book(rt: HostRuntime) -> Result<(), Fail> {
-    let (mut book, all) = called(&rt, rt.alloc())?;
-    assert!(rt; all && counts(&book) == (13, 6));
+    let mut book = opened(rt.alloc())?;
+    assert!(rt; called(&rt, rt.alloc(), &mut book) && counts(&book) == (13, 6));
     let text = b"0: branches 1 edits 6 made 4\n  main 2\n".as_slice();
     assert!(rt; shows_branches(rt.alloc(), &mut book, text) == Ok(true));
     assert!(rt; planned(&rt, rt.alloc(), &mut book) == Ok(true));

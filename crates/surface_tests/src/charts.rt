@@ -1,70 +1,98 @@
-//! Charts of `Switch`, and pages of their places.
+//! Charts of `Switch`, and pages of their places. Each call that promises much is in a function
+//! without `ensures` clauses, so that no later proof carries what it promises.
 
+ghost use Rattle.std.specs.Prelude.{◌≡◌, ◌<◌, length, true};
+ghost use Rattle.frames.specs.Configuration.{fits_step};
+ghost use Rattle.schedule_trie.specs.Limbs.{AreLawfulLimbs};
+ghost use Rattle.cutoff.specs.Charts.{LimbsFit};
 ghost use Rattle.surface_tests.specs.Switch.{switch};
-ghost use Rattle.frames.specs.Recorded.{AllFit};
 
 use crate::given::{GO, READ, WRITE, limits, name};
+use crate::jobs::run_of;
 use crate::pages::text_of_slip;
 use crate::switch::Switch;
-use checkpoints::run_segment;
-use cutoff::{Chart, Installation, Job};
+use cutoff::{Chart, Installation, Job, Spot};
 use frames::{Config, Step};
-use schedule_trie::{Name, Refusal};
+use schedule_trie::edit::Edit;
+use schedule_trie::{Limb, Name, Refusal};
 use std::alloc::{AllocError, Global};
 use std::process::Abort;
-use std::sync::Arc;
 use std::test::Fail;
 use views::{Query, Slip};
 
-/// Adds a bit action to `main`, and forks `a` from all of `main`.
-fn grown(alloc: Global, chart: &mut Chart<Switch>, main: &Name, a: Name) -> Result<(), Refusal> {
-    chart.insert(alloc, main, 1, GO)?;
-    chart.fork(alloc, main, 2, a)
+/// A chart whose `main` is one read.
+pub(crate) fn opened(alloc: Global) -> Result<Chart<Switch>, Refusal> {
+    Chart::new(alloc, Switch, 0, limits(), &[READ])
 }
 
-/// Detaches `a`, which gives it cells of its own, and removes the last of these.
-fn parted(alloc: Global, chart: &mut Chart<Switch>, a: &Name) -> Result<(), Refusal> {
-    chart.detach(alloc, a)?;
-    chart.remove(a, 1)
+/// Inserts a step at a place of a branch.
+fn insert(
+    alloc: Global,
+    chart: &mut Chart<Switch>,
+    branch: &Name,
+    place: u32,
+    step: Step,
+) -> Result<(), Refusal>
+    requires { fits_step switch step ≡ true }
+{
+    chart.insert(alloc, branch, place, step)
 }
 
-/// Forks `b` from the first cell of `main`, and drops `b`.
-fn forked(alloc: Global, chart: &mut Chart<Switch>, main: &Name, b: Name) -> Result<(), Refusal> {
-    chart.fork(alloc, main, 1, b)?;
-    chart.drop_branch(&b)
+/// Inserts a read before the first step of a branch, by the call that takes any edit.
+fn insert_first(alloc: Global, chart: &mut Chart<Switch>, branch: &Name) -> Result<(), Refusal> {
+    chart.edit(alloc, &Edit::Insert(branch, 0, READ))
 }
 
-/// Inserts a read at the beginning of `main`, and replaces this read by a write.
-fn preceded(alloc: Global, chart: &mut Chart<Switch>, main: &Name) -> Result<(), Refusal> {
-    chart.insert(alloc, main, 0, READ)?;
-    chart.replace(main, 0, WRITE)
+/// Forks a branch from the first cells of another.
+fn fork(
+    alloc: Global,
+    chart: &mut Chart<Switch>,
+    branch: &Name,
+    place: u32,
+    name: Name,
+) -> Result<(), Refusal> {
+    chart.fork(alloc, branch, place, name)
+}
+
+/// Gives a branch cells of its own.
+fn detach(alloc: Global, chart: &mut Chart<Switch>, branch: &Name) -> Result<(), Refusal> {
+    chart.detach(alloc, branch)
+}
+
+/// Removes the second cell of a branch.
+fn remove(chart: &mut Chart<Switch>, branch: &Name) -> Result<(), Refusal> {
+    chart.remove(branch, 1)
+}
+
+/// Drops a branch.
+fn drop_branch(chart: &mut Chart<Switch>, branch: &Name) -> Result<(), Refusal> {
+    chart.drop_branch(branch)
+}
+
+/// Replaces the first step of a branch by a write.
+fn replace(chart: &mut Chart<Switch>, branch: &Name) -> Result<(), Refusal> {
+    chart.replace(branch, 0, WRITE)
 }
 
 /// Makes each edit. Then `main` is a write, a read and a bit action, and `a` is only the read.
 fn edit(rt: &impl Abort, alloc: Global, chart: &mut Chart<Switch>) -> Result<(), Refusal> {
     let (main, a, b) = (name(rt, b"main"), name(rt, b"a"), name(rt, b"b"));
-    grown(alloc, chart, &main, a)?;
-    parted(alloc, chart, &a)?;
-    forked(alloc, chart, &main, b)?;
-    preceded(alloc, chart, &main)
+    insert(alloc, chart, &main, 1, GO)?;
+    fork(alloc, chart, &main, 2, a)?;
+    detach(alloc, chart, &a)?;
+    remove(chart, &a)?;
+    fork(alloc, chart, &main, 1, b)?;
+    drop_branch(chart, &b)?;
+    insert_first(alloc, chart, &main)?;
+    replace(chart, &main)
 }
 
 /// A chart after the edits of `edit`. The contract promises nothing, so that the tests' proofs stay
 /// small.
 fn edited(rt: &impl Abort, alloc: Global) -> Result<Chart<Switch>, Refusal> {
-    let mut chart = Chart::new(alloc, Switch, 0, limits(), &[READ])?;
+    let mut chart = opened(alloc)?;
     edit(rt, alloc, &mut chart)?;
     Ok(chart)
-}
-
-/// Runs a job, and installs its run.
-fn installed(
-    alloc: Global,
-    chart: &mut Chart<Switch>,
-    job: &Job<Switch>,
-) -> Result<Installation, AllocError> {
-    let run = Arc::new(alloc, run_segment(alloc, &job.entry, job.steps.as_slice())?)?;
-    Ok(chart.install(job.key, run))
 }
 
 /// Whether the initial configuration of a chart is that of `Switch` at 0.
@@ -118,10 +146,48 @@ fn each_reading_of_a_chart(rt: HostRuntime) -> Result<(), Fail> {
     Ok(())
 }
 
+/// Settles the end of `main`.
+fn spot(alloc: Global, chart: &mut Chart<Switch>, main: &Name) -> Result<Spot<Switch>, Refusal> {
+    chart.settle(alloc, main, 3)
+}
+
 /// How many steps are replayed to settle the end of `main`, and whether the spot has runs.
 fn settled(alloc: Global, chart: &mut Chart<Switch>, main: &Name) -> Result<(u32, bool), Refusal> {
-    let spot = chart.settle(alloc, main, 3)?;
+    let spot = spot(alloc, chart, main)?;
     Ok((spot.replayed, !spot.runs.as_slice().is_empty()))
+}
+
+/// The jobs of a branch's plan.
+pub(crate) fn plan(
+    alloc: Global,
+    chart: &Chart<Switch>,
+    branch: &Name,
+) -> Result<Vec<Job<Switch>>, Refusal> {
+    chart.plan(alloc, branch)
+}
+
+/// Runs a job, and installs its run.
+fn installed(
+    alloc: Global,
+    chart: &mut Chart<Switch>,
+    job: &Job<Switch>,
+) -> Result<Installation, AllocError> {
+    let run = run_of(alloc, job)?;
+    Ok(chart.install(job.key, run))
+}
+
+/// Runs and installs all these jobs. Returns how many there are, or `None` if a run wasn't
+/// installed.
+fn install_all(
+    alloc: Global,
+    chart: &mut Chart<Switch>,
+    jobs: &[Job<Switch>],
+) -> Result<Option<usize>, Refusal> {
+    let mut all = true;
+    for job in jobs {
+        all &= installed(alloc, chart, job)? == Installation::Installed;
+    }
+    Ok(if all { Some(jobs.len()) } else { None })
 }
 
 /// Runs and installs all jobs of a branch's plan. Returns how many jobs there were, or `None` if a
@@ -131,19 +197,8 @@ fn planned(
     chart: &mut Chart<Switch>,
     branch: &Name,
 ) -> Result<Option<usize>, Refusal> {
-    let jobs = chart.plan(alloc, branch)?;
-    let mut all = true;
-    for job in jobs.as_slice() {
-        let Ok(answer) = installed(alloc, chart, job) else {
-            return Err(Refusal::Memory);
-        };
-        all &= answer == Installation::Installed;
-    }
-    Ok(if all {
-        Some(jobs.as_slice().len())
-    } else {
-        None
-    })
+    let jobs = plan(alloc, chart, branch)?;
+    install_all(alloc, chart, jobs.as_slice())
 }
 
 #[test]
@@ -155,14 +210,19 @@ fn jobs_of_a_plan_are_installed(rt: HostRuntime) -> Result<(), Fail> {
     Ok(())
 }
 
-/// The text of the page of process 1 at the end of `main`.
-fn text(alloc: Global, chart: &mut Chart<Switch>, main: Name) -> Result<Vec<u8>, Refusal> {
+/// The slip of process 1 at the end of `main`.
+fn slip(alloc: Global, chart: &mut Chart<Switch>, main: Name) -> Result<Slip<Switch>, Refusal> {
     let query = Query::Process {
         b: main,
         k: 3,
         p: 1,
     };
-    let slip = Slip::at(alloc, chart, query)?;
+    Slip::at(alloc, chart, query)
+}
+
+/// The text of the page of process 1 at the end of `main`.
+fn text(alloc: Global, chart: &mut Chart<Switch>, main: Name) -> Result<Vec<u8>, Refusal> {
+    let slip = slip(alloc, chart, main)?;
     text_of_slip(alloc, &slip).or(Err(Refusal::Memory))
 }
 
@@ -174,10 +234,19 @@ fn slip_has_a_page(rt: HostRuntime) -> Result<(), Fail> {
     Ok(())
 }
 
+/// A chart that is loaded from these limbs.
+fn loaded(alloc: Global, limbs: &[Limb]) -> Result<Chart<Switch>, Refusal>
+    requires lawful { AreLawfulLimbs limbs.now }
+    requires some { 0 < length limbs.now }
+    requires fits { LimbsFit switch limbs.now }
+{
+    Chart::load(alloc, Switch, 0, limits(), limbs)
+}
+
 /// A chart that is loaded from this chart's limbs.
 fn reloaded(alloc: Global, chart: &Chart<Switch>) -> Result<Chart<Switch>, Refusal> {
     let limbs = chart.limbs(alloc)?;
-    Chart::load(alloc, Switch, 0, limits(), limbs.as_slice())
+    loaded(alloc, limbs.as_slice())
 }
 
 #[test]

@@ -1,15 +1,19 @@
 //! A crew that runs the jobs of a plan.
 
-use crate::given::{READ, limits, name};
+ghost use Rattle.std.specs.Prelude.{◌≤◌};
+
+use crate::charts::{opened, plan};
+use crate::given::name;
 use crate::switch::Switch;
 use checkpoints::Run;
-use cutoff::{Chart, Job};
+use cutoff::Job;
 use schedule_trie::{Refusal, SegKey};
 use std::alloc::Global;
 use std::process::Abort;
 use std::sync::atomic::{AtomicU64, Ordering};
 use std::sync::{Arc, Wait};
 use std::test::Fail;
+use std::thread::Threads;
 use workers::{Crew, Done, Gate, JobOutcome, NoGate};
 
 /// A gate that counts the offers made to it.
@@ -26,8 +30,8 @@ impl<W: Wait> Gate<W> for Offers {
 
 /// The jobs for a branch of one read.
 fn plan_of_one(rt: &impl Abort, alloc: Global) -> Result<Vec<Job<Switch>>, Refusal> {
-    let chart = Chart::new(alloc, Switch, 0, limits(), &[READ])?;
-    chart.plan(alloc, &name(rt, b"main"))
+    let chart = opened(alloc)?;
+    plan(alloc, &chart, &name(rt, b"main"))
 }
 
 /// Whether a job ran.
@@ -35,17 +39,25 @@ fn has_run(done: &Done<SegKey, Arc<Run<Switch>>>) -> bool {
     matches!(done.outcome, JobOutcome::Ran(_))
 }
 
+/// Runs the jobs of `plan_of_one`. Returns whether there is just one, and it ran.
+fn one_runs<R, G>(rt: &R, alloc: Global, thieves: u32, gate: &G) -> Result<bool, Refusal>
+where
+    R: Abort + Threads + Wait + Sync,
+    G: Gate<R> + Sync,
+    requires { thieves ≤ 4 }
+{
+    let jobs = plan_of_one(rt, alloc)?;
+    let all = Crew::run(rt, alloc, jobs, thieves, gate)?;
+    Ok(all.len() == 1 && all.iter().all(has_run))
+}
+
 #[test]
 fn crew_runs_each_job(rt: HostRuntime) -> Result<(), Fail> {
     let offers = Offers {
         count: AtomicU64::new(0),
     };
-    let jobs = plan_of_one(&rt, rt.alloc())?;
-    let all = Crew::run(&rt, rt.alloc(), jobs, 2, &offers)?;
-    assert!(rt; all.len() == 1 && all.iter().all(has_run));
+    assert!(rt; one_runs(&rt, rt.alloc(), 2, &offers)?);
     assert_eq!(rt; offers.count.load(Ordering::SeqCst), 1);
-    let jobs = plan_of_one(&rt, rt.alloc())?;
-    let all = Crew::run(&rt, rt.alloc(), jobs, 0, &NoGate)?;
-    assert!(rt; all.len() == 1 && all.iter().all(has_run));
+    assert!(rt; one_runs(&rt, rt.alloc(), 0, &NoGate)?);
     Ok(())
 }

@@ -23,6 +23,8 @@ mod forests;
 #[cfg(test)]
 mod given;
 #[cfg(test)]
+mod jobs;
+#[cfg(test)]
 mod laws;
 #[cfg(test)]
 mod pages;

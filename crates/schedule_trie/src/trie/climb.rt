@@ -23,7 +23,30 @@ impl<T: Drop> Trie<T> {
     {
         match kept_length(&self.branches, index) {
             Some(len) => len,
+            None => self.counted_len(index),
+        }
+    }
+
+    /// The number of cells of the branch at an index, whose length isn't cached. If the branch whose
+    /// length was cached last ends with the same segment, they are as long, and no cell is counted.
+    fn counted_len(&self, index: usize) -> u32
+        ensures { result ≡ length (slots_in (forest self.now).branches index) }
+    {
+        match self.twin_len(index) {
+            Some(len) => len,
             None => self.len_to(index, self.segments.tip(index)),
+        }
+    }
+
+    /// The cached length of the branch whose length was cached last, if it's still cached and that
+    /// branch ends with the same segment as the branch at an index.
+    fn twin_len(&self, index: usize) -> Option<u32>
+        ensures { IfSome result (λ len. len ≡ length (slots_in (forest self.now).branches index)) }
+    {
+        if self.segments.last(self.learnt) == self.segments.last(index) {
+            kept_length(&self.branches, self.learnt)
+        } else {
+            None
         }
     }
 

@@ -156,13 +156,28 @@ fn parts_with(
     ensures least { IfOk result (λ r. 64 ≤ length r.0.items) }
     ensures most { IfOk result (λ r. length r.0.items ≤ 65) }
 {
-    let mut above = Vec::from_slice(alloc, slots)?;
-    above.insert(offset, slot)?;
-    let cut = if offset < UPPER_SLOTS {
-        UPPER_SLOTS + 1
-    } else {
-        UPPER_SLOTS
-    };
-    let below = above.split_off(cut)?;
-    Ok((above, below))
+    // (slices of a known length are copied faster)
+    let (front, back) = (&slots[..UPPER_SLOTS], &slots[UPPER_SLOTS..]);
+    if offset < UPPER_SLOTS {
+        let above = with_slot(alloc, front, offset, slot)?;
+        return Ok((above, Vec::from_slice(alloc, back)?));
+    }
+    let above = Vec::from_slice(alloc, front)?;
+    Ok((above, with_slot(alloc, back, offset - UPPER_SLOTS, slot)?))
+}
+
+/// These cells with a new one at `offset`, in a vector with no room for more.
+fn with_slot(
+    alloc: Global,
+    slots: &[Slot],
+    offset: usize,
+    slot: Slot,
+) -> Result<Vec<Slot>, AllocError>
+    requires { offset < length slots.now }
+    ensures { IfOk result (λ r. r.items ≡ inserted_at slots.now offset slot) }
+{
+    let mut all = Vec::with_capacity(alloc, slots.len() + 1)?;
+    all.extend_from_slice(slots)?;
+    all.insert(offset, slot)?;
+    Ok(all)
 }

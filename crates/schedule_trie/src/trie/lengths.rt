@@ -33,6 +33,7 @@ impl<T: Drop> Trie<T> {
         ensures { self.new ≡ self.old }
     {
         set_length(&mut self.branches, index, Some(len));
+        self.learnt = index;
     }
 }
 

@@ -8,7 +8,7 @@ use Rattle.cutoff.proofs.plan.plan_all.Goals as goal
 
 pub plan_branch-requires-clause-seen : goal.plan_branch-requires-clause-seen
 plan_branch-requires-clause-seen g c =
-    none_seen g.R.PartialEq.eq g.R.Behaves.behaviour c.args.trie.now c.args.start.now _ _ c.new-2.ensures.items c.new.ensures.items
+    none_seen g.R.PartialEq.eq g.R.Behaves.behaviour c.args.trie.now c.args.start.now _ _ c.in_ok-with_capacity.ensures.items c.new.ensures.items
 
 pub loop-other-init : goal.loop-other-init
 loop-other-init g c = record {

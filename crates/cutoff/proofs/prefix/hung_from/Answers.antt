@@ -1,4 +1,4 @@
-use Rattle.std.proofs.Common.{◌≡◌, ℕ, true, Some, sym, ap, subst, ◌∙◌}
+use Rattle.std.proofs.Common.{◌≡◌, ℕ, true, Some, refl, sym, ap, subst, ◌∙◌}
 use Rattle.std.specs.Option.{option_copied}
 use Rattle.schedule_trie.specs.Cut.{has, keys_in, note_of, piece_at}
 use Rattle.schedule_trie.specs.Climbs.{HasClimbedTo}
@@ -22,7 +22,7 @@ loop-init g c =
         stored = c.in-Some.stored.now;
         noted = sym c.step_up_from-above.ensures.note ∙ ap option_copied c.in-Some.is;
         true_run = c.entry-entry.ensures.kept;
-        linked = sym c.link-link.ensures;
+        linked = refl;
       };
     }
 
@@ -34,10 +34,10 @@ loop-preserved g c =
     let was = c.loop.invariant in
     let s = c.in-Some-note.stored.now in
     let noted : note_of (piece_at trie.pieces c.in-Some-at.key) ≡ Some s = sym c.step_up_from-above-in-loop.ensures.note ∙ ap option_copied c.in-Some-note.is in
-    let before = c.is_before.ensures.0 c.if-not-is_before.false in
+    let before = c.is_linked_from.ensures.0 c.if-not-is_linked_from.false in
     let told = c.requires.linked in
     let hung : (i : ℕ) → has c.args.key (keys_in trie.strands i) ≡ true → IsHung E is trie c.in-Some-at.key c.args.key i =
-    λ i h. hung_more E is trie g.met.R.PartialEq.laws c.loop.hung c.in-Some-at.key c.args.key i told.1 before.0 told.0 c.loop.at c.loop.link s told.2 was.stored noted c.entry-entry-in-loop.ensures.kept
+    λ i h. hung_more E is trie g.met.R.PartialEq.laws c.loop.hung c.in-Some-at.key c.args.key i told.1 before.0 told.0 c.loop.at c.loop.lower.now.link s told.2 was.stored noted c.entry-entry-in-loop.ensures.kept
     before.1 before.2 c.in-Some-at.is (was.up i h) (was.hung i h) in
     record {
       up = λ i h. step_up (keys_in trie.strands i) c.in-Some-at.key c.step_up_from-above-in-loop.result.1 (path_once trie c.requires.cut i) (hung i h).there
@@ -47,7 +47,7 @@ loop-preserved g c =
         stored = s;
         noted = noted;
         true_run = c.entry-entry-in-loop.ensures.kept;
-        linked = sym c.link-link-in-loop.ensures;
+        linked = refl;
       };
     }
 

@@ -13,5 +13,5 @@ invariant-loop g l =
     record {
       up : (i : ℕ) → has l.fn.key (keys i) ≡ true → IsStepUp (keys i) l.hung l.at;
       hung : (i : ℕ) → has l.fn.key (keys i) ≡ true → IsHung E is l.trie l.hung l.fn.key i;
-      stored : HasLinked E is l.trie l.hung l.link;
+      stored : HasLinked E is l.trie l.hung l.lower.link;
     }

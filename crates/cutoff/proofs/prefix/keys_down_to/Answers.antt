@@ -4,7 +4,8 @@ use Rattle.schedule_trie.specs.Cut.{has, keys_in}
 use Rattle.schedule_trie.specs.Climbs.{keys_to, HasClimbedTo}
 use Rattle.schedule_trie.proofs.Climbs.{IsStepUp, step_up}
 use Rattle.cutoff.proofs.Climbs.{path_once, past_all, shorter}
-use Rattle.cutoff.proofs.Prefixes.{same_key, other_key, by_other}
+use Rattle.schedule_trie.proofs.LengthSteps.{same_key}
+use Rattle.cutoff.proofs.Prefixes.{other_key, by_other}
 use Rattle.cutoff.proofs.prefix.keys_down_to.Goals as goal
 use Rattle.cutoff.proofs.prefix.keys_down_to.Goals.{else-loop-test, then-loop-test+then-eq, then-loop-test+else-eq+in_default}
 

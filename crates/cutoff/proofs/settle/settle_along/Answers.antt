@@ -8,7 +8,7 @@ use Rattle.cutoff.proofs.settle.settle_along.Goals.{else-loop-key-test, then-loo
 
 pub loop-key-init : goal.loop-key-init
 loop-key-init g c =
-    rw c.new-runs.ensures.items
+    rw (c.new-runs.ensures.items, c.none-above.ensures)
     (walk_starts g.R.PartialEq.eq g.met.R.Eq.laws (g.R.Behaves.behaviour c.args.start.now.register) c.args.trie.now c.args.start.now c.args.next.now c.args.keys.now c.args.place
     c.requires.cut c.requires.branch c.requires.linked c.requires.fits c.requires.within)
 

@@ -1,0 +1,72 @@
+//! Numbers of stored runs.
+
+ghost use Rattle.std.specs.Prelude.{◌≡◌, ◌<◌, ◌-◌, ◌^◌, ℕ, Some, None, is_some};
+ghost use Rattle.std.specs.Bool.{Decides};
+
+use std::alloc::AllocError;
+use std::marker::Model;
+
+/// The number of a stored run, or no number, in one word. In contracts it is an option of a number.
+/// With two values of type `Option<u64>`, each segment would be two words larger.
+#[derive(Drop)]
+pub(crate) struct Number {
+    // `u64::MAX` means no number
+    word: u64,
+}
+
+impl Model for Number {
+    ghost use Rattle.std.specs.Prelude.{ℕ, Option};
+
+    ghost Value = { Option ℕ };
+
+    ghost use Rattle.cutoff.specs.Numbers.{number_of_word, word_of};
+
+    ghost view = { λ n. number_of_word n.word };
+
+    ghost inverse = { λ o. record { word = word_of o } };
+}
+
+impl Copy for Number {}
+
+impl Clone for Number {
+    ghost is_clone = { λ number copy. copy ≡ number };
+
+    fn clone(&self) -> Result<Number, AllocError> {
+        Ok(*self)
+    }
+}
+
+impl Number {
+    /// No number.
+    #[inline(always)]
+    pub(crate) fn none() -> Number
+        ensures { result ≡ None }
+    {
+        Number { word: u64::MAX }
+    }
+
+    /// This number, which has to be less than the greatest word: that one means no number.
+    #[inline(always)]
+    pub(crate) fn of(number: u64) -> Number
+        requires { number < 2 ^ 64 - 1 }
+        ensures { result ≡ Some number }
+    {
+        Number { word: number }
+    }
+
+    /// Whether there is a number.
+    #[inline(always)]
+    pub(crate) fn is_some(self) -> bool
+        ensures { result ≡ is_some self }
+    {
+        self.word != u64::MAX
+    }
+
+    /// Whether both are the same number; false if either is no number.
+    #[inline(always)]
+    pub(crate) fn is_same(self, other: Number) -> bool
+        ensures { Decides result ((a : ℕ) × (self ≡ Some a) × (other ≡ Some a)) }
+    {
+        self.word != u64::MAX && self.word == other.word
+    }
+}
