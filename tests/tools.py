@@ -201,14 +201,28 @@ def answers_and_saves():
 
 
 def table_of_shares():
-    parts = {1: ("low", "proof"), 2: ("low", "wrong bodies"), 3: ("over", "proof"), 4: None}
-    same("table", loaded(".ci/shares").written(parts, {1: 120, 2: 30, 3: 60, 4: 600}), (
+    parts = {1: ("low", "proof", ""), 2: ("low", "wrong bodies", "lost"), 3: ("over", "proof", ""), 4: None, 5: ("low", "wrong bodies", "")}
+    same("table", loaded(".ci/shares").written(parts, {1: 120, 2: 24, 3: 60, 4: 600, 5: 6}), (
         "processor minutes                proof         tests  wrong bodies    in all\n"
         "low                                2.0           0.0           0.5       2.5\n"
         "over                               1.0           0.0           0.0       1.0\n"
         "in all                             3.0           0.0           0.5       3.5\n"
         "(tests + wrong bodies) over proofs: 0.17\n"
+        "   0.4 low/lost\n"
     ))
+
+
+def edits_of_copies():
+    tool = loaded(".ci/shares")
+    with tempfile.TemporaryDirectory() as room:
+        for folder, text in (("crate", "is well\n"), ("other", "is lost\n"), ("same", "is well\n")):
+            os.makedirs(f"{room}/{folder}/src")
+            with open(f"{room}/{folder}/src/lib.rt", "w") as file:
+                file.write(text)
+        with open(f"{room}/lost.edit", "w") as file:
+            file.write("file: src/lib.rt\nold: well\nnew: lost\n")
+        found = [tool.is_made_by(f"{room}/lost.edit", f"{room}/crate", f"{room}/{it}") for it in ("other", "same")]
+        same("copies that an edit made", found, [True, False])
 
 
 def shares_of(command):
@@ -232,7 +246,7 @@ ALL = {
     "side_by_side": (crates_and_lines, tree_of_a_crate, order_of_tasks),
     "statements": (words_of_a_library, built_once),
     "first_run": (words_of_first_run, answers_twice, answers_and_saves),
-    "shares": (table_of_shares, shares_of_commands),
+    "shares": (table_of_shares, edits_of_copies, shares_of_commands),
 }
 
 

@@ -30,6 +30,7 @@ PLAIN = {
     ("cycle", "a look at a fork after these"): (4_442, 4_442, 4_442),
     ("cycle", "a shared insert at 0"): (3_861, 4_111, 4_616),
     ("cycle", "bytes of the heap a fork"): (112.0, 104.1, 100.2),
+    ("cycle", "the same, without its log entry"): (112.0, 104.1, 100.2),
     ("random", "a step of a first look"): (59.5, 54.6, 54.6),
     ("random", "a look after an edit"): (13_414, 38_129, 284_745),
     ("random", "a step of a fill"): (60.4, 61.6, 65.5),
@@ -38,6 +39,7 @@ PLAIN = {
     ("random", "a look at a fork after these"): (3_915, 3_915, 3_915),
     ("random", "a shared insert at 0"): (3_861, 4_111, 4_616),
     ("random", "bytes of the heap a fork"): (112.0, 104.1, 100.2),
+    ("random", "the same, without its log entry"): (112.0, 104.1, 100.2),
 }
 # The last line of a piece. No branch is so long, so that its answer is one line.
 LAST = "0 state main 99999999\n"
@@ -129,8 +131,12 @@ def of_shared_steps(kind):
 
 def bytes_of_a_fork(kind):
     for k in FORKS:
-        reads = heap_at_reads([kind.path(SHARED), *WORDS], PAD + forked(SHARED, k) + PAD, kind.room)
-        kind.add("bytes of the heap a fork", (reads[-1][0] - reads[0][0]) / k)
+        # (a refused fork has a log entry, and nothing else; the plain program has no log)
+        scripts = forked(SHARED, k), "0 fork main 0 main\n" * k
+        taken = [heap_at_reads([kind.path(SHARED), *WORDS], PAD + it + PAD, kind.room) for it in scripts]
+        fork, refused = ((reads[-1][0] - reads[0][0]) / k for reads in taken)
+        kind.add("bytes of the heap a fork", fork)
+        kind.add("the same, without its log entry", fork - refused)
 
 
 def kinds(room):
