@@ -31,10 +31,10 @@ notes_by (Detach name) old new h = h.0
 notes_by (Drop name) old new h = h.0
 
 -- the invariant of a chart after an edit of its trie that was made or refused
-pub charted : {R P Y : Type 0} (E : R → R → Bool) (is : R → Behaviour P) (next : ℕ) (mark : Option ℕ) (c : Charted R P) (new : Cut (StoredRun R P)) (edit : Edit) (result : Result Y Refusal)
-    → IsCharted E is next mark c → FitsEdit (is c.start.register) edit → OnOk result (IsEdited c.cut new edit) → IfErr result (IsUnedited c.cut new edit)
-    → IsCharted E is next None (record { cut = new; start = c.start; value = c.value })
-charted E is next mark c new edit (Ok y) was brings ok err =
+pub charted : {R P Y : Type 0} (E : R → R → Bool) (is : R → Behaviour P) (next : ℕ) (fresh mark : Option ℕ) (c : Charted R P) (new : Cut (StoredRun R P)) (edit : Edit) (result : Result Y Refusal)
+    → IsCharted E is next fresh mark c → FitsEdit (is c.start.register) edit → OnOk result (IsEdited c.cut new edit) → IfErr result (IsUnedited c.cut new edit)
+    → IsCharted E is next None None (record { cut = new; start = c.start; value = c.value })
+charted E is next fresh mark c new edit (Ok y) was brings ok err =
     record {
       within = was.within;
       begins = was.begins;
@@ -42,9 +42,10 @@ charted E is next mark c new edit (Ok y) was brings ok err =
       whole = ok.cut;
       linked = linked_kept E c.start.register next None (without_register c.start) c.cut new (notes_by edit c.cut new ok.notes) was.linked;
       marked = tt;
+      fresh_marked = tt;
     }
-charted E is next mark c new edit (Err e) was brings ok err =
-    subst (λ d. IsCharted E is next None (record { cut = d; start = c.start; value = c.value })) (sym err.unchanged) (charted_marked E is next mark None c tt was)
+charted E is next fresh mark c new edit (Err e) was brings ok err =
+    subst (λ d. IsCharted E is next None None (record { cut = d; start = c.start; value = c.value })) (sym err.unchanged) (charted_marked E is next fresh mark None None c tt tt was)
 
 -- an edit of the trie, made or refused, is one of the chart
 pub chart_edited : {R P : Type 0} (c d : Charted R P) (new : Cut (StoredRun R P)) (edit : Edit) (result : Result (Unit {0}) Refusal) → c ≡ d

@@ -92,7 +92,7 @@ linked_kept E h next above c old new notes l =
 -- a new chart has the invariant
 pub started : {R P : Type 0} (E : R → R → Bool) (is : R → Behaviour P) (register : R) (value : ℕ) (cut : Cut (StoredRun R P)) (start : Configuration R P)
     → value < (is register).values → StepsFit (is register) (forest cut) → IsCut cut → IsBlank cut → start ≡ initial_configuration (is register) register value
-    → IsCharted E is 0 None (record { cut = cut; start = start; value = value })
+    → IsCharted E is 0 None None (record { cut = cut; start = start; value = value })
 started {R} {P} E is register value cut start within fits whole blank e =
     let r : register ≡ start.register = sym (ap (λ c. c.register) e) in
     record {
@@ -102,4 +102,5 @@ started {R} {P} E is register value cut start within fits whole blank e =
       whole = whole;
       linked = record { exits = []; as_many = refl; each = λ k. unnoted_told E start.register [] (piece_at cut.pieces k) (blank k); reached_exit = tt };
       marked = tt;
+      fresh_marked = tt;
     }

@@ -1,6 +1,6 @@
 -- A chart after an install.
 use Rattle.std.proofs.Common.{◌≡◌, ℕ, ◌+◌, Bool, true, List, [], ◌∷◌, ◌++◌, map, Option, Some, None, IsSome, ◌⊎◌, inl, inr, refl, sym, ap, subst, ◌∙◌, append_assoc, true≢false}
-use Rattle.std.specs.Option.{option_map}
+use Rattle.std.specs.Option.{option_map, option_or}
 use Rattle.std.specs.Cmp.{IsPartialEquivalence}
 use Rattle.frames.specs.Behaviour.{Behaviour}
 use Rattle.frames.specs.Configuration.{Configuration, replayed}
@@ -19,6 +19,7 @@ use Rattle.cutoff.proofs.Fits.{register_kept}
 use Rattle.cutoff.proofs.Links.{linked_none, new_linked}
 use Rattle.cutoff.proofs.Walks.{by_key, noted_slots}
 use Rattle.cutoff.proofs.Kept.{charted_kept, charted_marked}
+use Rattle.cutoff.proofs.Fresh.{fresh_installed}
 use Rattle.cutoff.proofs.Climbs.{path_once}
 use Rattle.cutoff.proofs.Prefixes.{down_more}
 use Rattle.cutoff.proofs.Rests.{down_kept, noted_at, noted_cells}
@@ -74,13 +75,17 @@ module _ {R P : Type 0} (E : R → R → Bool) (per : IsPartialEquivalence E) (i
       let down = subst (λ l. RunsDown E is new b start l (exit_or_start new start (Some key))) (sym g.1) (subst (RunsDown E is new b start (g.0 ++ key ∷ [])) (sym come) more) in
       subst (λ ss. RunsTo E is new start (Some key) (keys_in ss i)) (sym noted.strands) down
 
-pub charted_installed : {R P : Type 0} (E : R → R → Bool) (per : IsPartialEquivalence E) (is : R → Behaviour P) (alike : (x y : R) → E x y ≡ true → is x ≡ is y) (next after : ℕ) (mark : Option ℕ) (c : Charted R P) (new : Cut (StoredRun R P)) (key : ℕ) (s : StoredRun R P) (run seen : SegmentRun R P) (keys : List ℕ) (id : Option ℕ)
-    → IsCharted E is next mark c → FitsDown E (is c.start.register) c.cut key seen c.start keys → RunGoesOn E is c.cut c.start key seen → IsRun (is seen.entry.register) seen
+given_id : {next after : ℕ} {id : Option ℕ} → ((id ≡ None) × (after ≡ next)) ⊎ ((id ≡ Some next) × (after ≡ next + 1)) → (id ≡ None) ⊎ (id ≡ Some next)
+given_id (inl e) = inl e.0
+given_id (inr e) = inr e.0
+
+pub charted_installed : {R P : Type 0} (E : R → R → Bool) (per : IsPartialEquivalence E) (is : R → Behaviour P) (alike : (x y : R) → E x y ≡ true → is x ≡ is y) (next after : ℕ) (fresh mark : Option ℕ) (c : Charted R P) (new : Cut (StoredRun R P)) (key : ℕ) (s : StoredRun R P) (run seen : SegmentRun R P) (keys : List ℕ) (id : Option ℕ)
+    → IsCharted E is next fresh mark c → FitsDown E (is c.start.register) c.cut key seen c.start keys → RunGoesOn E is c.cut c.start key seen → IsRun (is seen.entry.register) seen
     → IsSome (piece_at c.cut.pieces key) → seen ≡ run → s.run ≡ run → s.id ≡ id → (above : Option ℕ) → s.link ≡ above
     → (IsLinked E c.start.register next None (without_register c.start) c.cut → IsLinked E c.start.register next above (without_register seen.entry) c.cut) → IsNoted c.cut new key (Some s)
     → ((id ≡ None) × (after ≡ next)) ⊎ ((id ≡ Some next) × (after ≡ next + 1))
-    → IsCharted E is after (Some key) (record { cut = new; start = c.start; value = c.value })
-charted_installed {R} {P} E per is alike next after mark c new key s run seen keys id was fits on true_run there same is_run number above link moved noted given =
+    → IsCharted E is after (option_or fresh id) (Some key) (record { cut = new; start = c.start; value = c.value })
+charted_installed {R} {P} E per is alike next after fresh mark c new key s run seen keys id was fits on true_run there same is_run number above link moved noted given =
     let owns = down_owns E (is c.start.register) c.cut key s.run c.start keys (subst (λ r. FitsDown E (is c.start.register) c.cut key r c.start keys) (same ∙ sym is_run) fits) in
     let linked =
     new_linked E c.start.register c.cut new key next above s.run.entry
@@ -89,6 +94,7 @@ charted_installed {R} {P} E per is alike next after mark c new key s run seen ke
     let marked =
     mark_installed E per is alike c.cut new c.start key s was.whole noted there (subst (λ (r : SegmentRun R P). IsRun (is r.entry.register) r) (same ∙ sym is_run) true_run) owns.1
     (subst (RunGoesOn E is c.cut c.start key) (same ∙ sym is_run) on) in
-    charted_marked E is after None (Some key) (record { cut = new; start = c.start; value = c.value }) marked
-    (charted_kept E is next after mark c new (λ k. Unit {0}) (noted_keeps E (is c.start.register) c.cut new key s noted)
+    let still = fresh_installed E is c.cut new c.start key s was.whole noted c.start.register next (without_register c.start) fresh id was.linked (given_id given) marked was.fresh_marked in
+    charted_marked E is after None None (option_or fresh id) (Some key) (record { cut = new; start = c.start; value = c.value }) still marked
+    (charted_kept E is next after fresh mark c new (λ k. Unit {0}) (noted_keeps E (is c.start.register) c.cut new key s noted)
     (linked_none E c.start.register after s.id (without_register s.run.exit) (without_register c.start) new linked) was)

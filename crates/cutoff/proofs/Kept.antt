@@ -14,7 +14,7 @@ use Rattle.schedule_trie.proofs.Lines.{slots_in_on}
 use Rattle.cutoff.specs.Fitting.{StoredRun, KeepsRuns}
 use Rattle.cutoff.specs.Settles.{IsFilled}
 use Rattle.cutoff.specs.Links.{without_register, IsLinked}
-use Rattle.cutoff.specs.Prefixes.{IsMarked}
+use Rattle.cutoff.specs.Prefixes.{IsMarked, AreFresh}
 use Rattle.cutoff.specs.Charts.{Charted, IsCharted, StepsFit, keys_or, keys_named, looked_at, look}
 
 -- the same cells at each key
@@ -41,28 +41,30 @@ cut_kept old new Missed kept cut = record {
   shares = subst SharesAbove (sym kept.strands) cut.shares;
 }
 
-pub charted_kept : {R P : Type 0} (E : R → R → Bool) (is : R → Behaviour P) (next after : ℕ) (mark : Option ℕ) (c : Charted R P) (new : Cut (StoredRun R P)) (Missed : ℕ → Type 0)
-    → KeepsRuns c.cut new Missed → IsLinked E c.start.register after None (without_register c.start) new → IsCharted E is next mark c
-    → IsCharted E is after None (record { cut = new; start = c.start; value = c.value })
-charted_kept E is next after mark c new Missed kept linked was = record {
+pub charted_kept : {R P : Type 0} (E : R → R → Bool) (is : R → Behaviour P) (next after : ℕ) (fresh mark : Option ℕ) (c : Charted R P) (new : Cut (StoredRun R P)) (Missed : ℕ → Type 0)
+    → KeepsRuns c.cut new Missed → IsLinked E c.start.register after None (without_register c.start) new → IsCharted E is next fresh mark c
+    → IsCharted E is after None None (record { cut = new; start = c.start; value = c.value })
+charted_kept E is next after fresh mark c new Missed kept linked was = record {
   within = was.within;
   begins = was.begins;
   fits = subst (StepsFit (is c.start.register)) (sym kept.forest_kept) was.fits;
   whole = cut_kept c.cut new Missed kept was.whole;
   linked = linked;
   marked = tt;
+  fresh_marked = tt;
 }
 
--- the invariant holds with another mark, if stored runs fit down to that mark
-pub charted_marked : {R P : Type 0} (E : R → R → Bool) (is : R → Behaviour P) (next : ℕ) (mark other : Option ℕ) (c : Charted R P) → IsMarked E is c.cut c.start other
-    → IsCharted E is next mark c → IsCharted E is next other c
-charted_marked E is next mark other c marked was = record {
+-- the invariant holds with another mark and other fresh runs, if stored runs fit down to these
+pub charted_marked : {R P : Type 0} (E : R → R → Bool) (is : R → Behaviour P) (next : ℕ) (fresh mark first other : Option ℕ) (c : Charted R P) → AreFresh E is c.cut c.start first
+    → IsMarked E is c.cut c.start other → IsCharted E is next fresh mark c → IsCharted E is next first other c
+charted_marked E is next fresh mark first other c all_marked marked was = record {
   within = was.within;
   begins = was.begins;
   fits = was.fits;
   whole = was.whole;
   linked = was.linked;
   marked = marked;
+  fresh_marked = all_marked;
 }
 
 -- the named branch, by its index in the order the branches were made
@@ -100,9 +102,9 @@ passed_up (Err e) P f h = f e h
 
 -- a chart as its contract sees it, and its fields
 module _ {R P : Type 0} {v w : Charted R P} (seen : v ≡ w) where
-  pub seen_begins : (E : R → R → Bool) (is : R → Behaviour P) (next : ℕ) (mark : Option ℕ) → IsCharted E is next mark v
+  pub seen_begins : (E : R → R → Bool) (is : R → Behaviour P) (next : ℕ) (fresh mark : Option ℕ) → IsCharted E is next fresh mark v
       → w.start ≡ initial_configuration (is w.start.register) w.start.register w.value
-  seen_begins E is next mark was = subst (λ (c : Charted R P). c.start ≡ initial_configuration (is c.start.register) c.start.register c.value) seen was.begins
+  seen_begins E is next fresh mark was = subst (λ (c : Charted R P). c.start ≡ initial_configuration (is c.start.register) c.start.register c.value) seen was.begins
 
 -- a cut that doesn't change keeps its runs
 pub all_kept : {R P : Type 0} (cut : Cut (StoredRun R P)) (Filled : ℕ → Type 0) → KeepsRuns cut cut Filled

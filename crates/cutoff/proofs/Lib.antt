@@ -11,6 +11,7 @@ pub mod Hangings
 pub mod Rests
 pub mod Lefts
 pub mod Lasts
+pub mod Fresh
 pub mod Installed
 pub mod Plannings
 pub mod Sights

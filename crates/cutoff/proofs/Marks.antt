@@ -1,5 +1,5 @@
 -- The mark after a fork of a whole branch, which keeps each segment.
-use Rattle.std.proofs.Common.{◌≡◌, ◌⊎◌, ℕ, zero, suc, Bool, true, List, [], ◌∷◌, ◌++◌, map, length, Option, None, Some, Result, Ok, Err, OnOk, IfErr, inl, inr, refl, sym, ap, subst, ◌∙◌}
+use Rattle.std.proofs.Common.{◌≡◌, ◌⊎◌, ℕ, Bool, true, List, [], ◌∷◌, ◌++◌, map, length, Option, None, Some, Result, Ok, Err, OnOk, IfErr, inl, inr, refl, sym, ap, subst, ◌∙◌}
 use Rattle.std.specs.Option.{option_map}
 use Rattle.frames.specs.Behaviour.{Behaviour}
 use Rattle.frames.specs.Configuration.{Configuration, replayed}
@@ -13,14 +13,8 @@ use Rattle.cutoff.specs.Fitting.{StoredRun, RunFits, run_of, steps_at}
 use Rattle.cutoff.specs.Prefixes.{HasTrueRun, RunsDown, RunsTo, IsMarked, exit_or_start, exit_or}
 use Rattle.cutoff.specs.Charts.{Charted, IsCharted}
 use Rattle.cutoff.proofs.Edited.{charted}
+use Rattle.schedule_trie.proofs.Strands.{keys_in-last}
 use Rattle.cutoff.proofs.Kept.{charted_marked}
-
--- the keys of a branch, after one is added
-last_keys : (strands : List Strand) (s : Strand) (i : ℕ) → (keys_in (strands ++ s ∷ []) i ≡ keys_in strands i) ⊎ (keys_in (strands ++ s ∷ []) i ≡ s.keys)
-last_keys [] s zero = inr refl
-last_keys [] s (suc i) = inl refl
-last_keys (t ∷ strands) s zero = inl refl
-last_keys (t ∷ strands) s (suc i) = last_keys strands s i
 
 module _ {R P : Type 0} (E : R → R → Bool) (is : R → Behaviour P) (old new : Cut (StoredRun R P)) (same : new.pieces ≡ old.pieces) where
   steps_same : (k : ℕ) → steps_at old k ≡ steps_at new k
@@ -61,7 +55,7 @@ module _ {R P : Type 0} (E : R → R → Bool) (is : R → Behaviour P) (old new
 
   pub marked_whole : (mark : Option ℕ) → IsMarked E is old start mark → IsMarked E is new start mark
   marked_whole None marked = tt
-  marked_whole (Some k) marked = λ i h. either k i marked h (last_keys old.strands made i)
+  marked_whole (Some k) marked = λ i h. either k i marked h (keys_in-last old.strands made i)
 
 -- a branch with a length exists
 len_found : {T : Type 0} (cut : Cut T) (name : List ℕ) (place : ℕ) → len_of (forest cut) name ≡ Some place
@@ -74,17 +68,18 @@ len_found cut name place e = by (index_of (forest cut).branches name) refl e
     by (Some i) at e = let long : length (slots_in (forest cut).branches i) ≡ place = cc in (i, (at, sym long))
 
 -- the invariant of a chart after a fork; the mark stays too, if the fork is of all cells
-pub forked_charted : {R P Y : Type 0} (E : R → R → Bool) (is : R → Behaviour P) (next : ℕ) (mark after : Option ℕ) (c : Charted R P) (new : Cut (StoredRun R P)) (source : List ℕ) (place : ℕ) (name : List ℕ) (result : Result Y Refusal)
-    → IsCharted E is next mark c → (after ≡ None) ⊎ ((after ≡ mark) × (len_of (forest c.cut) source ≡ Some place))
+pub forked_charted : {R P Y : Type 0} (E : R → R → Bool) (is : R → Behaviour P) (next : ℕ) (fresh mark after : Option ℕ) (c : Charted R P) (new : Cut (StoredRun R P)) (source : List ℕ) (place : ℕ) (name : List ℕ) (result : Result Y Refusal)
+    → IsCharted E is next fresh mark c → (after ≡ None) ⊎ ((after ≡ mark) × (len_of (forest c.cut) source ≡ Some place))
     → OnOk result (IsEdited c.cut new (Fork source place name)) → OnOk result (CutsNoneAtEnd c.cut new source place name) → IfErr result (IsUnedited c.cut new (Fork source place name))
-    → IsCharted E is next after (record { cut = new; start = c.start; value = c.value })
-forked_charted {R} {P} {Y} E is next mark after c new source place name result was (inl none) ok end err =
-    subst (λ m. IsCharted E is next m (record { cut = new; start = c.start; value = c.value })) (sym none)
-    (charted E is next mark c new (Fork source place name) result was refl ok err)
-forked_charted {R} {P} {Y} E is next mark after c new source place name (Ok y) was (inr whole) ok end err =
+    → IsCharted E is next None after (record { cut = new; start = c.start; value = c.value })
+forked_charted {R} {P} {Y} E is next fresh mark after c new source place name result was (inl none) ok end err =
+    subst (λ m. IsCharted E is next None m (record { cut = new; start = c.start; value = c.value })) (sym none)
+    (charted E is next fresh mark c new (Fork source place name) result was refl ok err)
+forked_charted {R} {P} {Y} E is next fresh mark after c new source place name (Ok y) was (inr whole) ok end err =
     let found = len_found c.cut source place whole.1 in
-    charted_marked E is next None after (record { cut = new; start = c.start; value = c.value })
+    charted_marked E is next None None None after (record { cut = new; start = c.start; value = c.value }) tt
     (subst (IsMarked E is new c.start) (sym whole.0) (marked_whole E is c.cut new c.start found.0 name (end found.0 found.1.0 found.1.1) mark was.marked))
-    (charted E is next mark c new (Fork source place name) (Ok y) was refl ok err)
-forked_charted {R} {P} {Y} E is next mark after c new source place name (Err e) was (inr whole) ok end err =
-    subst (λ d. IsCharted E is next after (record { cut = d; start = c.start; value = c.value })) (sym err.unchanged) (subst (λ m. IsCharted E is next m c) (sym whole.0) was)
+    (charted E is next fresh mark c new (Fork source place name) (Ok y) was refl ok err)
+forked_charted {R} {P} {Y} E is next fresh mark after c new source place name (Err e) was (inr whole) ok end err =
+    subst (λ d. IsCharted E is next None after (record { cut = d; start = c.start; value = c.value })) (sym err.unchanged)
+    (charted_marked E is next fresh mark None after c tt (subst (IsMarked E is c.cut c.start) (sym whole.0) was.marked) was)

@@ -27,7 +27,8 @@ use Rattle.cutoff.proofs.Hangings.{hang_kept, hang_down, has-left}
 use Rattle.cutoff.proofs.Links.{linked_none}
 use Rattle.cutoff.proofs.Prefixes.{down_same, down_more}
 use Rattle.cutoff.proofs.Segments.{noted_still}
-use Rattle.cutoff.proofs.Walks.{reached_none, IsWalking, drop_past, walk_starts, walk_on, fits_here, linked_home, exit_of-last}
+use Rattle.schedule_trie.proofs.Lists.{drop_past}
+use Rattle.cutoff.proofs.Walks.{reached_none, IsWalking, walk_starts, walk_on, fits_here, linked_home, exit_of-last}
 
 -- once a run is stored at a key, it is the run noted there
 pub noted_at : {T : Type 0} (s : T) (o p : Option (Piece T)) → p ≡ option_map (with_note (Some s)) o → IsSome o → note_of p ≡ Some s

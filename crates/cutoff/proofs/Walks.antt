@@ -1,5 +1,5 @@
 -- A walk down a branch that settles one segment after the other.
-use Rattle.std.proofs.Common.{◌≡◌, ℕ, zero, suc, ◌+◌, ◌-◌, ◌<◌, ◌≤◌, Bool, true, false, nat_eq, cond, List, [], ◌∷◌, ◌++◌, length, map, drop, get_or, slice_get, Option, Some, None, IsSome, MatchOption, ◌⊎◌, inl, inr, refl, sym, ap, subst, ◌∙◌, arith, append_assoc, append-nil, true≢false, eq-eqb}
+use Rattle.std.proofs.Common.{◌≡◌, ℕ, suc, ◌+◌, ◌-◌, ◌<◌, ◌≤◌, Bool, true, false, nat_eq, cond, List, [], ◌∷◌, ◌++◌, length, map, drop, get_or, slice_get, Option, Some, None, IsSome, MatchOption, ◌⊎◌, inl, inr, refl, sym, ap, subst, ◌∙◌, arith, append_assoc, append-nil, true≢false, eq-eqb}
 use Rattle.std.specs.Prelude.{⊤, min}
 use Rattle.std.specs.Cmp.{IsPartialEquivalence, IsEquivalence}
 use Rattle.std.specs.Option.{option_map, IfSome}
@@ -21,6 +21,7 @@ use Rattle.cutoff.specs.Fitting.{StoredRun, RunPart, run_of, RunFits, Fits, Keep
 use Rattle.cutoff.specs.Settles.{IsWork, IsSettledAt, IsSegmentSettled, Settles, IsFilled}
 use Rattle.cutoff.specs.Links.{without_register, IsStored, IsTruePiece, IsLinked}
 use Rattle.cutoff.proofs.Edits.{all_left, all_right}
+use Rattle.schedule_trie.proofs.Lists.{drop_past}
 use Rattle.cutoff.proofs.Fits.{register_kept, same_symm, run_fits_alike, fits_alike, exit_same}
 
 module _ {R P : Type 0} where
@@ -313,12 +314,6 @@ module _ {R P : Type 0} (E : R → R → Bool) (equal : IsEquivalence E) (per : 
         work_short : IsWork E old w.at k run work → work ≤ length (steps_at old k)
         work_short (inl f) = let z = f.2 in omega arith
         work_short (inr m) = let z = m.1 in omega arith
-
-pub drop_past : (n : ℕ) (xs : List ℕ) → length xs ≤ n → drop n xs ≡ []
-drop_past zero [] h = refl
-drop_past zero (x ∷ xs) h = absurd (omega arith)
-drop_past (suc n) [] h = refl
-drop_past (suc n) (x ∷ xs) h = drop_past n xs (omega arith)
 
 -- the walk by the index of the next key
 module _ {R P : Type 0} (E : R → R → Bool) (b : Behaviour P) (old cut : Cut (StoredRun R P)) (start : Configuration R P) (next : ℕ) (above : Option ℕ)

@@ -11,7 +11,7 @@ use Rattle.schedule_trie.specs.Forest.{Forest, slots_in, step_of, index_of, on_b
 use Rattle.schedule_trie.specs.Cut.{Cut, Strand, IsCut, forest, keys_in}
 use Rattle.cutoff.specs.Fitting.{StoredRun, reached}
 use Rattle.cutoff.specs.Links.{without_register, IsLinked}
-use Rattle.cutoff.specs.Prefixes.{IsMarked}
+use Rattle.cutoff.specs.Prefixes.{IsMarked, AreFresh}
 
 -- a chart: a forest cut into segments with their stored runs, the initial configuration, and the
 -- initial value
@@ -26,14 +26,16 @@ StepsFit b f = (i : ℕ) → AllFit b (map step_of (slots_in f.branches i))
 
 -- the invariant of a chart: the initial value is one of the register's values, the branches begin
 -- from the initial configuration, their steps fit the register, they are cut into segments, the
--- numbers below `next` are those given to runs, and stored runs fit down to the marked segment
-pub record IsCharted {R P : Type 0} (E : R → R → Bool) (is : R → Behaviour P) (next : ℕ) (mark : Option ℕ) (c : Charted R P) : Type 0 where
+-- numbers below `next` are those given to runs, and stored runs fit down to the marked segment and
+-- to each one whose run has the number `fresh` or a greater one
+pub record IsCharted {R P : Type 0} (E : R → R → Bool) (is : R → Behaviour P) (next : ℕ) (fresh mark : Option ℕ) (c : Charted R P) : Type 0 where
   pub within : c.value < (is c.start.register).values
   pub begins : c.start ≡ initial_configuration (is c.start.register) c.start.register c.value
   pub fits : StepsFit (is c.start.register) (forest c.cut)
   pub whole : IsCut c.cut
   pub linked : IsLinked E c.start.register next None (without_register c.start) c.cut
   pub marked : IsMarked E is c.cut c.start mark
+  pub fresh_marked : AreFresh E is c.cut c.start fresh
 
 -- each limb's own steps fit the register with the behaviour b
 abbrev pub LimbsFit : {P : Type 0} → Behaviour P → List Limb → Type 0

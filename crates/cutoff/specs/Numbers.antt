@@ -4,6 +4,6 @@ use Rattle.std.specs.Prelude.{ℕ, ◌-◌, ◌^◌, nat_eq, Option, Some, None,
 abbrev pub number_of_word : ℕ → Option ℕ
 number_of_word word = if nat_eq word (2 ^ 64 - 1) then None else Some word
 
-abbrev pub word_of : Option ℕ → ℕ
-word_of None = 2 ^ 64 - 1
-word_of (Some number) = number
+abbrev pub word_with : Option ℕ → ℕ
+word_with None = 2 ^ 64 - 1
+word_with (Some number) = number

@@ -16,6 +16,7 @@ mod last;
 mod limbs;
 
 use crate::install::{Installation, fits_down, has_segment};
+use crate::number::Number;
 use crate::plan::{Job, plan_all};
 use crate::settle::{Spot, settle_along, take_number};
 use crate::stored::Stored;
@@ -33,13 +34,16 @@ use std::sync::Arc;
 
 /// The branches of a schedule on a register, and the configuration before their first steps. Each
 /// segment has a stored run or none. At most one segment is marked: on each branch that has it,
-/// stored runs are known to fit all segments from the first down to it.
+/// stored runs are known to fit all segments from the first down to it. The same is known of each
+/// segment whose run has the number `fresh` or a greater one: it was installed after the last other
+/// change.
 #[derive(Drop)]
 pub struct Chart<R: Register> {
     trie: Trie<Stored<R>>,
     start: Config<R>,
     value: u32,
     next: u64,
+    fresh: Number,
     mark: Option<SegKey>,
 }
 
@@ -50,7 +54,7 @@ impl<R: Register> Model for Chart<R> {
 
     ghost view = { λ c. record { cut = c.trie; start = c.start; value = c.value } };
 
-    ghost invariant = { λ c. IsCharted R.PartialEq.eq R.behaviour c.next c.mark (record { cut = c.trie; start = c.start; value = c.value }) };
+    ghost invariant = { λ c. IsCharted R.PartialEq.eq R.behaviour c.next c.fresh c.mark (record { cut = c.trie; start = c.start; value = c.value }) };
 }
 
 impl<R: Register> Chart<R> {
@@ -108,6 +112,7 @@ impl<R: Register> Chart<R> {
             start,
             value,
             next: 0,
+            fresh: Number::none(),
             mark: None,
         })
     }
@@ -238,6 +243,7 @@ impl<R: Register> Chart<R> {
         let there = branch_to(&self.trie, branch, place)?;
         let keys = self.trie.keys_at(alloc, there.0)?;
         self.mark = None;
+        self.fresh = Number::none();
         let spot = settle_along(
             alloc,
             &mut self.trie,
@@ -284,13 +290,14 @@ impl<R: Register> Chart<R> {
         if !has_segment(&self.trie, key) {
             return Installation::Gone;
         }
-        let (fits, above) = fits_down(&self.trie, &self.start, self.mark, key, &run);
+        let (fits, above) = fits_down(&self.trie, &self.start, self.fresh, key, &run);
         if !fits {
             return Installation::Stale;
         }
         let id = take_number(&mut self.next);
         self.trie.set_note(key, Some(Stored::new(run, id, above)));
         self.mark = Some(key);
+        self.fresh = self.fresh.or(id);
         Installation::Installed
     }
 }

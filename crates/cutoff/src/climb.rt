@@ -7,10 +7,9 @@ ghost use Rattle.schedule_trie.specs.Cut.{keys_in, line, piece_at, IsCut};
 ghost use Rattle.schedule_trie.specs.Climbs.{keys_to, HasClimbedTo};
 ghost use Rattle.cutoff.specs.Links.{IsLinked, without_register};
 ghost use Rattle.cutoff.specs.Plans.{FitsDownTo};
-ghost use Rattle.cutoff.specs.Prefixes.{IsMarked, RunsDown};
+ghost use Rattle.cutoff.specs.Prefixes.{AreFresh, RunsDown};
 
 use crate::number::Number;
-use crate::prefix::is_marked;
 use crate::stored::Stored;
 use frames::config::Config;
 use frames::register::Register;
@@ -19,20 +18,20 @@ use schedule_trie::trie::{SegKey, Trie};
 /// Whether stored runs fit all segments from a branch's first down to `last`, and the run in `last`
 /// ends at `config`; if `last` is `None`, whether `config` equals `start`. Climbs from `last`:
 /// tests whether the exit of its run is `config`, and whether the exit of each higher run is the
-/// entry of the run right below. Stops after the test of the marked segment's run, because stored
-/// runs are known to fit down to that segment. If the climb doesn't meet the marked segment, also
-/// tests whether the first run's entry is `start`. Never allocates.
+/// entry of the run right below. Stops after the test of a run whose number is `fresh` or
+/// greater, because stored runs are known to fit down to its segment. If the climb meets no such
+/// run, also tests whether the first run's entry is `start`. Never allocates.
 pub(crate) fn comes_down<R: Register>(
     trie: &Trie<Stored<R>>,
     start: &Config<R>,
-    mark: Option<SegKey>,
+    fresh: Number,
     last: Option<SegKey>,
     config: &Config<R>,
 ) -> bool
     requires linked { (next : ℕ) × IsLinked R.PartialEq.eq start.now.register next None
         (without_register start.now) trie.now }
     requires cut { IsCut trie.now }
-    requires marked { IsMarked R.PartialEq.eq R.behaviour trie.now start.now mark }
+    requires fresh { AreFresh R.PartialEq.eq R.behaviour trie.now start.now fresh }
     requires reached { (i : ℕ) × HasClimbedTo (keys_in trie.now.strands i) last }
     ensures { (i : ℕ) → let keys = keys_in trie.now.strands i in HasClimbedTo keys last
         → let b = R.behaviour start.now.register in let down = keys_to keys last in
@@ -55,7 +54,7 @@ pub(crate) fn comes_down<R: Register>(
         if !stored.ends(entry, link) {
             return false;
         }
-        if is_marked(mark, key) {
+        if stored.id().is_from(fresh) {
             return true;
         }
         entry = begun;

@@ -9,7 +9,7 @@ ghost use Rattle.checkpoints.specs.Segment.{IsRun};
 ghost use Rattle.cutoff.specs.Fitting.{StoredRun, steps_at};
 ghost use Rattle.cutoff.specs.Links.{number_at};
 ghost use Rattle.cutoff.specs.Plans.{FitsDown};
-ghost use Rattle.cutoff.specs.Prefixes.{RunGoesOn, IsMarked};
+ghost use Rattle.cutoff.specs.Prefixes.{RunGoesOn, AreFresh};
 
 use crate::climb::comes_down;
 use crate::number::Number;
@@ -33,20 +33,20 @@ pub enum Installation {
     Gone,
 }
 
-/// Whether `run` fits the segment `key`, and stored runs fit all segments above. Down to the marked
-/// segment, stored runs are known to fit. If all fit, also returns the number of the run stored
-/// right above `key`, if there is such a run and it has a number.
+/// Whether `run` fits the segment `key`, and stored runs fit all segments above. Down to a run whose
+/// number is `fresh` or greater, stored runs are known to fit. If all fit, also returns the
+/// number of the run stored right above `key`, if there is such a run and it has a number.
 pub(crate) fn fits_down<R: Register>(
     trie: &Trie<Stored<R>>,
     start: &Config<R>,
-    mark: Option<SegKey>,
+    fresh: Number,
     key: SegKey,
     run: &Run<R>,
 ) -> (bool, Number)
     requires linked { (next : ℕ) × IsLinked R.PartialEq.eq start.now.register next None
         (without_register start.now) trie.now }
     requires cut { IsCut trie.now }
-    requires marked { IsMarked R.PartialEq.eq R.behaviour trie.now start.now mark }
+    requires fresh { AreFresh R.PartialEq.eq R.behaviour trie.now start.now fresh }
     requires there { IsSome (piece_at trie.now.pieces key) }
     ensures fits { (i : ℕ) → has key (keys_in trie.now.strands i) ≡ true
         → Decides result.0
@@ -64,7 +64,7 @@ pub(crate) fn fits_down<R: Register>(
         return (false, Number::none());
     }
     let above = trie.above(key);
-    if !comes_down(trie, start, mark, above, run.entry()) {
+    if !comes_down(trie, start, fresh, above, run.entry()) {
         return (false, Number::none());
     }
     (true, number_at(trie, above))

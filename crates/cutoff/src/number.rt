@@ -1,13 +1,14 @@
 //! Numbers of stored runs.
 
-ghost use Rattle.std.specs.Prelude.{◌≡◌, ◌<◌, ◌-◌, ◌^◌, ℕ, Some, None, is_some};
+ghost use Rattle.std.specs.Prelude.{◌≡◌, ◌<◌, ◌≤◌, ◌-◌, ◌^◌, ℕ, Some, None, is_some};
 ghost use Rattle.std.specs.Bool.{Decides};
+ghost use Rattle.std.specs.Option.{option_or};
 
 use std::alloc::AllocError;
 use std::marker::Model;
 
 /// The number of a stored run, or no number, in one word. In contracts it is an option of a number.
-/// With two values of type `Option<u64>`, each segment would be two words larger.
+/// With two values of type `Option<u64>`, each segment would be one word larger than it is.
 #[derive(Drop)]
 pub(crate) struct Number {
     // `u64::MAX` means no number
@@ -19,11 +20,11 @@ impl Model for Number {
 
     ghost Value = { Option ℕ };
 
-    ghost use Rattle.cutoff.specs.Numbers.{number_of_word, word_of};
+    ghost use Rattle.cutoff.specs.Numbers.{number_of_word, word_with};
 
     ghost view = { λ n. number_of_word n.word };
 
-    ghost inverse = { λ o. record { word = word_of o } };
+    ghost inverse = { λ o. record { word = word_with o } };
 }
 
 impl Copy for Number {}
@@ -60,6 +61,22 @@ impl Number {
         ensures { result ≡ is_some self }
     {
         self.word != u64::MAX
+    }
+
+    /// Whether both are numbers, and this one is at least `first`.
+    #[inline(always)]
+    pub(crate) fn is_from(self, first: Number) -> bool
+        ensures { Decides result
+            ((a : ℕ) × (b : ℕ) × (self ≡ Some a) × (first ≡ Some b) × (b ≤ a)) }
+    {
+        self.word != u64::MAX && first.word <= self.word
+    }
+
+    /// This number; `other` if it is none.
+    pub(crate) fn or(self, other: Number) -> Number
+        ensures { result ≡ option_or self other }
+    {
+        if self.is_some() { self } else { other }
     }
 
     /// Whether both are the same number; false if either is no number.

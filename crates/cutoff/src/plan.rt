@@ -45,8 +45,8 @@ impl<R: Register> Model for Job<R> {
     ghost invariant = { λ j. AllFit (R.behaviour j.entry.register) j.steps };
 }
 
-/// How many keys a climb has room for at first.
-const MORE_KEYS: usize = 64;
+/// How many segments a plan has records for at first.
+const MORE_SIGHTS: usize = 64;
 
 /// The jobs of a plan so far, and what the plan has found at each segment, by the segment's key.
 #[derive(Drop)]
@@ -77,7 +77,7 @@ pub(crate) fn plan_all<R: Register>(
 {
     let mut planning = Planning {
         jobs: Vec::new(alloc),
-        seen: Vec::with_capacity(alloc, MORE_KEYS)?,
+        seen: Vec::with_capacity(alloc, MORE_SIGHTS)?,
     };
     plan_branch(alloc, trie, start, mark, index, &mut planning)?;
     for other in 0..trie.branches() as usize {
@@ -134,7 +134,7 @@ fn unseen_keys<R: Register>(
     ensures { IfOk result
         (λ r. IsUnseenPart mark seen.now (keys_in trie.now.strands index) r.0 r.1.items) }
 {
-    let mut keys = Vec::with_capacity(alloc, MORE_KEYS)?;
+    let mut keys = Vec::new(alloc);
     let mut at = trie.last_at(index);
     while let Some(key) = at {
         if let Some(fits) = known(mark, seen, key) {

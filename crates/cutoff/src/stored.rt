@@ -22,7 +22,7 @@ pub(crate) struct Stored<R: Register> {
     run: Arc<Run<R>>,
     id: Number,
     link: Number,
-    // with it a segment takes 88 bytes, so that one multiplication finds it; 80 take longer
+    // with it a slab's entry of a segment takes 88 bytes, which is faster to find than 80
     spare: u64,
 }
 

@@ -7,9 +7,9 @@ use Rattle.schedule_trie.specs.Cut.{Piece, Strand, slots_of, note_of, line, bran
 use Rattle.schedule_trie.proofs.Once.{has_not_from, has-head, has-tail}
 use Rattle.schedule_trie.proofs.Lines.{given_at}
 use Rattle.schedule_trie.proofs.Pushes.{not_equal}
-use Rattle.schedule_trie.proofs.Whole.{keys_in-set_same, keys_in-set_other}
 use Rattle.schedule_trie.proofs.Released.{IsSoundBut, line_alike, branches_alike}
 use Rattle.schedule_trie.proofs.Renumbered.{AreCopied, IsCopied, each_copied, apart_copied, line_copied}
+use Rattle.schedule_trie.proofs.Strands.{keys_in-set_other, keys_in-set_same}
 
 linked_alike : (f g : ℕ → Option ℕ) (up : Option ℕ) (ks : List ℕ) → Linked f up ks → ((k : ℕ) → has k ks ≡ true → g k ≡ f k) → Linked g up ks
 linked_alike f g up [] l same = tt

@@ -12,8 +12,7 @@ use Rattle.schedule_trie.specs.Copies.{AreCopies, IsDetached}
 use Rattle.schedule_trie.proofs.Once.{has_not_from, has-head, has-tail}
 use Rattle.schedule_trie.proofs.Lines.{slots_in_on}
 use Rattle.schedule_trie.proofs.StepSet.{piece_seen, cut_from_sound}
-use Rattle.schedule_trie.proofs.Whole.{length-set_keys}
-use Rattle.schedule_trie.proofs.Strands.{keys_in-of, length-strands, strands-set}
+use Rattle.schedule_trie.proofs.Strands.{keys_in-of, length-strands, strands-set, length-set_keys}
 use Rattle.schedule_trie.proofs.Released.{IsReleased, IsSoundBut, released_sound, released_branches, released_notes}
 use Rattle.schedule_trie.proofs.Renumbered.{AreCopied, HaveValues, copied_from}
 use Rattle.schedule_trie.proofs.Beside.{old_kept, new_notes, new_apart, sound_beside, only_renumbered}

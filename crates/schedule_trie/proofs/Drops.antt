@@ -11,6 +11,7 @@ use Rattle.schedule_trie.specs.Releases.{IsDropped}
 use Rattle.schedule_trie.proofs.Strands.{keys_in-of, length-strands, strands-remove}
 use Rattle.schedule_trie.proofs.StepSet.{piece_seen, cut_from_sound, within_still}
 use Rattle.schedule_trie.proofs.Released.{IsReleased, IsSoundBut, released_sound, released_branches, released_notes}
+use Rattle.schedule_trie.proofs.Lists.{length-remove}
 
 -- each branch that is left was there before
 keys_left : (strands : List Strand) (index j : ℕ) → (i : ℕ) × (keys_in (remove strands index) j ≡ keys_in strands i)
@@ -19,11 +20,6 @@ keys_left [] (suc index) j = (0, refl)
 keys_left (s ∷ ss) zero j = (suc j, refl)
 keys_left (s ∷ ss) (suc index) zero = (0, refl)
 keys_left (s ∷ ss) (suc index) (suc j) = let p = keys_left ss index j in (suc p.0, p.1)
-
-pub length-remove : {X : Type 0} (xs : List X) (i : ℕ) → i < length xs → suc (length (remove xs i)) ≡ length xs
-length-remove [] i h = absurd (omega arith)
-length-remove (x ∷ xs) zero h = refl
-length-remove (x ∷ xs) (suc i) h = ap suc (length-remove xs i (omega arith))
 
 module _ {T : Type 0} (at : ℕ → Option (Piece T)) (strands : List Strand) (made index : ℕ) (sound : IsSoundCut at strands made) where
   pub left_sound : IsSoundBut at (remove strands index) made

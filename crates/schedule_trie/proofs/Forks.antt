@@ -1,5 +1,5 @@
 -- A new last branch that shares the first segments of another.
-use Rattle.std.proofs.Common.{◌≡◌, ℕ, zero, suc, ◌+◌, ◌<◌, true, ◌||◌, List, [], ◌∷◌, ◌++◌, length, take, drop, Option, Some, None, ◌⊎◌, refl, sym, ap, subst, ◌∙◌, true≢false, arith, inl, inr}
+use Rattle.std.proofs.Common.{◌≡◌, ℕ, zero, suc, ◌+◌, ◌<◌, true, ◌||◌, List, [], ◌∷◌, ◌++◌, length, take, drop, Option, Some, None, refl, sym, ap, subst, ◌∙◌, true≢false, arith, inl, inr}
 use Rattle.std.proofs.lemmas.List.{length-append, map-append, take-append-drop}
 use Rattle.std.proofs.Math.Seq.{take-append_seam}
 use Rattle.schedule_trie.specs.Forest.{branch, index_of, slots_in}
@@ -10,13 +10,7 @@ use Rattle.schedule_trie.proofs.Lines.{slots_in_on}
 use Rattle.schedule_trie.proofs.Pushes.{line-append}
 use Rattle.schedule_trie.proofs.StepSet.{cut_from_sound}
 use Rattle.schedule_trie.proofs.Touched.{none_parted}
-
--- the keys of a branch after one is added: those that it had, or the added one's
-keys_in-last : (strands : List Strand) (s : Strand) (i : ℕ) → (keys_in (strands ++ s ∷ []) i ≡ keys_in strands i) ⊎ (keys_in (strands ++ s ∷ []) i ≡ s.keys)
-keys_in-last [] s zero = inr refl
-keys_in-last [] s (suc i) = inl refl
-keys_in-last (t ∷ ts) s zero = inl refl
-keys_in-last (t ∷ ts) s (suc i) = keys_in-last ts s i
+use Rattle.schedule_trie.proofs.Strands.{keys_in-last}
 
 has-keys_in : (strands more : List Strand) (i k : ℕ) → has k (keys_in strands i) ≡ true → has k (keys_in (strands ++ more) i) ≡ true
 has-keys_in [] more i k h = absurd (true≢false (sym h))

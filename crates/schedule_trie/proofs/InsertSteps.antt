@@ -2,7 +2,6 @@
 use Rattle.std.proofs.Common.{◌≡◌, ℕ, zero, suc, ◌+◌, ◌-◌, ◌<◌, ◌≤◌, Bool, true, false, nat_eq, cond, List, [], ◌∷◌, ◌++◌, take, drop, length, map, set, slice_get, Option, Some, None, IsSome, ◌⊎◌, inl, inr, refl, sym, ap, subst, ◌∙◌, arith, eq-eqb}
 use Rattle.std.specs.List.{insert}
 use Rattle.std.proofs.lemmas.Bool.{eqb-true}
-use Rattle.std.proofs.lemmas.Option.{slice_get_within}
 use Rattle.std.specs.Option.{IfSome, option_map}
 use Rattle.std.proofs.lemmas.List.{length-append, length-map, take-append-drop}
 use Rattle.std.proofs.lemmas.List.Edits.{length-insert}
@@ -19,12 +18,14 @@ use Rattle.schedule_trie.specs.Tries.{piece_of, strands_of, names_of, cut_of, Is
 use Rattle.schedule_trie.proofs.Strands.{strands-divided}
 use Rattle.schedule_trie.proofs.Lines.{slots_in_on}
 use Rattle.schedule_trie.proofs.Changes.{Changes, piece_at_set}
-use Rattle.schedule_trie.proofs.StepSet.{slice_get_some, cell_in_at, piece_seen, key_within, cut_from_sound, holds_cell, one_holder}
+use Rattle.schedule_trie.proofs.StepSet.{piece_seen, key_within, cut_from_sound, holds_cell, one_holder}
 use Rattle.schedule_trie.proofs.Insertion.{put, grown_put, put_through, put_elsewhere, grown_once, grown_cells, sound_grown, branches_changed}
 use Rattle.schedule_trie.proofs.Division.{Divides, lacked-divided, sound-divided, branches-divided, notes-divided}
 use Rattle.schedule_trie.proofs.DivisionSteps.{divides_from}
 use Rattle.schedule_trie.proofs.Notes.{notes_at, notes_but, unchanged_kept}
 use Rattle.schedule_trie.proofs.Touched.{ends_before, none_at_end}
+use Rattle.schedule_trie.proofs.Lists.{cell_in_at, slice_get_some}
+use Rattle.std.proofs.lemmas.Option.{slice_get_within}
 
 pub within_more : (l : Limits) (made branches : ℕ) → IsWithin l made branches → made < l.cells → IsWithin l (made + 1) branches
 within_more l made branches h room = record {

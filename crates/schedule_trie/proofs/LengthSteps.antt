@@ -1,9 +1,8 @@
 -- Cached lengths after each edit.
-use Rattle.std.proofs.Common.{◌≡◌, ℕ, ◌<◌, true, nat_eq, List, [], ◌∷◌, ◌++◌, length, slice_get, position, Option, Some, None, refl, sym, ap, subst, ◌∙◌}
+use Rattle.std.proofs.Common.{◌≡◌, ℕ, ◌<◌, nat_eq, List, [], ◌∷◌, ◌++◌, length, slice_get, position, Option, Some, None, refl, sym, ap, subst, ◌∙◌}
 use Rattle.std.specs.Cmp.Lexicographic.{pointwise}
 use Rattle.std.specs.List.{remove}
-use Rattle.std.specs.Option.{IfSome, option_eq}
-use Rattle.std.proofs.lemmas.Bool.{eqb-true}
+use Rattle.std.specs.Option.{IfSome}
 use Rattle.std.proofs.lemmas.List.{length-map}
 use Rattle.indexmap.specs.IndexMap.{insert_entry, set_value_at}
 use Rattle.indexmap.proofs.MapLemmas.{Missing-position, insert_entry-absent}
@@ -16,12 +15,12 @@ use Rattle.schedule_trie.specs.Copies.{IsDetached}
 use Rattle.schedule_trie.specs.Forks.{IsBranchForked}
 use Rattle.schedule_trie.specs.Releases.{IsDropped}
 use Rattle.schedule_trie.specs.Tries.{names_of, cut_of, kept_in, AreLengths, AreNames, IsHeldCut, IsKept}
-use Rattle.schedule_trie.proofs.Lengths.{kept_told, relength_seen, relength_held, none_kept, same_lengths, length-everywhere, length-only_in, one_forgotten, lengths_left, lengths_more}
+use Rattle.schedule_trie.proofs.Lengths.{kept_is, relength_seen, relength_held, none_kept, same_lengths, length-everywhere, length-only_in, one_forgotten, lengths_left, lengths_more}
 use Rattle.schedule_trie.proofs.Lines.{index_is, keys_are, slots_in_on}
 use Rattle.schedule_trie.proofs.Renumbered.{length-renumbered}
 use Rattle.schedule_trie.proofs.Shared.{same_path}
-use Rattle.schedule_trie.proofs.StepSet.{slice_get_some}
 use Rattle.schedule_trie.proofs.Strands.{length-strands}
+use Rattle.schedule_trie.proofs.Lists.{slice_get_some}
 
 module _ {T : Type 0} (old new : Cut T) (es : List (List ℕ × Option ℕ)) (right : AreLengths es (forest old).branches) where
   pub set_lengths : (key offset : ℕ) (step : Step) → IsStepSet old new key offset step → offset < length (slots_of (piece_at old.pieces key)) → AreLengths es (forest new).branches
@@ -81,22 +80,15 @@ module _ {T : Type 0} (t u : Inside T) (names : names_of u ≡ names_of t) (segm
     names = subst AreNames (sym names) named;
   }
 
--- two keys that compare equal are the same, and so are two of None
-pub same_key : (a b : Option ℕ) → option_eq nat_eq a b ≡ true → a ≡ b
-same_key None None e = refl
-same_key None (Some k) e = cc
-same_key (Some j) None e = cc
-same_key (Some j) (Some k) e = ap Some (eqb-true j k e)
-
 -- the cached length of one branch is also that of each branch with the same last key
-pub twin_told : {T : Type 0} (t : Inside T) (twin index : ℕ) (len : Option ℕ) → IsHeldCut t → AreLengths t.branches.entries (forest (cut_of t)).branches
+pub same_len : {T : Type 0} (t : Inside T) (twin index : ℕ) (len : Option ℕ) → IsHeldCut t → AreLengths t.branches.entries (forest (cut_of t)).branches
     → last_of (path_in t.segments twin) ≡ last_of (path_in t.segments index) → len ≡ kept_in (slice_get t.branches.entries twin)
     → IfSome len (λ n. n ≡ length (slots_in (forest (cut_of t)).branches index))
-twin_told t twin index None held right last kept = tt
-twin_told t twin index (Some len) held right last kept =
+same_len t twin index None held right last kept = tt
+same_len t twin index (Some len) held right last kept =
     let c = cut_of t in
     let shares = held.whole.sound.shares in
     let lasts : last_of (keys_in c.strands twin) ≡ last_of (keys_in c.strands index) = ap last_of (keys_are t held twin) ∙ last ∙ sym (ap last_of (keys_are t held index)) in
     let same = same_path shares.above (keys_in c.strands twin) (keys_in c.strands index) (last_of (keys_in c.strands index)) (shares.linked twin) (shares.linked index) lasts refl in
-    kept_told t.branches.entries (forest c).branches twin len right kept
+    kept_is t.branches.entries (forest c).branches twin len right kept
     ∙ ap length (slots_in_on (piece_at c.pieces) c.strands twin ∙ ap (line (piece_at c.pieces)) same ∙ sym (slots_in_on (piece_at c.pieces) c.strands index))

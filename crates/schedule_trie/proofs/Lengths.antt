@@ -31,9 +31,9 @@ count_set [] index len = refl
 count_set (e ∷ es) zero len = refl
 count_set (e ∷ es) (suc index) len = ap suc (count_set es index len)
 
-pub kept_told : (entries : List (List ℕ × Option ℕ)) (branches : List Branch) (index len : ℕ) → AreLengths entries branches → Some len ≡ kept_in (slice_get entries index)
+pub kept_is : (entries : List (List ℕ × Option ℕ)) (branches : List Branch) (index len : ℕ) → AreLengths entries branches → Some len ≡ kept_in (slice_get entries index)
     → len ≡ length (slots_in branches index)
-kept_told entries branches index len h e = subst (λ o. IsRight o (length (slots_in branches index))) (sym e) (h index)
+kept_is entries branches index len h e = subst (λ o. IsRight o (length (slots_in branches index))) (sym e) (h index)
 
 -- `AreLengths` holds if no length is cached
 pub none_kept : (entries : List (List ℕ × Option ℕ)) (branches : List Branch) → ((i : ℕ) → kept_in (slice_get entries i) ≡ None) → AreLengths entries branches

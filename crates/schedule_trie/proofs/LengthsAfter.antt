@@ -2,19 +2,18 @@
 use Rattle.std.proofs.Common.{◌≡◌, ℕ, zero, suc, ◌+◌, ◌<◌, ◌≤◌, Bool, true, false, nat_eq, cond, List, [], ◌∷◌, ◌++◌, length, map, take, slice_get, Some, refl, sym, ap, subst, ◌∙◌, arith, eq-eqb, true≢false}
 use Rattle.std.specs.List.{remove}
 use Rattle.std.proofs.lemmas.List.{length-map, length_push, length-take-le}
-use Rattle.std.proofs.lemmas.Option.{slice_get_within}
 use Rattle.std.proofs.lemmas.List.Edits.{length-insert}
 use Rattle.frames.specs.declared.types.Step.{Step}
 use Rattle.schedule_trie.specs.declared.slot.Slot.{Slot}
 use Rattle.schedule_trie.specs.Forest.{Branch, branch, cell_of, cell_in, changed, everywhere, only_in, put_before, put_last, slot, slots_in, without}
 use Rattle.schedule_trie.specs.Cut.{Cut, forest, piece_at, slots_of, branch_on, keys_in, Once, IsSpotInPath, IsWhole, IsInserted, IsRemoved}
 use Rattle.schedule_trie.specs.Forks.{IsBranchForked}
-use Rattle.schedule_trie.proofs.Drops.{length-remove}
 use Rattle.schedule_trie.proofs.Insertion.{inserted-at}
 use Rattle.schedule_trie.proofs.Lines.{line_once, slots_in_on, sound_short}
 use Rattle.schedule_trie.proofs.Once.{Once-from_linked}
 use Rattle.schedule_trie.proofs.Removals.{without-at}
-use Rattle.schedule_trie.proofs.StepSet.{slice_get_some, cell_in_at}
+use Rattle.schedule_trie.proofs.Lists.{cell_in_at, length-remove, slice_get_some}
+use Rattle.std.proofs.lemmas.Option.{slice_get_within}
 
 slots_everywhere : (g : List Slot → List Slot) (branches : List Branch) (i : ℕ) → i < length branches → slots_in (everywhere g branches) i ≡ g (slots_in branches i)
 slots_everywhere g [] i h = absurd (omega arith)

@@ -9,7 +9,9 @@ use Rattle.schedule_trie.specs.declared.slot.Slot.{Slot}
 use Rattle.schedule_trie.specs.declared.limb.Limb.{Limb}
 use Rattle.schedule_trie.specs.Forest.{Forest, Branch, branch, numbered, slots_in, step_of, cell_in}
 use Rattle.schedule_trie.specs.Limbs.{has_slot, is_in_branches, shared_with, first_with, limb_of, limbs_after, limbs, slots_on, grown, grow, no_branches, forest_of, limb_length, cells_of, is_own_of, is_new_name, may_share, are_lawful_after, AreLawfulLimbs}
-use Rattle.schedule_trie.proofs.LimbLists.{by_order, slot-append, slot_not_from, length-numbered, numbered_below, slice_get-front, slice_get-last, slice_get-within, slots_in-front, slots_in-last, slots_in-past, any_from, any_none, first_is, StopsAt, prefix_is, all_in, has_taken, cell_in-has, cell_in-taken, cell_in-own, steps-numbered, length-taken}
+use Rattle.schedule_trie.proofs.LimbLists.{slot-append, slot_not_from, length-numbered, numbered_below, slots_in-front, slots_in-last, slots_in-past, any_from, any_none, first_is, StopsAt, prefix_is, all_in, has_taken, cell_in-has, cell_in-taken, cell_in-own, steps-numbered, length-taken}
+use Rattle.schedule_trie.proofs.Lists.{by_order, slice_get-last, slice_get_left}
+use Rattle.std.proofs.lemmas.Option.{slice_get_within}
 
 -- the last cell that a limb shares is one of the own cells of the branch that it is from
 pub record SharesOf (earlier : List Limb) (l : Limb) : Type 0 where
@@ -146,10 +148,10 @@ module _ (earlier : List Limb) (f : Forest) (l : Limb) (h : HasGrown earlier f) 
           let same : Some l ≡ Some p = sym there ∙ g in cc
 
       front_limb : (i : ℕ) (p : Limb) → i < length earlier → slice_get (earlier ++ l ∷ []) i ≡ Some p → slice_get earlier i ≡ Some p
-      front_limb i p less g = sym (slice_get-front earlier l i less) ∙ g
+      front_limb i p less g = sym (slice_get_left earlier (l ∷ []) i less) ∙ g
 
       none_past : (i : ℕ) (p : Limb) → length earlier < i → slice_get (earlier ++ l ∷ []) i ≡ Some p → ⊥
-      none_past i p more g = let w = slice_get-within (earlier ++ l ∷ []) i p g in let n = length-append earlier (l ∷ []) in omega arith
+      none_past i p more g = let w = slice_get_within (earlier ++ l ∷ []) i p g in let n = length-append earlier (l ∷ []) in omega arith
 
       count : length (bs ++ new ∷ []) ≡ length (earlier ++ l ∷ [])
       count = length-append bs (new ∷ []) ∙ ap (λ n. n + 1) h.count ∙ sym (length-append earlier (l ∷ []))

@@ -1,8 +1,6 @@
 -- Lists of cells and branches, for limbs.
-use Rattle.std.proofs.Common.{◌≡◌, ℕ, zero, suc, ◌+◌, ◌<◌, ◌≤◌, Bool, true, false, not, ◌&&◌, ◌||◌, cond, nat_eq, nat_lt, List, [], ◌∷◌, ◌++◌, length, map, take, slice_get, Some, refl, sym, ap, subst, ◌∙◌, true≢false, arith, eq-eqb}
+use Rattle.std.proofs.Common.{◌≡◌, ℕ, zero, suc, ◌+◌, ◌<◌, ◌≤◌, Bool, true, false, not, ◌&&◌, ◌||◌, cond, nat_eq, List, [], ◌∷◌, ◌++◌, length, map, take, refl, sym, ap, subst, ◌∙◌, true≢false, arith}
 use Rattle.std.specs.List.{list_any, list_all, prefix_len, position_or_len}
-use Rattle.std.proofs.lemmas.Bool.{eqb-true}
-use Rattle.std.proofs.lemmas.Bool.Decides.{nat_tests}
 use Rattle.frames.specs.declared.types.Step.{Step}
 use Rattle.schedule_trie.specs.declared.slot.Slot.{Slot}
 use Rattle.std.proofs.lemmas.List.{map-append}
@@ -10,25 +8,7 @@ use Rattle.schedule_trie.specs.Cut.{has}
 use Rattle.schedule_trie.specs.Forest.{Branch, cell_of, slot, numbered, slots_in, step_of, cell_in}
 use Rattle.schedule_trie.specs.Limbs.{has_slot, holds, is_in_branches}
 use Rattle.schedule_trie.proofs.Once.{has_cases, has-head, has-tail, has-append, has_not_from}
-
-pub by_order : (i n : ℕ) (P : Type 0) → (i < n → P) → (i ≡ n → P) → (n < i → P) → P
-by_order i n P below same above = by (nat_lt i n) refl
-  where
-    other : (b : Bool) → nat_lt n i ≡ b → n ≤ i → P
-    other true e h = above (grind (arith, nat_tests))
-    other false e h = let few : i ≤ n = grind (arith, nat_tests) in same (omega arith)
-
-    by : (b : Bool) → nat_lt i n ≡ b → P
-    by true e = below (grind (arith, nat_tests))
-    by false e = other (nat_lt n i) refl (grind (arith, nat_tests))
-
-pub turned : (x y : ℕ) → nat_eq x y ≡ nat_eq y x
-turned x y = by (nat_eq x y) (nat_eq y x) refl refl
-  where
-    by : (b c : Bool) → nat_eq x y ≡ b → nat_eq y x ≡ c → nat_eq x y ≡ nat_eq y x
-    by true c e f = e ∙ sym (eq-eqb y x (sym (eqb-true x y e)))
-    by false true e f = eq-eqb x y (sym (eqb-true y x f)) ∙ sym f
-    by false false e f = e ∙ sym f
+use Rattle.schedule_trie.proofs.Lists.{turned}
 
 -- the cells' numbers; a cell is found by its number among them
 abbrev cells : List Slot → List ℕ
@@ -55,21 +35,6 @@ slot-append x xs ys =
 
 pub slot_not_from : (x : ℕ) (xs : List Slot) → (has_slot x xs ≡ true → ⊥) → has_slot x xs ≡ false
 slot_not_from x xs h = slot_is x xs ∙ has_not_from x (cells xs) (λ e. h (slot_is x xs ∙ e))
-
--- an item of a list is still there after another is added last
-pub slice_get-front : {X : Type 0} (xs : List X) (x : X) (i : ℕ) → i < length xs → slice_get (xs ++ x ∷ []) i ≡ slice_get xs i
-slice_get-front [] x i h = absurd (omega arith)
-slice_get-front (y ∷ ys) x zero h = refl
-slice_get-front (y ∷ ys) x (suc i) h = slice_get-front ys x i (omega arith)
-
-pub slice_get-last : {X : Type 0} (xs : List X) (x : X) → slice_get (xs ++ x ∷ []) (length xs) ≡ Some x
-slice_get-last [] x = refl
-slice_get-last (y ∷ ys) x = slice_get-last ys x
-
-pub slice_get-within : {X : Type 0} (xs : List X) (i : ℕ) (x : X) → slice_get xs i ≡ Some x → i < length xs
-slice_get-within [] i x e = cc
-slice_get-within (y ∷ ys) zero x e = omega arith
-slice_get-within (y ∷ ys) (suc i) x e = omega (arith, slice_get-within ys i x e)
 
 pub slots_in-front : (bs : List Branch) (b : Branch) (i : ℕ) → i < length bs → slots_in (bs ++ b ∷ []) i ≡ slots_in bs i
 slots_in-front [] b i h = absurd (omega arith)

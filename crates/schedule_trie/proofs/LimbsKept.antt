@@ -11,9 +11,11 @@ use Rattle.schedule_trie.specs.declared.limb.Limb.{Limb}
 use Rattle.schedule_trie.specs.Forest.{Forest, Branch, branch, numbered, slots_in, step_of, cell_in, name_of, IsForest}
 use Rattle.schedule_trie.specs.Limbs.{has_slot, holds, is_in_branches, shared_with, first_with, limb_of, limbs_after, limbs, slots_on, grown, grow, no_branches, forest_of}
 use Rattle.schedule_trie.specs.Renumbering.{IsRenumbered, is_one_cell}
-use Rattle.schedule_trie.proofs.LimbLists.{by_order, turned, slice_get-within, slots_in-front, slots_in-last, slots_in-past, any_from, IsFirst, first_has, all_in, has_taken, cell_in-has, cell_in-taken, steps-numbered, length-taken, length-numbered}
+use Rattle.schedule_trie.proofs.LimbLists.{slots_in-front, slots_in-last, slots_in-past, any_from, IsFirst, first_has, all_in, has_taken, cell_in-has, cell_in-taken, steps-numbered, length-taken, length-numbered}
 use Rattle.schedule_trie.proofs.LimbLaws.{HasGrown, grown_none, short, grown_more, limbs_after-put}
-use Rattle.schedule_trie.proofs.LimbsLawful.{AreSameUpTo, some_at, slots_in-left, slots_in-next, cell_in-at, place_of_cell, passes_at, limb_may_share}
+use Rattle.schedule_trie.proofs.LimbsLawful.{AreSameUpTo, slots_in-left, slots_in-next, place_of_cell, passes_at, limb_may_share}
+use Rattle.schedule_trie.proofs.Lists.{by_order, cell_in_at, slice_get_some, turned}
+use Rattle.std.proofs.lemmas.Option.{slice_get_within}
 
 -- two tests of numbers agree if either equality implies the other
 alike : (a b c d : ℕ) → (a ≡ b → c ≡ d) → (c ≡ d → a ≡ b) → nat_eq a b ≡ nat_eq c d
@@ -73,9 +75,9 @@ module _ (xs ys : List Slot) (agree : AreSameUpTo xs ys) (k m : ℕ) (inside : k
     (same : cell_in xs k ≡ cell_in ys m) where
   same_up_to : take (suc k) xs ≡ take (suc m) ys
   same_up_to =
-      let s = some_at xs k inside in
-      let t = some_at ys m within in
-      agree k m s.0 t.0 s.1 t.1 (sym (cell_in-at xs k s.0 s.1) ∙ same ∙ cell_in-at ys m t.0 t.1)
+      let s = slice_get_some xs k inside in
+      let t = slice_get_some ys m within in
+      agree k m s.0 t.0 s.1 t.1 (sym (cell_in_at xs k s.0 s.1) ∙ same ∙ cell_in_at ys m t.0 t.1)
 
   -- and these are the same places
   same_place : k ≡ m
@@ -106,8 +108,8 @@ module _ (earlier : List Branch) (b : Branch) (agree : (j : ℕ) → j < length 
       let first : IsFirst earlier s.cell (position_or_len (holds s.cell) earlier) = first_has earlier s.cell (passes_at (is_in_branches earlier) b.slots k s here less) in
       let ys = slots_in earlier (position_or_len (holds s.cell) earlier) in
       let p = place_of_cell s.cell ys first.has_it in
-      let inside : p.0 < length ys = slice_get-within ys p.0 p.1 p.2 in
-      let same : cell_in b.slots k ≡ cell_in ys p.0 = cell_in-at b.slots k s here ∙ sym p.3 ∙ sym (cell_in-at ys p.0 p.1 p.2) in
+      let inside : p.0 < length ys = slice_get_within ys p.0 p.1 p.2 in
+      let same : cell_in b.slots k ≡ cell_in ys p.0 = cell_in_at b.slots k s here ∙ sym p.3 ∙ sym (cell_in_at ys p.0 p.1 p.2) in
       let up = agree (position_or_len (holds s.cell) earlier) first.within in
       subst (λ n. take (suc k) b.slots ≡ take (suc n) ys) (sym (same_place b.slots ys up k p.0 (omega arith) inside same))
       (same_up_to b.slots ys up k p.0 (omega arith) inside same)
@@ -117,8 +119,8 @@ module _ (earlier : List Branch) (b : Branch) (agree : (j : ℕ) → j < length 
   front_by zero few = refl
   front_by (suc k) few =
       let most = common_few in
-      let s = some_at b.slots k (omega arith) in
-      subst (λ x. take (suc k) b.slots ≡ take (suc k) (slots_in earlier (position_or_len (holds x) earlier))) (sym (cell_in-at b.slots k s.0 s.1))
+      let s = slice_get_some b.slots k (omega arith) in
+      subst (λ x. take (suc k) b.slots ≡ take (suc k) (slots_in earlier (position_or_len (holds x) earlier))) (sym (cell_in_at b.slots k s.0 s.1))
       (front_of k (omega arith) s.0 s.1)
 
   -- the shared cells are the first ones of the branch that it is from

@@ -8,17 +8,13 @@ use Rattle.std.proofs.lemmas.List.{length-map, map-append}
 use Rattle.schedule_trie.specs.declared.slot.Slot.{Slot}
 use Rattle.schedule_trie.specs.Forest.{Forest, Branch, slots_in, step_of, cell_in, name_of, name_in, AreNamedApart, IsForest}
 use Rattle.schedule_trie.specs.Limbs.{has_slot, holds, is_in_branches, shared_with, first_with, limb_of, limbs_after, limbs, limb_length, is_own_of, is_new_name, has_name, may_share, are_lawful_after, is_name, HaveNames, AreLawfulLimbs}
-use Rattle.schedule_trie.proofs.LimbLists.{by_order, slot_cases, any_which, IsFirst, first_has, length-taken}
+use Rattle.schedule_trie.proofs.LimbLists.{slot_cases, any_which, IsFirst, first_has, length-taken}
 use Rattle.schedule_trie.proofs.LimbLaws.{limbs_after-put}
+use Rattle.schedule_trie.proofs.Lists.{by_order, cell_in_at, slice_get_some}
 
 -- two lists of cells are equal up to each cell that both have
 abbrev pub AreSameUpTo : List Slot → List Slot → Type 0
 AreSameUpTo xs ys = (a b : ℕ) (s t : Slot) → slice_get xs a ≡ Some s → slice_get ys b ≡ Some t → s.cell ≡ t.cell → take (suc a) xs ≡ take (suc b) ys
-
-pub some_at : {X : Type 0} (xs : List X) (i : ℕ) → i < length xs → (x : X) × (slice_get xs i ≡ Some x)
-some_at [] i h = absurd (omega arith)
-some_at (x ∷ xs) zero h = (x, refl)
-some_at (x ∷ xs) (suc i) h = some_at xs i (omega arith)
 
 pub slots_at : (bs : List Branch) (i : ℕ) (b : Branch) → slice_get bs i ≡ Some b → slots_in bs i ≡ b.slots
 slots_at [] i b e = cc
@@ -39,11 +35,6 @@ slots_in-first zero bs j x h = absurd (true≢false (sym h))
 slots_in-first (suc n) [] j x h = absurd (true≢false (sym h))
 slots_in-first (suc n) (b ∷ bs) zero x h = (omega arith, h)
 slots_in-first (suc n) (b ∷ bs) (suc j) x h = let r = slots_in-first n bs j x h in (omega (arith, r.0), r.1)
-
-pub cell_in-at : (xs : List Slot) (k : ℕ) (s : Slot) → slice_get xs k ≡ Some s → cell_in xs k ≡ s.cell
-cell_in-at [] k s e = cc
-cell_in-at (x ∷ xs) zero s e = let same : x ≡ s = cc in ap (λ z. z.cell) same
-cell_in-at (x ∷ xs) (suc k) s e = cell_in-at xs k s e
 
 pub place_of_cell : (x : ℕ) (xs : List Slot) → has_slot x xs ≡ true → (b : ℕ) × (t : Slot) × (slice_get xs b ≡ Some t) × (t.cell ≡ x)
 place_of_cell x [] h = absurd (true≢false (sym h))
@@ -127,7 +118,7 @@ module _ (earlier : List Branch) (b : Branch) (agree : (j : ℕ) → j < length 
 
     own_there : is_own_of (slice_get (limbs_after [] earlier) stem) (suc k) ≡ true
     own_there =
-        let c = some_at earlier stem first.within in
+        let c = slice_get_some earlier stem first.within in
         let slots = slots_at earlier stem c.0 c.1 in
         let p = place_of_cell s.cell c.0.slots (subst (λ xs. has_slot s.cell xs ≡ true) slots first.has_it) in
         let up : take (suc k) b.slots ≡ take (suc p.0) c.0.slots = subst (λ xs. AreSameUpTo b.slots xs) slots (agree stem first.within) k p.0 s p.1 here p.2 (sym p.3) in
@@ -147,8 +138,8 @@ module _ (earlier : List Branch) (b : Branch) (agree : (j : ℕ) → j < length 
   shares_at zero e = refl
   shares_at (suc k) e =
       let most = prefix_most (is_in_branches earlier) b.slots in
-      let s = some_at b.slots k (omega arith) in
-      let cell : cell_in b.slots k ≡ s.0.cell = cell_in-at b.slots k s.0 s.1 in
+      let s = slice_get_some b.slots k (omega arith) in
+      let cell : cell_in b.slots k ≡ s.0.cell = cell_in_at b.slots k s.0 s.1 in
       or_right (nat_eq (first_with earlier b.slots (suc k)) 0 && nat_eq (suc k) 0) (is_own_of (slice_get (limbs_after [] earlier) (first_with earlier b.slots (suc k))) (suc k))
       (subst (λ x. is_own_of (slice_get (limbs_after [] earlier) (position_or_len (holds x) earlier)) (suc k) ≡ true) (sym cell) (own_there k e s.0 s.1))
 

@@ -1,8 +1,7 @@
 -- The lines of a cut.
 use Rattle.frames.specs.declared.types.Step.{Step}
-use Rattle.std.proofs.Common.{append_assoc, append-nil, ◌≡◌, ℕ, zero, suc, ◌+◌, ◌<◌, ◌≤◌, nat_eq, Bool, true, false, ◌||◌, List, [], ◌∷◌, ◌++◌, length, map, drop, get_or, slice_get, Option, Some, None, Result, Ok, Err, refl, sym, ap, subst, ◌∙◌, true≢false, arith}
+use Rattle.std.proofs.Common.{append_assoc, append-nil, ◌≡◌, ℕ, zero, suc, ◌+◌, ◌<◌, ◌≤◌, nat_eq, Bool, true, false, ◌||◌, List, [], ◌∷◌, ◌++◌, length, map, drop, get_or, slice_get, Option, Some, None, refl, sym, ap, subst, ◌∙◌, true≢false, arith}
 use Rattle.std.specs.Option.{option_map, IfSome}
-use Rattle.std.specs.Result.{IfOk}
 use Rattle.std.proofs.lemmas.List.{map-append, length-map, length-append}
 use Rattle.std.proofs.Math.Seq.{drop-cons}
 use Rattle.std.specs.List.{position}
@@ -16,6 +15,7 @@ use Rattle.schedule_trie.specs.Tries.{names_of, cut_of, IsHeldCut}
 use Rattle.schedule_trie.proofs.Strands.{names_on, length-strands, keys_in-of}
 use Rattle.schedule_trie.proofs.Once.{has-append, has-head, has-tail, Once-append, Once-bounded, has_not_from, Once-from_linked}
 use Rattle.schedule_trie.specs.declared.limits.TheConstants.{MOST_CELLS_MADE}
+use Rattle.schedule_trie.proofs.Lists.{drop_past, slice_get_right}
 
 module _ {T : Type 0} (at : ℕ → Option (Piece T)) where
   pub slots_in_on : (strands : List Strand) (i : ℕ) → slots_in (branches_on at strands) i ≡ line at (keys_in strands i)
@@ -98,33 +98,6 @@ module _ {T : Type 0} (t : Inside T) where
   keys_told h i keys e =
       let same : keys_in (cut_of t).strands i ≡ keys = keys_are h i ∙ sym e in
       (sym same, subst (λ l. length (line (piece_at (cut_of t).pieces) l) ≤ t.made) same (line_fits h i), omega (arith, h.whole.within.cells, h.whole.within.most_cells))
-
--- if one property of a value implies another, an Ok result that has the first has the other too
-pub if_ok : {A E : Type 0} (r : Result A E) (P Q : A → Type 0) → ((a : A) → P a → Q a) → IfOk r P → IfOk r Q
-if_ok (Ok a) P Q f h = f a h
-if_ok (Err e) P Q f h = tt
-
-pub drop_past : (n : ℕ) (xs : List ℕ) → length xs ≤ n → drop n xs ≡ []
-drop_past zero [] h = refl
-drop_past zero (x ∷ xs) h = absurd (omega arith)
-drop_past (suc n) [] h = refl
-drop_past (suc n) (x ∷ xs) h = drop_past n xs (omega arith)
-
--- an item of two joined lists is one of the first list, or one of the second
-pub slice_get_left : {X : Type 0} (xs ys : List X) (i : ℕ) → i < length xs → slice_get (xs ++ ys) i ≡ slice_get xs i
-slice_get_left [] ys i h = absurd (omega arith)
-slice_get_left (x ∷ xs) ys zero h = refl
-slice_get_left (x ∷ xs) ys (suc i) h = slice_get_left xs ys i (omega arith)
-
-pub slice_get_right : {X : Type 0} (xs ys : List X) (i j : ℕ) → length xs + j ≡ i → slice_get (xs ++ ys) i ≡ slice_get ys j
-slice_get_right [] ys i j e = ap (slice_get ys) (omega arith)
-slice_get_right (x ∷ xs) ys zero j e = absurd (omega arith)
-slice_get_right (x ∷ xs) ys (suc i) j e = slice_get_right xs ys i j (omega arith)
-
-pub has-get_or : (ks : List ℕ) (i : ℕ) → i < length ks → has (get_or ks i 0) ks ≡ true
-has-get_or [] i h = absurd (omega arith)
-has-get_or (k ∷ ks) zero h = has-head k ks
-has-get_or (k ∷ ks) (suc i) h = has-tail (get_or ks i 0) k ks (has-get_or ks i (omega arith))
 
 module _ {T : Type 0} (at : ℕ → Option (Piece T)) (keys : List ℕ) (place i rest : ℕ) (inside : i < length keys)
     (same : slice_get (line at (drop i keys)) rest ≡ slice_get (line at keys) place)

@@ -16,11 +16,12 @@ use Rattle.schedule_trie.proofs.ForkAnswers.{any_or_none}
 use Rattle.schedule_trie.proofs.LengthsAfter.{branch_count, cells_few}
 use Rattle.schedule_trie.proofs.LimbCounts.{cells_of-first, cells_of-next, taken_whole}
 use Rattle.schedule_trie.proofs.LimbLaws.{may_share_parts, HasGrown, grown_none, grown_more, short, forest_made, forest_count}
-use Rattle.schedule_trie.proofs.LimbLists.{length-taken, length-numbered, slice_get-within, slots_in-last}
+use Rattle.schedule_trie.proofs.LimbLists.{length-taken, length-numbered, slots_in-last}
 use Rattle.schedule_trie.proofs.NamesKept.{and_both, and_true}
 use Rattle.schedule_trie.proofs.Notes.{blank_kept}
-use Rattle.schedule_trie.proofs.StepSet.{slice_get_some}
 use Rattle.schedule_trie.specs.declared.limits.TheConstants.{MOST_CELLS_MADE}
+use Rattle.schedule_trie.proofs.Lists.{slice_get_some}
+use Rattle.std.proofs.lemmas.Option.{slice_get_within}
 
 only_last : (g : List Slot → List Slot) (bs : List Branch) (b : Branch) → only_in (length bs) g (bs ++ b ∷ []) ≡ bs ++ changed g b ∷ []
 only_last g [] b = refl
@@ -176,7 +177,7 @@ module _ (ls : List Limb) (lawful : AreLawfulLimbs ls) (n : ℕ) (l : Limb) (les
         record {
           from = may_share_parts xs l (l.from < length c.strands) next.1
               (λ s. let z = s.from in omega arith)
-              (λ s. let w = slice_get-within xs l.from s.stem s.there in let k = count in omega arith);
+              (λ s. let w = slice_get_within xs l.from s.stem s.there in let k = count in omega arith);
           place = subst (λ f. l.shared ≤ length (slots_in f.branches l.from)) (sym is) (short xs (forest_of xs) l has_grown next.1);
           free = subst (λ f. index_of f.branches l.name ≡ None) (sym is) free.1;
           form = free.0;

@@ -1,5 +1,5 @@
 -- Lists in which no number is twice, and keys of a path.
-use Rattle.std.proofs.Common.{◌≡◌, ℕ, suc, ◌<◌, ◌≤◌, true, false, ◌||◌, eqb, List, [], ◌∷◌, ◌++◌, length, Option, Some, None, refl, sym, ap, subst, ◌∙◌, true≢false, arith}
+use Rattle.std.proofs.Common.{◌≡◌, ℕ, zero, suc, ◌<◌, ◌≤◌, true, false, ◌||◌, eqb, List, [], ◌∷◌, ◌++◌, length, get_or, Option, Some, None, refl, sym, ap, subst, ◌∙◌, true≢false, arith}
 use Rattle.std.proofs.lemmas.Map.Keys.{IsDistinct-cons}
 use Rattle.std.proofs.lemmas.Map.Steps.{length-le_from_distinct_below}
 use Rattle.std.specs.List.{IsDistinct, list_any}
@@ -66,3 +66,18 @@ Once-from_linked_below above up seen (k ∷ ks) u l =
 -- a path has no key twice
 pub Once-from_linked : (above : ℕ → Option ℕ) (ks : List ℕ) → Linked above None ks → Once ks
 Once-from_linked above ks l = (Once-from_linked_below above None [] ks refl l).0
+
+pub has-get_or : (ks : List ℕ) (i : ℕ) → i < length ks → has (get_or ks i 0) ks ≡ true
+has-get_or [] i h = absurd (omega arith)
+has-get_or (k ∷ ks) zero h = has-head k ks
+has-get_or (k ∷ ks) (suc i) h = has-tail (get_or ks i 0) k ks (has-get_or ks i (omega arith))
+
+pub has-last : (key : ℕ) (front : List ℕ) → has key (front ++ key ∷ []) ≡ true
+has-last key [] = has-head key []
+has-last key (k ∷ front) = has-tail key k (front ++ key ∷ []) (has-last key front)
+
+pub once_front : (front : List ℕ) (key : ℕ) → Once (front ++ key ∷ []) → has key front ≡ false
+once_front [] key h = refl
+once_front (k ∷ front) key h = has_not_from key (k ∷ front) (λ g. has_cases key k front ⊥ g
+    (λ e. true≢false (sym (subst (λ z. has z (front ++ key ∷ []) ≡ true) e (has-last key front)) ∙ h.0))
+    (λ r. true≢false (sym r ∙ once_front front key h.1)))

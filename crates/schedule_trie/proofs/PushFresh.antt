@@ -13,10 +13,10 @@ use Rattle.schedule_trie.proofs.Once.{has_not_from}
 use Rattle.schedule_trie.proofs.Changes.{Changes}
 use Rattle.schedule_trie.proofs.Notes.{notes_beside}
 use Rattle.schedule_trie.proofs.Pushes.{not_equal}
-use Rattle.schedule_trie.proofs.Whole.{whole_pushed, is_pushed, keys_in-set_same, keys_in-set_other}
+use Rattle.schedule_trie.proofs.Whole.{whole_pushed, is_pushed}
 use Rattle.schedule_trie.proofs.PushSteps.{has_front}
 use Rattle.schedule_trie.proofs.StepSet.{piece_seen}
-use Rattle.schedule_trie.proofs.Strands.{strands-set, keys_in-of}
+use Rattle.schedule_trie.proofs.Strands.{strands-set, keys_in-of, keys_in-set_other, keys_in-set_same}
 
 abbrev above_with : (ℕ → Option ℕ) → ℕ → Option ℕ → ℕ → Option ℕ
 above_with above key up j = cond (nat_eq key j) up (above j)

@@ -11,7 +11,7 @@ use Rattle.schedule_trie.specs.declared.trie.Trie.TheInside.{Inside}
 use Rattle.schedule_trie.specs.Forest.{slot}
 use Rattle.schedule_trie.specs.Cut.{forest, piece, piece_at, slots_of, note_of, line, keys_in, set_keys, has, Once, IsOwnEnd, IsChangedEnd, Nowhere, HasChanged, IsPushed, IsWhole}
 use Rattle.schedule_trie.specs.Tries.{piece_of, pieces_of, strands_of, cut_of, AreLengths, AreNames, IsHeldCut, IsKept}
-use Rattle.schedule_trie.proofs.Once.{has-append, Once-from_linked}
+use Rattle.schedule_trie.proofs.Once.{has-append, Once-from_linked, has-last, once_front}
 use Rattle.schedule_trie.proofs.Changes.{Changes, piece_at_set}
 use Rattle.schedule_trie.proofs.Climbs.{last_parts}
 use Rattle.schedule_trie.proofs.Lines.{keys_are}
@@ -19,7 +19,8 @@ use Rattle.schedule_trie.proofs.StepSet.{piece_seen, key_within}
 use Rattle.schedule_trie.proofs.Notes.{notes_at, notes_but}
 use Rattle.schedule_trie.proofs.Pushes.{line-append}
 use Rattle.schedule_trie.proofs.Touched.{some_slots}
-use Rattle.schedule_trie.proofs.Whole.{whole_pushed, is_pushed, set_keys-same, has-last, once_front}
+use Rattle.schedule_trie.proofs.Whole.{whole_pushed, is_pushed}
+use Rattle.schedule_trie.proofs.Strands.{set_keys-same}
 
 pub on_err : {A E : Type 0} (r : Result A E) (P : Type 0) → P → OnErr r P
 on_err (Ok x) P p = tt

@@ -11,8 +11,9 @@ use Rattle.schedule_trie.specs.Cut.{IsWithin, Cut, piece, piece_at, slots_of, no
 use Rattle.schedule_trie.specs.Tries.{piece_of, strands_of, names_of, cut_of, IsHeldCut}
 use Rattle.schedule_trie.proofs.Strands.{strands-without}
 use Rattle.schedule_trie.proofs.Notes.{notes_at}
-use Rattle.schedule_trie.proofs.StepSet.{IsSeen, seen_with, with_segment, within_still, slice_get_some, piece_seen, cut_from_sound, command_at, the_cell}
+use Rattle.schedule_trie.proofs.StepSet.{IsSeen, seen_with, with_segment, within_still, piece_seen, cut_from_sound, command_at, the_cell}
 use Rattle.schedule_trie.proofs.Removals.{gone_everywhere, sound_within, gone_with_segment, sound_gone}
+use Rattle.schedule_trie.proofs.Lists.{slice_get_some}
 
 -- removing a cell of a segment that has other cells
 module _ {T : Type 0} (t : Inside T) (key offset : ℕ) (v w : Segment T) (held : IsHeldCut t) (there : item_at t.segments key ≡ Some v)

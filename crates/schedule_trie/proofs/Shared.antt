@@ -13,12 +13,13 @@ use Rattle.schedule_trie.specs.declared.trie.Trie.TheInside.{Inside}
 use Rattle.schedule_trie.specs.Forest.{cell_of, slots_in, ShareUpTo, IsForest}
 use Rattle.schedule_trie.specs.Cut.{Piece, Strand, forest, piece_at, slots_of, line, branches_on, keys_in, has_cell, Once, Linked, IsSoundCut}
 use Rattle.schedule_trie.specs.Tries.{cut_of, IsHeldCut}
-use Rattle.schedule_trie.proofs.Lines.{slots_in_on, slice_get_left, slice_get_right, once_at, given_at}
+use Rattle.schedule_trie.proofs.Lines.{slots_in_on, once_at, given_at}
 use Rattle.schedule_trie.proofs.Changes.{has_cell_get}
 use Rattle.schedule_trie.proofs.Positions.{one_place, before_place}
 use Rattle.schedule_trie.proofs.Apart.{branches_apart}
 use Rattle.schedule_trie.proofs.Climbs.{last_parts}
 use Rattle.schedule_trie.proofs.ForkSteps.{no_last}
+use Rattle.schedule_trie.proofs.Lists.{slice_get_left, slice_get_right}
 
 -- taking one more item adds the item at that index
 pub take_more : {X : Type 0} (xs : List X) (n : ℕ) (x : X) → slice_get xs n ≡ Some x → take (suc n) xs ≡ take n xs ++ x ∷ []

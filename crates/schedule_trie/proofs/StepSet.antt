@@ -2,7 +2,6 @@
 use Rattle.std.proofs.Common.{map, ◌++◌, ◌≡◌, ℕ, ◌<◌, Bool, true, false, nat_eq, nat_le, zero, suc, ◌≤◌, List, [], ◌∷◌, length, slice_get, slice_index_or, Option, Some, None, IsSome, Ok, Err, refl, sym, ap, subst, ◌∙◌, true≢false, arith, cond, eq-eqb}
 use Rattle.std.proofs.lemmas.Bool.{eqb-true}
 use Rattle.std.proofs.lemmas.Bool.Decides.{nat_tests}
-use Rattle.std.proofs.lemmas.Option.{slice_get_within}
 use Rattle.std.specs.Option.{IfSome, option_map}
 use Rattle.std.proofs.Math.ListN.{get_or-map}
 use Rattle.lineage.specs.Family.{item_at, with_item}
@@ -20,21 +19,13 @@ use Rattle.schedule_trie.specs.declared.limits.TheConstants.{MOST_CELLS_MADE}
 use Rattle.schedule_trie.proofs.Changes.{SameCells, piece_at_set, Changes, has_cell_get, sound_same, replaced_everywhere, replaced_same}
 use Rattle.schedule_trie.proofs.Lines.{slots_in_on}
 use Rattle.schedule_trie.proofs.Notes.{notes_at, notes_but}
-
-pub slice_get_some : {X : Type 0} (xs : List X) (i : ℕ) → i < length xs → (x : X) × (slice_get xs i ≡ Some x)
-slice_get_some [] i h = absurd (omega arith)
-slice_get_some (x ∷ xs) zero h = (x, refl)
-slice_get_some (x ∷ xs) (suc i) h = slice_get_some xs i (omega arith)
+use Rattle.schedule_trie.proofs.Lists.{cell_in_at, slice_get_some}
+use Rattle.std.proofs.lemmas.Option.{slice_get_within}
 
 get_or_within : {X : Type 0} (xs : List (Option X)) (i : ℕ) (x : X) → slice_index_or xs i None ≡ Some x → i < length xs
 get_or_within [] i x e = absurd (cc)
 get_or_within (o ∷ xs) zero x e = omega arith
 get_or_within (o ∷ xs) (suc i) x e = let h : i < length xs = get_or_within xs i x e in omega arith
-
-pub cell_in_at : (slots : List Slot) (k : ℕ) (s : Slot) → slice_get slots k ≡ Some s → cell_in slots k ≡ s.cell
-cell_in_at [] k s e = absurd (cc)
-cell_in_at (z ∷ zs) zero s e = let same : z ≡ s = cc in ap cell_of same
-cell_in_at (z ∷ zs) (suc k) s e = cell_in_at zs k s e
 
 nat_le_false : (a b : ℕ) → b < a → nat_le a b ≡ false
 nat_le_false a b h = grind (arith, nat_tests)

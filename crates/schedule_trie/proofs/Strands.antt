@@ -1,8 +1,8 @@
 -- Branches, from their names and their paths.
-use Rattle.std.proofs.Common.{◌≡◌, ℕ, zero, suc, List, [], ◌∷◌, ◌++◌, length, map, get_or, set, refl, ap, arith}
+use Rattle.std.proofs.Common.{◌≡◌, ℕ, zero, suc, ◌<◌, List, [], ◌∷◌, ◌++◌, length, map, get_or, set, ◌⊎◌, inl, inr, refl, ap, arith}
 use Rattle.std.specs.List.{remove}
 use Rattle.schedule_trie.specs.Forest.{name_of}
-use Rattle.schedule_trie.specs.Cut.{Piece, strand, branches_on, keys_in, set_keys, divided_keys, divided_strand, keys_without, strand_without}
+use Rattle.schedule_trie.specs.Cut.{Piece, Strand, strand, branches_on, keys_in, set_keys, divided_keys, divided_strand, keys_without, strand_without}
 use Rattle.schedule_trie.specs.Tries.{strands_of}
 use Rattle.std.specs.Prelude.{Option}
 
@@ -60,3 +60,33 @@ strands-remove [] (p ∷ ps) i e = absurd (omega arith)
 strands-remove (n ∷ ns) [] i e = absurd (omega arith)
 strands-remove (n ∷ ns) (p ∷ ps) zero e = refl
 strands-remove (n ∷ ns) (p ∷ ps) (suc i) e = ap (λ l. strand n p ∷ l) (strands-remove ns ps i (omega arith))
+
+-- the keys of branches after the keys of one are replaced
+pub keys_in-set_same : (strands : List Strand) (i : ℕ) (keys : List ℕ) → i < length strands → keys_in (set_keys strands i keys) i ≡ keys
+keys_in-set_same [] i keys h = absurd (omega arith)
+keys_in-set_same (s ∷ ss) zero keys h = refl
+keys_in-set_same (s ∷ ss) (suc i) keys h = keys_in-set_same ss i keys (omega arith)
+
+pub keys_in-set_other : (strands : List Strand) (i j : ℕ) (keys : List ℕ) → (j ≡ i → ⊥) → keys_in (set_keys strands i keys) j ≡ keys_in strands j
+keys_in-set_other [] i j keys ne = refl
+keys_in-set_other (s ∷ ss) zero zero keys ne = absurd (ne refl)
+keys_in-set_other (s ∷ ss) zero (suc j) keys ne = refl
+keys_in-set_other (s ∷ ss) (suc i) zero keys ne = refl
+keys_in-set_other (s ∷ ss) (suc i) (suc j) keys ne = keys_in-set_other ss i j keys (λ e. ne (ap suc e))
+
+pub set_keys-same : (strands : List Strand) (i : ℕ) → set_keys strands i (keys_in strands i) ≡ strands
+set_keys-same [] i = refl
+set_keys-same (s ∷ ss) zero = refl
+set_keys-same (s ∷ ss) (suc i) = ap (λ l. s ∷ l) (set_keys-same ss i)
+
+pub length-set_keys : (strands : List Strand) (i : ℕ) (keys : List ℕ) → length (set_keys strands i keys) ≡ length strands
+length-set_keys [] i keys = refl
+length-set_keys (s ∷ ss) zero keys = refl
+length-set_keys (s ∷ ss) (suc i) keys = ap suc (length-set_keys ss i keys)
+
+-- the keys of a branch after one is added: those that it had, or the added one's
+pub keys_in-last : (strands : List Strand) (s : Strand) (i : ℕ) → (keys_in (strands ++ s ∷ []) i ≡ keys_in strands i) ⊎ (keys_in (strands ++ s ∷ []) i ≡ s.keys)
+keys_in-last [] s zero = inr refl
+keys_in-last [] s (suc i) = inl refl
+keys_in-last (t ∷ ts) s zero = inl refl
+keys_in-last (t ∷ ts) s (suc i) = keys_in-last ts s i

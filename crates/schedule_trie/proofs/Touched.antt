@@ -1,17 +1,17 @@
 -- The segment that has the cell at a place, or the one right before it.
 use Rattle.std.proofs.Common.{◌≡◌, ℕ, zero, suc, ◌+◌, ◌-◌, ◌<◌, true, List, [], ◌∷◌, ◌++◌, length, take, drop, get_or, slice_get, Option, Some, None, IsSome, refl, sym, ap, subst, ◌∙◌, true≢false, arith, append-nil}
 use Rattle.std.specs.Option.{IfSome, option_map}
-use Rattle.std.proofs.lemmas.Option.{slice_get_within}
 use Rattle.std.proofs.lemmas.List.{length-append, take-append-drop}
 use Rattle.schedule_trie.specs.declared.slot.Slot.{Slot}
 use Rattle.schedule_trie.specs.Forest.{cell_on_branch, cell_by, cell_of, index_of, slots_in}
 use Rattle.schedule_trie.specs.Cut.{Cut, Piece, piece_at, slots_of, line, forest, keys_in, has, has_cell, Once, IsSpotInPath, IsSegment, IsWhole, IsEnd, HoldsCellAt, HoldsCellBefore, IsParted}
 use Rattle.schedule_trie.proofs.Changes.{has_cell_get}
-use Rattle.schedule_trie.proofs.Lines.{in_line, slots_in_on, line-drop, slice_get_left, slice_get_right, has-get_or}
-use Rattle.schedule_trie.proofs.Once.{has_cases, has-tail, Once-from_linked}
+use Rattle.schedule_trie.proofs.Lines.{in_line, slots_in_on, line-drop}
+use Rattle.schedule_trie.proofs.Once.{has_cases, has-tail, Once-from_linked, has-get_or, has-last}
 use Rattle.schedule_trie.proofs.Pushes.{line-append}
 use Rattle.schedule_trie.proofs.StepSet.{holds_cell}
-use Rattle.schedule_trie.proofs.Whole.{has-last}
+use Rattle.schedule_trie.proofs.Lists.{slice_get_left, slice_get_right}
+use Rattle.std.proofs.lemmas.Option.{slice_get_within}
 
 module _ {T : Type 0} (at : ℕ → Option (Piece T)) where
   -- a cell's place is its offset plus the number of cells in the segments before its own

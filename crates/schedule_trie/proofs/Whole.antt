@@ -1,49 +1,17 @@
 -- A push keeps a cut whole.
-use Rattle.std.proofs.Common.{◌≡◌, ℕ, zero, suc, ◌+◌, ◌<◌, ◌≤◌, Bool, true, false, ◌||◌, nat_eq, List, [], ◌∷◌, ◌++◌, length, map, Option, Some, None, IsSome, ◌⊎◌, refl, sym, ap, subst, ◌∙◌, true≢false, arith, inl, inr}
+use Rattle.std.proofs.Common.{◌≡◌, ℕ, ◌+◌, ◌<◌, ◌≤◌, Bool, true, false, ◌||◌, nat_eq, List, [], ◌∷◌, ◌++◌, length, map, Option, Some, None, IsSome, ◌⊎◌, refl, sym, ap, subst, ◌∙◌, true≢false, arith, inl, inr}
 use Rattle.std.specs.Option.{IfSome}
 use Rattle.std.proofs.lemmas.Bool.{eqb-true}
 use Rattle.std.proofs.lemmas.List.{map-append, length-append}
 use Rattle.frames.specs.declared.types.Step.{Step}
 use Rattle.schedule_trie.specs.Forest.{slot, cell_of, only_in, put_last}
-use Rattle.schedule_trie.specs.Cut.{Cut, Piece, Strand, piece_at, slots_of, line, forest, branches_on, keys_in, set_keys, has, has_cell, Once, SharesAbove, IsSegment, IsSoundCut, IsWhole, KeepsNotesBut, Nowhere, IsChangedEnd, IsPushed, LackedByOthers}
-use Rattle.schedule_trie.proofs.Once.{has-append, has-head, has-tail, has_not_from, has_cases, Once-append}
+use Rattle.schedule_trie.specs.Cut.{Cut, Piece, piece_at, slots_of, line, forest, branches_on, keys_in, set_keys, has, has_cell, Once, SharesAbove, IsSegment, IsSoundCut, IsWhole, KeepsNotesBut, Nowhere, IsChangedEnd, IsPushed, LackedByOthers}
+use Rattle.schedule_trie.proofs.Once.{has-append, has_not_from, has_cases, Once-append, has-last}
 use Rattle.schedule_trie.proofs.Changes.{Changes}
 use Rattle.schedule_trie.proofs.StepSet.{cut_from_sound}
 use Rattle.schedule_trie.proofs.Pushes.{not_equal, line_pushed, only_pushed, segments_more, apart_more}
 use Rattle.schedule_trie.specs.declared.limits.TheConstants.{MOST_CELLS_MADE}
-
--- the keys of branches after the keys of one are replaced
-pub keys_in-set_same : (strands : List Strand) (i : ℕ) (keys : List ℕ) → i < length strands → keys_in (set_keys strands i keys) i ≡ keys
-keys_in-set_same [] i keys h = absurd (omega arith)
-keys_in-set_same (s ∷ ss) zero keys h = refl
-keys_in-set_same (s ∷ ss) (suc i) keys h = keys_in-set_same ss i keys (omega arith)
-
-pub keys_in-set_other : (strands : List Strand) (i j : ℕ) (keys : List ℕ) → (j ≡ i → ⊥) → keys_in (set_keys strands i keys) j ≡ keys_in strands j
-keys_in-set_other [] i j keys ne = refl
-keys_in-set_other (s ∷ ss) zero zero keys ne = absurd (ne refl)
-keys_in-set_other (s ∷ ss) zero (suc j) keys ne = refl
-keys_in-set_other (s ∷ ss) (suc i) zero keys ne = refl
-keys_in-set_other (s ∷ ss) (suc i) (suc j) keys ne = keys_in-set_other ss i j keys (λ e. ne (ap suc e))
-
-pub set_keys-same : (strands : List Strand) (i : ℕ) → set_keys strands i (keys_in strands i) ≡ strands
-set_keys-same [] i = refl
-set_keys-same (s ∷ ss) zero = refl
-set_keys-same (s ∷ ss) (suc i) = ap (λ l. s ∷ l) (set_keys-same ss i)
-
-pub length-set_keys : (strands : List Strand) (i : ℕ) (keys : List ℕ) → length (set_keys strands i keys) ≡ length strands
-length-set_keys [] i keys = refl
-length-set_keys (s ∷ ss) zero keys = refl
-length-set_keys (s ∷ ss) (suc i) keys = ap suc (length-set_keys ss i keys)
-
-pub has-last : (key : ℕ) (front : List ℕ) → has key (front ++ key ∷ []) ≡ true
-has-last key [] = has-head key []
-has-last key (k ∷ front) = has-tail key k (front ++ key ∷ []) (has-last key front)
-
-pub once_front : (front : List ℕ) (key : ℕ) → Once (front ++ key ∷ []) → has key front ≡ false
-once_front [] key h = refl
-once_front (k ∷ front) key h = has_not_from key (k ∷ front) (λ g. has_cases key k front ⊥ g
-    (λ e. true≢false (sym (subst (λ z. has z (front ++ key ∷ []) ≡ true) e (has-last key front)) ∙ h.0))
-    (λ r. true≢false (sym r ∙ once_front front key h.1)))
+use Rattle.schedule_trie.proofs.Strands.{keys_in-set_other, keys_in-set_same, length-set_keys}
 
 -- a push, after which the branch's keys are `front` and then the segment's key
 module _ {T : Type 0} (c d : Cut T) (index key : ℕ) (step : Step) (front : List ℕ) (q : Piece T) (whole : IsWhole c) (room : c.made < c.limits.cells)

@@ -101,21 +101,12 @@ impl<'a, R: Register, W> Seat<'a, R, W> {
         ensures err { let limits = limits_of opening.setup.options in
             IfErr result (IsRefused (loaded limits opening.setup.bench.limbs)) }
     {
-        let Opening {
-            register,
-            value,
-            setup,
-        } = opening;
-        let options = setup.options;
-        let limbs = setup.bench.limbs.as_slice();
-        let (desk, chair) = Desk::open_limbs(alloc, register, value, options.limits(), limbs)?;
-        Ok(Seat {
-            rt,
-            desk,
-            chair,
-            thieves: options.workers,
-            lens: None,
-        })
+        let limits = opening.setup.options.limits();
+        let limbs = opening.setup.bench.limbs.as_slice();
+        match Desk::open_limbs(alloc, opening.register, opening.value, limits, limbs) {
+            Ok((desk, chair)) => Ok(Seat::new(rt, desk, chair, opening.setup.options.workers)),
+            Err(refusal) => Err(refusal),
+        }
     }
 }
 

@@ -10,6 +10,7 @@ ghost use Rattle.schedule_trie.specs.Edits.{edit_in, Insert, Remove, Replace, Fo
 ghost use Rattle.cutoff.specs.Edits.{Edits, FitsEdit};
 
 use super::Chart;
+use crate::number::Number;
 use frames::register::Register;
 use frames::types::Step;
 use schedule_trie::edit::Edit;
@@ -59,6 +60,7 @@ impl<R: Register> Chart<R> {
         ensures { Edits self.old self.new (Insert branch.now place step) result }
     {
         self.mark = None;
+        self.fresh = Number::none();
         self.trie.insert(alloc, branch, place, step)
     }
 
@@ -72,6 +74,7 @@ impl<R: Register> Chart<R> {
         ensures { Edits self.old self.new (Remove branch.now place) result }
     {
         self.mark = None;
+        self.fresh = Number::none();
         self.trie.remove(branch, place)
     }
 
@@ -87,6 +90,7 @@ impl<R: Register> Chart<R> {
         ensures { Edits self.old self.new (Replace branch.now place step) result }
     {
         self.mark = None;
+        self.fresh = Number::none();
         self.trie.replace(branch, place, step)
     }
 
@@ -109,6 +113,7 @@ impl<R: Register> Chart<R> {
         ensures { Edits self.old self.new (Fork branch.now place name) result }
     {
         self.mark = mark_after_fork(&self.trie, self.mark, branch, place);
+        self.fresh = Number::none();
         self.trie.fork(alloc, branch, place, name)
     }
 
@@ -123,6 +128,7 @@ impl<R: Register> Chart<R> {
         ensures { Edits self.old self.new (Detach branch.now) result }
     {
         self.mark = None;
+        self.fresh = Number::none();
         self.trie.detach(alloc, branch)
     }
 
@@ -136,6 +142,7 @@ impl<R: Register> Chart<R> {
         ensures { Edits self.old self.new (Drop branch.now) result }
     {
         self.mark = None;
+        self.fresh = Number::none();
         self.trie.drop_branch(branch)
     }
 }

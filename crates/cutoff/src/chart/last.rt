@@ -11,6 +11,7 @@ ghost use Rattle.cutoff.specs.Settles.{IsSettledLast, KeepsOrFills};
 
 use super::{Chart, branch_to};
 use crate::last::{Last, settle_to};
+use crate::number::Number;
 use frames::register::Register;
 use schedule_trie::name::Name;
 use schedule_trie::refusal::Refusal;
@@ -63,6 +64,7 @@ impl<R: Register> Chart<R> {
         };
         let mark = self.mark;
         self.mark = None;
+        self.fresh = Number::none();
         let (run, replayed) = settle_to(
             alloc,
             &mut self.trie,

@@ -4,10 +4,10 @@ use Rattle.schedule_trie.specs.Cut.{keys_in, note_of, piece_at}
 use Rattle.schedule_trie.specs.Climbs.{keys_to, HasClimbedTo}
 use Rattle.schedule_trie.proofs.Climbs.{IsStepUp, step_up}
 use Rattle.cutoff.specs.Fitting.{steps_at}
-use Rattle.cutoff.specs.Links.{without_register}
+use Rattle.cutoff.specs.Links.{without_register, number_at, run_number}
 use Rattle.cutoff.specs.Plans.{FitsDownTo}
 use Rattle.cutoff.proofs.Climbs.{climb_noted, link_same, link_came, climb_ends, climb_down, path_once, past_all, shorter}
-use Rattle.cutoff.specs.Prefixes.{IsMarked, RunsDown}
+use Rattle.cutoff.specs.Prefixes.{AreFresh, RunsDown}
 use Rattle.cutoff.proofs.Fits.{stored_at}
 use Rattle.cutoff.proofs.Prefixes.{up_new, up_same}
 use Rattle.cutoff.proofs.climb.comes_down.Goals as goal
@@ -88,9 +88,9 @@ loop-preserved g c =
           (stored_at E start.register told.exits trie c.in-Some.key s (told.each c.in-Some.key) noted) a (sym c.link-link.ensures ∙ link));
     }
 
--- down to the mark stored runs are known to fit
-pub returns-then-is_marked : goal.returns-then-is_marked
-returns-then-is_marked g c = λ i h. (
+-- down to a fresh run stored runs are known to fit
+pub returns-then-is_from : goal.returns-then-is_from
+returns-then-is_from g c = λ i h. (
   (λ e.
       let E = g.R.PartialEq.eq in
       let b = g.R.Behaves.behaviour c.args.start.now.register in
@@ -103,7 +103,9 @@ returns-then-is_marked g c = λ i h. (
       let covers = (stored_at E start.register told.exits trie c.in-Some.key s (told.each c.in-Some.key) noted).covers in
       let there = subst (HasClimbedTo keys) c.in-Some.is (c.loop.invariant.reached i h) in
       let step = step_up keys c.in-Some.key c.step_up-above.result.1 (path_once trie c.requires.cut i) there (λ front back e. c.step_up-above.ensures.each i front back e) in
-      let marked = subst (IsMarked E g.R.Behaves.behaviour trie start) (c.is_marked.ensures.0 c.if-is_marked.true) c.requires.marked in
+      let late = c.is_from.ensures.0 c.if-is_from.true in
+      let number : number_at trie (Some c.in-Some.key) ≡ Some late.0 = ap run_number noted ∙ sym c.id.ensures ∙ late.2 in
+      let marked = subst (AreFresh E g.R.Behaves.behaviour trie start) late.3 c.requires.fresh c.in-Some.key late.0 number late.4 in
       c.loop.invariant.runs i h (subst (λ o. RunsDown E g.R.Behaves.behaviour trie b start (keys_to keys o) c.loop.entry.now) (sym c.in-Some.is)
       (up_same E g.met.R.PartialEq.laws g.R.Behaves.behaviour g.met.R.Register.alike trie c.in-Some.key s noted c.entry-begun.ensures.kept covers start keys
       c.step_up-above.result.1 step c.loop.entry.now (c.ends.ensures.0 c.if-not-ends.false) (marked i there)))),

@@ -14,7 +14,7 @@ comes_down-requires g c =
     record {
       linked = c.requires.linked;
       cut = c.requires.cut;
-      marked = c.requires.marked;
+      fresh = c.requires.fresh;
       reached = (
         live.0,
         (above_step g.R.PartialEq.eq g.met.R.PartialEq.laws g.R.Behaves.behaviour g.met.R.Register.alike c.args.trie.now c.requires.cut c.args.start.now c.args.key c.above-above.result

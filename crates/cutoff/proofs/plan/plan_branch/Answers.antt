@@ -1,9 +1,9 @@
 use Rattle.std.proofs.Common.{◌+◌, drop, get_or, refl, sym, subst}
 use Rattle.schedule_trie.specs.Cut.{keys_in}
-use Rattle.schedule_trie.proofs.Lines.{drop_past}
 use Rattle.schedule_trie.proofs.Once.{has-head}
 use Rattle.cutoff.specs.Sights.{IsUnseenPart}
 use Rattle.cutoff.proofs.Paths.{fits_on}
+use Rattle.schedule_trie.proofs.Lists.{drop_past}
 use Rattle.cutoff.proofs.Sights.{IsPlanning, planning_starts, planning_next, planning_on, planning_ends, next_there, next_comes, segment_fits}
 use Rattle.cutoff.proofs.plan.plan_branch.Goals as goal
 

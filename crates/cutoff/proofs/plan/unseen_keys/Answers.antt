@@ -11,7 +11,7 @@ pub loop-at-init : goal.loop-at-init
 loop-at-init g c =
     let keys = keys_in c.args.trie.now.strands c.args.index in
     let last = subst (IsLast keys) (sym c.last_at-at.ensures) (last_is keys (path_once c.args.trie.now c.requires c.args.index)) in
-    rw c.in_ok-keys.ensures.items (record { climbing = climbing_first c.args.seen.now keys c.last_at-at.result last })
+    rw c.new-keys.ensures.items (record { climbing = climbing_first c.args.seen.now keys c.last_at-at.result last })
 
 pub loop-at-smaller : goal.loop-at-smaller
 loop-at-smaller g c =

@@ -4,9 +4,9 @@ use Rattle.schedule_trie.specs.Cut.{has, keys_in}
 use Rattle.schedule_trie.specs.Climbs.{keys_to, HasClimbedTo}
 use Rattle.schedule_trie.proofs.Climbs.{IsStepUp, step_up}
 use Rattle.cutoff.proofs.Climbs.{path_once, past_all, shorter}
-use Rattle.schedule_trie.proofs.LengthSteps.{same_key}
 use Rattle.cutoff.proofs.Prefixes.{other_key, by_other}
 use Rattle.cutoff.proofs.prefix.keys_down_to.Goals as goal
+use Rattle.schedule_trie.proofs.Lists.{same_key}
 use Rattle.cutoff.proofs.prefix.keys_down_to.Goals.{else-loop-test, then-loop-test+then-eq, then-loop-test+else-eq+in_default}
 
 pub loop-preserved : goal.loop-preserved

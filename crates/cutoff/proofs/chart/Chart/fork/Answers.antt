@@ -5,8 +5,9 @@ use Rattle.cutoff.proofs.chart.Chart.fork.Goals as goal
 
 pub invariant_of-self : goal.invariant_of-self
 invariant_of-self g c =
-    forked_charted g.R.PartialEq.eq g.R.Behaves.behaviour c.self.inside.next c.self.inside.mark c.mark_after_fork-self-inside.result _ c.fork.new.self c.args.branch.now c.args.place c.args.name c.fork.result
-    c.self.invariant c.mark_after_fork-self-inside.ensures c.fork.ensures.ok c.fork.ensures.end c.fork.ensures.err
+    rw c.none-self-inside.ensures
+    (forked_charted g.R.PartialEq.eq g.R.Behaves.behaviour c.self.inside.next c.self.inside.fresh c.self.inside.mark c.mark_after_fork-self-inside.result _ c.fork.new.self c.args.branch.now c.args.place c.args.name c.fork.result
+    c.self.invariant c.mark_after_fork-self-inside.ensures c.fork.ensures.ok c.fork.ensures.end c.fork.ensures.err)
 
 pub returns : goal.returns
 returns g c = chart_edited _ _ c.fork.new.self (Fork c.args.branch.now c.args.place c.args.name) c.fork.result c.self.view_is c.fork.ensures.ok c.fork.ensures.err

@@ -19,11 +19,12 @@ returns-then-not-fits g c =
 pub invariant_of-self : goal.invariant_of-self
 invariant_of-self g c =
     let live = c.self.invariant.whole.live c.args.key (c.has_segment.ensures.yes c.if-not-has_segment.false) in
-    charted_installed g.R.PartialEq.eq g.met.R.PartialEq.laws g.R.Behaves.behaviour g.met.R.Register.alike c.self.inside.next c.take_number-id.new.next c.self.inside.mark _ c.set_note.new.self c.args.key c.new.result
+    rw c.or-self-inside.ensures
+    (charted_installed g.R.PartialEq.eq g.met.R.PartialEq.laws g.R.Behaves.behaviour g.met.R.Register.alike c.self.inside.next c.take_number-id.new.next c.self.inside.fresh c.self.inside.mark _ c.set_note.new.self c.args.key c.new.result
     (arc_value c.args.run) c.deref.result.now (keys_in c.self.inside.trie.strands live.0) c.take_number-id.result c.self.invariant
     ((c.fits_down-fits.ensures.fits live.0 live.1).0 c.if-not-fits.false) (c.fits_down-fits.ensures.runs c.if-not-fits.false) (c.fits_down-fits.ensures.kept c.if-not-fits.false)
     (c.has_segment.ensures.yes c.if-not-has_segment.false) c.deref.ensures
-    c.new.ensures.run c.new.ensures.id c.fits_down-fits.result.1 c.new.ensures.link (c.fits_down-fits.ensures.moved c.if-not-fits.false c.self.inside.next) c.set_note.ensures c.take_number-id.ensures
+    c.new.ensures.run c.new.ensures.id c.fits_down-fits.result.1 c.new.ensures.link (c.fits_down-fits.ensures.moved c.if-not-fits.false c.self.inside.next) c.set_note.ensures c.take_number-id.ensures)
 
 pub returns : goal.returns
 returns g c =

@@ -5,8 +5,9 @@ use Rattle.cutoff.proofs.chart.Chart.remove.Goals as goal
 
 pub invariant_of-self : goal.invariant_of-self
 invariant_of-self g c =
-    charted g.R.PartialEq.eq g.R.Behaves.behaviour c.self.inside.next c.self.inside.mark _ c.remove.new.self (Remove c.args.branch.now c.args.place) c.remove.result c.self.invariant
-    refl c.remove.ensures.ok c.remove.ensures.err
+    rw c.none-self-inside.ensures
+    (charted g.R.PartialEq.eq g.R.Behaves.behaviour c.self.inside.next c.self.inside.fresh c.self.inside.mark _ c.remove.new.self (Remove c.args.branch.now c.args.place) c.remove.result c.self.invariant
+    refl c.remove.ensures.ok c.remove.ensures.err)
 
 pub returns : goal.returns
 returns g c = chart_edited _ _ c.remove.new.self (Remove c.args.branch.now c.args.place) c.remove.result c.self.view_is c.remove.ensures.ok c.remove.ensures.err

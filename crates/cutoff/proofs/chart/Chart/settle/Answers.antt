@@ -44,13 +44,15 @@ returns-clause-keeps g c =
 
 pub invariant_of-self : goal.invariant_of-self
 invariant_of-self g c =
-    charted_kept g.R.PartialEq.eq g.R.Behaves.behaviour c.self.inside.next c.settle_along.new.next c.self.inside.mark _ c.settle_along.new.trie _ c.settle_along.ensures.keeps
-    c.settle_along.ensures.linked c.self.invariant
+    rw c.none-self-inside.ensures
+    (charted_kept g.R.PartialEq.eq g.R.Behaves.behaviour c.self.inside.next c.settle_along.new.next c.self.inside.fresh c.self.inside.mark _ c.settle_along.new.trie _ c.settle_along.ensures.keeps
+    c.settle_along.ensures.linked c.self.invariant)
 
 pub invariant_of-self-2 : goal.invariant_of-self-2
 invariant_of-self-2 g c =
-    charted_kept g.R.PartialEq.eq g.R.Behaves.behaviour c.self.inside.next c.settle_along.new.next c.self.inside.mark _ c.settle_along.new.trie _ c.settle_along.ensures.keeps
-    c.settle_along.ensures.linked c.self.invariant
+    rw c.none-self-inside.ensures
+    (charted_kept g.R.PartialEq.eq g.R.Behaves.behaviour c.self.inside.next c.settle_along.new.next c.self.inside.fresh c.self.inside.mark _ c.settle_along.new.trie _ c.settle_along.ensures.keeps
+    c.settle_along.ensures.linked c.self.invariant)
 
 pub returns-in_err-there-clause-err : goal.returns-in_err-there-clause-err
 returns-in_err-there-clause-err g c =
@@ -72,16 +74,16 @@ returns-clause-ok g c =
     found.index found.long (c.deref.ensures.value ∙ c.in_ok-keys.ensures.keys) c.self.view_is c.in_ok-spot.ensures.settles c.in_ok-spot.ensures.counted
 
 pub returns-clause-begins : goal.returns-clause-begins
-returns-clause-begins g c = seen_begins c.self.view_is g.R.PartialEq.eq g.R.Behaves.behaviour c.self.inside.next c.self.inside.mark c.self.invariant
+returns-clause-begins g c = seen_begins c.self.view_is g.R.PartialEq.eq g.R.Behaves.behaviour c.self.inside.next c.self.inside.fresh c.self.inside.mark c.self.invariant
 
 pub returns-in_err-there-clause-begins : goal.returns-in_err-there-clause-begins
-returns-in_err-there-clause-begins g c = seen_begins c.self.view_is g.R.PartialEq.eq g.R.Behaves.behaviour c.self.inside.next c.self.inside.mark c.self.invariant
+returns-in_err-there-clause-begins g c = seen_begins c.self.view_is g.R.PartialEq.eq g.R.Behaves.behaviour c.self.inside.next c.self.inside.fresh c.self.inside.mark c.self.invariant
 
 pub returns-in_err-keys-clause-begins : goal.returns-in_err-keys-clause-begins
-returns-in_err-keys-clause-begins g c = seen_begins c.self.view_is g.R.PartialEq.eq g.R.Behaves.behaviour c.self.inside.next c.self.inside.mark c.self.invariant
+returns-in_err-keys-clause-begins g c = seen_begins c.self.view_is g.R.PartialEq.eq g.R.Behaves.behaviour c.self.inside.next c.self.inside.fresh c.self.inside.mark c.self.invariant
 
 pub returns-in_err-spot-clause-begins : goal.returns-in_err-spot-clause-begins
-returns-in_err-spot-clause-begins g c = seen_begins c.self.view_is g.R.PartialEq.eq g.R.Behaves.behaviour c.self.inside.next c.self.inside.mark c.self.invariant
+returns-in_err-spot-clause-begins g c = seen_begins c.self.view_is g.R.PartialEq.eq g.R.Behaves.behaviour c.self.inside.next c.self.inside.fresh c.self.inside.mark c.self.invariant
 
 pub returns-in_err-keys-clause-err : goal.returns-in_err-keys-clause-err
 returns-in_err-keys-clause-err g c =

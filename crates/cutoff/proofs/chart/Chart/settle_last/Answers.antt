@@ -25,15 +25,15 @@ invariant_of-self g c =
     let index = c.in_ok-index.index in
     let lies = place_found c.self.inside.trie index c.args.place c.in-Some.key c.in-Some.offset c.in-Some.ensures.lies c.if-place-eq0.false in
     let keeps = c.settle_to.ensures.keeps index (c.in-Some.offset + 1) c.args.place lies in
-    charted_kept g.R.PartialEq.eq g.R.Behaves.behaviour c.self.inside.next c.settle_to.new.next c.self.inside.mark _ c.settle_to.new.trie _ keeps c.settle_to.ensures.linked c.self.invariant
+    rw c.none-self-inside.ensures (charted_kept g.R.PartialEq.eq g.R.Behaves.behaviour c.self.inside.next c.settle_to.new.next c.self.inside.fresh c.self.inside.mark _ c.settle_to.new.trie _ keeps c.settle_to.ensures.linked c.self.invariant)
 
 pub invariant_of-self-2 : goal.invariant_of-self-2
 invariant_of-self-2 g c =
     let index = c.in_ok-index.index in
     let lies = place_found c.self.inside.trie index c.args.place c.in-Some.key c.in-Some.offset c.in-Some.ensures.lies c.if-place-eq0.false in
     let keeps = c.settle_to.ensures.keeps index (c.in-Some.offset + 1) c.args.place lies in
-    charted_marked g.R.PartialEq.eq g.R.Behaves.behaviour c.settle_to.new.next None (Some c.in-Some.key) _ c.in_ok-run.ensures.marked
-    (charted_kept g.R.PartialEq.eq g.R.Behaves.behaviour c.self.inside.next c.settle_to.new.next c.self.inside.mark _ c.settle_to.new.trie _ keeps c.settle_to.ensures.linked c.self.invariant)
+    rw c.none-self-inside.ensures (charted_marked g.R.PartialEq.eq g.R.Behaves.behaviour c.settle_to.new.next None None None (Some c.in-Some.key) _ tt c.in_ok-run.ensures.marked
+    (charted_kept g.R.PartialEq.eq g.R.Behaves.behaviour c.self.inside.next c.settle_to.new.next c.self.inside.fresh c.self.inside.mark _ c.settle_to.new.trie _ keeps c.settle_to.ensures.linked c.self.invariant))
 
 pub returns-clause-ok : goal.returns-clause-ok
 returns-clause-ok g c =
@@ -74,10 +74,10 @@ returns-in_err-run-clause-err g c =
     (λ e h. inr (h, subst (λ v. IsOk (look (forest v.cut) c.args.branch.now c.args.place)) c.self.view_is (subst IsOk (sym there) refl))) c.from_residual-in_err-run.ensures.1
 
 pub returns-clause-begins : goal.returns-clause-begins
-returns-clause-begins g c = seen_begins c.self.view_is g.R.PartialEq.eq g.R.Behaves.behaviour c.self.inside.next c.self.inside.mark c.self.invariant
+returns-clause-begins g c = seen_begins c.self.view_is g.R.PartialEq.eq g.R.Behaves.behaviour c.self.inside.next c.self.inside.fresh c.self.inside.mark c.self.invariant
 
 pub returns-in_err-run-clause-begins : goal.returns-in_err-run-clause-begins
-returns-in_err-run-clause-begins g c = seen_begins c.self.view_is g.R.PartialEq.eq g.R.Behaves.behaviour c.self.inside.next c.self.inside.mark c.self.invariant
+returns-in_err-run-clause-begins g c = seen_begins c.self.view_is g.R.PartialEq.eq g.R.Behaves.behaviour c.self.inside.next c.self.inside.fresh c.self.inside.mark c.self.invariant
 
 pub returns-then-place-eq0-clause-keeps : goal.returns-then-place-eq0-clause-keeps
 returns-then-place-eq0-clause-keeps g c = all_kept c.args.self.now.cut _
@@ -96,10 +96,10 @@ overflow_add-part g c = record {
 }
 
 pub returns-in_err-index-clause-begins : goal.returns-in_err-index-clause-begins
-returns-in_err-index-clause-begins g c = seen_begins c.self.view_is g.R.PartialEq.eq g.R.Behaves.behaviour c.self.inside.next c.self.inside.mark c.self.invariant
+returns-in_err-index-clause-begins g c = seen_begins c.self.view_is g.R.PartialEq.eq g.R.Behaves.behaviour c.self.inside.next c.self.inside.fresh c.self.inside.mark c.self.invariant
 
 pub returns-then-place-eq0-clause-begins : goal.returns-then-place-eq0-clause-begins
-returns-then-place-eq0-clause-begins g c = seen_begins c.self.view_is g.R.PartialEq.eq g.R.Behaves.behaviour c.self.inside.next c.self.inside.mark c.self.invariant
+returns-then-place-eq0-clause-begins g c = seen_begins c.self.view_is g.R.PartialEq.eq g.R.Behaves.behaviour c.self.inside.next c.self.inside.fresh c.self.inside.mark c.self.invariant
 
 pub returns-in_err-run-clause-keeps : goal.returns-in_err-run-clause-keeps
 returns-in_err-run-clause-keeps g c =

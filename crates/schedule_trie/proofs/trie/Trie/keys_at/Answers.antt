@@ -1,9 +1,10 @@
 use Rattle.std.proofs.Common.{◌≡◌, ◌≤◌, length, subst, arith}
 use Rattle.lineage.specs.Family.{path_in}
 use Rattle.schedule_trie.specs.Cut.{line, piece_at, keys_in}
-use Rattle.schedule_trie.proofs.Lines.{if_ok, keys_told}
+use Rattle.schedule_trie.proofs.Lines.{keys_told}
 use Rattle.schedule_trie.proofs.trie.Trie.keys_at.Goals as goal
 use Rattle.schedule_trie.specs.declared.limits.TheConstants.{MOST_CELLS_MADE}
+use Rattle.schedule_trie.proofs.Lists.{if_ok}
 
 pub returns-clause-keys : goal.returns-clause-keys
 returns-clause-keys g c =

@@ -9,7 +9,7 @@ use Rattle.schedule_trie.proofs.LimbsKept.{limbs_kept}
 use Rattle.schedule_trie.proofs.LimbsLawful.{limbs_lawful}
 use Rattle.schedule_trie.proofs.LimbsNear.{limbs_near}
 use Rattle.schedule_trie.proofs.LimbsSaved.{length-limbs, taken_next}
-use Rattle.schedule_trie.proofs.StepSet.{slice_get_some}
+use Rattle.schedule_trie.proofs.Lists.{slice_get_some}
 use Rattle.schedule_trie.proofs.trie.Trie.limbs.Goals as goal
 
 past_all : (f : Forest) {count i : ℕ} → count ≡ length f.branches → count ≤ i → length (limbs f) ≤ i

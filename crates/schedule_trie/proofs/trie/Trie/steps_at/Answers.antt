@@ -1,7 +1,8 @@
 use Rattle.std.proofs.Common.{◌≡◌, map, ap, ◌∙◌, sym}
 use Rattle.schedule_trie.specs.Forest.{step_of, slots_in}
 use Rattle.schedule_trie.specs.Cut.{piece_at, forest, line}
-use Rattle.schedule_trie.proofs.Lines.{slots_in_on, if_ok}
+use Rattle.schedule_trie.proofs.Lines.{slots_in_on}
+use Rattle.schedule_trie.proofs.Lists.{if_ok}
 use Rattle.schedule_trie.proofs.trie.Trie.steps_at.Goals as goal
 
 pub returns : goal.returns

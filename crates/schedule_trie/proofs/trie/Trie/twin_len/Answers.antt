@@ -1,13 +1,13 @@
-use Rattle.std.proofs.Common.{length, sym, subst, ◌∙◌, ◌≡◌, Option, Some, None}
+use Rattle.std.proofs.Common.{◌≡◌, length, sym, subst, ◌∙◌}
 use Rattle.std.specs.Option.{IfSome}
 use Rattle.schedule_trie.specs.Forest.{slots_in}
 use Rattle.schedule_trie.specs.Cut.{forest}
-use Rattle.schedule_trie.specs.Tries.{kept_in}
-use Rattle.schedule_trie.proofs.LengthSteps.{same_key, twin_told}
+use Rattle.schedule_trie.proofs.LengthSteps.{same_len}
+use Rattle.schedule_trie.proofs.Lists.{same_key}
 use Rattle.schedule_trie.proofs.trie.Trie.twin_len.Goals as goal
 
 pub returns-then-eq : goal.returns-then-eq
 returns-then-eq g c =
     let t = c.self.inside in
     subst (λ z. IfSome c.kept_length.result (λ len. len ≡ length (slots_in (forest z).branches c.args.index))) c.self.view_is
-    (twin_told t t.learnt c.args.index c.kept_length.result c.self.invariant.held c.self.invariant.lengths (sym c.last.ensures ∙ same_key c.last.result c.last-2.result (sym c.if-eq.ensures) ∙ c.last-2.ensures) c.kept_length.ensures)
+    (same_len t t.learnt c.args.index c.kept_length.result c.self.invariant.held c.self.invariant.lengths (sym c.last.ensures ∙ same_key c.last.result c.last-2.result (sym c.if-eq.ensures) ∙ c.last-2.ensures) c.kept_length.ensures)
