@@ -20,8 +20,6 @@ DEFINED = re.compile(r" *(?:unfoldable |abbrev )?pub (?:record |data )?(?!(?:use
 RECORD = re.compile(r" *(?:pub )?(?:record|data) ")
 ITEM = re.compile(r"pub (?:const |unsafe )*(?:struct|enum|trait|type|fn|const) (\w+)")
 LAWS = "laws.rt"
-# Each is the word in which its own crate stores an option.
-TWICE = {"word_of"}
 
 
 def definitions_of(text):
@@ -56,7 +54,7 @@ def shared(pattern, names_of):
             names = names_of(file.read())
         for name in names:
             found[name].append(os.path.relpath(path, TOP))
-    return {name: paths for name, paths in found.items() if len(paths) > 1 and name not in TWICE}
+    return {name: paths for name, paths in found.items() if len(paths) > 1}
 
 
 def faults():

@@ -12,8 +12,10 @@ import shutil
 import subprocess
 import sys
 import tempfile
+import types
 
 import cases
+import refusals
 from trials import Test
 
 TOP = os.path.dirname(os.path.dirname(os.path.realpath(__file__)))
@@ -240,6 +242,80 @@ def shares_of_commands():
     status, lines = shares_of(f"({prover}); exit 0")
     same("the prover's crates", (status, [it.split()[0] for it in lines[1:-2]]), (0, ["low"]))
     same("the prover's ratio", lines[-1:], ["(tests + wrong bodies) over proofs: no proofs in this run"])
+    after = lambda first: subprocess.run([f"{TOP}/.ci/shares", "/dev/null", *first, "--", "false"], check=False).returncode
+    same("a command after another", (after(["true"]), after(["bash", "-c", "exit 7"])), (1, 7))
+
+
+SOURCE = """//! Cells.
+
+impl<R: Register> Model for Cell<R> {
+    fn clone(&self) -> Cell<R> {
+        *self
+    }
+}
+
+impl<R: Register> Cell<R> {
+    pub(crate) fn value(&self) -> u32
+        ensures { result ≡ self.now.value }
+    {
+        self.value
+    }
+}
+
+const MOST: u32 = 4;
+
+fn most() -> u32 {
+    MOST
+}
+"""
+
+
+def places_of_changes():
+    at = lambda text, file="src/store/cell.rt": refusals.place_of(file, SOURCE, SOURCE.index(text))
+    same("a method", at("self.value\n"), ("store::cell", "Cell::value"))
+    same("a method of a trait", at("*self"), ("store::cell", ""))
+    same("a constant", at("u32 = 4"), ("store::cell", ""))
+    same("a function", at("MOST\n"), ("store::cell", "store::cell::most"))
+    same("a function of a library's root", at("MOST\n", "src/lib.rt"), ("", "most"))
+
+
+def selections_of_edits():
+    with tempfile.TemporaryDirectory() as room:
+        put(f"{room}/src/cell.rt", SOURCE)
+        put(f"{room}/src/lib.rt", "pub mod cell;\n")
+
+        def of(*lines):
+            put(f"{room}/edit", "\n".join(lines) + "\n")
+            return refusals.selections(f"{room}/edit", room)
+
+        method, value = ["file: src/cell.rt", "old:         self.value", "new:         0"], ["old:     MOST", "new:     self"]
+        same("a method, its module, the crate", of(*method), [["Cell::value"], ["cell"], []])
+        same("two functions", of(*method, *value), [["Cell::value", "cell::most"], ["cell"], []])
+        same("a method of a trait", of("file: src/cell.rt", "old:         *self", "new:         Cell { value: 0 }"), [["cell"], []])
+        same("no function", of("file: src/lib.rt", "old: pub mod cell;", "new: mod cell;"), [[]])
+
+
+def refusals_of_checks():
+    said = "note: src/cell.rt:12:5: it is not proved that what the function ensures holds"
+    rt = types.SimpleNamespace(unread=lambda line, texts: "not in scope" in line)
+    of = lambda status, *lines: refusals.refusal_in(rt, types.SimpleNamespace(returncode=status, stdout="\n".join(lines) + "\n"), {})
+    same("some functions", of(1, said, "only=2 proved=1"), said)
+    same("a crate", of(1, said, "logic=not-proved functions=2"), said)
+    same("all proved", of(0, "only=2 proved=2"), None)
+    same("not compiled", of(1, "error[type-mismatch]: src/cell.rt:12:5"), None)
+    same("not read", of(1, "src/cell.rt:12:5: error: `x` is not in scope", "only=2 proved=1"), None)
+
+
+def floors_of_proofs():
+    tool = loaded("tests/floors")
+    of = lambda *lines: len([*tool.faults_of_proofs("\n".join(lines) + "\n", 30, 54)])
+    proved, turn = "30 passed, 0 failed", "wrong bodies: turn 7 of 8 tries 70 besides those of each gate"
+    same("all", of(proved, turn, "wrong bodies: 124 refused, 0 not"), 0)
+    same("a crate less", of("29 passed, 0 failed", turn, "wrong bodies: 124 refused, 0 not"), 1)
+    same("a failure", of("30 passed, 1 failed", turn, "wrong bodies: 124 refused, 0 not"), 1)
+    same("a wrong body less", of(proved, turn, "wrong bodies: 123 refused, 0 not"), 1)
+    same("a wrong body that is proved", of(proved, turn, "wrong bodies: 123 refused, 1 not"), 1)
+    same("nothing", of(""), 2)
 
 
 ALL = {
@@ -247,6 +323,8 @@ ALL = {
     "statements": (words_of_a_library, built_once),
     "first_run": (words_of_first_run, answers_twice, answers_and_saves),
     "shares": (table_of_shares, edits_of_copies, shares_of_commands),
+    "wrong": (places_of_changes, selections_of_edits, refusals_of_checks),
+    "floors": (floors_of_proofs,),
 }
 
 
