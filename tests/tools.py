@@ -204,12 +204,14 @@ def answers_and_saves():
 
 def table_of_shares():
     parts = {1: ("low", "proof", ""), 2: ("low", "wrong bodies", "lost"), 3: ("over", "proof", ""), 4: None, 5: ("low", "wrong bodies", "")}
-    same("table", loaded(".ci/shares").written(parts, {1: 120, 2: 24, 3: 60, 4: 600, 5: 6}), (
+    crates = {"low": [], "another": ["low"], "over": ["low"]}
+    same("table", loaded(".ci/shares").written(parts, {1: 120, 2: 24, 3: 60, 4: 600, 5: 6}, crates), (
         "processor minutes                proof         tests  wrong bodies    in all\n"
         "low                                2.0           0.0           0.5       2.5\n"
         "over                               1.0           0.0           0.0       1.0\n"
         "in all                             3.0           0.0           0.5       3.5\n"
         "(tests + wrong bodies) over proofs: 0.17\n"
+        "longest chain of proofs: 3.0, low over\n"
         "   0.4 low/lost\n"
     ))
 
@@ -240,8 +242,8 @@ def shares_of_commands():
     # (it looks at what the command has started, once a second)
     prover = f"exec -a rattle '{sys.executable}' -c 'import time; time.sleep(3)' --crate-name low --test"
     status, lines = shares_of(f"({prover}); exit 0")
-    same("the prover's crates", (status, [it.split()[0] for it in lines[1:-2]]), (0, ["low"]))
-    same("the prover's ratio", lines[-1:], ["(tests + wrong bodies) over proofs: no proofs in this run"])
+    same("the prover's crates", (status, [it.split()[0] for it in lines[1:-3]]), (0, ["low"]))
+    same("the prover's ratio", lines[-2:-1], ["(tests + wrong bodies) over proofs: no proofs in this run"])
     after = lambda first: subprocess.run([f"{TOP}/.ci/shares", "/dev/null", *first, "--", "false"], check=False).returncode
     same("a command after another", (after(["true"]), after(["bash", "-c", "exit 7"])), (1, 7))
 
