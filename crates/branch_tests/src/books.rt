@@ -9,6 +9,7 @@ ghost use Rattle.schedule_trie.specs.Cut.{AreLimits};
 
 mod commands;
 mod cursors;
+mod late;
 mod refusals;
 mod rows;
 
@@ -64,7 +65,7 @@ enum Ask<'a> {
 const MISSED: Option<u64> = Some(9);
 
 /// A book's reply to a command.
-pub(crate) fn answer<R: Register>(
+fn answer<R: Register>(
     alloc: Global,
     book: &mut Book<R>,
     who: u32,
@@ -125,11 +126,7 @@ fn page<R: Register>(alloc: Global, book: &mut Book<R>, query: Query) -> Result<
 }
 
 /// The text of a look's page.
-pub(crate) fn text<R: Register>(
-    alloc: Global,
-    book: &mut Book<R>,
-    query: Query,
-) -> Result<Vec<u8>, Refusal> {
+fn text<R: Register>(alloc: Global, book: &mut Book<R>, query: Query) -> Result<Vec<u8>, Refusal> {
     text_once(alloc, slip(alloc, book, query)?)
 }
 
@@ -324,5 +321,5 @@ fn tried(
 
 /// The number of entries in a book's log.
 fn entries_of(book: Book<Safe>) -> usize {
-    book.into_log().entries().len()
+    book.into_log().as_slice().len()
 }

@@ -5,6 +5,8 @@ ghost use Rattle.std.specs.Prelude.{◌<◌, ◌≤◌};
 ghost use Rattle.schedule_trie.specs.Cut.{AreLimits};
 ghost use Rattle.schedule_trie.specs.declared.limits.TheConstants.{MOST_CELLS_MADE};
 
+mod limbs;
+
 use crate::given::{Branch, Change, Edit, GO, GO_ON, READ, edited_by, name, none_wrong};
 use frames::types::Step;
 use schedule_trie::limits::Limits;

@@ -13,7 +13,3 @@ mod branches;
 mod charts;
 #[cfg(test)]
 mod given;
-#[cfg(test)]
-mod late;
-#[cfg(test)]
-mod limbs;

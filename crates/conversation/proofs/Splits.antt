@@ -1,28 +1,15 @@
 -- The parts of a text after one more byte.
-use Rattle.std.proofs.Common.{◌≡◌, ℕ, suc, Bool, true, false, cond, List, [], ◌∷◌, ◌++◌, refl, sym, ap, ◌∙◌, arith, append_assoc, append-nil}
+use Rattle.std.proofs.Common.{◌≡◌, ◌<◌, ℕ, suc, length, Bool, true, false, cond, List, [], ◌∷◌, ◌++◌, refl, sym, ap, ◌∙◌, arith, append_assoc, append-nil}
 use Rattle.std.specs.List.{slice_split, onto_first, All}
-use Rattle.std.proofs.lemmas.List.Splits.{slice_split-cons_yes, slice_split-cons_no}
-
--- whether there is no part
-abbrev none_is : List (List ℕ) → Bool
-none_is [] = true
-none_is (part ∷ parts) = false
+use Rattle.std.proofs.lemmas.List.Splits.{slice_split-cons_yes, slice_split-cons_no, length-slice_split}
 
 module _ (p : ℕ → Bool) where
   -- there is always a part
-  pub onto_first_some : (x : ℕ) (parts : List (List ℕ)) → none_is (onto_first x parts) ≡ false
-  onto_first_some x [] = refl
-  onto_first_some x (part ∷ parts) = refl
+  pub split_some : (xs : List ℕ) → 0 < length (slice_split p xs)
+  split_some xs = omega (arith, length-slice_split p xs)
 
-  pub split_some : (xs : List ℕ) → none_is (slice_split p xs) ≡ false
-  split_some [] = refl
-  split_some (x ∷ xs) = elim (p x) as (λ b. none_is (cond b ([] ∷ slice_split p xs) (onto_first x (slice_split p xs))) ≡ false) [
-    | true ↦ refl
-    | false ↦ onto_first_some x (slice_split p xs)
-  ]
-
-  onto_first-append : (x : ℕ) (parts more : List (List ℕ)) → none_is parts ≡ false → onto_first x (parts ++ more) ≡ onto_first x parts ++ more
-  onto_first-append x [] more h = cc
+  onto_first-append : (x : ℕ) (parts more : List (List ℕ)) → 0 < length parts → onto_first x (parts ++ more) ≡ onto_first x parts ++ more
+  onto_first-append x [] more h = absurd (omega (arith, h))
   onto_first-append x (part ∷ parts) more h = refl
 
   -- a text followed by a separator has one more part, which is empty
@@ -46,12 +33,12 @@ module _ (p : ℕ → Bool) where
   onto_last-append (part ∷ []) rest y = refl
   onto_last-append (part ∷ next ∷ parts) rest y = ap (λ ps. part ∷ ps) (onto_last-append (next ∷ parts) rest y)
 
-  onto_last-cons : (y : ℕ) (parts : List (List ℕ)) → none_is parts ≡ false → [] ∷ onto_last y parts ≡ onto_last y ([] ∷ parts)
-  onto_last-cons y [] h = cc
+  onto_last-cons : (y : ℕ) (parts : List (List ℕ)) → 0 < length parts → [] ∷ onto_last y parts ≡ onto_last y ([] ∷ parts)
+  onto_last-cons y [] h = absurd (omega (arith, h))
   onto_last-cons y (part ∷ parts) h = refl
 
-  onto_last-onto_first : (x y : ℕ) (parts : List (List ℕ)) → none_is parts ≡ false → onto_first x (onto_last y parts) ≡ onto_last y (onto_first x parts)
-  onto_last-onto_first x y [] h = cc
+  onto_last-onto_first : (x y : ℕ) (parts : List (List ℕ)) → 0 < length parts → onto_first x (onto_last y parts) ≡ onto_last y (onto_first x parts)
+  onto_last-onto_first x y [] h = absurd (omega (arith, h))
   onto_last-onto_first x y (part ∷ []) h = refl
   onto_last-onto_first x y (part ∷ next ∷ parts) h = refl
 

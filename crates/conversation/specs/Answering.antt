@@ -1,5 +1,5 @@
 -- How far a conversation has got: what was read, and which answers were written.
-use Rattle.std.specs.Prelude.{ℕ, ◌≡◌, ◌+◌, ◌-◌, List, ◌∷◌, [], ◌++◌, Result, Ok, Err, ⊤, All, false, take, length}
+use Rattle.std.specs.Prelude.{ℕ, ◌≡◌, ◌-◌, List, ◌∷◌, [], ◌++◌, Result, Ok, Err, ⊤, All, false, take, length}
 use Rattle.std.specs.Io.KnownBytes.{Appends, Consumes}
 use Rattle.conversation.specs.declared.converse.Conversation.{Conversation}
 use Rattle.conversation.specs.declared.fault.StreamFault.{StreamFault}

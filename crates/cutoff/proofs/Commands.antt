@@ -15,7 +15,8 @@ use Rattle.schedule_trie.specs.declared.refusal.Refusal.TheVariants.{NameTaken, 
 use Rattle.schedule_trie.specs.Forest.{Forest, Branch, branch, slot, name_of, step_of, slots_in, renumbered, everywhere, only_in, put_last, put_before, before_cell, is_other, without, index_of, cell_in, on_found, insert, insert_at, inserted, remove_cell, fork, fork_at, detach, detach_at, drop_branch, drop_at}
 use Rattle.schedule_trie.specs.Names.{is_well_formed}
 use Rattle.cutoff.specs.Charts.{StepsFit}
-use Rattle.cutoff.proofs.Edits.{FitAll, fits_everywhere, at_cell_fits, steps_numbered}
+use Rattle.cutoff.proofs.Edits.{FitAll, fits_everywhere, at_cell_fits}
+use Rattle.schedule_trie.proofs.LimbLists.{steps-numbered}
 
 -- the result of a command that wasn't refused
 pub passed : (refused : Bool) (e : Refusal) (r : Result Forest Refusal) (g : Forest) → cond refused (Err e) r ≡ Ok g → r ≡ Ok g
@@ -71,7 +72,7 @@ module _ {P : Type 0} (b : Behaviour P) where
       here more false = more
 
   fits_renumbered : (n : ℕ) (slots : List Slot) → FitAll b slots → FitAll b (renumbered n slots)
-  fits_renumbered n slots fits = subst (AllFit b) (sym (steps_numbered b n (map step_of slots))) fits
+  fits_renumbered n slots fits = subst (AllFit b) (sym (steps-numbered n (map step_of slots))) fits
 
   pub fits_take : (n : ℕ) (slots : List Slot) → FitAll b slots → FitAll b (take n slots)
   fits_take zero slots fits = none_fit

@@ -11,8 +11,9 @@ use Rattle.schedule_trie.specs.declared.slot.Slot.{Slot}
 use Rattle.schedule_trie.specs.declared.limits.Limits.{Limits}
 use Rattle.schedule_trie.specs.declared.refusal.Refusal.{Refusal}
 use Rattle.schedule_trie.specs.declared.refusal.Refusal.TheVariants.{NoPlace, Full}
-use Rattle.schedule_trie.specs.Forest.{Forest, Branch, step_of, slots_in, numbered, opened, opening_forest, everywhere, with_step, replaced, replaced_by, index_of, cell_in, at_cell, on_found, replace_step}
+use Rattle.schedule_trie.specs.Forest.{Forest, Branch, step_of, slots_in, opened, opening_forest, everywhere, with_step, replaced, replaced_by, index_of, cell_in, at_cell, on_found, replace_step}
 use Rattle.schedule_trie.specs.Cut.{Cut, Piece, piece_at, note_of, forest, KeepsNotes, IsBlank, IsCut}
+use Rattle.schedule_trie.proofs.LimbLists.{steps-numbered}
 use Rattle.schedule_trie.proofs.Notes.{notes_kept}
 use Rattle.cutoff.specs.Fitting.{StoredRun}
 use Rattle.cutoff.specs.Links.{IsStored, IsTruePiece, IsLinked}
@@ -67,12 +68,8 @@ module _ {P : Type 0} (b : Behaviour P) where
   pub replace_fits : (f g : Forest) (name : List ℕ) (place : ℕ) (step : Step) → fits_step b step ≡ true → StepsFit b f → replace_step f name place step ≡ Ok g → StepsFit b g
   replace_fits f g name place step new fits e = at_cell_fits f g place (replaced_by step) (fits_replaced step new) fits (index_of f.branches name) e
 
-  pub steps_numbered : (n : ℕ) (steps : List Step) → map step_of (numbered n steps) ≡ steps
-  steps_numbered n [] = refl
-  steps_numbered n (s ∷ ss) = ap (λ l. s ∷ l) (steps_numbered (suc n) ss)
-
   opening_fits : (steps : List Step) → AllFit b steps → StepsFit b (opening_forest steps)
-  opening_fits steps h zero = rw (steps_numbered 0 steps) h
+  opening_fits steps h zero = rw (steps-numbered 0 steps) h
   opening_fits steps h (suc i) = All-nil (λ s. fits_step b s ≡ true)
 
   pub opened_fits : (limits : Limits) (steps : List Step) (f : Forest) → AllFit b steps → opened limits steps ≡ Ok f → StepsFit b f

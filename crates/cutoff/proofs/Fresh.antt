@@ -9,8 +9,8 @@ use Rattle.schedule_trie.specs.Forest.{step_of}
 use Rattle.schedule_trie.specs.Cut.{Cut, piece_at, note_of, slots_of, keys_in, has, Once, IsCut, IsNoted}
 use Rattle.schedule_trie.specs.Climbs.{keys_up_to}
 use Rattle.schedule_trie.proofs.Climbs.{up_to-here}
-use Rattle.schedule_trie.proofs.Once.{has-append, has_not_from}
-use Rattle.schedule_trie.proofs.Partings.{parting, has-in, IsParting}
+use Rattle.schedule_trie.proofs.Once.{has-append, has_not_from, has-in}
+use Rattle.schedule_trie.proofs.Partings.{parting, IsParting}
 use Rattle.cutoff.specs.Fitting.{StoredRun, run_of, steps_at}
 use Rattle.cutoff.specs.Links.{without_register, IsLinked, IsExitOf, number_at, run_number}
 use Rattle.cutoff.specs.Prefixes.{RunsDown, RunsTo, IsMarked, AreFresh, exit_or_start, exit_or}

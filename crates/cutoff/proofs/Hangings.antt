@@ -1,5 +1,5 @@
 -- Stored runs that hang from one another, by their numbers.
-use Rattle.std.proofs.Common.{◌≡◌, ℕ, Bool, true, List, [], ◌∷◌, ◌++◌, Option, Some, None, sym, ap, subst, ◌∙◌, append_assoc, append-nil, map, true≢false}
+use Rattle.std.proofs.Common.{◌≡◌, ℕ, Bool, true, List, [], ◌∷◌, ◌++◌, Option, Some, None, sym, ap, subst, ◌∙◌, append_assoc, append-nil, map}
 use Rattle.std.specs.Option.{option_map}
 use Rattle.std.specs.Cmp.{IsPartialEquivalence}
 use Rattle.frames.specs.Behaviour.{Behaviour}
@@ -10,7 +10,7 @@ use Rattle.schedule_trie.specs.Forest.{step_of}
 use Rattle.schedule_trie.specs.Cut.{Cut, piece_at, slots_of, note_of, keys_in, has}
 use Rattle.schedule_trie.specs.Climbs.{keys_up_to, keys_to, HasClimbedTo}
 use Rattle.schedule_trie.proofs.Climbs.{IsStepUp}
-use Rattle.schedule_trie.proofs.Once.{has_cases, has-head, has-tail}
+use Rattle.schedule_trie.proofs.Once.{has-head, has-tail}
 use Rattle.cutoff.specs.Fitting.{StoredRun, run_of, RunFits, steps_at}
 use Rattle.cutoff.specs.Links.{without_register, IsLinked}
 use Rattle.cutoff.specs.Prefixes.{HasTrueRun, RunsDown, Hangs, IsHung, exit_or_start, exit_or}
@@ -51,11 +51,6 @@ module _ {R P : Type 0} (E : R → R → Bool) (is : R → Behaviour P) (cut : C
             let down : exit_or_start cut from (Some hung) ≡ u.run.exit = ap (λ n. exit_or from (option_map run_of n)) was.noted in
             subst (λ c. Hangs E is cut c (hung ∷ h.below)) (sym up) (first, subst (λ c. Hangs E is cut c h.below) down (h.hangs from));
       }
-
-pub has-left : (j : ℕ) (keys more : List ℕ) → has j keys ≡ true → has j (keys ++ more) ≡ true
-has-left j [] more h = absurd (true≢false (sym h))
-has-left j (k ∷ keys) more h =
-    has_cases j k keys (has j (k ∷ (keys ++ more)) ≡ true) h (λ e. subst (λ z. has j (z ∷ (keys ++ more)) ≡ true) e (has-head j (keys ++ more))) (λ r. has-tail j k (keys ++ more) (has-left j keys more r))
 
 module _ {R P : Type 0} (E : R → R → Bool) (is : R → Behaviour P) where
   -- runs still hang if nothing is stored at their keys

@@ -8,7 +8,7 @@ use Rattle.frames.specs.Equality.{SameConfiguration}
 use Rattle.checkpoints.specs.Segment.{SegmentRun, IsRun}
 use Rattle.schedule_trie.specs.Forest.{step_of}
 use Rattle.schedule_trie.specs.Cut.{Cut, piece_at, note_of, keys_in, has, Once, IsCut, IsNoted}
-use Rattle.schedule_trie.proofs.Climbs.{once_before}
+use Rattle.schedule_trie.proofs.Once.{once_before}
 use Rattle.schedule_trie.proofs.Partings.{parting}
 use Rattle.cutoff.specs.Fitting.{StoredRun, KeepsRuns, run_of, steps_at, slots_at}
 use Rattle.cutoff.specs.Links.{without_register, IsLinked}

@@ -1,5 +1,5 @@
 -- A chart whose stored runs changed, but not its forest.
-use Rattle.std.proofs.Common.{◌≡◌, ℕ, ◌<◌, ◌≤◌, Bool, true, false, nat_lt, cond, List, length, map, Option, Some, None, IsSome, Result, Ok, Err, IfErr, inl, refl, sym, ap, subst, ◌∙◌, arith}
+use Rattle.std.proofs.Common.{◌≡◌, ℕ, ◌<◌, ◌≤◌, Bool, true, false, nat_lt, cond, List, length, map, Option, Some, None, IsSome, Result, Ok, Err, IsOk, IfErr, inl, inr, refl, sym, ap, subst, ◌∙◌, arith}
 use Rattle.std.specs.Option.{option_map, IfSome}
 use Rattle.std.specs.Result.{IsErrAnd}
 use Rattle.std.proofs.lemmas.Bool.Decides.{nat_tests}
@@ -7,8 +7,9 @@ use Rattle.frames.specs.Behaviour.{Behaviour}
 use Rattle.frames.specs.Configuration.{Configuration, initial_configuration}
 use Rattle.frames.specs.Recorded.{AllFit}
 use Rattle.schedule_trie.specs.declared.slot.Slot.{Slot}
-use Rattle.schedule_trie.specs.declared.refusal.Refusal.TheVariants.{NoPlace}
-use Rattle.schedule_trie.specs.Forest.{slots_in, step_of, index_of, on_found}
+use Rattle.schedule_trie.specs.declared.refusal.Refusal.{Refusal}
+use Rattle.schedule_trie.specs.declared.refusal.Refusal.TheVariants.{NoPlace, Memory}
+use Rattle.schedule_trie.specs.Forest.{Forest, IsRefused, slots_in, step_of, index_of, on_found}
 use Rattle.schedule_trie.specs.Cut.{Cut, Piece, piece_at, line, forest, has, keys_in, SharesAbove, IsCut}
 use Rattle.schedule_trie.proofs.Lines.{slots_in_on}
 use Rattle.cutoff.specs.Fitting.{StoredRun, KeepsRuns}
@@ -90,15 +91,25 @@ module _ {R P : Type 0} (b : Behaviour P) (cut : Cut (StoredRun R P)) (name : Li
       not_behind : (n : ℕ) → n ≡ len → nat_lt n place ≡ false
       not_behind n e = grind (arith, nat_tests)
 
+-- a branch that has a place to look at is there
+pub look_found : (f g : Forest) (name : List ℕ) (place : ℕ) → look f name place ≡ Ok g → ◌≡◌ {A = Option ℕ} None (index_of f.branches name) → ⊥
+look_found f g name place ok none = let e : on_found None (looked_at f place) ≡ Ok g = ap (λ o. on_found o (looked_at f place)) none ∙ ok in cc
+
 -- if nothing more changes, the same is kept or filled
 pub keeps_still : {R P : Type 0} (E : R → R → Bool) (b : Behaviour P) (old : Cut (StoredRun R P)) (start : Configuration R P) (ks : List ℕ) {cut new : Cut (StoredRun R P)} → new ≡ cut
     → KeepsRuns old cut (IsFilled E b old cut start ks) → KeepsRuns old new (IsFilled E b old new start ks)
 keeps_still E b old start ks same = subst (λ t. KeepsRuns old t (IsFilled E b old t start ks)) (sym same)
 
 -- what holds for an error that is passed up
-pub passed_up : {T E : Type 0} {Is : E → Type 0} (r : Result T E) (P : E → Type 0) → ((e : E) → Is e → P e) → IsErrAnd r Is → IfErr r P
+passed_up : {T E : Type 0} {Is : E → Type 0} (r : Result T E) (P : E → Type 0) → ((e : E) → Is e → P e) → IsErrAnd r Is → IfErr r P
 passed_up (Ok x) P f h = absurd h
 passed_up (Err e) P f h = f e h
+
+pub refused_still : {T : Type 0} {w : Result Forest Refusal} {f : Refusal} (r : Result T Refusal) → IsRefused w f → IsErrAnd r (λ e. e ≡ f) → IfErr r (IsRefused w)
+refused_still {w = w} r why = passed_up r (IsRefused w) (λ e h. subst (IsRefused w) (sym h) why)
+
+pub out_of_memory : {T : Type 0} {w : Result Forest Refusal} {f : Forest} (r : Result T Refusal) → w ≡ Ok f → IsErrAnd r (λ e. e ≡ Memory) → IfErr r (IsRefused w)
+out_of_memory {w = w} r ok = passed_up r (IsRefused w) (λ e h. inr (h, subst IsOk (sym ok) refl))
 
 -- a chart as its contract sees it, and its fields
 module _ {R P : Type 0} {v w : Charted R P} (seen : v ≡ w) where

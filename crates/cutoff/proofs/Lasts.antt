@@ -13,7 +13,8 @@ use Rattle.schedule_trie.specs.Cut.{Cut, piece_at, slots_of, line, has, keys_in,
 use Rattle.schedule_trie.specs.Climbs.{keys_up_to, keys_to}
 use Rattle.schedule_trie.proofs.Climbs.{up_to-here}
 use Rattle.schedule_trie.proofs.Lines.{slots_in_on}
-use Rattle.schedule_trie.proofs.Partings.{parting, has-in}
+use Rattle.schedule_trie.proofs.Once.{has-in}
+use Rattle.schedule_trie.proofs.Partings.{parting}
 use Rattle.cutoff.specs.Fitting.{StoredRun, run_of, RunPart, reached, run_at, part_of, KeepsRuns}
 use Rattle.cutoff.specs.Settles.{Settles, IsFilled, SettlesTo, IsSettledLast, last_part}
 use Rattle.cutoff.specs.Prefixes.{RunsTo, IsKnown, AreKeysAfter, IsMarked, IsPlaceIn, IsHung, IsLeft}

@@ -5,6 +5,7 @@ pub mod Segments
 pub mod Walks
 pub mod Kept
 pub mod Climbs
+pub mod Parts
 pub mod Paths
 pub mod Prefixes
 pub mod Hangings

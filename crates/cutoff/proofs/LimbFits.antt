@@ -11,7 +11,8 @@ use Rattle.schedule_trie.specs.Forest.{Forest, Branch, branch, numbered, slots_i
 use Rattle.schedule_trie.specs.Limbs.{cells_of, forest_of, grow, grown, limb_of, limbs, limbs_after, loaded, no_branches, shared_with, slots_on}
 use Rattle.cutoff.specs.Charts.{LimbsFit, StepsFit}
 use Rattle.cutoff.proofs.Commands.{fits_both, fits_one_more, fits_tail, fits_take, none_fit, passed}
-use Rattle.cutoff.proofs.Edits.{FitAll, steps_numbered}
+use Rattle.cutoff.proofs.Edits.{FitAll}
+use Rattle.schedule_trie.proofs.LimbLists.{steps-numbered}
 
 module _ {P : Type 0} (b : Behaviour P) where
   grown_fits : (f : Forest) (l : Limb) → StepsFit b f → AllFit b l.steps → StepsFit b (grown f l)
@@ -19,7 +20,7 @@ module _ {P : Type 0} (b : Behaviour P) where
       let stem = slots_in f.branches l.from in
       fits_one_more b f.branches (branch l.name (slots_on f l)) each
       (fits_both b (take l.shared stem) (numbered f.made l.steps) (fits_take b l.shared stem (each l.from))
-      (subst (AllFit b) (sym (steps_numbered b f.made l.steps)) own))
+      (subst (AllFit b) (sym (steps-numbered f.made l.steps)) own))
 
   grow_fits : (f : Forest) (ls : List Limb) → StepsFit b f → LimbsFit b ls → StepsFit b (grow f ls)
   grow_fits f [] each own = each

@@ -1,5 +1,5 @@
 -- The effect of storing a run on numbers and links.
-use Rattle.std.proofs.Common.{◌≡◌, ℕ, zero, suc, ◌+◌, Bool, true, false, nat_eq, List, [], ◌∷◌, ◌++◌, length, map, Option, Some, None, MatchOption, ◌⊎◌, inl, inr, slice_get, refl, sym, ap, subst, ◌∙◌, eq-eqb, true≢false}
+use Rattle.std.proofs.Common.{◌≡◌, ℕ, zero, suc, ◌+◌, Bool, true, false, nat_eq, List, [], ◌∷◌, ◌++◌, map, Option, Some, None, MatchOption, ◌⊎◌, inl, inr, slice_get, refl, sym, ap, subst, ◌∙◌, eq-eqb, true≢false}
 use Rattle.std.specs.Prelude.{⊤}
 use Rattle.std.specs.Option.{option_map}
 use Rattle.std.proofs.lemmas.Bool.{eqb-true}
@@ -10,16 +10,13 @@ use Rattle.schedule_trie.specs.Forest.{step_of}
 use Rattle.schedule_trie.specs.Cut.{Cut, Piece, piece_at, slots_of, with_note, IsNoted}
 use Rattle.cutoff.specs.Fitting.{StoredRun, steps_at}
 use Rattle.cutoff.specs.Links.{without_register, IsExitOf, IsStored, IsTruePiece, IsLinked}
+use Rattle.schedule_trie.proofs.Lists.{slice_get-last}
 
 -- one more exit
 slice_get_more : {X : Type 0} (xs ys : List X) (i : ℕ) (x : X) → slice_get xs i ≡ Some x → slice_get (xs ++ ys) i ≡ Some x
 slice_get_more [] ys i x e = cc
 slice_get_more (y ∷ xs) ys zero x e = e
 slice_get_more (y ∷ xs) ys (suc i) x e = slice_get_more xs ys i x e
-
-slice_get_last : {X : Type 0} (xs : List X) (x : X) → slice_get (xs ++ x ∷ []) (length xs) ≡ Some x
-slice_get_last [] x = refl
-slice_get_last (y ∷ xs) x = slice_get_last xs x
 
 pub came_more : {P : Type 0} (exits more : List (Configuration ⊤ P)) (number : Option ℕ) (c : Configuration ⊤ P) → IsExitOf exits number c → IsExitOf (exits ++ more) number c
 came_more exits more None c h = tt
@@ -78,7 +75,7 @@ module _ {R P : Type 0} (E : R → R → Bool) (h : R) where
         link_came e f = subst (λ o. IsExitOf l.exits o (without_register s.run.entry)) (sym e) (subst (λ d. IsExitOf l.exits above (without_register d)) (sym f) l.reached_exit)
     new_linked after own covers linked entry (inr given) =
         let last : slice_get (l.exits ++ without_register s.run.exit ∷ []) next ≡ Some (without_register s.run.exit) =
-        subst (λ n. slice_get (l.exits ++ without_register s.run.exit ∷ []) n ≡ Some (without_register s.run.exit)) l.as_many (slice_get_last l.exits (without_register s.run.exit)) in
+        subst (λ n. slice_get (l.exits ++ without_register s.run.exit ∷ []) n ≡ Some (without_register s.run.exit)) l.as_many (slice_get-last l.exits (without_register s.run.exit)) in
         let came : IsExitOf (l.exits ++ without_register s.run.exit ∷ []) s.id (without_register s.run.exit) = subst (λ o. IsExitOf (l.exits ++ without_register s.run.exit ∷ []) o (without_register s.run.exit)) (sym given.0) last in
         let was : IsExitOf l.exits s.link (without_register s.run.entry) = subst (λ o. IsExitOf l.exits o (without_register s.run.entry)) (sym linked) (subst (λ d. IsExitOf l.exits above (without_register d)) (sym entry) l.reached_exit) in
         record {

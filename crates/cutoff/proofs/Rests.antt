@@ -4,7 +4,7 @@ use Rattle.std.specs.Prelude.{min}
 use Rattle.std.specs.Cmp.{IsPartialEquivalence, IsEquivalence}
 use Rattle.std.specs.Option.{option_map, IfSome}
 use Rattle.std.proofs.Math.Seq.{drop-cons}
-use Rattle.std.proofs.lemmas.List.{length-append, length-map}
+use Rattle.std.proofs.lemmas.List.{length-append, length-map, drop_all}
 use Rattle.frames.specs.Behaviour.{Behaviour}
 use Rattle.frames.specs.Configuration.{Configuration, replayed}
 use Rattle.frames.specs.Equality.{SameConfiguration}
@@ -12,23 +12,20 @@ use Rattle.frames.specs.Recorded.{AllFit}
 use Rattle.checkpoints.specs.Segment.{SegmentRun, IsRun}
 use Rattle.schedule_trie.specs.Forest.{step_of}
 use Rattle.schedule_trie.specs.Cut.{Cut, Piece, piece_at, slots_of, note_of, with_note, line, has, Once, keys_in, IsCut}
-use Rattle.schedule_trie.specs.Climbs.{keys_up_to, keys_to, HasClimbedTo}
-use Rattle.schedule_trie.proofs.Once.{has-head, has-tail}
-use Rattle.schedule_trie.proofs.Climbs.{once_before}
+use Rattle.schedule_trie.specs.Climbs.{keys_up_to, keys_to, last_from}
+use Rattle.schedule_trie.proofs.Once.{has-head, has-tail, once_before, has-left, last_from-push}
+use Rattle.schedule_trie.proofs.OwnParts.{last_reached}
 use Rattle.schedule_trie.proofs.Partings.{parting}
 use Rattle.schedule_trie.proofs.Pushes.{line-append}
-use Rattle.cutoff.specs.Fitting.{StoredRun, run_of, RunPart, RunFits, steps_at, run_at, reached, exit_of}
+use Rattle.cutoff.specs.Fitting.{StoredRun, run_of, RunPart, RunFits, steps_at, run_at, reached}
 use Rattle.cutoff.specs.Settles.{IsWork, IsSegmentSettled, Settles, EndsWith, SettlesTo}
-use Rattle.cutoff.specs.Links.{without_register, IsLinked}
 use Rattle.cutoff.specs.Prefixes.{RunsDown, Hangs, EndsIn, IsRest, exit_or_start, exit_or}
 use Rattle.cutoff.proofs.Climbs.{path_once}
 use Rattle.cutoff.proofs.Fits.{register_kept, same_symm, run_fits_alike, fits_to_note, exit_same}
-use Rattle.cutoff.proofs.Hangings.{hang_kept, hang_down, has-left}
-use Rattle.cutoff.proofs.Links.{linked_none}
+use Rattle.cutoff.proofs.Hangings.{hang_kept, hang_down}
 use Rattle.cutoff.proofs.Prefixes.{down_same, down_more}
 use Rattle.cutoff.proofs.Segments.{noted_still}
-use Rattle.schedule_trie.proofs.Lists.{drop_past}
-use Rattle.cutoff.proofs.Walks.{reached_none, IsWalking, walk_starts, walk_on, fits_here, linked_home, exit_of-last}
+use Rattle.cutoff.proofs.Walks.{reached_none, IsWalking, walk_starts, walk_on, fits_here, exit_of, exit_of-last}
 
 -- once a run is stored at a key, it is the run noted there
 pub noted_at : {T : Type 0} (s : T) (o p : Option (Piece T)) → p ≡ option_map (with_note (Some s)) o → IsSome o → note_of p ≡ Some s
@@ -55,31 +52,18 @@ down_kept E is cut new b c (k ∷ ks) end same d =
       subst (λ l. RunsDown E is new b (replayed b c l) ks end) steps (down_kept E is cut new b (replayed b c (steps_at cut k)) ks end (λ j h. same j (has-tail j k ks h)) d.1),
     )
 
--- the last of some keys, or `above` if there are none
-abbrev pub last_or : Option ℕ → List ℕ → Option ℕ
-last_or above [] = above
-last_or above (k ∷ ks) = last_or (Some k) ks
-
-pub last_or-last : (above : Option ℕ) (front : List ℕ) (k : ℕ) → last_or above (front ++ k ∷ []) ≡ Some k
-last_or-last above [] k = refl
-last_or-last above (j ∷ front) k = last_or-last (Some j) front k
-
-pub last_to : (keys : List ℕ) (last : Option ℕ) → HasClimbedTo keys last → last_or None (keys_to keys last) ≡ last
-last_to keys None h = refl
-last_to keys (Some k) h = let p = parting keys k h in ap (last_or None) p.to ∙ last_or-last None p.front k
-
 -- the walk has passed the key `above`, or is above the first key; the segments `left` are still to
 -- go
-pub record IsGoing {R P : Type 0} (E : R → R → Bool) (is : R → Behaviour P) (old cut : Cut (StoredRun R P)) (start : Configuration R P) (next key count : ℕ)
+pub record IsGoing {R P : Type 0} (E : R → R → Bool) (is : R → Behaviour P) (old cut : Cut (StoredRun R P)) (start : Configuration R P) (key count : ℕ)
     (keys left back : List ℕ) (place n : ℕ) (above : Option ℕ) : Type 0 where
   pub done : List ℕ
-  pub last : last_or None done ≡ above
+  pub last : last_from None done ≡ above
   pub path : keys_up_to key keys ≡ done ++ left
   pub whole : keys ≡ done ++ (left ++ back)
   pub down : RunsDown E is cut (is start.register) start done (exit_or_start cut start above)
   pub rest : ℕ
   pub parts : List (RunPart R P)
-  pub walk : IsWalking E (is start.register) old cut start next None keys (left ++ back) place rest n parts
+  pub walk : IsWalking E (is start.register) old cut start keys (left ++ back) place rest n parts
   pub from : exit_of start parts ≡ exit_or_start cut start above
   pub ahead : EndsIn old key count rest left ⊎ ((left ≡ []) × (rest ≡ 0) × (above ≡ Some key) × EndsWith cut key count parts)
   pub once : Once keys
@@ -101,8 +85,8 @@ some_steps (Some p) h s = let some = s.0 in let e : length (map step_of p.slots)
 
 -- the walk goes on after one more settled segment
 module _ {R P : Type 0} (E : R → R → Bool) (equal : IsEquivalence E) (per : IsPartialEquivalence E) (is : R → Behaviour P) (alike : (x y : R) → E x y ≡ true → is x ≡ is y)
-    (old cut : Cut (StoredRun R P)) (start : Configuration R P) (next key count : ℕ) (keys ks back : List ℕ) (k place n : ℕ) (above : Option ℕ)
-    (g : IsGoing E is old cut start next key count keys (k ∷ ks) back place n above) where
+    (old cut : Cut (StoredRun R P)) (start : Configuration R P) (key count : ℕ) (keys ks back : List ℕ) (k place n : ℕ) (above : Option ℕ)
+    (g : IsGoing E is old cut start key count keys (k ∷ ks) back place n above) where
   ends_here : EndsIn old key count g.rest (k ∷ ks)
   ends_here = by g.ahead
     where
@@ -124,13 +108,13 @@ module _ {R P : Type 0} (E : R → R → Bool) (equal : IsEquivalence E) (per : 
   pub fits_left : AllFit (is start.register) (steps_at cut k)
   fits_left =
       subst (λ b. AllFit b (steps_at cut k)) (alike (exit_of start g.parts).register start.register (subst (λ r. E (exit_of start g.parts).register r ≡ true) g.walk.home g.walk.same.register))
-      (fits_here E equal per is alike old cut start next None keys (ks ++ back) k place g.rest n g.parts g.walk wanted_here (exit_of start g.parts) refl)
+      (fits_here E equal per is alike old cut start keys (ks ++ back) k place g.rest n g.parts g.walk wanted_here)
 
   lacks_here : has k g.done ≡ false
   lacks_here = once_before g.done k (ks ++ back) (subst Once g.whole g.once)
 
-  module _ (new : Cut (StoredRun R P)) (after : ℕ) (run : SegmentRun R P) (work : ℕ) (settled : IsSegmentSettled E cut new (exit_or_start cut start above) k run work)
-      (linked : IsLinked E start.register after None (without_register start) new) (true_run : IsRun (is run.entry.register) run) where
+  module _ (new : Cut (StoredRun R P)) (run : SegmentRun R P) (work : ℕ) (settled : IsSegmentSettled E cut new (exit_or_start cut start above) k run work)
+      (true_run : IsRun (is run.entry.register) run) where
     abbrev s : StoredRun R P
     s = settled.noted.0
 
@@ -173,14 +157,10 @@ module _ {R P : Type 0} (E : R → R → Bool) (equal : IsEquivalence E) (per : 
     abbrev counts : ℕ
     counts = min g.rest (length run.steps)
 
-    walk_here : IsWalking E (is start.register) old new start after None keys (ks ++ back) place (g.rest - counts) (n + work) (g.parts ++ record { run = run; count = counts } ∷ [])
+    walk_here : IsWalking E (is start.register) old new start keys (ks ++ back) place (g.rest - counts) (n + work) (g.parts ++ record { run = run; count = counts } ∷ [])
     walk_here =
-        walk_on E equal per is alike old cut start next None keys (ks ++ back) k place g.rest n g.parts g.walk wanted_here (exit_of start g.parts) refl
-        new after None run work counts (g.rest - counts) (n + work) (subst (λ d. IsSegmentSettled E cut new d k run work) (sym g.from) settled)
-        (linked_none E (exit_of start g.parts).register after None (without_register start) (without_register run.exit) new
-        (subst (λ (d : Configuration R P). IsLinked E d.register after None (without_register start) new) (sym g.from)
-        (linked_home E per start.register (exit_or_start cut start above).register after None (without_register start) new (per.symm start.register (exit_or_start cut start above).register ∙ home) linked)))
-        true_run refl refl refl
+        walk_on E equal per is alike old cut start keys (ks ++ back) k place g.rest n g.parts g.walk wanted_here
+        new run work counts (g.rest - counts) (n + work) (subst (λ d. IsSegmentSettled E cut new d k run work) (sym g.from) settled) true_run refl refl refl
 
     run_len : length run.steps ≡ length (steps_at old k)
     run_len = ap length settled.fits.steps ∙ ap (λ o. length (map step_of (slots_of o))) (g.walk.ahead k (has-head k (ks ++ back)))
@@ -221,10 +201,10 @@ module _ {R P : Type 0} (E : R → R → Bool) (equal : IsEquivalence E) (per : 
             let len = run_len in
             inl (record { front = front; is = rest; sum = omega (arith, own, cells, len, sum) })
 
-    pub going_step : IsGoing E is old new start after key count keys ks back place (n + work) (Some k)
+    pub going_step : IsGoing E is old new start key count keys ks back place (n + work) (Some k)
     going_step = record {
       done = g.done ++ k ∷ [];
-      last = last_or-last None g.done k;
+      last = last_from-push None g.done k;
       path = g.path ∙ sym (append_assoc g.done (k ∷ []) ks);
       whole = g.whole ∙ sym (append_assoc g.done (k ∷ []) (ks ++ back));
       down = down_here;
@@ -240,12 +220,12 @@ module _ {R P : Type 0} (E : R → R → Bool) (equal : IsEquivalence E) (per : 
 
 module _ {R P : Type 0} (E : R → R → Bool) (equal : IsEquivalence E) (per : IsPartialEquivalence E) (is : R → Behaviour P) (alike : (x y : R) → E x y ≡ true → is x ≡ is y) where
   -- the walk goes down a part that stored runs fit, and replays nothing
-  going_down : (old cut : Cut (StoredRun R P)) (start : Configuration R P) (next key count : ℕ) (keys front left back : List ℕ) (place n : ℕ) (above : Option ℕ) (c end : Configuration R P)
-      → IsLinked E start.register next None (without_register start) cut → SameConfiguration E c (exit_or_start cut start above) → is c.register ≡ is start.register
-      → RunsDown E is cut (is start.register) c front end → IsGoing E is old cut start next key count keys (front ++ left) back place n above
-      → IsGoing E is old cut start next key count keys left back place n (last_or above front)
-  going_down old cut start next key count keys [] left back place n above c end linked same own down g = g
-  going_down old cut start next key count keys (k ∷ front) left back place n above c end linked same own down g =
+  going_down : (old cut : Cut (StoredRun R P)) (start : Configuration R P) (key count : ℕ) (keys front left back : List ℕ) (place n : ℕ) (above : Option ℕ) (c end : Configuration R P)
+      → SameConfiguration E c (exit_or_start cut start above) → is c.register ≡ is start.register
+      → RunsDown E is cut (is start.register) c front end → IsGoing E is old cut start key count keys (front ++ left) back place n above
+      → IsGoing E is old cut start key count keys left back place n (last_from above front)
+  going_down old cut start key count keys [] left back place n above c end same own down g = g
+  going_down old cut start key count keys (k ∷ front) left back place n above c end same own down g =
       let s = down.0.stored in
       let noted = down.0.noted in
       let fits = run_fits_alike E per c (exit_or_start cut start above) (steps_at cut k) s.run same down.0.fits in
@@ -254,19 +234,19 @@ module _ {R P : Type 0} (E : R → R → Bool) (equal : IsEquivalence E) (per : 
         fits = fits;
         work = inl (fits_to_note E cut (exit_or_start cut start above) k s noted fits, ap (option_map run_of) noted, refl);
       } in
-      let on = going_step E equal per is alike old cut start next key count keys (front ++ left) back k place n above g cut next s.run 0 settled linked down.0.true_run in
+      let on = going_step E equal per is alike old cut start key count keys (front ++ left) back k place n above g cut s.run 0 settled down.0.true_run in
       let none : n + 0 ≡ n = omega arith in
       let here : s.run.exit ≡ exit_or_start cut start (Some k) = sym (ap (λ o. exit_or start (option_map run_of o)) noted) in
-      going_down old cut start next key count keys front left back place n (Some k) (replayed (is start.register) c (steps_at cut k)) end linked
+      going_down old cut start key count keys front left back place n (Some k) (replayed (is start.register) c (steps_at cut k)) end
       (subst (SameConfiguration E (replayed (is start.register) c (steps_at cut k))) here
       (same_symm E per s.run.exit (replayed (is start.register) c (steps_at cut k)) (exit_same E is alike (is start.register) c (steps_at cut k) s.run own down.0.true_run down.0.fits)))
       (ap is (register_kept (is start.register) c (steps_at cut k)) ∙ own) down.1
-      (subst (λ m. IsGoing E is old cut start next key count keys (front ++ left) back place m (Some k)) none on)
+      (subst (λ m. IsGoing E is old cut start key count keys (front ++ left) back place m (Some k)) none on)
 
-  pub going_starts : (old : Cut (StoredRun R P)) (start : Configuration R P) (next : ℕ) (front : Option ℕ) (left : List ℕ) (key count place i : ℕ) → IsCut old
-      → IsLinked E start.register next None (without_register start) old → IsRest E is old start front left key count place i
-      → (back : List ℕ) × IsGoing E is old old start next key count (keys_in old.strands i) left back place 0 front
-  going_starts old start next front left key count place i whole linked r =
+  pub going_starts : (old : Cut (StoredRun R P)) (start : Configuration R P) (front : Option ℕ) (left : List ℕ) (key count place i : ℕ) → IsCut old
+      → IsRest E is old start front left key count place i
+      → (back : List ℕ) × IsGoing E is old old start key count (keys_in old.strands i) left back place 0 front
+  going_starts old start front left key count place i whole r =
       let keys = keys_in old.strands i in
       let p = parting keys key r.lies.there in
       let all : keys ≡ keys_up_to key keys ++ p.back = p.is ∙ sym (append_assoc p.front (key ∷ []) p.back) ∙ ap (λ l. l ++ p.back) (sym p.to) in
@@ -280,7 +260,7 @@ module _ {R P : Type 0} (E : R → R → Bool) (equal : IsEquivalence E) (per : 
       ∙ length-append (line (piece_at old.pieces) r.lies.ends.front) (slots_of (piece_at old.pieces key) ++ line (piece_at old.pieces) p.back)
       ∙ ap (λ n. length (line (piece_at old.pieces) r.lies.ends.front) + n) (length-append (slots_of (piece_at old.pieces key)) (line (piece_at old.pieces) p.back)) in
       let within : place ≤ length (line (piece_at old.pieces) keys) = omega (arith, few, sum, cells) in
-      let begun : IsGoing E is old old start next key count keys (keys_to keys front ++ left) p.back place 0 None = record {
+      let begun : IsGoing E is old old start key count keys (keys_to keys front ++ left) p.back place 0 None = record {
         done = [];
         last = refl;
         path = r.path;
@@ -288,8 +268,8 @@ module _ {R P : Type 0} (E : R → R → Bool) (equal : IsEquivalence E) (per : 
         down = same;
         rest = place;
         parts = [];
-        walk = subst (λ l. IsWalking E (is start.register) old old start next None keys l place place 0 []) parts
-            (walk_starts E equal (is start.register) old start next keys place whole (i, refl) linked r.fits within);
+        walk = subst (λ l. IsWalking E (is start.register) old old start keys l place place 0 []) parts
+            (walk_starts E equal (is start.register) old start keys place whole (i, refl) r.fits within);
         from = refl;
         ahead = inl (subst (EndsIn old key count place) r.path r.lies.ends);
         once = path_once old whole i;
@@ -297,13 +277,13 @@ module _ {R P : Type 0} (E : R → R → Bool) (equal : IsEquivalence E) (per : 
         few = r.lies.few;
       } in (
         p.back,
-        subst (IsGoing E is old old start next key count keys left p.back place 0) (last_to keys front r.reached)
-            (going_down old old start next key count keys (keys_to keys front) left p.back place 0 None start (exit_or_start old start front) linked same refl r.down begun),
+        subst (IsGoing E is old old start key count keys left p.back place 0) (last_reached keys front r.reached)
+            (going_down old old start key count keys (keys_to keys front) left p.back place 0 None start (exit_or_start old start front) same refl r.down begun),
       )
 
 -- the walk ends
-module _ {R P : Type 0} (E : R → R → Bool) (is : R → Behaviour P) (old cut : Cut (StoredRun R P)) (start : Configuration R P) (next key count i place n : ℕ) (back : List ℕ) (above : Option ℕ)
-    (g : IsGoing E is old cut start next key count (keys_in old.strands i) [] back place n above) where
+module _ {R P : Type 0} (E : R → R → Bool) (is : R → Behaviour P) (old cut : Cut (StoredRun R P)) (start : Configuration R P) (key count i place n : ℕ) (back : List ℕ) (above : Option ℕ)
+    (g : IsGoing E is old cut start key count (keys_in old.strands i) [] back place n above) where
   abbrev keys : List ℕ
   keys = keys_in old.strands i
 
@@ -332,48 +312,47 @@ module _ {R P : Type 0} (E : R → R → Bool) (is : R → Behaviour P) (old cut
 
 -- the walk by the index of the next key, with the keys `more` after those of a list
 module _ {R P : Type 0} (E : R → R → Bool) (equal : IsEquivalence E) (per : IsPartialEquivalence E) (is : R → Behaviour P) (alike : (x y : R) → E x y ≡ true → is x ≡ is y)
-    {old cut : Cut (StoredRun R P)} {start : Configuration R P} {next key count : ℕ} {keys back : List ℕ} {place n : ℕ} {above : Option ℕ} (all : List ℕ) (index : ℕ) (more : List ℕ)
-    (g : IsGoing E is old cut start next key count keys (drop index all ++ more) back place n above) where
-  pub going_past : length all ≤ index → IsGoing E is old cut start next key count keys more back place n above
-  going_past past = subst (λ l. IsGoing E is old cut start next key count keys (l ++ more) back place n above) (drop_past index all past) g
+    {old cut : Cut (StoredRun R P)} {start : Configuration R P} {key count : ℕ} {keys back : List ℕ} {place n : ℕ} {above : Option ℕ} (all : List ℕ) (index : ℕ) (more : List ℕ)
+    (g : IsGoing E is old cut start key count keys (drop index all ++ more) back place n above) where
+  pub going_past : length all ≤ index → IsGoing E is old cut start key count keys more back place n above
+  going_past past = subst (λ l. IsGoing E is old cut start key count keys (l ++ more) back place n above) (drop_all index all past) g
 
   module _ (h : index < length all) where
-    going_at : IsGoing E is old cut start next key count keys (get_or all index 0 ∷ (drop (index + 1) all ++ more)) back place n above
+    going_at : IsGoing E is old cut start key count keys (get_or all index 0 ∷ (drop (index + 1) all ++ more)) back place n above
     going_at =
         let step : suc index ≡ index + 1 = omega arith in
-        subst (λ l. IsGoing E is old cut start next key count keys (l ++ more) back place n above) (drop-cons all index 0 h ∙ ap (λ j. get_or all index 0 ∷ drop j all) step) g
+        subst (λ l. IsGoing E is old cut start key count keys (l ++ more) back place n above) (drop-cons all index 0 h ∙ ap (λ j. get_or all index 0 ∷ drop j all) step) g
 
     pub small_next : length (steps_at cut (get_or all index 0)) ≤ 128
-    small_next = small_left E equal per is alike old cut start next key count keys (drop (index + 1) all ++ more) back (get_or all index 0) place n above going_at
+    small_next = small_left E equal per is alike old cut start key count keys (drop (index + 1) all ++ more) back (get_or all index 0) place n above going_at
 
     pub fits_next : AllFit (is start.register) (steps_at cut (get_or all index 0))
-    fits_next = fits_left E equal per is alike old cut start next key count keys (drop (index + 1) all ++ more) back (get_or all index 0) place n above going_at
+    fits_next = fits_left E equal per is alike old cut start key count keys (drop (index + 1) all ++ more) back (get_or all index 0) place n above going_at
 
-    module _ {new : Cut (StoredRun R P)} {after work : ℕ} (settled : (run : SegmentRun R P) × IsSegmentSettled E cut new (exit_or_start cut start above) (get_or all index 0) run work × IsRun (is run.entry.register) run)
-        (linked : IsLinked E start.register after None (without_register start) new) where
-      pub going_next : IsGoing E is old new start after key count keys (drop (index + 1) all ++ more) back place (n + work) (Some (get_or all index 0))
+    module _ {new : Cut (StoredRun R P)} {work : ℕ} (settled : (run : SegmentRun R P) × IsSegmentSettled E cut new (exit_or_start cut start above) (get_or all index 0) run work × IsRun (is run.entry.register) run) where
+      pub going_next : IsGoing E is old new start key count keys (drop (index + 1) all ++ more) back place (n + work) (Some (get_or all index 0))
       going_next =
-          going_step E equal per is alike old cut start next key count keys (drop (index + 1) all ++ more) back (get_or all index 0) place n above going_at
-          new after settled.0 work settled.1 linked settled.2
+          going_step E equal per is alike old cut start key count keys (drop (index + 1) all ++ more) back (get_or all index 0) place n above going_at
+          new settled.0 work settled.1 settled.2
 
       pub kept_next : IsCut old → work ≡ 0 → run_at new (get_or all index 0) ≡ run_at old (get_or all index 0)
       kept_next =
-          kept_here E equal per is alike old cut start next key count keys (drop (index + 1) all ++ more) back (get_or all index 0) place n above going_at
-          new after settled.0 work settled.1 linked settled.2
+          kept_here E equal per is alike old cut start key count keys (drop (index + 1) all ++ more) back (get_or all index 0) place n above going_at
+          new settled.0 work settled.1 settled.2
 
 -- what is left hangs from a run that stays stored
 module _ {R P : Type 0} (E : R → R → Bool) (equal : IsEquivalence E) (per : IsPartialEquivalence E) (is : R → Behaviour P) (alike : (x y : R) → E x y ≡ true → is x ≡ is y)
-    (old cut : Cut (StoredRun R P)) (start : Configuration R P) (next key count i place n : ℕ) (left back : List ℕ) (above : Option ℕ)
-    (g : IsGoing E is old cut start next key count (keys_in old.strands i) left back place n above) where
+    (old cut : Cut (StoredRun R P)) (start : Configuration R P) (key count i place n : ℕ) (left back : List ℕ) (above : Option ℕ)
+    (g : IsGoing E is old cut start key count (keys_in old.strands i) left back place n above) where
   home_here : E (exit_or_start cut start above).register start.register ≡ true
   home_here = subst (λ (d : Configuration R P). E d.register start.register ≡ true) g.from (subst (λ r. E (exit_of start g.parts).register r ≡ true) g.walk.home g.walk.same.register)
 
-  pub hanging_settles : Hangs E is old (exit_or_start cut start above) left → IsLinked E start.register next None (without_register start) cut → SettlesTo E is old cut start key count place i n
-  hanging_settles hangs linked =
+  pub hanging_settles : Hangs E is old (exit_or_start cut start above) left → SettlesTo E is old cut start key count place i n
+  hanging_settles hangs =
       let c : Configuration R P = exit_or_start cut start above in
       let here : SameConfiguration E c c = record { register = equal.refl c.register; memory = refl; running = refl; stopped = refl } in
       let own : is c.register ≡ is start.register = alike c.register start.register home_here in
       let down = hang_down E is per alike cut (is start.register) c c left here own (hang_kept E is old cut c left (λ j h. g.walk.ahead j (has-left j left back h)) hangs) in
-      going_settles E is old cut start next key count i place n back (last_or above left)
-      (going_down E equal per is alike old cut start next key count (keys_in old.strands i) left [] back place n above c down.0 linked here own down.1
-      (subst (λ l. IsGoing E is old cut start next key count (keys_in old.strands i) l back place n above) (sym (append-nil left)) g))
+      going_settles E is old cut start key count i place n back (last_from above left)
+      (going_down E equal per is alike old cut start key count (keys_in old.strands i) left [] back place n above c down.0 here own down.1
+      (subst (λ l. IsGoing E is old cut start key count (keys_in old.strands i) l back place n above) (sym (append-nil left)) g))

@@ -1,29 +1,30 @@
 -- What a plan finds of segments, one after the other down a branch.
 use Rattle.std.proofs.Common.{◌≡◌, ◌⊎◌, ℕ, zero, suc, ◌+◌, ◌<◌, arith, drop, Bool, true, false, cond, ◌||◌, nat_eq, List, [], ◌∷◌, ◌++◌, length, map, reverse, get_or, Option, Some, None, inl, inr, refl, sym, ap, subst, ◌∙◌, append_assoc, append-nil, true≢false}
 use Rattle.std.specs.Cmp.{IsEquivalence, IsPartialEquivalence}
-use Rattle.std.proofs.lemmas.Bool.{ne_eqb}
+use Rattle.std.proofs.lemmas.Bool.{ne_eqb, or_left, or_right}
 use Rattle.std.proofs.Math.Seq.{drop-cons}
-use Rattle.std.proofs.lemmas.List.{map-append, reverse-append}
+use Rattle.std.proofs.lemmas.List.{map-append}
 use Rattle.frames.specs.Behaviour.{Behaviour}
 use Rattle.frames.specs.Configuration.{Configuration, replayed, fits_step}
 use Rattle.frames.specs.Recorded.{AllFit}
 use Rattle.schedule_trie.specs.Forest.{step_of}
-use Rattle.schedule_trie.specs.Cut.{Cut, piece_at, slots_of, line, keys_in, has, Once, IsCut}
-use Rattle.schedule_trie.specs.Climbs.{last_of, keys_up_to, keys_to, HasClimbedTo}
-use Rattle.schedule_trie.proofs.Climbs.{IsLast, IsStepUp, last_some, once_before, step_up, up_to-here}
-use Rattle.schedule_trie.proofs.Once.{has_cases, has-append, has-head, has-tail}
-use Rattle.schedule_trie.proofs.Partings.{has-in, parting}
+use Rattle.schedule_trie.specs.Cut.{Cut, piece_at, slots_of, line, forest, keys_in, has, Once, IsCut}
+use Rattle.schedule_trie.specs.Climbs.{keys_up_to, keys_to, HasClimbedTo}
+use Rattle.schedule_trie.proofs.Climbs.{IsStepUp, step_up, up_to-here}
+use Rattle.schedule_trie.proofs.Once.{has_cases, has-append, has-head, has-tail, has-in, once_before}
+use Rattle.schedule_trie.proofs.OwnParts.{IsClimbing, last_reached}
 use Rattle.cutoff.specs.declared.sight.Sight.{Sight}
 use Rattle.cutoff.specs.declared.sight.Sight.TheVariants.{Unseen, Fit, Unfit}
+use Rattle.cutoff.specs.Charts.{StepsFit}
 use Rattle.cutoff.specs.Fitting.{StoredRun, Fits, steps_at}
 use Rattle.cutoff.specs.Plans.{FitsDownTo, Descends, Planned, job_of, key_of, with_job}
 use Rattle.cutoff.specs.Prefixes.{HasTrueRun, IsMarked, exit_or_start}
-use Rattle.cutoff.specs.Sights.{AreSeen, HasDescendedAbove, IsAbove, HasDescended, IsKnownAt, IsSeen, IsSight, IsUnseenPart, LooksBelow, sight_at, sight_of}
+use Rattle.cutoff.specs.Sights.{AreSeen, HasDescendedAbove, IsAbove, HasDescended, IsKnownAt, IsSight, IsUnseenPart, LooksBelow, sight_at, sight_of}
 use Rattle.cutoff.proofs.Climbs.{path_once}
 use Rattle.cutoff.proofs.Edits.{all_left, all_right}
 use Rattle.cutoff.proofs.Fits.{fits_alike, same_symm}
+use Rattle.cutoff.proofs.Paths.{fits_on}
 use Rattle.cutoff.proofs.Prefixes.{down_same, runs_come, up_new}
-use Rattle.cutoff.proofs.Rests.{last_or, last_or-last}
 use Rattle.cutoff.proofs.Walks.{by_key}
 
 -- what was found stays the same when a place is added for another key
@@ -33,58 +34,18 @@ unseen_more [] (suc k) = refl
 unseen_more (s ∷ seen) zero = refl
 unseen_more (s ∷ seen) (suc k) = unseen_more seen k
 
--- a climb is at a key, and `own` are the keys below it
-pub record IsClimbing (seen : List Sight) (keys : List ℕ) (at : Option ℕ) (own : List ℕ) : Type 0 where
-  pub reached : HasClimbedTo keys at
-  pub is : keys ≡ keys_to keys at ++ reverse own
-  pub lacks : (k : ℕ) → has k (reverse own) ≡ true → sight_at seen k ≡ Unseen
+-- nothing was found at a key
+abbrev pub IsUnseen : List Sight → ℕ → Type 0
+IsUnseen seen k = sight_at seen k ≡ Unseen
 
 module _ (seen : List Sight) (keys : List ℕ) where
-  pub climbing_first : (last : Option ℕ) → IsLast keys last → IsClimbing seen keys last []
-  climbing_first last l = record {
-    reached = l.reached;
-    is = sym l.all ∙ sym (append-nil (keys_to keys last));
-    lacks = λ k h. absurd (true≢false (sym h));
-  }
-
-  pub climbing_up : (at : Option ℕ) (key : ℕ) (above : Option ℕ) (own more : List ℕ) → at ≡ Some key → more ≡ own ++ key ∷ [] → IsClimbing seen keys at own
-      → IsStepUp keys key above → sight_at seen key ≡ Unseen → IsClimbing seen keys above more
-  climbing_up at key above own more e pushed c up none =
-      let turned : reverse more ≡ key ∷ reverse own = ap reverse pushed ∙ reverse-append own (key ∷ []) in
-      record {
-        reached = up.reached;
-        is = c.is ∙ ap (λ o. keys_to keys o ++ reverse own) e ∙ ap (λ l. l ++ reverse own) up.is
-            ∙ append_assoc (keys_to keys above) (key ∷ []) (reverse own) ∙ ap (λ l. keys_to keys above ++ l) (sym turned);
-        lacks = λ k h. has_cases k key (reverse own) (sight_at seen k ≡ Unseen) (subst (λ l. has k l ≡ true) turned h)
-            (λ same. ap (sight_at seen) same ∙ none) (λ rest. c.lacks k rest);
-      }
-
-  pub unseen_part : (mark : Option ℕ) (at : Option ℕ) (own all : List ℕ) (fits : Bool) → IsClimbing seen keys at own → IsKnownAt mark seen at fits → all ≡ reverse own
+  pub unseen_part : (mark : Option ℕ) (at : Option ℕ) (own all : List ℕ) (fits : Bool) → IsClimbing (IsUnseen seen) keys at own → IsKnownAt mark seen at fits → all ≡ reverse own
       → IsUnseenPart mark seen keys fits all
   unseen_part mark at own all fits c known turned =
-      subst (IsUnseenPart mark seen keys fits) (sym turned) (record { above = at; reached = c.reached; path = c.is; lacks = c.lacks; known = known })
-
--- the last of the keys down to one
-last_pushed : (front : List ℕ) (key : ℕ) → last_of (front ++ key ∷ []) ≡ Some key
-last_pushed [] key = refl
-last_pushed (f ∷ front) key =
-    let p = last_some (front ++ key ∷ []) f f in
-    p.1.1.0 ∙ sym (last_or-last None p.1.0 p.0) ∙ ap (last_or None) (sym p.1.1.1) ∙ last_or-last None (f ∷ front) key
-
-last_reached : (keys : List ℕ) (at : Option ℕ) → HasClimbedTo keys at → last_of (keys_to keys at) ≡ at
-last_reached keys None h = refl
-last_reached keys (Some key) h = let p = parting keys key h in ap last_of p.to ∙ last_pushed p.front key
-
-or_later : (a b : Bool) → b ≡ true → a || b ≡ true
-or_later true b h = refl
-or_later false b h = h
-
-or_first : (a b : Bool) → a ≡ true → a || b ≡ true
-or_first true b h = refl
-or_first false b h = absurd (true≢false (sym h))
+      subst (IsUnseenPart mark seen keys fits) (sym turned) (record { above = at; reached = c.reached; path = c.is; lacks = c.free; known = known })
 
 -- the steps of a segment of a branch fit
-pub segment_fits : {R P : Type 0} (b : Behaviour P) (cut : Cut (StoredRun R P)) (keys : List ℕ) (k : ℕ) → has k keys ≡ true → AllFit b (map step_of (line (piece_at cut.pieces) keys))
+segment_fits : {R P : Type 0} (b : Behaviour P) (cut : Cut (StoredRun R P)) (keys : List ℕ) (k : ℕ) → has k keys ≡ true → AllFit b (map step_of (line (piece_at cut.pieces) keys))
     → AllFit b (steps_at cut k)
 segment_fits b cut [] k h fit = absurd (true≢false (sym h))
 segment_fits b cut (j ∷ js) k h fit =
@@ -139,7 +100,7 @@ Grows {R} {P} cut key old new = (new ≡ old) ⊎ ((end : Configuration R P) × 
 grows_has : {R P : Type 0} (cut : Cut (StoredRun R P)) (key : ℕ) (old new : List (Planned R P)) → Grows cut key old new → (m : ℕ) → has m (map key_of old) ≡ true → has m (map key_of new) ≡ true
 grows_has cut key old new (inl same) m h = ap (λ l. has m (map key_of l)) same ∙ h
 grows_has cut key old new (inr more) m h =
-    ap (λ l. has m (map key_of l)) more.1 ∙ keys_more cut key more.0 old m ∙ or_first (has m (map key_of old)) (has m (key ∷ [])) h
+    ap (λ l. has m (map key_of l)) more.1 ∙ keys_more cut key more.0 old m ∙ or_left (has m (map key_of old)) (has m (key ∷ [])) h
 
 grows_lacks : {R P : Type 0} (cut : Cut (StoredRun R P)) (key : ℕ) (old new : List (Planned R P)) → Grows cut key old new → (m : ℕ) → (m ≡ key → ⊥) → has m (map key_of old) ≡ false
     → has m (map key_of new) ≡ false
@@ -152,9 +113,9 @@ module _ {R P : Type 0} (E : R → R → Bool) (per : IsPartialEquivalence E) (i
   abbrev b : Behaviour P
   b = is start.register
 
-  come_seen : (old jobs : List (Planned R P)) (last : Option ℕ) (fits : Bool) → HasDescended E is cut start old jobs last fits → IsSeen E is cut start jobs last fits
-  come_seen old jobs last true c = c.0
-  come_seen old jobs last false c = λ i h. let p = c i h in (p.0, p.1, p.2, p.3)
+  come_seen : (old jobs : List (Planned R P)) (last : Option ℕ) (fits : Bool) → HasDescended E is cut start old jobs last fits → HasDescended E is cut start jobs jobs last fits
+  come_seen old jobs last true c = (c.0, refl)
+  come_seen old jobs last false c = λ i h. let p = c i h in (p.0, p.1, p.2, p.3, job_again cut p.0 p.1 jobs p.3)
 
   -- one key further down
   module _ (whole : IsCut cut) (key : ℕ) (above : Option ℕ) (each : IsAbove cut key above) where
@@ -190,25 +151,25 @@ module _ {R P : Type 0} (E : R → R → Bool) (per : IsPartialEquivalence E) (i
           key,
           end,
           subst (λ l. Descends E b cut start l (Some key) end) (sym s.is) (comes_missing E b cut per start end (keys_to keys above) key down misses),
-          ap (λ l. has key (map key_of l)) added ∙ keys_more cut key end jobs key ∙ or_later (has key (map key_of jobs)) (has key (key ∷ [])) (has-head key []),
+          ap (λ l. has key (map key_of l)) added ∙ keys_more cut key end jobs key ∙ or_right (has key (map key_of jobs)) (has key (key ∷ [])) (has-head key []),
           added ∙ ap (λ l. l ++ job cut key end ∷ []) c.1 ∙ sym (job_new cut key end old lacks),
         )
 
   -- what was found stays so, and the key visited is now known
   pub see_on : (seen after : List Sight) (jobs new : List (Planned R P)) (key : ℕ) (fits : Bool) → AreSeen E is cut start seen jobs → sight_at after key ≡ sight_of fits
-      → ((k : ℕ) → (k ≡ key → ⊥) → sight_at after k ≡ sight_at seen k) → IsSeen E is cut start new (Some key) fits → Grows cut key jobs new → AreSeen E is cut start after new
+      → ((k : ℕ) → (k ≡ key → ⊥) → sight_at after k ≡ sight_at seen k) → HasDescended E is cut start new new (Some key) fits → Grows cut key jobs new → AreSeen E is cut start after new
   see_on seen after jobs new key fits were at others now grows = λ k. by_key k key (IsSight E is cut start new k (sight_at after k))
       (λ e. subst (λ j. IsSight E is cut start new j (sight_at after j)) (sym e) (subst (IsSight E is cut start new key) (sym at) (by fits now)))
       (λ ne. subst (IsSight E is cut start new k) (sym (others k ne)) (still k ne (sight_at seen k) (were k)))
     where
-      by : (f : Bool) → IsSeen E is cut start new (Some key) f → IsSight E is cut start new key (sight_of f)
+      by : (f : Bool) → HasDescended E is cut start new new (Some key) f → IsSight E is cut start new key (sight_of f)
       by true h = h
       by false h = h
 
       still : (k : ℕ) → (k ≡ key → ⊥) → (s : Sight) → IsSight E is cut start jobs k s → IsSight E is cut start new k s
       still k ne Unseen h = grows_lacks cut key jobs new grows k ne h
-      still k ne Fit h = h
-      still k ne Unfit h = λ i r. let p = h i r in (p.0, p.1, p.2, grows_has cut key jobs new grows p.0 p.3)
+      still k ne Fit h = (h.0, refl)
+      still k ne Unfit h = λ i r. let p = h i r in let there = grows_has cut key jobs new grows p.0 p.3 in (p.0, p.1, p.2, there, job_again cut p.0 p.1 new there)
 
   -- a visit of a key, if runs don't fit down to the key above
   module _ (whole : IsCut cut) (key : ℕ) (above : Option ℕ) (each : IsAbove cut key above) (jobs : List (Planned R P)) where
@@ -250,8 +211,8 @@ module _ {R P : Type 0} (E : R → R → Bool) (per : IsPartialEquivalence E) (i
   known_come mark seen jobs (Some k) fits equal marked seen_so (inr known) = by fits (subst (IsSight E is cut start jobs k) known (seen_so k))
     where
       by : (f : Bool) → IsSight E is cut start jobs k (sight_of f) → HasDescended E is cut start jobs jobs (Some k) f
-      by true h = (h, refl)
-      by false h = λ i r. let p = h i r in (p.0, p.1, p.2, p.3, job_again cut p.0 p.1 jobs p.3)
+      by true h = h
+      by false h = h
 
 -- a walk down a branch has passed a key, or is above the first; the keys `left` are still to go,
 -- and weren't visited
@@ -266,36 +227,32 @@ pub record IsPlanning {R P : Type 0} (E : R → R → Bool) (is : R → Behaviou
 
 module _ {R P : Type 0} (E : R → R → Bool) (per : IsPartialEquivalence E) (is : R → Behaviour P) (alike : (x y : R) → E x y ≡ true → is x ≡ is y)
     (cut : Cut (StoredRun R P)) (start : Configuration R P) (old : List (Planned R P)) (i : ℕ) where
-  pub planning_starts : (mark : Option ℕ) (seen : List Sight) (left : List ℕ) (fits : Bool) → IsEquivalence E → IsMarked E is cut start mark → AreSeen E is cut start seen old
-      → IsUnseenPart mark seen (keys_in cut.strands i) fits left → IsPlanning E is cut start old old seen i left fits
-  planning_starts mark seen left fits equal marked seen_so part = record {
-    above = part.above;
-    reached = part.reached;
-    path = part.path;
-    lacks = part.lacks;
-    seen_so = seen_so;
-    come = known_come E per is alike cut start mark seen old part.above fits equal marked seen_so part.known;
-  }
-
-  pub planning_next : (jobs : List (Planned R P)) (seen : List Sight) (keys : List ℕ) (index : ℕ) (fits : Bool) → index < length keys → IsPlanning E is cut start old jobs seen i (drop index keys) fits
-      → IsPlanning E is cut start old jobs seen i (get_or keys index 0 ∷ drop (index + 1) keys) fits
-  planning_next jobs seen keys index fits less p =
-      let step : suc index ≡ index + 1 = omega arith in
-      subst (λ l. IsPlanning E is cut start old jobs seen i l fits) (drop-cons keys index 0 less ∙ ap (λ n. get_or keys index 0 ∷ drop n keys) step) p
+  pub planning_starts : (mark : Option ℕ) (seen was : List Sight) (left given : List ℕ) (fits : Bool) → IsEquivalence E → IsMarked E is cut start mark → AreSeen E is cut start seen old
+      → was ≡ seen → given ≡ left → IsUnseenPart mark was (keys_in cut.strands i) fits left → IsPlanning E is cut start old old seen i given fits
+  planning_starts mark seen was left given fits equal marked seen_so found same unseen =
+      let part = subst (λ l. IsUnseenPart mark l (keys_in cut.strands i) fits left) found unseen in
+      subst (λ l. IsPlanning E is cut start old old seen i l fits) (sym same) (record {
+        above = part.above;
+        reached = part.reached;
+        path = part.path;
+        lacks = part.lacks;
+        seen_so = seen_so;
+        come = known_come E per is alike cut start mark seen old part.above fits equal marked seen_so part.known;
+      })
 
   module _ (jobs : List (Planned R P)) (seen : List Sight) (key : ℕ) (rest : List ℕ) (fits : Bool) (p : IsPlanning E is cut start old jobs seen i (key ∷ rest) fits) where
     abbrev keys : List ℕ
     keys = keys_in cut.strands i
 
-    pub next_there : has key keys ≡ true
+    next_there : has key keys ≡ true
     next_there = ap (has key) p.path ∙ has-in key (keys_to keys p.above) rest
 
-    pub next_comes : HasDescendedAbove E is cut start old jobs key fits
+    next_comes : HasDescendedAbove E is cut start old jobs key fits
     next_comes = λ above each.
         let same : above ≡ p.above = each i (keys_to keys p.above) rest p.path ∙ last_reached keys p.above p.reached in
         subst (λ o. HasDescended E is cut start old jobs o fits) (sym same) p.come
 
-    pub planning_on : IsCut cut → (new : List (Planned R P)) (after : List Sight) (found : Bool) → AreSeen E is cut start after new
+    planning_on : IsCut cut → (new : List (Planned R P)) (after : List Sight) (found : Bool) → AreSeen E is cut start after new
         → ((k : ℕ) → (k ≡ key → ⊥) → sight_at after k ≡ sight_at seen k) → HasDescended E is cut start old new (Some key) found → IsPlanning E is cut start old new after i rest found
     planning_on whole new after found seen_so others come =
         let front = keys_to keys p.above in
@@ -313,6 +270,30 @@ module _ {R P : Type 0} (E : R → R → Bool) (per : IsPartialEquivalence E) (i
         lacks_rest : (front : List ℕ) → Once (front ++ key ∷ rest) → has key rest ≡ false
         lacks_rest [] once = once.0
         lacks_rest (f ∷ front) once = lacks_rest front once.1
+
+  -- the next key, by its index
+  module _ {jobs : List (Planned R P)} {seen : List Sight} (keys : List ℕ) (index : ℕ) (fits : Bool) (less : index < length keys) (p : IsPlanning E is cut start old jobs seen i (drop index keys) fits) where
+    abbrev key : ℕ
+    key = get_or keys index 0
+
+    next : IsPlanning E is cut start old jobs seen i (key ∷ drop (index + 1) keys) fits
+    next =
+        let step : suc index ≡ index + 1 = omega arith in
+        subst (λ l. IsPlanning E is cut start old jobs seen i l fits) (drop-cons keys index 0 less ∙ ap (λ n. key ∷ drop n keys) step) p
+
+    pub at_fits : StepsFit (is start.register) (forest cut) → AllFit (is start.register) (steps_at cut key)
+    at_fits fit =
+        segment_fits (is start.register) cut (keys_in cut.strands i) key (next_there jobs seen key (drop (index + 1) keys) fits next) (fits_on (is start.register) cut fit i (keys_in cut.strands i) refl)
+
+    pub at_new : sight_at seen key ≡ Unseen
+    at_new = next.lacks key (has-head key (drop (index + 1) keys))
+
+    pub at_comes : HasDescendedAbove E is cut start old jobs key fits
+    at_comes = next_comes jobs seen key (drop (index + 1) keys) fits next
+
+    pub at_on : {new : List (Planned R P)} {after : List Sight} {found : Bool} → IsCut cut → AreSeen E is cut start after new → ((k : ℕ) → (k ≡ key → ⊥) → sight_at after k ≡ sight_at seen k)
+        → HasDescended E is cut start old new (Some key) found → IsPlanning E is cut start old new after i (drop (index + 1) keys) found
+    at_on {new} {after} {found} whole = planning_on jobs seen key (drop (index + 1) keys) fits next whole new after found
 
   pub planning_ends : (jobs : List (Planned R P)) (seen : List Sight) (left : List ℕ) (fits : Bool) → left ≡ [] → IsPlanning E is cut start old jobs seen i left fits
       → (missed : Option ℕ) × (end : Configuration R P) × Descends E (is start.register) cut start (keys_in cut.strands i) missed end × (jobs ≡ with_job old (job_of cut missed end))

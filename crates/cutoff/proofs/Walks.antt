@@ -1,12 +1,11 @@
 -- A walk down a branch that settles one segment after the other.
-use Rattle.std.proofs.Common.{◌≡◌, ℕ, suc, ◌+◌, ◌-◌, ◌<◌, ◌≤◌, Bool, true, false, nat_eq, cond, List, [], ◌∷◌, ◌++◌, length, map, drop, get_or, slice_get, Option, Some, None, IsSome, MatchOption, ◌⊎◌, inl, inr, refl, sym, ap, subst, ◌∙◌, arith, append_assoc, append-nil, true≢false, eq-eqb}
+use Rattle.std.proofs.Common.{◌≡◌, ℕ, ◌+◌, ◌-◌, ◌<◌, ◌≤◌, Bool, true, false, nat_eq, cond, List, [], ◌∷◌, ◌++◌, length, map, Option, Some, None, IsSome, MatchOption, ◌⊎◌, inl, inr, refl, sym, ap, subst, ◌∙◌, arith, append_assoc, true≢false, eq-eqb}
 use Rattle.std.specs.Prelude.{⊤, min}
 use Rattle.std.specs.Cmp.{IsPartialEquivalence, IsEquivalence}
 use Rattle.std.specs.Option.{option_map, IfSome}
 use Rattle.std.specs.Arc.{arc_value}
 use Rattle.std.specs.declared.sync.Arc.{Arc}
 use Rattle.std.proofs.lemmas.Bool.{eqb-true}
-use Rattle.std.proofs.Math.Seq.{drop-cons}
 use Rattle.std.proofs.lemmas.List.{length-append, length-map, map-append}
 use Rattle.frames.specs.declared.types.Step.{Step}
 use Rattle.frames.specs.Behaviour.{Behaviour}
@@ -17,12 +16,16 @@ use Rattle.frames.specs.Recorded.{AllFit}
 use Rattle.schedule_trie.specs.Forest.{step_of}
 use Rattle.schedule_trie.specs.Cut.{Cut, Piece, piece_at, slots_of, note_of, with_note, line, has, Once, keys_in, IsNoted, IsCut}
 use Rattle.schedule_trie.proofs.Once.{has-head, has-tail, Once-from_linked}
-use Rattle.cutoff.specs.Fitting.{StoredRun, RunPart, run_of, RunFits, Fits, KeepsRuns, steps_at, slots_at, run_at, reached, exit_of, counted, part_of}
+use Rattle.cutoff.specs.Fitting.{StoredRun, RunPart, run_of, RunFits, Fits, KeepsRuns, steps_at, slots_at, run_at, reached, counted, part_of}
 use Rattle.cutoff.specs.Settles.{IsWork, IsSettledAt, IsSegmentSettled, Settles, IsFilled}
-use Rattle.cutoff.specs.Links.{without_register, IsStored, IsTruePiece, IsLinked}
+use Rattle.cutoff.specs.Links.{IsStored, IsTruePiece, IsLinked}
 use Rattle.cutoff.proofs.Edits.{all_left, all_right}
-use Rattle.schedule_trie.proofs.Lists.{drop_past}
 use Rattle.cutoff.proofs.Fits.{register_kept, same_symm, run_fits_alike, fits_alike, exit_same}
+
+-- the exit of the last of these runs, or c if there are none
+abbrev pub exit_of : {R P : Type 0} → Configuration R P → List (RunPart R P) → Configuration R P
+exit_of c [] = c
+exit_of c (part ∷ parts) = exit_of part.run.exit parts
 
 module _ {R P : Type 0} where
   -- if no cells are to be reached, no segment is
@@ -89,12 +92,11 @@ filled_still E b old cut new c (j ∷ js) k same (inr f) = inr (filled_still E b
 
 -- a walk has passed the runs `parts` and replayed n steps; the segments `left` and `rest` cells are
 -- still to go
-pub record IsWalking {R P : Type 0} (E : R → R → Bool) (b : Behaviour P) (old cut : Cut (StoredRun R P)) (start : Configuration R P) (next : ℕ) (above : Option ℕ)
+pub record IsWalking {R P : Type 0} (E : R → R → Bool) (b : Behaviour P) (old cut : Cut (StoredRun R P)) (start : Configuration R P)
     (keys left : List ℕ) (place rest n : ℕ) (parts : List (RunPart R P)) : Type 0 where
   pub at : Configuration R P
   pub home : at.register ≡ start.register
   pub same : SameConfiguration E (exit_of start parts) at
-  pub linked : IsLinked E start.register next above (without_register (exit_of start parts)) cut
   pub keeps : KeepsRuns old cut (IsFilled E b old cut start (reached old place keys))
   pub ahead : (k : ℕ) → has k left ≡ true → piece_at cut.pieces k ≡ piece_at old.pieces k
   pub there : (k : ℕ) → has k left ≡ true → IsSome (piece_at old.pieces k)
@@ -117,14 +119,13 @@ module _ {R P : Type 0} (E : R → R → Bool) (equal : IsEquivalence E) (b : Be
       by None h = omega arith
       by (Some p) h = let e : length (map step_of p.slots) ≡ length p.slots = length-map p.slots step_of in omega arith
 
-  pub walk_starts : (next : ℕ) (keys : List ℕ) (place : ℕ) → IsCut old → (branch : (i : ℕ) × (keys ≡ keys_in old.strands i)) → IsLinked E start.register next None (without_register start) old
+  pub walk_starts : (keys : List ℕ) (place : ℕ) → IsCut old → (branch : (i : ℕ) × (keys ≡ keys_in old.strands i))
       → AllFit b (map step_of (line (piece_at old.pieces) keys)) → place ≤ length (line (piece_at old.pieces) keys)
-      → IsWalking E b old old start next None keys keys place place 0 []
-  walk_starts next keys place whole branch linked fit within = record {
+      → IsWalking E b old old start keys keys place place 0 []
+  walk_starts keys place whole branch fit within = record {
     at = start;
     home = refl;
     same = record { register = equal.refl start.register; memory = refl; running = refl; stopped = refl };
-    linked = linked;
     keeps = record { strands = refl; limits = refl; forest_kept = refl; slots = λ k. refl; runs = λ k. inl refl };
     ahead = λ k h. refl;
     there = λ k h. whole.held branch.0 k (subst (λ l. has k l ≡ true) branch.1 h);
@@ -140,22 +141,16 @@ module _ {R P : Type 0} (E : R → R → Bool) (equal : IsEquivalence E) (b : Be
 
 -- the walk goes on after one more settled segment
 module _ {R P : Type 0} (E : R → R → Bool) (equal : IsEquivalence E) (per : IsPartialEquivalence E) (is : R → Behaviour P) (alike : (x y : R) → E x y ≡ true → is x ≡ is y)
-    (old cut : Cut (StoredRun R P)) (start : Configuration R P) (next : ℕ) (above : Option ℕ) (keys ks : List ℕ) (k place rest n : ℕ) (parts : List (RunPart R P))
-    (w : IsWalking E (is start.register) old cut start next above keys (k ∷ ks) place rest n parts) (wanted : rest ≡ 0 → ⊥) (cfg : Configuration R P) (came : cfg ≡ exit_of start parts) where
+    (old cut : Cut (StoredRun R P)) (start : Configuration R P) (keys ks : List ℕ) (k place rest n : ℕ) (parts : List (RunPart R P))
+    (w : IsWalking E (is start.register) old cut start keys (k ∷ ks) place rest n parts) (wanted : rest ≡ 0 → ⊥) where
   -- what holds when the segment is settled
-  pub home_same : E (exit_of start parts).register start.register ≡ true
+  home_same : E (exit_of start parts).register start.register ≡ true
   home_same = subst (λ r. E (exit_of start parts).register r ≡ true) w.home w.same.register
-
-  pub linked_here : IsLinked E cfg.register next above (without_register cfg) cut
-  linked_here =
-      subst (λ d. IsLinked E d.register next above (without_register d) cut) (sym came)
-      (linked_home E per start.register (exit_of start parts).register next above (without_register (exit_of start parts)) cut
-      (per.symm start.register (exit_of start parts).register ∙ home_same) w.linked)
 
   here_same : piece_at cut.pieces k ≡ piece_at old.pieces k
   here_same = w.ahead k (has-head k ks)
 
-  pub steps_here : steps_at cut k ≡ steps_at old k
+  steps_here : steps_at cut k ≡ steps_at old k
   steps_here = ap (λ o. map step_of (slots_of o)) here_same
 
   line_here : map step_of (line (piece_at old.pieces) (k ∷ ks)) ≡ steps_at old k ++ map step_of (line (piece_at old.pieces) ks)
@@ -164,14 +159,10 @@ module _ {R P : Type 0} (E : R → R → Bool) (equal : IsEquivalence E) (per : 
   fits_old : AllFit (is start.register) (steps_at old k)
   fits_old = all_left (λ s. fits_step (is start.register) s ≡ true) (steps_at old k) (map step_of (line (piece_at old.pieces) ks)) (subst (AllFit (is start.register)) line_here w.fit)
 
-  pub fits_here : AllFit (is cfg.register) (steps_at cut k)
+  pub fits_here : AllFit (is (exit_of start parts).register) (steps_at cut k)
   fits_here =
-      subst (λ d. AllFit (is d.register) (steps_at cut k)) (sym came)
-      (subst (AllFit (is (exit_of start parts).register)) (sym steps_here)
-      (subst (λ b. AllFit b (steps_at old k)) (sym (alike (exit_of start parts).register start.register home_same)) fits_old))
-
-  pub small_here : length (steps_at cut k) ≤ 128
-  small_here = let e : length (steps_at cut k) ≡ length (steps_at old k) = ap length steps_here in let s : length (steps_at old k) ≤ 128 = w.small k in omega arith
+      subst (AllFit (is (exit_of start parts).register)) (sym steps_here)
+      (subst (λ b. AllFit b (steps_at old k)) (sym (alike (exit_of start parts).register start.register home_same)) fits_old)
 
   len_here : length (line (piece_at old.pieces) (k ∷ ks)) ≡ length (steps_at old k) + length (line (piece_at old.pieces) ks)
   len_here =
@@ -188,15 +179,8 @@ module _ {R P : Type 0} (E : R → R → Bool) (equal : IsEquivalence E) (per : 
       by true e = absurd (wanted (eqb-true rest 0 e))
       by false e = reached_here false e refl
 
-  module _ (new : Cut (StoredRun R P)) (after : ℕ) (id : Option ℕ) (run : SegmentRun R P) (work count rest_after n_after : ℕ)
-      (settled_cfg : IsSegmentSettled E cut new cfg k run work) (linked_cfg : IsLinked E cfg.register after id (without_register run.exit) new)
+  module _ (new : Cut (StoredRun R P)) (run : SegmentRun R P) (work count rest_after n_after : ℕ) (settled : IsSegmentSettled E cut new (exit_of start parts) k run work)
       (true_run : IsRun (is run.entry.register) run) (counts : count ≡ min rest (length run.steps)) (less : rest_after ≡ rest - count) (more_work : n_after ≡ n + work) where
-    abbrev settled : IsSegmentSettled E cut new (exit_of start parts) k run work
-    settled = subst (λ d. IsSegmentSettled E cut new d k run work) came settled_cfg
-
-    linked : IsLinked E (exit_of start parts).register after id (without_register run.exit) new
-    linked = subst (λ d. IsLinked E d.register after id (without_register run.exit) new) came linked_cfg
-
     noted : IsNoted cut new k (Some settled.noted.0)
     noted = settled.noted.1
 
@@ -285,13 +269,11 @@ module _ {R P : Type 0} (E : R → R → Bool) (equal : IsEquivalence E) (per : 
         (subst (λ l. Settles E (is start.register) old last w.at rest l (part run count ∷ more) (work + m)) (sym reached_is)
         (work, m, refl, settled_at last (same k w.once.0), subst (λ r. Settles E (is start.register) old last goes_to r (reached old r ks) more m) rest_is s))))
 
-    pub walk_on : IsWalking E (is start.register) old new start after id keys ks place rest_after n_after (parts ++ part run count ∷ [])
+    pub walk_on : IsWalking E (is start.register) old new start keys ks place rest_after n_after (parts ++ part run count ∷ [])
     walk_on = record {
       at = goes_to;
       home = register_kept (is start.register) w.at (steps_at old k) ∙ w.home;
       same = subst (λ c. SameConfiguration E c goes_to) (sym exit_is) (exit_same E is alike (is start.register) w.at (steps_at old k) run (ap is w.home) true_run fits_at);
-      linked = subst (λ c. IsLinked E start.register after id (without_register c) new) (sym exit_is)
-          (linked_home E per (exit_of start parts).register start.register after id (without_register run.exit) new home_same linked);
       keeps = record {
         strands = noted.strands ∙ w.keeps.strands;
         limits = noted.limits ∙ w.keeps.limits;
@@ -314,80 +296,6 @@ module _ {R P : Type 0} (E : R → R → Bool) (equal : IsEquivalence E) (per : 
         work_short : IsWork E old w.at k run work → work ≤ length (steps_at old k)
         work_short (inl f) = let z = f.2 in omega arith
         work_short (inr m) = let z = m.1 in omega arith
-
--- the walk by the index of the next key
-module _ {R P : Type 0} (E : R → R → Bool) (b : Behaviour P) (old cut : Cut (StoredRun R P)) (start : Configuration R P) (next : ℕ) (above : Option ℕ)
-    (keys : List ℕ) (i place rest n : ℕ) (parts : List (RunPart R P)) (w : IsWalking E b old cut start next above keys (drop i keys) place rest n parts) where
-  pub walk_at : i < length keys → IsWalking E b old cut start next above keys (get_or keys i 0 ∷ drop (i + 1) keys) place rest n parts
-  walk_at h =
-      let step : suc i ≡ i + 1 = omega arith in
-      subst (λ l. IsWalking E b old cut start next above keys l place rest n parts) (drop-cons keys i 0 h ∙ ap (λ j. get_or keys i 0 ∷ drop j keys) step) w
-
-  pub walk_ends : (length keys ≤ i) ⊎ (rest ≡ 0) → Settles E b old cut start place (reached old place keys) parts n
-  walk_ends end =
-      let none : n + 0 ≡ n = omega arith in
-      subst (Settles E b old cut start place (reached old place keys) parts) none
-      (subst (λ l. Settles E b old cut start place (reached old place keys) l (n + 0)) (append-nil parts)
-      (w.settles cut [] 0 (λ k h. refl) (subst (λ l. Settles E b old cut w.at rest l [] 0) (sym (done end)) (refl, refl))))
-    where
-      done : (length keys ≤ i) ⊎ (rest ≡ 0) → reached old rest (drop i keys) ≡ []
-      done (inl past) = ap (reached old rest) (drop_past i keys past)
-      done (inr e) = ap (λ r. reached old r (drop i keys)) e ∙ reached_none old (drop i keys)
-
-  pub walk_counts : (length keys ≤ i) ⊎ (rest ≡ 0) → counted parts ≡ place
-  walk_counts end = let none = gone end in let c = w.count in omega arith
-    where
-      gone : (length keys ≤ i) ⊎ (rest ≡ 0) → rest ≡ 0
-      gone (inl past) = let e : length (line (piece_at old.pieces) (drop i keys)) ≡ 0 = ap (λ l. length (line (piece_at old.pieces) l)) (drop_past i keys past) in let m = w.enough in omega arith
-      gone (inr e) = e
-
--- the next key's segment, when the walk is at its last run's exit
-module _ {R P Z : Type 0} (E : R → R → Bool) (equal : IsEquivalence E) (per : IsPartialEquivalence E) (is : R → Behaviour P) (alike : (x y : R) → E x y ≡ true → is x ≡ is y)
-    {old cut : Cut (StoredRun R P)} {start : Configuration R P} {next : ℕ} {above : Option ℕ} {keys : List ℕ} {i place rest n : ℕ} {runs : List (Arc (SegmentRun R P) Z × ℕ)}
-    (w : IsWalking E (is start.register) old cut start next above keys (drop i keys) place rest n (map part_of runs)) (h : i < length keys) (wanted : rest ≡ 0 → ⊥)
-    {cfg : Configuration R P} {seen_runs : List (Arc (SegmentRun R P) Z × ℕ)} (found : cfg ≡ exit_of start (map part_of seen_runs)) (seen_same : seen_runs ≡ runs) where
-  came : cfg ≡ exit_of start (map part_of runs)
-  came = found ∙ ap (λ l. exit_of start (map part_of l)) seen_same
-
-  at_key : IsWalking E (is start.register) old cut start next above keys (get_or keys i 0 ∷ drop (i + 1) keys) place rest n (map part_of runs)
-  at_key = walk_at E (is start.register) old cut start next above keys i place rest n (map part_of runs) w h
-
-  -- what settling the next segment requires
-  pub walk_wants : IsLinked E cfg.register next above (without_register cfg) cut × (length (steps_at cut (get_or keys i 0)) ≤ 128) × AllFit (is cfg.register) (steps_at cut (get_or keys i 0))
-  walk_wants = (
-    linked_here E equal per is alike old cut start next above keys (drop (i + 1) keys) (get_or keys i 0) place rest n (map part_of runs) at_key wanted cfg came,
-    small_here E equal per is alike old cut start next above keys (drop (i + 1) keys) (get_or keys i 0) place rest n (map part_of runs) at_key wanted cfg came,
-    fits_here E equal per is alike old cut start next above keys (drop (i + 1) keys) (get_or keys i 0) place rest n (map part_of runs) at_key wanted cfg came,
-  )
-
-  -- the walk goes on after it
-  pub walk_step : {new : Cut (StoredRun R P)} {after : ℕ} {id : Option ℕ} {run seen : SegmentRun R P} {work count : ℕ} {steps : List Step} → IsSegmentSettled E cut new cfg (get_or keys i 0) run work
-      → IsLinked E cfg.register after id (without_register run.exit) new → seen ≡ run → IsRun (is seen.entry.register) seen → steps ≡ seen.steps → count ≡ min rest (length steps)
-      → IsWalking E (is start.register) old new start after id keys (drop (i + 1) keys) place (rest - count) (n + work) (map part_of runs ++ part run count ∷ [])
-  walk_step {new} {after} {id} {run} {seen} {work} {count} settled linked same true_run are counts =
-      walk_on E equal per is alike old cut start next above keys (drop (i + 1) keys) (get_or keys i 0) place rest n (map part_of runs) at_key wanted cfg came
-      new after id run work count (rest - count) (n + work) settled linked
-      (subst (λ r. IsRun (is r.entry.register) r) same true_run) (counts ∙ ap (λ l. min rest (length l)) are ∙ ap (λ r. min rest (length r.steps)) same) refl refl
-
--- the exit of the last run
-pub exit_last : {R P Z : Type 0} (c : Configuration R P) (runs : List (Arc (SegmentRun R P) Z × ℕ)) (x : Arc (SegmentRun R P) Z × ℕ) → Some x ≡ slice_get runs (length runs - 1)
-    → exit_of c (map part_of runs) ≡ (arc_value x.0).exit
-exit_last c [] x e = cc
-exit_last {R} {P} {Z} c (y ∷ []) x e = let same : y ≡ x = cc in ap (λ (z : Arc (SegmentRun R P) Z × ℕ). (arc_value z.0).exit) same
-exit_last c (y ∷ z ∷ rs) x e =
-    let less : length (y ∷ z ∷ rs) - 1 ≡ suc (length (z ∷ rs) - 1) = omega arith in
-    exit_last (arc_value y.0).exit (z ∷ rs) x (e ∙ ap (slice_get (y ∷ z ∷ rs)) less)
-
-some_last : {X : Type 0} (x : X) (xs : List X) → ◌≡◌ {A = Option X} None (slice_get (x ∷ xs) (length (x ∷ xs) - 1)) → ⊥
-some_last x [] e = cc
-some_last x (y ∷ xs) e =
-    let less : length (x ∷ y ∷ xs) - 1 ≡ suc (length (y ∷ xs) - 1) = omega arith in
-    some_last y xs (e ∙ ap (slice_get (x ∷ y ∷ xs)) less)
-
-pub exit_none : {R P Z : Type 0} (c : Configuration R P) (runs : List (Arc (SegmentRun R P) Z × ℕ)) → ◌≡◌ {A = Option (Arc (SegmentRun R P) Z × ℕ)} None (slice_get runs (length runs - 1))
-    → exit_of c (map part_of runs) ≡ c
-exit_none c [] e = refl
-exit_none c (x ∷ runs) e = absurd (some_last x runs e)
 
 pub part_last : {R P Z : Type 0} (runs : List (Arc (SegmentRun R P) Z × ℕ)) (x : Arc (SegmentRun R P) Z × ℕ)
     → map part_of (runs ++ x ∷ []) ≡ map part_of runs ++ part (arc_value x.0) x.1 ∷ []

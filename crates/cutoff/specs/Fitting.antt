@@ -1,5 +1,5 @@
 -- Stored runs: when they fit, and what a settle changes.
-use Rattle.std.specs.Prelude.{ℕ, ◌+◌, ◌-◌, ◌≡◌, ◌⊎◌, Bool, nat_eq, List, [], ◌∷◌, Option, MatchOption, length, map, if◌then◌else◌}
+use Rattle.std.specs.Prelude.{ℕ, ◌+◌, ◌-◌, ◌≡◌, ◌⊎◌, Bool, nat_eq, min, List, [], ◌∷◌, Option, None, Some, MatchOption, length, map, if◌then◌else◌}
 use Rattle.std.specs.Option.{option_map}
 use Rattle.std.specs.Arc.{arc_value}
 use Rattle.std.specs.declared.sync.Arc.{Arc}
@@ -52,15 +52,18 @@ module _ {R P : Type 0} where
   abbrev pub Fits : (R → R → Bool) → Cut (StoredRun R P) → Configuration R P → ℕ → Type 0
   Fits E cut c k = MatchOption (run_at cut k) ⊥ (RunFits E c (steps_at cut k))
 
--- the exit of the last of these runs, or c if there are none
-abbrev pub exit_of : {R P : Type 0} → Configuration R P → List (RunPart R P) → Configuration R P
-exit_of c [] = c
-exit_of c (part ∷ parts) = exit_of part.run.exit parts
-
 -- how many steps count in all these parts together
 abbrev pub counted : {R P : Type 0} → List (RunPart R P) → ℕ
 counted [] = 0
 counted (part ∷ parts) = part.count + counted parts
+
+-- these runs, up to the first that is missing, as far as they have the first `place` of their steps;
+-- each with how many of its steps are among these
+abbrev pub parts_of : {R P : Type 0} → ℕ → List (Option (SegmentRun R P)) → List (RunPart R P)
+parts_of place [] = []
+parts_of place (None ∷ runs) = []
+parts_of place (Some run ∷ runs) =
+    if nat_eq place 0 then [] else record { run = run; count = min place (length run.steps) } ∷ parts_of (place - min place (length run.steps)) runs
 
 -- the cells of the segment at a key, if there is one
 abbrev pub slots_at : {R P : Type 0} → Cut (StoredRun R P) → ℕ → Option (List Slot)

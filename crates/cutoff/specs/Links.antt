@@ -40,6 +40,14 @@ pub record IsLinked {R P : Type 0} (E : R → R → Bool) (h : R) (next : ℕ) (
   pub each : (k : ℕ) → IsTruePiece E h exits (piece_at cut.pieces k)
   pub reached_exit : IsExitOf exits above c
 
+-- the runs stored in `cut` are linked, and `above` is `None`, or the number of a run with the exit c
+abbrev pub IsLinkedAt : {R P : Type 0} → (R → R → Bool) → Configuration R P → ℕ → Option ℕ → Cut (StoredRun R P) → Type 0
+IsLinkedAt E c next above cut = IsLinked E c.register next above (without_register c) cut
+
+-- the runs stored in `cut`, of a chart that begins from `start`, are linked, for some number of runs
+abbrev pub AreLinked : {R P : Type 0} → (R → R → Bool) → Configuration R P → Cut (StoredRun R P) → Type 0
+AreLinked E start cut = (next : ℕ) × IsLinkedAt E start next None cut
+
 -- the number of a stored run; `None` if there is no run, or if it has no number
 abbrev pub run_number : {R P : Type 0} → Option (StoredRun R P) → Option ℕ
 run_number None = None

@@ -9,7 +9,7 @@ use Rattle.checkpoints.specs.Segment.{SegmentRun, IsRun}
 use Rattle.schedule_trie.specs.Forest.{step_of}
 use Rattle.schedule_trie.specs.Cut.{Cut, piece_at, slots_of, note_of, keys_in, has, line}
 use Rattle.schedule_trie.specs.Climbs.{keys_to, keys_up_to, HasClimbedTo}
-use Rattle.cutoff.specs.Fitting.{StoredRun, RunFits, reached, run_at, steps_at}
+use Rattle.cutoff.specs.Fitting.{StoredRun, RunFits, run_at, steps_at}
 use Rattle.cutoff.specs.Links.{number_at}
 
 -- the run stored at a key; `None` if there is no key or no run

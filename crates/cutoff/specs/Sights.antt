@@ -49,32 +49,6 @@ module _ {R P : Type 0} (E : R → R → Bool) (is : R → Behaviour P) (cut : C
   LooksBelow c k false old new = (Fits E cut c k → ⊥) × (new ≡ old ++ record { key = k; entry = c; steps = steps_at cut k } ∷ [])
 
   module _ (start : Configuration R P) where
-    -- one of these segments is the first that no stored run fits, and it has a job
-    abbrev pub MissesPlanned : List (Planned R P) → List ℕ → Type 0
-    MissesPlanned jobs keys =
-        (m : ℕ) × (end : Configuration R P) × Descends E (is start.register) cut start keys (Some m) end × (has m (map key_of jobs) ≡ true)
-
-    -- the answer to whether stored runs fit down to the key `last` is right on each branch that has
-    -- `last` (`None` is the place above all segments; every branch has it). If the answer is false,
-    -- the first segment that no stored run fits has a job
-    abbrev pub IsSeen : List (Planned R P) → Option ℕ → Bool → Type 0
-    IsSeen jobs last true = (i : ℕ) → HasClimbedTo (keys_in cut.strands i) last → RunsTo E is cut start last (keys_in cut.strands i)
-    IsSeen jobs last false = (i : ℕ) → HasClimbedTo (keys_in cut.strands i) last → MissesPlanned jobs (keys_to (keys_in cut.strands i) last)
-
-    -- what a plan has found at the key k is right: if it is `Fit`, stored runs fit down to k; if it
-    -- is `Unfit`, they don't, and the first segment that no stored run fits has a job; if it is
-    -- `Unseen`, k has no job
-    abbrev pub IsSight : List (Planned R P) → ℕ → Sight → Type 0
-    IsSight jobs k Unseen = has k (map key_of jobs) ≡ false
-    IsSight jobs k Fit = IsSeen jobs (Some k) true
-    IsSight jobs k Unfit = IsSeen jobs (Some k) false
-
-    -- what a plan has found at each key is right: if it is `Fit`, stored runs fit down to that key;
-    -- if it is `Unfit`, they don't, and the first segment that no stored run fits has a job; if it
-    -- is `Unseen`, that key has no job
-    abbrev pub AreSeen : List Sight → List (Planned R P) → Type 0
-    AreSeen seen jobs = (k : ℕ) → IsSight jobs k (sight_at seen k)
-
     -- one of these segments is the first that no stored run fits; `jobs` are `old`, with that
     -- segment's job added if the segment had none
     abbrev pub AddsMissed : List (Planned R P) → List (Planned R P) → List ℕ → Type 0
@@ -86,8 +60,20 @@ module _ {R P : Type 0} (E : R → R → Bool) (is : R → Behaviour P) (cut : C
     -- stored runs fit down to it. If true, they do, and no job was added. If false, they don't, and
     -- the job of the first segment that no stored run fits was added if that segment had none.
     abbrev pub HasDescended : List (Planned R P) → List (Planned R P) → Option ℕ → Bool → Type 0
-    HasDescended old jobs last true = IsSeen jobs last true × (jobs ≡ old)
+    HasDescended old jobs last true = ((i : ℕ) → HasClimbedTo (keys_in cut.strands i) last → RunsTo E is cut start last (keys_in cut.strands i)) × (jobs ≡ old)
     HasDescended old jobs last false = (i : ℕ) → HasClimbedTo (keys_in cut.strands i) last → AddsMissed old jobs (keys_to (keys_in cut.strands i) last)
+
+    -- what a plan has found at the key k is right: if it is `Fit`, stored runs fit down to k; if it
+    -- is `Unfit`, they don't, and the first segment that no stored run fits has a job; if it is
+    -- `Unseen`, k has no job
+    abbrev pub IsSight : List (Planned R P) → ℕ → Sight → Type 0
+    IsSight jobs k Unseen = has k (map key_of jobs) ≡ false
+    IsSight jobs k Fit = HasDescended jobs jobs (Some k) true
+    IsSight jobs k Unfit = HasDescended jobs jobs (Some k) false
+
+    -- what a plan has found at each key is right
+    abbrev pub AreSeen : List Sight → List (Planned R P) → Type 0
+    AreSeen seen jobs = (k : ℕ) → IsSight jobs k (sight_at seen k)
 
     -- A walk has reached the key right above `key` (`None` if there is none). If `fits` is true,
     -- stored runs fit down to that upper key, and no job was added. If `fits` is false, they don't,

@@ -17,8 +17,9 @@ mod limbs;
 
 use crate::install::{Installation, fits_down, has_segment};
 use crate::number::Number;
-use crate::plan::{Job, plan_all};
-use crate::settle::{Spot, settle_along, take_number};
+use crate::plan::{Base, Job, plan_all};
+use crate::runs::Spot;
+use crate::settle::{runs_in, take_number};
 use crate::stored::Stored;
 use checkpoints::run::Run;
 use frames::config::Config;
@@ -66,6 +67,7 @@ impl<R: Register> Chart<R> {
     /// # Errors
     ///
     /// Full if there are more steps than `limits.cells`; Memory.
+    #[tactic(auto, using(crate::proofs::Kept::refused_still, crate::proofs::Kept::out_of_memory))]
     pub fn new(
         alloc: Global,
         register: R,
@@ -102,6 +104,8 @@ impl<R: Register> Chart<R> {
         requires cut { IsCut trie }
         requires blank { IsBlank trie }
         ensures cut { IfOk result (λ c. c.cut ≡ trie) }
+        ensures whole { IfOk result (λ c. IsCut c.cut) }
+        ensures blank { IfOk result (λ c. IsBlank c.cut) }
         ensures start { let initial = initial_configuration (R.behaviour register) register value in
             IfOk result (λ c. c.start ≡ initial) }
         ensures value { IfOk result (λ c. c.value ≡ value) }
@@ -226,6 +230,7 @@ impl<R: Register> Chart<R> {
     ///
     /// NoBranch; NoPlace if the branch has fewer than `place` cells; Memory. On an error, some of
     /// the new runs, which fit, may have been stored; nothing else changes.
+    #[tactic(auto, using(crate::proofs::Kept::refused_still, crate::proofs::Kept::out_of_memory))]
     pub fn settle(&mut self, alloc: Global, branch: &Name, place: u32) -> Result<Spot<R>, Refusal>
         ensures ok { IfOk result
             (λ spot. IsSettled R.PartialEq.eq (R.behaviour self.old.start.register) self.old
@@ -240,19 +245,16 @@ impl<R: Register> Chart<R> {
         ensures start { self.new.start ≡ self.old.start }
         ensures value { self.new.value ≡ self.old.value }
     {
-        let there = branch_to(&self.trie, branch, place)?;
-        let keys = self.trie.keys_at(alloc, there.0)?;
-        self.mark = None;
-        self.fresh = Number::none();
-        let spot = settle_along(
-            alloc,
-            &mut self.trie,
-            &mut self.next,
-            &self.start,
-            &keys,
-            place,
-        )?;
-        Ok(spot)
+        let last = self.settle_last(alloc, branch, place)?;
+        let Some(index) = self.trie.index(branch) else {
+            unreachable!()
+        };
+        let keys = self.trie.keys_at(alloc, index)?;
+        let runs = runs_in(alloc, &self.trie, &keys, place)?;
+        Ok(Spot {
+            runs,
+            replayed: last.replayed,
+        })
     }
 
     /// For each branch, a job for its first segment that no stored run fits: the segment's key, the
@@ -274,7 +276,13 @@ impl<R: Register> Chart<R> {
         let Some(index) = self.trie.index(branch) else {
             return Err(Refusal::NoBranch);
         };
-        let jobs = plan_all(alloc, &self.trie, &self.start, self.mark, index)?;
+        let base = Base {
+            alloc,
+            trie: &self.trie,
+            start: &self.start,
+            mark: self.mark,
+        };
+        let jobs = plan_all(&base, index)?;
         Ok(jobs)
     }
 

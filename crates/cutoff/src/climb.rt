@@ -5,7 +5,7 @@
 ghost use Rattle.std.specs.Prelude.{◌≡◌, ◌≤◌, ◌+◌, ℕ, None, true, length};
 ghost use Rattle.schedule_trie.specs.Cut.{keys_in, line, piece_at, IsCut};
 ghost use Rattle.schedule_trie.specs.Climbs.{keys_to, HasClimbedTo};
-ghost use Rattle.cutoff.specs.Links.{IsLinked, without_register};
+ghost use Rattle.cutoff.specs.Links.{AreLinked};
 ghost use Rattle.cutoff.specs.Plans.{FitsDownTo};
 ghost use Rattle.cutoff.specs.Prefixes.{AreFresh, RunsDown};
 
@@ -28,8 +28,7 @@ pub(crate) fn comes_down<R: Register>(
     last: Option<SegKey>,
     config: &Config<R>,
 ) -> bool
-    requires linked { (next : ℕ) × IsLinked R.PartialEq.eq start.now.register next None
-        (without_register start.now) trie.now }
+    requires linked { AreLinked R.PartialEq.eq start.now trie.now }
     requires cut { IsCut trie.now }
     requires fresh { AreFresh R.PartialEq.eq R.behaviour trie.now start.now fresh }
     requires reached { (i : ℕ) × HasClimbedTo (keys_in trie.now.strands i) last }

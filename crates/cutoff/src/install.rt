@@ -4,10 +4,9 @@ ghost use Rattle.std.specs.Prelude.{◌≡◌, ℕ, None, Some, IsSome, true, fa
 ghost use Rattle.std.specs.Bool.{Decides};
 ghost use Rattle.schedule_trie.specs.Forest.{step_of};
 ghost use Rattle.schedule_trie.specs.Cut.{has, keys_in, note_of, piece_at, IsCut};
-ghost use Rattle.cutoff.specs.Links.{IsLinked, without_register};
 ghost use Rattle.checkpoints.specs.Segment.{IsRun};
 ghost use Rattle.cutoff.specs.Fitting.{StoredRun, steps_at};
-ghost use Rattle.cutoff.specs.Links.{number_at};
+ghost use Rattle.cutoff.specs.Links.{AreLinked, IsLinked, IsLinkedAt, number_at, without_register};
 ghost use Rattle.cutoff.specs.Plans.{FitsDown};
 ghost use Rattle.cutoff.specs.Prefixes.{RunGoesOn, AreFresh};
 
@@ -43,8 +42,7 @@ pub(crate) fn fits_down<R: Register>(
     key: SegKey,
     run: &Run<R>,
 ) -> (bool, Number)
-    requires linked { (next : ℕ) × IsLinked R.PartialEq.eq start.now.register next None
-        (without_register start.now) trie.now }
+    requires linked { AreLinked R.PartialEq.eq start.now trie.now }
     requires cut { IsCut trie.now }
     requires fresh { AreFresh R.PartialEq.eq R.behaviour trie.now start.now fresh }
     requires there { IsSome (piece_at trie.now.pieces key) }
@@ -53,7 +51,7 @@ pub(crate) fn fits_down<R: Register>(
         (FitsDown R.PartialEq.eq (R.behaviour start.now.register) trie.now key run.now
         start.now (keys_in trie.now.strands i)) }
     ensures moved { result.0 ≡ true → (next : ℕ)
-        → IsLinked R.PartialEq.eq start.now.register next None (without_register start.now) trie.now
+        → IsLinkedAt R.PartialEq.eq start.now next None trie.now
         → IsLinked R.PartialEq.eq start.now.register next result.1 (without_register run.now.entry)
         trie.now }
     ensures runs { result.0 ≡ true

@@ -1,6 +1,6 @@
-//! Settling a branch's first cells for a caller that needs only the last of their stored runs.
-//! If some of these cells are in the marked segment, the segments above it aren't visited: stored
-//! runs are already known to fit them.
+//! Settling a branch's first cells, and the last of their stored runs. If some of these cells are
+//! in the marked segment, the segments above it aren't visited: stored runs are already known to
+//! fit them.
 
 ghost use Rattle.std.specs.Prelude.{◌≡◌, ◌≤◌, ℕ, None, Some, true, IfOk, OnOk, OnErr, length};
 ghost use Rattle.std.specs.Arc.{arc_value};
@@ -11,12 +11,12 @@ ghost use Rattle.schedule_trie.specs.Cut.{forest, keys_in, line, piece_at, IsCut
 ghost use Rattle.cutoff.specs.Fitting.{KeepsRuns, reached, run_at, steps_at};
 ghost use Rattle.cutoff.specs.Settles.{IsSegmentSettled, IsFilled, SettlesTo};
 ghost use Rattle.cutoff.specs.Charts.{StepsFit};
-ghost use Rattle.cutoff.specs.Links.{IsLinked, without_register};
+ghost use Rattle.cutoff.specs.Links.{AreLinked, IsLinkedAt};
 ghost use Rattle.cutoff.specs.Prefixes.{IsMarked, IsPlaceIn, IsLeft, exit_or_start, exit_or, run_named};
 
 use crate::number::Number;
 use crate::prefix::{Rest, keys_down_to, rest_to};
-use crate::settle::{fitting, settle_segment};
+use crate::settle::{fitting, replay_segment};
 use crate::stored::Stored;
 use checkpoints::run::Run;
 use frames::config::Config;
@@ -58,14 +58,11 @@ pub(crate) fn exit_named<'a, R: Register>(
     start: &'a Config<R>,
     key: Option<SegKey>,
 ) -> (&'a Config<R>, Number)
-    requires linked { (next : ℕ) × IsLinked R.PartialEq.eq start.now.register next None
-        (without_register start.now) trie.now }
+    requires linked { AreLinked R.PartialEq.eq start.now trie.now }
     ensures exit { result.0.now ≡ exit_or_start trie.now start.now key }
     ensures own { R.PartialEq.eq result.0.now.register start.now.register ≡ true }
-    ensures moved { (next : ℕ) → IsLinked R.PartialEq.eq start.now.register next None
-        (without_register start.now) trie.now
-        → IsLinked R.PartialEq.eq result.0.now.register next result.1
-        (without_register result.0.now) trie.now }
+    ensures moved { (next : ℕ) → IsLinkedAt R.PartialEq.eq start.now next None trie.now
+        → IsLinkedAt R.PartialEq.eq result.0.now next result.1 trie.now }
 {
     let Some(key) = key else {
         return (start, Number::none());
@@ -91,32 +88,6 @@ fn exit_or<R: Register>(
     Ok(exit)
 }
 
-/// Whether settling the segment `key` would change nothing: its stored run fits at the exit of the
-/// run stored in the segment `above`, or at the start if there is no run above, and its link needs
-/// no change.
-fn is_known_after<R: Register>(
-    trie: &Trie<Stored<R>>,
-    start: &Config<R>,
-    above: Option<SegKey>,
-    key: SegKey,
-) -> bool
-    requires linked { (next : ℕ) × IsLinked R.PartialEq.eq start.now.register next None
-        (without_register start.now) trie.now }
-    ensures { result ≡ true → (run : SegmentRun R R.Pending)
-        × IsSegmentSettled R.PartialEq.eq trie.now trie.now (exit_or_start trie.now start.now above)
-        key
-        run 0 × IsRun (R.behaviour run.entry.register) run }
-{
-    let (config, number) = exit_named(trie, start, above);
-    match fitting(trie, key, config, number) {
-        Some(stored) => {
-            let _exit = stored.exit();
-            stored.is_as_found(number)
-        }
-        None => false,
-    }
-}
-
 /// Settles the segment `key` at the exit of the run stored in the segment `above`, or at the start
 /// if there is no run above. Returns how many steps were replayed. On an error no segment changes.
 fn settle_after<R: Register>(
@@ -127,27 +98,30 @@ fn settle_after<R: Register>(
     above: Option<SegKey>,
     key: SegKey,
 ) -> Result<u32, AllocError>
-    requires linked { IsLinked R.PartialEq.eq start.now.register next.old None
-        (without_register start.now) trie.old }
+    requires linked { IsLinkedAt R.PartialEq.eq start.now next.old None trie.old }
     requires short { length (steps_at trie.old key) ≤ 128 }
     requires fits { AllFit (R.behaviour start.now.register) (steps_at trie.old key) }
     ensures settled { IfOk result (λ n. (run : SegmentRun R R.Pending)
         × IsSegmentSettled R.PartialEq.eq trie.old trie.new (exit_or_start trie.old start.now above)
         key
         run n × IsRun (R.behaviour run.entry.register) run) }
-    ensures linked { IsLinked R.PartialEq.eq start.now.register next.new None
-        (without_register start.now) trie.new }
+    ensures linked { IsLinkedAt R.PartialEq.eq start.now next.new None trie.new }
     ensures unchanged { OnErr result (trie.new ≡ trie.old) }
 {
-    if is_known_after(trie, start, above, key) {
+    let (config, number) = exit_named(trie, start, above);
+    if let Some(stored) = fitting(trie, key, config, number) {
+        let _exit = stored.exit();
+        if stored.is_as_found(number) {
+            return Ok(0);
+        }
+        let again = stored.following(number)?;
+        trie.set_note(key, Some(again));
         return Ok(0);
     }
-    let (_, number) = exit_named(trie, start, above);
     let run = run_named(trie, above)?;
     let config = exit_or(alloc, start, run)?;
-    let settled = settle_segment(alloc, trie, next, key, &config, number)?;
-    let _steps = settled.run().steps();
-    Ok(settled.replayed())
+    let replayed = replay_segment(alloc, trie, next, key, &config, number)?;
+    Ok(replayed)
 }
 
 /// Settles the segments `rest.keys`, and then those below `rest.hung` down to `key`. Stops once
@@ -161,8 +135,7 @@ fn settle_rest<R: Register>(
     rest: &Rest,
     key: SegKey,
 ) -> Result<u32, AllocError>
-    requires linked { IsLinked R.PartialEq.eq start.now.register next.old None
-        (without_register start.now) trie.old }
+    requires linked { IsLinkedAt R.PartialEq.eq start.now next.old None trie.old }
     requires cut { IsCut trie.old }
     requires left { (i : ℕ) × (count : ℕ) × (place : ℕ) × IsLeft R.PartialEq.eq R.behaviour trie.old
         start.now rest.now.front rest.now.keys.items rest.now.hung key count place i
@@ -175,8 +148,7 @@ fn settle_rest<R: Register>(
         rest.now.front rest.now.keys.items rest.now.hung key count place i
         → KeepsRuns trie.old trie.new (IsFilled R.PartialEq.eq (R.behaviour start.now.register)
         trie.old trie.new start.now (reached trie.old place (keys_in trie.old.strands i))) }
-    ensures linked { IsLinked R.PartialEq.eq start.now.register next.new None
-        (without_register start.now) trie.new }
+    ensures linked { IsLinkedAt R.PartialEq.eq start.now next.new None trie.new }
 {
     let mut replayed = 0;
     let mut last = 0;
@@ -213,8 +185,7 @@ pub(crate) fn settle_to<R: Register>(
     mark: Option<SegKey>,
     key: SegKey,
 ) -> Result<(Arc<Run<R>>, u32), AllocError>
-    requires linked { IsLinked R.PartialEq.eq start.now.register next.old None
-        (without_register start.now) trie.old }
+    requires linked { IsLinkedAt R.PartialEq.eq start.now next.old None trie.old }
     requires cut { IsCut trie.old }
     requires marked { IsMarked R.PartialEq.eq R.behaviour trie.old start.now mark }
     requires fits { StepsFit (R.behaviour start.now.register) (forest trie.old) }
@@ -228,8 +199,7 @@ pub(crate) fn settle_to<R: Register>(
     ensures keeps { (i count place : ℕ) → IsPlaceIn trie.old key count place i
         → KeepsRuns trie.old trie.new (IsFilled R.PartialEq.eq (R.behaviour start.now.register)
         trie.old trie.new start.now (reached trie.old place (keys_in trie.old.strands i))) }
-    ensures linked { IsLinked R.PartialEq.eq start.now.register next.new None
-        (without_register start.now) trie.new }
+    ensures linked { IsLinkedAt R.PartialEq.eq start.now next.new None trie.new }
 {
     let rest = rest_to(alloc, trie, start, mark, key)?;
     let replayed = settle_rest(alloc, trie, next, start, &rest, key)?;

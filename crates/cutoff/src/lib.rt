@@ -16,7 +16,7 @@ mod number;
 pub mod plan;
 mod prefix;
 pub mod runs;
-pub mod settle;
+mod settle;
 mod sight;
 mod stored;
 
@@ -24,5 +24,4 @@ pub use chart::Chart;
 pub use install::Installation;
 pub use last::Last;
 pub use plan::Job;
-pub use runs::Runs;
-pub use settle::Spot;
+pub use runs::{Runs, Spot};

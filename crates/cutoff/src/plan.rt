@@ -7,7 +7,7 @@ ghost use Rattle.schedule_trie.specs.Forest.{step_of};
 ghost use Rattle.schedule_trie.specs.Cut.{keys_in, forest, IsCut};
 ghost use Rattle.cutoff.specs.Fitting.{steps_at};
 ghost use Rattle.cutoff.specs.Charts.{StepsFit};
-ghost use Rattle.cutoff.specs.Links.{IsLinked, without_register};
+ghost use Rattle.cutoff.specs.Links.{AreLinked};
 ghost use Rattle.cutoff.specs.Plans.{Descends, Planned, Plans, with_job, job_of, keys_of};
 ghost use Rattle.cutoff.specs.Prefixes.{IsMarked, exit_or_start};
 ghost use Rattle.cutoff.specs.Sights.{AreSeen, HasDescendedAbove, HasDescended, IsUnseenPart, LooksBelow, sight_at, unseen};
@@ -55,33 +55,42 @@ struct Planning<R: Register> {
     seen: Vec<Sight>,
 }
 
+/// What a plan is made from: memory; the branches, with their stored runs; the configuration before
+/// their first steps; and the marked segment.
+#[derive(Drop)]
+pub(crate) struct Base<'a, R: Register> {
+    pub(crate) alloc: Global,
+    pub(crate) trie: &'a Trie<Stored<R>>,
+    pub(crate) start: &'a Config<R>,
+    pub(crate) mark: Option<SegKey>,
+}
+
 /// For each branch, a job for its first segment that no stored run fits. The job of the branch at
 /// `index`, if it has one, comes first, then the jobs of the other branches in order. No segment
 /// has two jobs. Each segment is visited at most once. To plan for a branch that has the marked
 /// segment, only segments below the marked one are visited.
 pub(crate) fn plan_all<R: Register>(
-    alloc: Global,
-    trie: &Trie<Stored<R>>,
-    start: &Config<R>,
-    mark: Option<SegKey>,
+    base: &Base<'_, R>,
     index: usize,
 ) -> Result<Vec<Job<R>>, AllocError>
-    requires linked { (next : ℕ) × IsLinked R.PartialEq.eq start.now.register next None
-        (without_register start.now) trie.now }
-    requires cut { IsCut trie.now }
-    requires marked { IsMarked R.PartialEq.eq R.behaviour trie.now start.now mark }
-    requires fits { StepsFit (R.behaviour start.now.register) (forest trie.now) }
+    requires linked { AreLinked R.PartialEq.eq base.now.start.now base.now.trie.now }
+    requires cut { IsCut base.now.trie.now }
+    requires marked { IsMarked R.PartialEq.eq R.behaviour base.now.trie.now base.now.start.now
+        base.now.mark }
+    requires fits { StepsFit (R.behaviour base.now.start.now.register) (forest base.now.trie.now) }
     ensures { IfOk result
-        (λ jobs. Plans R.PartialEq.eq (R.behaviour start.now.register) trie.now start.now []
-        (keys_in trie.now.strands index ∷ map keys_of trie.now.strands) jobs.items) }
+        (λ jobs. Plans R.PartialEq.eq (R.behaviour base.now.start.now.register) base.now.trie.now
+        base.now.start.now []
+        (keys_in base.now.trie.now.strands index ∷ map keys_of base.now.trie.now.strands)
+        jobs.items) }
 {
     let mut planning = Planning {
-        jobs: Vec::new(alloc),
-        seen: Vec::with_capacity(alloc, MORE_SIGHTS)?,
+        jobs: Vec::new(base.alloc),
+        seen: Vec::with_capacity(base.alloc, MORE_SIGHTS)?,
     };
-    plan_branch(alloc, trie, start, mark, index, &mut planning)?;
-    for other in 0..trie.branches() as usize {
-        plan_branch(alloc, trie, start, mark, other, &mut planning)?;
+    plan_branch(base, index, &mut planning)?;
+    for other in 0..base.trie.branches() as usize {
+        plan_branch(base, other, &mut planning)?;
     }
     let Planning { jobs, .. } = planning;
     Ok(jobs)
@@ -90,32 +99,29 @@ pub(crate) fn plan_all<R: Register>(
 /// Adds a job for the first segment of the branch at `index` that no stored run fits, if there is
 /// such a segment and it has no job yet.
 fn plan_branch<R: Register>(
-    alloc: Global,
-    trie: &Trie<Stored<R>>,
-    start: &Config<R>,
-    mark: Option<SegKey>,
+    base: &Base<'_, R>,
     index: usize,
     planning: &mut Planning<R>,
 ) -> Result<(), AllocError>
-    requires linked { (next : ℕ) × IsLinked R.PartialEq.eq start.now.register next None
-        (without_register start.now) trie.now }
-    requires cut { IsCut trie.now }
-    requires marked { IsMarked R.PartialEq.eq R.behaviour trie.now start.now mark }
-    requires fits { StepsFit (R.behaviour start.now.register) (forest trie.now) }
-    requires seen { AreSeen R.PartialEq.eq R.behaviour trie.now start.now planning.old.seen.items
-        planning.old.jobs.items }
-    ensures seen { OnOk result (AreSeen R.PartialEq.eq R.behaviour trie.now start.now
-        planning.new.seen.items planning.new.jobs.items) }
+    requires linked { AreLinked R.PartialEq.eq base.now.start.now base.now.trie.now }
+    requires cut { IsCut base.now.trie.now }
+    requires marked { IsMarked R.PartialEq.eq R.behaviour base.now.trie.now base.now.start.now
+        base.now.mark }
+    requires fits { StepsFit (R.behaviour base.now.start.now.register) (forest base.now.trie.now) }
+    requires seen { AreSeen R.PartialEq.eq R.behaviour base.now.trie.now base.now.start.now
+        planning.old.seen.items planning.old.jobs.items }
+    ensures seen { OnOk result (AreSeen R.PartialEq.eq R.behaviour base.now.trie.now
+        base.now.start.now planning.new.seen.items planning.new.jobs.items) }
     ensures adds { OnOk result ((missed : Option ℕ) × (end : Configuration R R.Pending)
-        × Descends R.PartialEq.eq (R.behaviour start.now.register) trie.now start.now
-        (keys_in trie.now.strands index) missed end
+        × Descends R.PartialEq.eq (R.behaviour base.now.start.now.register) base.now.trie.now
+        base.now.start.now (keys_in base.now.trie.now.strands index) missed end
         × (planning.new.jobs.items ≡ with_job planning.old.jobs.items
-        (job_of trie.now missed end))) }
+        (job_of base.now.trie.now missed end))) }
 {
-    let (above_fits, keys) = unseen_keys(alloc, trie, mark, &planning.seen, index)?;
+    let (above_fits, keys) = unseen_keys(base, &planning.seen, index)?;
     let mut fits = above_fits;
     for key in &keys {
-        fits = visit(alloc, trie, start, *key, fits, planning)?;
+        fits = visit(base, *key, fits, planning)?;
     }
     Ok(())
 }
@@ -124,25 +130,24 @@ fn plan_branch<R: Register>(
 /// Returns whether stored runs fit down to that segment, and the keys of the branch's segments
 /// below that one, in order. If it meets no such segment, returns true and all keys of the branch.
 fn unseen_keys<R: Register>(
-    alloc: Global,
-    trie: &Trie<Stored<R>>,
-    mark: Option<SegKey>,
+    base: &Base<'_, R>,
     seen: &[Sight],
     index: usize,
 ) -> Result<(bool, Vec<SegKey>), AllocError>
-    requires { IsCut trie.now }
+    requires { IsCut base.now.trie.now }
     ensures { IfOk result
-        (λ r. IsUnseenPart mark seen.now (keys_in trie.now.strands index) r.0 r.1.items) }
+        (λ r. IsUnseenPart base.now.mark seen.now (keys_in base.now.trie.now.strands index) r.0
+        r.1.items) }
 {
-    let mut keys = Vec::new(alloc);
-    let mut at = trie.last_at(index);
+    let mut keys = Vec::new(base.alloc);
+    let mut at = base.trie.last_at(index);
     while let Some(key) = at {
-        if let Some(fits) = known(mark, seen, key) {
+        if let Some(fits) = known(base.mark, seen, key) {
             keys.reverse();
             return Ok((fits, keys));
         }
         keys.push(key)?;
-        at = trie.above(key);
+        at = base.trie.above(key);
     }
     keys.reverse();
     Ok((true, keys))
@@ -152,42 +157,40 @@ fn unseen_keys<R: Register>(
 /// whether they fit down to the segment right above. If they do, but no stored run fits this
 /// segment, adds its job.
 fn visit<R: Register>(
-    alloc: Global,
-    trie: &Trie<Stored<R>>,
-    start: &Config<R>,
+    base: &Base<'_, R>,
     key: SegKey,
     above_fits: bool,
     planning: &mut Planning<R>,
 ) -> Result<bool, AllocError>
-    requires linked { (next : ℕ) × IsLinked R.PartialEq.eq start.now.register next None
-        (without_register start.now) trie.now }
-    requires cut { IsCut trie.now }
-    requires fits { AllFit (R.behaviour start.now.register) (steps_at trie.now key) }
-    requires seen { AreSeen R.PartialEq.eq R.behaviour trie.now start.now planning.old.seen.items
-        planning.old.jobs.items }
+    requires linked { AreLinked R.PartialEq.eq base.now.start.now base.now.trie.now }
+    requires cut { IsCut base.now.trie.now }
+    requires fits { AllFit (R.behaviour base.now.start.now.register) (steps_at base.now.trie.now
+        key) }
+    requires seen { AreSeen R.PartialEq.eq R.behaviour base.now.trie.now base.now.start.now
+        planning.old.seen.items planning.old.jobs.items }
     requires new { sight_at planning.old.seen.items key ≡ unseen }
     requires arrives { (jobs : List (Planned R R.Pending))
-        × HasDescendedAbove R.PartialEq.eq R.behaviour trie.now start.now jobs
+        × HasDescendedAbove R.PartialEq.eq R.behaviour base.now.trie.now base.now.start.now jobs
         planning.old.jobs.items key
         above_fits }
-    ensures seen { OnOk result (AreSeen R.PartialEq.eq R.behaviour trie.now start.now
-        planning.new.seen.items planning.new.jobs.items) }
+    ensures seen { OnOk result (AreSeen R.PartialEq.eq R.behaviour base.now.trie.now
+        base.now.start.now planning.new.seen.items planning.new.jobs.items) }
     ensures others { OnOk result ((k : ℕ) → (k ≡ key → ⊥)
         → sight_at planning.new.seen.items k ≡ sight_at planning.old.seen.items k) }
     ensures arrives { IfOk result (λ fits. (jobs : List (Planned R R.Pending))
-        → HasDescendedAbove R.PartialEq.eq R.behaviour trie.now start.now jobs
+        → HasDescendedAbove R.PartialEq.eq R.behaviour base.now.trie.now base.now.start.now jobs
         planning.old.jobs.items key
         above_fits
-        → HasDescended R.PartialEq.eq R.behaviour trie.now start.now jobs planning.new.jobs.items
-        (Some key)
+        → HasDescended R.PartialEq.eq R.behaviour base.now.trie.now base.now.start.now jobs
+        planning.new.jobs.items (Some key)
         fits) }
 {
-    let above = trie.above(key);
+    let above = base.trie.above(key);
     if !above_fits {
         see(&mut planning.seen, key, false)?;
         return Ok(false);
     }
-    let fits = look_below(alloc, trie, start, above, key, &mut planning.jobs)?;
+    let fits = look_below(base, above, key, &mut planning.jobs)?;
     see(&mut planning.seen, key, fits)?;
     Ok(fits)
 }
@@ -195,25 +198,24 @@ fn visit<R: Register>(
 /// Whether the run stored in the segment `key` fits at the exit of the run stored in the segment
 /// `above`, or at the start if there is none. If not, adds the segment's job.
 fn look_below<R: Register>(
-    alloc: Global,
-    trie: &Trie<Stored<R>>,
-    start: &Config<R>,
+    base: &Base<'_, R>,
     above: Option<SegKey>,
     key: SegKey,
     jobs: &mut Vec<Job<R>>,
 ) -> Result<bool, AllocError>
-    requires linked { (next : ℕ) × IsLinked R.PartialEq.eq start.now.register next None
-        (without_register start.now) trie.now }
-    requires fits { AllFit (R.behaviour start.now.register) (steps_at trie.now key) }
-    ensures { IfOk result (λ fits. LooksBelow R.PartialEq.eq R.behaviour trie.now
-        (exit_or_start trie.now start.now above) key fits jobs.old.items jobs.new.items) }
+    requires linked { AreLinked R.PartialEq.eq base.now.start.now base.now.trie.now }
+    requires fits { AllFit (R.behaviour base.now.start.now.register) (steps_at base.now.trie.now
+        key) }
+    ensures { IfOk result (λ fits. LooksBelow R.PartialEq.eq R.behaviour base.now.trie.now
+        (exit_or_start base.now.trie.now base.now.start.now above) key fits jobs.old.items
+        jobs.new.items) }
 {
-    let (config, number) = exit_named(trie, start, above);
-    if let Some(stored) = fitting(trie, key, config, number) {
+    let (config, number) = exit_named(base.trie, base.start, above);
+    if let Some(stored) = fitting(base.trie, key, config, number) {
         let _exit = stored.exit();
         return Ok(true);
     }
-    let job = job_at(alloc, trie, key, config)?;
+    let job = job_at(base.alloc, base.trie, key, config)?;
     jobs.push(job)?;
     Ok(false)
 }

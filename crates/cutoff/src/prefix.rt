@@ -8,7 +8,7 @@ ghost use Rattle.std.specs.Bool.{Decides};
 ghost use Rattle.frames.specs.Configuration.{Configuration};
 ghost use Rattle.schedule_trie.specs.Cut.{forest, has, keys_in, IsCut};
 ghost use Rattle.schedule_trie.specs.Climbs.{keys_up_to};
-ghost use Rattle.cutoff.specs.Links.{IsLinked, without_register};
+ghost use Rattle.cutoff.specs.Links.{AreLinked};
 ghost use Rattle.cutoff.specs.Prefixes.{AreKeysAfter, IsMarked, IsKnown, IsPlaceIn, IsHung, IsLeft};
 ghost use Rattle.cutoff.specs.Charts.{StepsFit};
 
@@ -39,8 +39,7 @@ fn known_prefix<R: Register>(
     mark: Option<SegKey>,
     key: SegKey,
 ) -> Option<SegKey>
-    requires linked { (next : ℕ) × IsLinked R.PartialEq.eq start.now.register next None
-        (without_register start.now) trie.now }
+    requires linked { AreLinked R.PartialEq.eq start.now trie.now }
     requires cut { IsCut trie.now }
     requires marked { IsMarked R.PartialEq.eq R.behaviour trie.now start.now mark }
     requires there { (i : ℕ) × (has key (keys_in trie.now.strands i) ≡ true) }
@@ -69,8 +68,8 @@ fn known_prefix<R: Register>(
 /// itself if that segment is marked, has no stored run, or has a run that hangs from none. Compares
 /// only numbers.
 fn hung_from<R: Register>(trie: &Trie<Stored<R>>, mark: Option<SegKey>, key: SegKey) -> SegKey
-    requires linked { (start : Configuration R R.Pending) × (next : ℕ)
-        × IsLinked R.PartialEq.eq start.register next None (without_register start) trie.now }
+    requires linked { (start : Configuration R R.Pending)
+        × AreLinked R.PartialEq.eq start trie.now }
     requires cut { IsCut trie.now }
     requires there { (i : ℕ) × (has key (keys_in trie.now.strands i) ≡ true) }
     ensures { (i : ℕ) → has key (keys_in trie.now.strands i) ≡ true
@@ -126,8 +125,7 @@ pub(crate) fn rest_to<R: Register>(
     mark: Option<SegKey>,
     key: SegKey,
 ) -> Result<Rest, AllocError>
-    requires linked { (next : ℕ) × IsLinked R.PartialEq.eq start.now.register next None
-        (without_register start.now) trie.now }
+    requires linked { AreLinked R.PartialEq.eq start.now trie.now }
     requires cut { IsCut trie.now }
     requires marked { IsMarked R.PartialEq.eq R.behaviour trie.now start.now mark }
     requires fits { StepsFit (R.behaviour start.now.register) (forest trie.now) }

@@ -41,3 +41,11 @@ impl<R: Register> Runs<R> {
         &self.items
     }
 }
+
+/// The result of settling a branch's first cells: their stored runs, and how many steps were
+/// replayed to make the new ones among them.
+#[derive(Drop)]
+pub struct Spot<R: Register> {
+    pub runs: Runs<R>,
+    pub replayed: u32,
+}

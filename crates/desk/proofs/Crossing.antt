@@ -26,7 +26,7 @@ use Rattle.turn.proofs.turn.Turn.TheSendSync as turns
 use Rattle.turn.specs.contracts.chair.Chair as chair
 use Rattle.turn.proofs.chair.Chair.TheSendSync as chairs
 use Rattle.sessions.proofs.log.Entry.TheSendSync as entries
-use Rattle.sessions.proofs.stage.Stage.TheSendSync as stages
+use Rattle.sessions.proofs.workspace.Workspace.TheSendSync as workspaces
 use Rattle.sessions.specs.contracts.book.Book as book
 use Rattle.sessions.specs.contracts.book.Book.TheInside as book_inside
 use Rattle.turn.specs.declared.counted.Counted as counted
@@ -41,7 +41,7 @@ module _ (T T' : RattleType) (r : register.Ghosts T.Denot T'.Denot) (b : behaves
   book_send : IsSend (book.the_row T T' r b e' e)
   book_send = view_send (book_inside.the_row T T' r b e' e) _ _ _ _
       (recorded_send (book_inside.the_field T T' r b e' e).row _ _ (book_inside.the_type T T' r b e' e).to_one
-      (struct_send (declared.shape (book_inside.the_type T T' r b e' e)) (search crosses, (stages.the_send T T' r b e' e send sync, (Vec-send _ entries.the_send, tt)))))
+      (struct_send (declared.shape (book_inside.the_type T T' r b e' e)) (search crosses, (search crosses, (workspaces.the_field_send T T' r b e' e send sync, (Vec-send _ entries.the_send, tt))))))
 
   journal_send : IsSend (journal.the_row T T' r b e' e)
   journal_send = view_send (journal_inside.the_row T T' r b e' e) _ _ _ _

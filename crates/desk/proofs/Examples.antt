@@ -1,6 +1,6 @@
 -- Worked examples of definitions that state an existence: one that holds, and a near miss.
 use Rattle.std.specs.Prelude.{⊤}
-use Rattle.std.proofs.Common.{◌≡◌, ◌++◌, true, false, List, [], ◌∷◌, None, Err, length, codes, replicate, ap, refl, sym, ◌∙◌, subst, inr, arith}
+use Rattle.std.proofs.Common.{ℕ, ◌≡◌, ◌++◌, true, false, List, [], ◌∷◌, None, Err, length, codes, replicate, ap, refl, sym, ◌∙◌, subst, inr, arith}
 use Rattle.frames.specs.declared.safe.SafePoint.{SafePoint}
 use Rattle.frames.specs.Behaviour.{Behaviour}
 use Rattle.frames.specs.SafeBit.{safe_behaviour}
@@ -16,6 +16,7 @@ use Rattle.sessions.specs.declared.reply.Reply.TheVariants.{Joined, No}
 use Rattle.sessions.specs.declared.log.Entry.{Entry}
 use Rattle.sessions.specs.Books.{Held, Staged, opening_of}
 use Rattle.sessions.specs.Logs.{entry, world_after}
+use Rattle.sessions.specs.World.{World}
 use Rattle.desk.specs.declared.item.Item.{Item}
 use Rattle.desk.specs.declared.report.Report.{Report}
 use Rattle.desk.specs.Works.{NeedsBranch}
@@ -93,18 +94,22 @@ Received-holds = record {
 Received-fails : Received is first 3 None command.Join (having []) (having []) (record { at = 0; reply = Joined }) → ⊥
 Received-fails h = nothing h.found [] _ h.sees
 
--- a reading answers with the length of the history that it found, which has no call
-Reads-holds : Reads is first (λ n world. n ≡ 0) (having []) (having [])
-Reads-holds = record {
+-- a reading that finds no call
+found_so : (says : ℕ → World SafePoint → Type 0) → says 0 (opening_of is first) → Reads is first says (having []) (having [])
+found_so says answer = record {
   found = [];
   finds = found_nothing;
   legal = tt;
-  answers = refl;
+  answers = answer;
   sees = refl;
   calls = refl;
   shares = refl;
   reported = refl;
 }
+
+-- a reading answers with the length of the history that it found, which has no call
+Reads-holds : Reads is first (λ n world. n ≡ 0) (having []) (having [])
+Reads-holds = found_so (λ n world. n ≡ 0) refl
 
 -- the history that was found has one call, and the answer is 0
 Reads-fails : Reads is first (λ n world. n ≡ 0) (having []) (having (join ∷ [])) → ⊥
@@ -115,20 +120,7 @@ stays = record { begins = ([], refl); whole = λ all. refl; calls = refl; shares
 
 -- a fill finds no branch `a`
 Filled-holds : Filled is first (codes "a") (having []) (having []) (Err NoBranch)
-Filled-holds = (
-  having [],
-  record {
-    found = [];
-    finds = found_nothing;
-    legal = tt;
-    answers = refl;
-    sees = refl;
-    calls = refl;
-    shares = refl;
-    reported = refl;
-  },
-  stays,
-)
+Filled-holds = (having [], found_so (λ n world. NeedsBranch {A = Report} (codes "a") world (Err NoBranch)) refl, stays)
 
 -- it finds no branch `main`, which is there
 Filled-fails : Filled is first (codes "main") (having []) (having []) (Err NoBranch) → ⊥

@@ -6,9 +6,9 @@ use Rattle.schedule_trie.specs.declared.refusal.Refusal.{Refusal}
 use Rattle.schedule_trie.specs.declared.refusal.Refusal.TheVariants.{LogFull, Memory}
 use Rattle.schedule_trie.specs.Cut.{if_lacks}
 use Rattle.schedule_trie.specs.Forest.{index_of}
-use Rattle.views.specs.declared.page.Page.{Page}
-use Rattle.views.specs.declared.query.Query.{Query}
-use Rattle.views.specs.Strays.{IsRegularOrAtomic, ShowsNoStray}
+use Rattle.pages.specs.declared.page.Page.{Page}
+use Rattle.pages.specs.declared.query.Query.{Query}
+use Rattle.pages.specs.Strays.{IsRegularOrAtomic, ShowsNoStray}
 use Rattle.turn.specs.declared.view.View.{View}
 use Rattle.turn.specs.Shares.{HasAll, chair_number}
 use Rattle.turn.specs.Histories.{StartsWith, Holding}

@@ -4,7 +4,7 @@ use Rattle.std.specs.Prelude.{ℕ, ◌+◌, ◌<◌, ◌≡◌, ◌≤◌, ◌�
 use Rattle.frames.specs.Behaviour.{Behaviour}
 use Rattle.schedule_trie.specs.declared.refusal.Refusal.{Refusal}
 use Rattle.schedule_trie.specs.declared.refusal.Refusal.TheVariants.{LogFull, Memory}
-use Rattle.views.specs.declared.query.Query.{Query}
+use Rattle.pages.specs.declared.query.Query.{Query}
 use Rattle.turn.specs.declared.view.View.{View}
 use Rattle.turn.specs.declared.chair.Chair.{Chair}
 use Rattle.turn.specs.Shares.{HasAll, chair_number}

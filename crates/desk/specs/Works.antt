@@ -6,10 +6,10 @@ use Rattle.schedule_trie.specs.declared.refusal.Refusal.{Refusal}
 use Rattle.schedule_trie.specs.declared.refusal.Refusal.TheVariants.{LogFull, Memory}
 use Rattle.schedule_trie.specs.Cut.{if_lacks}
 use Rattle.schedule_trie.specs.Forest.{IsRefused, index_of}
-use Rattle.views.specs.declared.page.Page.{Page}
-use Rattle.views.specs.declared.query.Query.{Query}
+use Rattle.pages.specs.declared.page.Page.{Page}
+use Rattle.pages.specs.declared.query.Query.{Query}
 use Rattle.views.specs.Slips.{Slipped}
-use Rattle.views.specs.Strays.{IsRegularOrAtomic, ShowsNoStray}
+use Rattle.pages.specs.Strays.{IsRegularOrAtomic, ShowsNoStray}
 use Rattle.sessions.specs.declared.command.Command.{Command}
 use Rattle.sessions.specs.declared.log.Entry.{Entry}
 use Rattle.sessions.specs.declared.reply.Reply.TheVariants.{No}

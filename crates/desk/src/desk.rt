@@ -16,7 +16,7 @@ ghost use Rattle.sessions.specs.Logs.{IsLegal};
 ghost use Rattle.sessions.specs.Books.{opening_of};
 ghost use Rattle.desk.specs.Items.{items, made_under};
 ghost use Rattle.desk.specs.Histories.{seen};
-ghost use Rattle.views.specs.Strays.{IsRegularOrAtomic, ShowsNoStray};
+ghost use Rattle.pages.specs.Strays.{IsRegularOrAtomic, ShowsNoStray};
 ghost use Rattle.desk.specs.Works.{IsPaged, answer_by};
 ghost use Rattle.desk.specs.Chairs.{IsChairOf, Received, Looked, book_at_first};
 

@@ -137,7 +137,8 @@ where
         ensures owns { OwnsItsCalls made_under (view chair.new) }
         ensures sum { IfOk result IsSum }
     {
-        let mut round = self.round(filling, chair, jobs)?;
+        let outcomes = outcomes_of(filling, jobs)?;
+        let mut round = self.install_all(filling.rt, chair, outcomes);
         let mut report = round;
         for _ in 1..MOST_ROUNDS {
             if round.is_idle() {
@@ -148,42 +149,14 @@ where
                 Err(Refusal::NoBranch) => break,
                 Err(_) => return Err(AllocError),
             };
-            round = self.round(filling, chair, jobs)?;
+            let outcomes = outcomes_of(filling, jobs)?;
+            round = self.install_all(filling.rt, chair, outcomes);
             let Some(sum) = report.plus(round) else {
                 break;
             };
             report = sum;
         }
         Ok(report)
-    }
-
-    /// Runs these jobs without holding the turn, and then installs their runs.
-    fn round<W: Threads + Wait + Sync, G: Gate<W> + Sync>(
-        &self,
-        filling: &Filling<'_, W, G>,
-        chair: &mut Chair<R>,
-        jobs: Vec<Job<R>>,
-    ) -> Result<Report, AllocError>
-        requires at { IsChairOf R.behaviour self.now chair.old }
-        requires owns { OwnsItsCalls made_under (view chair.old) }
-        requires thieves { filling.now.thieves ≤ 4 }
-        ensures chair { IsChairOf R.behaviour self.now chair.new }
-        ensures stays { KeepsSeen (view chair.old) (view chair.new) }
-        ensures owns { OwnsItsCalls made_under (view chair.new) }
-        ensures sum { IfOk result IsSum }
-    {
-        if jobs.is_empty() {
-            return Ok(Report::new());
-        }
-        let Filling {
-            rt,
-            alloc,
-            thieves,
-            gate,
-            ..
-        } = filling;
-        let outcomes = Crew::run(*rt, *alloc, jobs, *thieves, *gate)?;
-        Ok(self.install_all(*rt, chair, outcomes))
     }
 }
 
@@ -239,4 +212,26 @@ impl<R: Register> Desk<R> {
         };
         self.turn.with(rt, chair, &mut Install { key, run })
     }
+}
+
+/// Runs these jobs without holding the turn, and returns an outcome for each.
+fn outcomes_of<R: Register + Send + Sync, W: Threads + Wait + Sync, G: Gate<W> + Sync>(
+    filling: &Filling<'_, W, G>,
+    jobs: Vec<Job<R>>,
+) -> Result<Vec<Ran<R>>, AllocError>
+where
+    R::Pending: Send + Sync,
+    requires thieves { filling.now.thieves ≤ 4 }
+{
+    let Filling {
+        rt,
+        alloc,
+        thieves,
+        gate,
+        ..
+    } = filling;
+    if jobs.is_empty() {
+        return Ok(Vec::new(*alloc));
+    }
+    Crew::run(*rt, *alloc, jobs, *thieves, *gate)
 }

@@ -213,7 +213,7 @@ returning_agrees (Some v) ops k s e a = record {
       };
 }
 
-returning_none : (w : Option ℕ) (k : Known) → k.writing ≡ w → (returning w k).writing ≡ None
+pub returning_none : (w : Option ℕ) (k : Known) → k.writing ≡ w → (returning w k).writing ≡ None
 returning_none None k e = e
 returning_none (Some v) k e = refl
 

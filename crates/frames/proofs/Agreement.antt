@@ -14,7 +14,7 @@ use Rattle.frames.specs.declared.types.Next.TheVariants.{Pending, Done}
 use Rattle.frames.specs.declared.types.Step.{Step}
 use Rattle.frames.specs.declared.types.Step.TheVariants as step
 use Rattle.frames.specs.declared.types.Event.{Event}
-use Rattle.frames.specs.declared.types.Event.TheVariants.{Invoke, Got, Wrote, Refused, Void, Stop, Chosen}
+use Rattle.frames.specs.declared.types.Event.TheVariants.{Invoke, Got, Wrote}
 use Rattle.frames.specs.declared.types.StepEvents.{StepEvents}
 use Rattle.frames.specs.declared.running.Running.{Running}
 use Rattle.frames.specs.Behaviour.{Behaviour, IsLawful, ReachedOrAnswered, Answers}
@@ -41,14 +41,8 @@ afters (Some e) k = after k e
 
 -- if the event is the return of a read, that read is the same in both folds
 abbrev pub ReadsAgree : Option Event → Known → Seen → Type 0
-ReadsAgree None k s = ⊤
 ReadsAgree (Some (Got p v)) k s = ReadAgrees p k s
-ReadsAgree (Some (Invoke p o)) k s = ⊤
-ReadsAgree (Some (Wrote p)) k s = ⊤
-ReadsAgree (Some (Refused p layer)) k s = ⊤
-ReadsAgree (Some (Void p reason)) k s = ⊤
-ReadsAgree (Some (Stop p)) k s = ⊤
-ReadsAgree (Some (Chosen p bit v)) k s = ⊤
+ReadsAgree _ k s = ⊤
 
 pub record EventAgrees (ops : ℕ → Option Op) (e : Option Event) (k : Known) (s : Seen) : Type 0 where
   pub reads : ReadsAgree e k s
@@ -176,14 +170,8 @@ module _ {P : Type 0} (b : Behaviour P) (one : HasOneWriter b) (Holds : Memory �
 
 -- a history has the same refusals event by event and step by step
 refusal_at : (i : ℕ) (e : Option Event) → list_any (λ x. is_refusal x.1) (at_index i e) ≡ refuses e
-refusal_at i None = refl
-refusal_at i (Some (Invoke p o)) = refl
 refusal_at i (Some (Got p v)) = refl
-refusal_at i (Some (Wrote p)) = refl
-refusal_at i (Some (Refused p layer)) = refl
-refusal_at i (Some (Void p reason)) = refl
-refusal_at i (Some (Stop p)) = refl
-refusal_at i (Some (Chosen p bit v)) = refl
+refusal_at i _ = refl
 
 two_parts : (x y z : Bool) → (x || (y || z)) ≡ false → (x ≡ false) × ((y ≡ false) × (z ≡ false))
 two_parts x y z h = let o = or_parts x (y || z) h in (o.0, or_parts y z o.1)

@@ -75,12 +75,9 @@ some_frames x xs e = cc
 not_writing : (o : Op) (p : SafePoint) → SafeReaches 1 o p → writing ≡ safe_behaviour.frames p → ⊥
 not_writing (Write v) (at.WriteStart bit) r e = omega (arith, r.0)
 not_writing (Write v) (at.WriteEnd bit) r e = omega (arith, r.0)
-not_writing (Write v) at.ReadStart r e = r
-not_writing (Write v) at.ReadEnd r e = r
-not_writing Read (at.WriteStart bit) r e = r
-not_writing Read (at.WriteEnd bit) r e = r
 not_writing Read at.ReadStart r e = other_op (ap outermost e)
 not_writing Read at.ReadEnd r e = other_op (ap outermost e)
+not_writing _ _ r e = r
 
 -- process 0 is at the point that the frames describe
 go_own-holds : (o : Op) × ((p : SafePoint) × HasFramesFrom safe_behaviour.frames SafeReaches 0 0 writing o p)

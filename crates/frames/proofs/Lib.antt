@@ -13,6 +13,5 @@ pub mod Agreed
 pub mod Agreement
 pub mod SafeIsSafe
 pub mod NeverStray
-pub mod Derived
 pub mod Frames
 mod Examples

@@ -9,7 +9,7 @@ use Rattle.std.proofs.lemmas.List.{drop-append-le, get_or-drop, get_or_append_le
 use Rattle.std.proofs.lemmas.List.Folds.{list_any-append, list_any_at}
 use Rattle.frames.specs.declared.types.Op.TheVariants as op
 use Rattle.frames.specs.declared.types.Event.{Event}
-use Rattle.frames.specs.declared.types.Event.TheVariants.{Invoke, Got, Wrote, Refused, Void, Stop, Chosen}
+use Rattle.frames.specs.declared.types.Event.TheVariants.{Invoke, Got, Wrote}
 use Rattle.frames.specs.declared.verdict.Reading.{Reading}
 use Rattle.frames.specs.declared.verdict.Verdict.TheVariants.{Fresh, Overlap, Stray}
 use Rattle.frames.specs.Behaviour.{Behaviour}
@@ -68,11 +68,7 @@ known_after : (value : ℕ) (k : Known) (e : Event) → IsKnown value k → IsKn
 known_after value k (Invoke p (op.Write v)) h = record { fresh = h.fresh; reads = h.reads }
 known_after value k (Invoke p op.Read) h = known_read value p k h
 known_after value k (Wrote p) h = known_returning value k.writing k h
-known_after value k (Refused p layer) h = h
-known_after value k (Got p v) h = h
-known_after value k (Void p reason) h = h
-known_after value k (Stop p) h = h
-known_after value k (Chosen p bit v) h = h
+known_after value k _ h = h
 
 -- an item after the first i is among those after them
 among_later : (v d : ℕ) (xs : List ℕ) (i n : ℕ) → i ≤ n → n < length xs → get_or xs n d ≡ v → list_any (λ u. u == v) (drop i xs) ≡ true
@@ -119,12 +115,7 @@ numbered_not_stray value n p v k h is = elim (cases_eq n (reading p k).since) as
 
 on_return : (value n : ℕ) (k : Known) (e : Event) → IsKnown value k → OnReturn (λ k p v. IsNumber value k p v n) k e → OnReturn NotStray k e
 on_return value n k (Got p v) h is = numbered_not_stray value n p v k h is
-on_return value n k (Invoke p o) h is = tt
-on_return value n k (Wrote p) h is = tt
-on_return value n k (Refused p layer) h is = tt
-on_return value n k (Void p reason) h is = tt
-on_return value n k (Stop p) h is = tt
-on_return value n k (Chosen p bit v) h is = tt
+on_return value n k _ h is = tt
 
 each_not_stray : (value floor : ℕ) (k : Known) (events : List (ℕ × Event)) → IsKnown value k → Numbered value floor k events → EachRead NotStray k events
 each_not_stray value floor k [] h numbered = tt

@@ -28,7 +28,7 @@ use Rattle.frames.specs.Configuration.{running_at, is_stopped, stepped, events_o
 use Rattle.frames.specs.Recorded.{Alone, AllFit, first_configuration}
 use Rattle.frames.specs.correctness.Regularity.{IsSafe, FreshAlone}
 use Rattle.frames.specs.laws.Steps.{IsVoid, void_unless_enabled, stopped_is_void}
-use Rattle.frames.specs.laws.Safe.{safe_lawful}
+use Rattle.frames.specs.laws.Safe.{safe_lawful, value_of_its_bit}
 use Rattle.frames.proofs.Seen.{Seen, opening, sees, now_last, IsFreshAlone, Always, Allowed}
 use Rattle.frames.proofs.Moves.{moves, StepsTo, step_begins, step_goes, step_stops}
 use Rattle.frames.proofs.Told.{Told, told_begun, told_gone, told_void, told_stop, told_none, told_reads}
@@ -128,11 +128,6 @@ same_writer (Some r) u z cell to e f h = at r.point h
     at ReadStart h = h
     at ReadEnd h = h
 
-small_bit : (v : ℕ) → v < 2 → value_of (bit_of v) ≡ v
-small_bit zero l = refl
-small_bit (suc zero) l = refl
-small_bit (suc (suc v)) l = let n : ⊥ = omega (arith, l) in absurd n
-
 on_it : (f : Cell → Cell) (m : Memory) → length m.cells ≡ 1 → cell_at 0 (on_cell 0 f m) ≡ f (cell_at 0 m)
 on_it f m l = get_or-set_at m.cells 0 0 (f (cell_at 0 m)) no_cell refl (omega (arith, l))
 
@@ -159,7 +154,7 @@ begin_write v c u e awake l h =
     let z : Seen = sees (Some (Invoke 0 (op.Write v))) u in
     to_good c u z (step.Write 0 v) 0 (op.Write v) (Some (Invoke 0 (op.Write v))) (Pending (WriteStart (bit_of v))) c.memory (step_begins safe_behaviour 0 (op.Write v) c c.memory e awake refl)
     (told_begun IsFreshAlone 0 (op.Write v) None u refl tt)
-    (writer_moves c u z (op.Write v) (Pending (WriteStart (bit_of v))) c.memory h h.size h.last (v, (refl, (w.1, small_bit v l))) (begun_write v u (cell_at 0 c.memory) (running_at 1 c) h.reader))
+    (writer_moves c u z (op.Write v) (Pending (WriteStart (bit_of v))) c.memory h h.size h.last (v, (refl, (w.1, value_of_its_bit v l))) (begun_write v u (cell_at 0 c.memory) (running_at 1 c) h.reader))
 
 begin_read : (c : C) (u : Seen) → running_at 1 c ≡ None → is_stopped 1 c ≡ false → SafeInv c u → Good c u (step.Read 1)
 begin_read c u e awake h =
@@ -264,7 +259,7 @@ steps_safe (s ∷ rest) c u f h =
 
 always_fresh_alone : Always IsFreshAlone safe_behaviour
 always_fresh_alone v steps l f =
-    let a = steps_safe steps (first_configuration safe_behaviour v) (opening v) f (record { processes = refl; size = refl; last = small_bit v l; writer = (refl, refl); reader = tt }) in
+    let a = steps_safe steps (first_configuration safe_behaviour v) (opening v) f (record { processes = refl; size = refl; last = value_of_its_bit v l; writer = (refl, refl); reader = tt }) in
     (told_none IsFreshAlone (opening v) _ a, told_reads IsFreshAlone (opening v) _ a)
 
 one_writes : HasOneWriter safe_behaviour

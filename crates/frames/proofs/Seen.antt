@@ -1,13 +1,14 @@
 -- What a history shows, step by step: the fold over which the laws of layers are proved.
 -- `Agreement` shows that this fold and `Known` agree.
-use Rattle.std.specs.Prelude.{◌≡◌, ◌≢◌, ℕ, ◌<◌, Bool, true, false, Option, Some, None, List, [], ◌∷◌, ◌++◌, ◌==◌, ◌&&◌, if◌then◌else◌, IsTrue}
+use Rattle.std.specs.Prelude.{◌≡◌, ◌≢◌, ℕ, ◌<◌, Bool, true, false, Option, Some, None, List, [], ◌∷◌, ◌++◌, ◌==◌, ◌&&◌, ◌||◌, if◌then◌else◌, IsTrue}
 use Rattle.std.specs.List.{list_any, AllByRecursion}
+use Rattle.std.proofs.Common.{refl, ap, eq-eqb}
 use Rattle.frames.specs.declared.types.Op.TheVariants.{Read, Write}
 use Rattle.frames.specs.declared.types.Outcome.{Outcome}
 use Rattle.frames.specs.declared.types.Outcome.TheVariants.{Value, Written, Spent}
 use Rattle.frames.specs.declared.types.Step.{Step}
 use Rattle.frames.specs.declared.types.Event.{Event}
-use Rattle.frames.specs.declared.types.Event.TheVariants.{Invoke, Got, Wrote, Refused, Void, Chosen, Stop}
+use Rattle.frames.specs.declared.types.Event.TheVariants.{Invoke, Got, Wrote, Refused}
 use Rattle.frames.specs.declared.types.StepEvents.{StepEvents}
 use Rattle.frames.specs.declared.verdict.Verdict.{Verdict}
 use Rattle.frames.specs.declared.verdict.Verdict.TheVariants.{Fresh, Overlap, Stray}
@@ -29,6 +30,12 @@ pub record Returned : Type 0 where
 abbrev pub among : ℕ → List ℕ → Bool
 among x vs = list_any (λ v. v == x) vs
 
+pub among_more : (x v : ℕ) (vs : List ℕ) → IsTrue (among x vs) → IsTrue (among x (v ∷ vs))
+among_more x v vs h = elim (v == x) as (λ c. IsTrue (c || among x vs)) [ true ↦ refl | false ↦ h ]
+
+pub among_here : (x : ℕ) (vs : List ℕ) → IsTrue (among x (x ∷ vs))
+among_here x vs = ap (λ c. c || among x vs) (eq-eqb x x refl)
+
 abbrev pub verdict : Returned → Verdict
 verdict x = if x.value == x.fresh then Fresh else if among x.value x.overlaps then Overlap else Stray
 
@@ -49,39 +56,22 @@ now_last None x = x
 now_last (Some v) x = v
 
 abbrev pub sees : Option Event → Seen → Seen
-sees None s = s
 sees (Some (Invoke p (Write v))) s = record s { writing = Some v; overlaps = λ r. v ∷ s.overlaps r }
 sees (Some (Invoke p Read)) s = record s { fresh = put p s.last s.fresh; overlaps = put p (in_progress s.writing) s.overlaps }
 sees (Some (Wrote p)) s = record s { last = now_last s.writing s.last; writing = None }
-sees (Some (Got p x)) s = s
-sees (Some (Refused p l)) s = s
-sees (Some (Void p reason)) s = s
-sees (Some (Chosen p i c)) s = s
-sees (Some (Stop p)) s = s
+sees _ s = s
 
 abbrev pub refuses : Option Event → Bool
-refuses None = false
 refuses (Some (Refused _ _)) = true
-refuses (Some (Invoke _ _)) = false
-refuses (Some (Got _ _)) = false
-refuses (Some (Wrote _)) = false
-refuses (Some (Void _ _)) = false
-refuses (Some (Chosen _ _ _)) = false
-refuses (Some (Stop _)) = false
+refuses _ = false
 
 -- a write refused in the step that invokes it counts for nothing
 abbrev pub after_step : StepEvents → Seen → Seen
 after_step e s = if refuses e.second then s else sees e.second (sees e.first s)
 
 abbrev pub got : Option Event → Seen → List Returned
-got None s = []
 got (Some (Got p x)) s = record { reader = p; value = x; fresh = s.fresh p; overlaps = s.overlaps p } ∷ []
-got (Some (Invoke p op)) s = []
-got (Some (Wrote p)) s = []
-got (Some (Refused p l)) s = []
-got (Some (Void p reason)) s = []
-got (Some (Chosen p i c)) s = []
-got (Some (Stop p)) s = []
+got _ s = []
 
 abbrev pub read_in : StepEvents → Seen → List Returned
 read_in e s = got e.first s ++ got e.second (sees e.first s)

@@ -146,10 +146,8 @@ pub record Did {R P : Type 0} (p : ℕ) (done : Acted P) (c : Configuration R P)
 -- The stop marks after a step; each says whether a process has stopped. A stop marks its process as
 -- stopped, and any other step leaves the marks as they were.
 abbrev pub marked : Step → List Bool → List Bool
-marked (step.Write p v) stopped = stopped
-marked (step.Read p) stopped = stopped
-marked (step.Go p choice) stopped = stopped
 marked (step.Stop p) stopped = slice_set stopped p true
+marked _ stopped = stopped
 
 -- configuration c, changed only if step s is a stop: the process of s is then marked as stopped
 abbrev pub with_stop_mark : {R P : Type 0} → Step → Configuration R P → Configuration R P

@@ -1,5 +1,5 @@
 -- Equality of configurations: of registers, cells, words, pending operations and stop marks.
-use Rattle.std.proofs.Common.{◌≡◌, Bool, true, false, nat_eq, List, Option, refl, ap}
+use Rattle.std.proofs.Common.{◌≡◌, Bool, true, nat_eq, List, Option, refl, ap}
 use mathlib.Core.Bool.{◌&&◌, beq}
 use Rattle.std.specs.Bool.{Decides}
 use Rattle.std.specs.Cmp.{IsPartialEquivalence, booleans_Decides, on_per, and_per}
@@ -9,6 +9,7 @@ use Rattle.std.specs.Ordering.{on, eq_of_both}
 use Rattle.std.proofs.lemmas.Bool.Decides.{Decides-and, Decides-eqb, Decides-like}
 use Rattle.std.proofs.lemmas.Slice.Eq.{slice_eq-Decides}
 use Rattle.safe_bit.specs.laws.Equality.{memory_eq, memory_decides, option_decides, per_from_decides}
+use Rattle.frames.specs.contracts.types.OpPartialEq.TheImpl as ops
 use Rattle.frames.specs.declared.types.Op.{Op}
 use Rattle.frames.specs.declared.types.Op.TheVariants as op
 use Rattle.frames.specs.declared.running.Running.{Running}
@@ -24,15 +25,12 @@ pub record SameConfiguration {R P : Type 0} (E : R → R → Bool) (a b : Config
 
 -- whether two operations are equal
 abbrev pub op_eq : Op → Op → Bool
-op_eq (op.Write v) (op.Write w) = nat_eq v w
-op_eq op.Read op.Read = true
-op_eq _ _ = false
+op_eq = ops.eq-value.it
 
 pub op_decides : (a b : Op) → Decides (op_eq a b) (a ≡ b)
 op_decides (op.Write v) (op.Write w) = Decides-like (nat_eq v w) (λ p. ap op.Write p) (λ p. cc) (Decides-eqb v w)
 op_decides op.Read op.Read = (λ h. refl, λ h. refl)
-op_decides (op.Write v) op.Read = (λ h. cc, λ h. cc)
-op_decides op.Read (op.Write w) = (λ h. cc, λ h. cc)
+op_decides _ _ = (λ h. cc, λ h. cc)
 
 -- whether two pending operations are equal; the test F compares their points
 abbrev pub running_eq : {P : Type 0} → (P → P → Bool) → Running P → Running P → Bool

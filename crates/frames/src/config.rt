@@ -185,8 +185,7 @@ impl<R: Register> Config<R> {
             (running_at p self.now) }
     {
         let frames = self.frames(p)?;
-        let alloc = self.store.allocator();
-        let point = self.register.pending_on(alloc, frames, 0, p)?;
+        let point = self.register.pending_on(frames, 0, p)?;
         Some(self.register.action(&point, ORIGIN))
     }
 

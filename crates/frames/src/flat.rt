@@ -10,15 +10,6 @@ use smallvec::SmallVec;
 use std::alloc::Global;
 use std::marker::Model;
 
-/// The frame of `stack` at `index`, which is below the number of frames; index 0 is the outermost
-/// frame.
-pub fn frame_at(stack: &Stack, index: usize) -> Frame
-    requires { index < length stack.now.items }
-    ensures { drop index stack.now.items ≡ result ∷ drop (index + 1) stack.now.items }
-{
-    stack.as_slice()[index]
-}
-
 /// The frame that fills the array of a new `FlatStack`.
 const BLANK: Frame = Frame {
     layer: FrameLayer::Safe,

@@ -117,11 +117,11 @@ pub trait Register: Behaves + Copy + Eq {
         requires reached { (who : ℕ) × ((op : Op) × Reaches self.now who op pending.now) }
         ensures { result ≡ placed_action at ((Self.behaviour self.now).acts pending.now) };
 
-    /// The point of process `who`'s pending operation, read from the frames from index `first` on;
-    /// `None` if `who` can have no pending operation with these frames.
-    fn pending(&self, stack: &Stack, first: usize, who: u32) -> Option<Self::Pending>
+    /// The point of process `who`'s pending operation, read from the stack's frames from index
+    /// `first` on; `None` if `who` can have no pending operation with these frames.
+    fn pending_on(&self, stack: &FlatStack, first: usize, who: u32) -> Option<Self::Pending>
         ensures { IsPointByFrames (Self.behaviour self.now).frames (Reaches self.now) who
-            (drop first stack.now.items) result };
+            (drop first stack.now) result };
 
     /// Process `who` invokes operation `op` on the register at place `at`. If the operation ends at
     /// once, returns its outcome; else returns `None`, and pushes the operation's frames onto the
@@ -188,7 +188,7 @@ pub trait Register: Behaves + Copy + Eq {
             (part at (Self.behaviour self.now).size store.old)).chosen }
     {
         let alloc = store.allocator();
-        let Some(point) = self.pending_on(alloc, stack, first, who) else {
+        let Some(point) = self.pending_on(stack, first, who) else {
             unreachable!();
         };
         let turned = self.go(store, at, point, choice);
@@ -206,21 +206,6 @@ pub trait Register: Behaves + Copy + Eq {
         }
     }
 
-    /// The point of process `who`'s pending operation, read from the stack's frames from index
-    /// `first` on; `None` if `who` can have no pending operation with these frames.
-    fn pending_on(
-        &self,
-        alloc: Global,
-        stack: &FlatStack,
-        first: usize,
-        who: u32,
-    ) -> Option<Self::Pending>
-        ensures { IsPointByFrames (Self.behaviour self.now).frames (Reaches self.now) who
-            (drop first stack.now) result }
-    {
-        self.pending(&stack.to_stack(alloc), first, who)
-    }
-
     /// Pushes the frames of a pending operation onto the stack.
     fn lay(&self, alloc: Global, pending: &Self::Pending, stack: &mut FlatStack)
         requires reached { (who : ℕ) × ((op : Op) × Reaches self.now who op pending.now) }
@@ -232,13 +217,7 @@ pub trait Register: Behaves + Copy + Eq {
 
     /// The state of process `who`'s operation: done if `end` has an outcome, else pending at the
     /// point that the frames on the stack describe.
-    fn reached_next(
-        &self,
-        alloc: Global,
-        stack: &FlatStack,
-        who: u32,
-        end: Option<Outcome>,
-    ) -> Next<Self::Pending>
+    fn reached_next(&self, stack: &FlatStack, who: u32, end: Option<Outcome>) -> Next<Self::Pending>
         requires may_be_at { (op : Op) × ((next : Next Self.Pending)
             × HasReached (Self.behaviour self.now) (Reaches self.now) who op end stack.now next) }
         ensures { (op : Op) (next : Next Self.Pending)
@@ -247,7 +226,7 @@ pub trait Register: Behaves + Copy + Eq {
     {
         match end {
             Some(outcome) => Next::Done(outcome),
-            None => match self.pending_on(alloc, stack, 0, who) {
+            None => match self.pending_on(stack, 0, who) {
                 Some(point) => Next::Pending(point),
                 None => unreachable!(),
             },
@@ -255,13 +234,13 @@ pub trait Register: Behaves + Copy + Eq {
     }
 
     /// A process that can have this operation pending; the stack has the operation's frames.
-    fn process(&self, alloc: Global, stack: &FlatStack, pending: &Self::Pending) -> u32
+    fn process(&self, stack: &FlatStack, pending: &Self::Pending) -> u32
         requires reached { (who : ℕ) × ((op : Op) × Reaches self.now who op pending.now) }
         requires there { stack.now ≡ (Self.behaviour self.now).frames pending.now }
         ensures { (op : Op) × Reaches self.now result op pending.now }
     {
         for who in 0..self.processes() {
-            if let Some(point) = self.pending_on(alloc, stack, 0, who) {
+            if let Some(point) = self.pending_on(stack, 0, who) {
                 if point == *pending {
                     return who;
                 }

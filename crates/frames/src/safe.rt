@@ -8,7 +8,7 @@ ghost use Rattle.frames.specs.declared.types.Op.{Op};
 ghost use Rattle.frames.specs.Flat.{IsPointByFrames};
 ghost use Rattle.frames.specs.SafeBit.{safe_behaviour, SafeReaches, safe_frame, point_at, safe_point, bit_of, value_of};
 
-use crate::flat::{FlatStack, frame_at};
+use crate::flat::FlatStack;
 use crate::register::{Behaves, Register};
 use crate::types::{
     Action, ActionKind, Frame, FrameLayer, Next, Op, Outcome, Progress, Stack, Turned,
@@ -54,7 +54,6 @@ impl Behaves for Safe {
 impl Register for Safe {
     ghost use Rattle.std.specs.Prelude.{refl};
     ghost use Rattle.frames.specs.laws.Safe.{safe_lawful, safe_frames_give_point, point_decides};
-    ghost use Rattle.frames.specs.declared.safe.SafePoint.TheVariants.{WriteStart, WriteEnd, ReadStart, ReadEnd};
 
     ghost Holds = { λ _. HasSize safe_behaviour.size };
 
@@ -150,20 +149,7 @@ impl Register for Safe {
         }
     }
 
-    fn pending(&self, stack: &Stack, first: usize, who: u32) -> Option<SafePoint> {
-        if first >= stack.len() || stack.len() - first != 1 {
-            return None;
-        }
-        self.point_in(frame_at(stack, first), who)
-    }
-
-    fn pending_on(
-        &self,
-        _alloc: Global,
-        stack: &FlatStack,
-        first: usize,
-        who: u32,
-    ) -> Option<SafePoint> {
+    fn pending_on(&self, stack: &FlatStack, first: usize, who: u32) -> Option<SafePoint> {
         if stack.len().saturating_sub(first) == 1 {
             self.point_in(stack.frame(first), who)
         } else {
@@ -245,7 +231,7 @@ impl Register for Safe {
 
     ghost finds_alike = { λ _ _ _. refl };
 
-    ghost same_pending = { point_decides ⟦<SafePoint as PartialEq>⟧.eq (elim [ WriteStart _ ↦ elim [ WriteStart _ ↦ refl | WriteEnd _ ↦ refl | ReadStart ↦ refl | ReadEnd ↦ refl ] | WriteEnd _ ↦ elim [ WriteStart _ ↦ refl | WriteEnd _ ↦ refl | ReadStart ↦ refl | ReadEnd ↦ refl ] | ReadStart ↦ elim [ WriteStart _ ↦ refl | WriteEnd _ ↦ refl | ReadStart ↦ refl | ReadEnd ↦ refl ] | ReadEnd ↦ elim [ WriteStart _ ↦ refl | WriteEnd _ ↦ refl | ReadStart ↦ refl | ReadEnd ↦ refl ] ]) };
+    ghost same_pending = { point_decides };
 }
 
 /// The result of an action that ended no hit read; `next` is the operation's state after it.

@@ -2,7 +2,7 @@
 use Rattle.std.specs.Prelude.{◌≡◌, ⊤, ℕ, ◌+◌, ◌≤◌, Bool, true, false, Option, Some, None}
 use Rattle.frames.specs.declared.types.Op.TheVariants.{Read, Write}
 use Rattle.frames.specs.declared.types.Event.{Event}
-use Rattle.frames.specs.declared.types.Event.TheVariants.{Invoke, Got, Wrote, Refused, Void, Chosen, Stop}
+use Rattle.frames.specs.declared.types.Event.TheVariants.{Invoke, Got, Wrote}
 use Rattle.frames.specs.declared.types.StepEvents.{StepEvents}
 use Rattle.frames.proofs.Seen.{refuses}
 use Rattle.frames.proofs.Pointwise.{put}
@@ -27,20 +27,11 @@ Counts (Some (Invoke p Read)) c z = z ≡ record c { low = c.done }
 Counts (Some (Wrote p)) c z = z ≡ record c { done = c.begun }
 -- the read gets a number
 Counts (Some (Got p x)) c z = (n : ℕ) × ((c.value n ≡ x) × ((c.low ≤ n) × ((n ≤ c.begun) × ((c.floor ≤ n) × (z ≡ record c { floor = n })))))
-Counts (Some (Refused p l)) c z = z ≡ c
-Counts (Some (Void p reason)) c z = z ≡ c
-Counts (Some (Chosen p i b)) c z = z ≡ c
-Counts (Some (Stop p)) c z = z ≡ c
+Counts _ c z = z ≡ c
 
 abbrev pub Invokes : Option Event → Type 0
-Invokes None = ⊥
 Invokes (Some (Invoke p o)) = ⊤
-Invokes (Some (Got p x)) = ⊥
-Invokes (Some (Wrote p)) = ⊥
-Invokes (Some (Refused p l)) = ⊥
-Invokes (Some (Void p reason)) = ⊥
-Invokes (Some (Chosen p i b)) = ⊥
-Invokes (Some (Stop p)) = ⊥
+Invokes _ = ⊥
 
 -- an operation may be refused only in the step that invokes it; it then counts for nothing
 abbrev pub NumberedIf : Bool → Counted → StepEvents → Counted → Type 0

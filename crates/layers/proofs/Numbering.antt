@@ -220,10 +220,8 @@ module _ (v : ℕ) where
       e = in_order (Some (Invoke p o)) (return_of p next)
 
       spent : (next : Next P) → refuses (return_of p next) ≡ true → StepNumbers (put p (op_of (still_running o next)) ops) (in_order (Some (Invoke p o)) (return_of p next)) k c c
-      spent (Pending q) h = absurd (cc h)
-      spent (Done (Value x)) h = absurd (cc h)
-      spent (Done Written) h = absurd (cc h)
       spent (Done (Spent layer)) h = refused_numbers p o layer ops k c free role a
+      spent _ h = absurd (cc h)
 
       go : (b : Bool) → refuses (return_of p next) ≡ b → NumberedIf b c (in_order (Some (Invoke p o)) (return_of p next)) z
           → StepNumbers (put p (op_of (still_running o next)) ops) (in_order (Some (Invoke p o)) (return_of p next)) k c z

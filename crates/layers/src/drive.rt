@@ -18,45 +18,18 @@ ghost use Rattle.layers.specs.Driver.{table_of, below_of, behaviour, own_memory,
 use crate::construction::Construction;
 use crate::layered::Layered;
 use crate::nested::{Continuation, Nested};
-use frames::flat::{FlatStack, frame_at};
+use frames::flat::FlatStack;
 use frames::register::Register;
-use frames::types::{Frame, Op, Outcome, Progress, Stack};
+use frames::types::{Frame, Op, Outcome, Progress};
 use safe_bit::{Place, Store};
 use std::alloc::Global;
 
 /// The pending operation of process `who` whose frames are those of `stack` from index `first` on:
 /// the frame at `first` gives the task, and the later frames give the point of the task's part.
 /// `None` if `who` can't have an operation with these frames pending.
-pub(crate) fn pending<L: Construction, S: Register>(
-    layer: &L,
-    below: &S,
-    stack: &Stack,
-    first: usize,
-    who: u32,
-) -> Option<Nested<L::Task, S::Pending>>
-    requires fit { FitsBelow (L.table layer.now) (S.behaviour below.now) }
-    ensures { IsPointByFrames (layered (L.table layer.now) (S.behaviour below.now)).frames
-        (LayerReaches (L.table layer.now) (L.MayBeAt layer.now) (S.Reaches below.now)) who
-        (drop first stack.now.items) result }
-{
-    if first >= stack.len() || stack.len() - first < 2 {
-        return None;
-    }
-    let task = task_at(layer, who, frame_at(stack, first))?;
-    let ask = layer.asks(task);
-    if !frame_at(stack, first + 1).op.is(ask.op) {
-        return None;
-    }
-    let point = below.pending(stack, first + 1, ask.who)?;
-    Some(Nested { task, below: point })
-}
-
-/// The pending operation of process `who` whose frames are those of a `FlatStack` from index
-/// `first` on. `None` if `who` can't have an operation with these frames pending.
 pub(crate) fn pending_on<L: Construction, S: Register>(
     layer: &L,
     below: &S,
-    alloc: Global,
     stack: &FlatStack,
     first: usize,
     who: u32,
@@ -74,7 +47,7 @@ pub(crate) fn pending_on<L: Construction, S: Register>(
     if !stack.frame(first + 1).op.is(ask.op) {
         return None;
     }
-    let point = below.pending_on(alloc, stack, first + 1, ask.who)?;
+    let point = below.pending_on(stack, first + 1, ask.who)?;
     Some(Nested { task, below: point })
 }
 

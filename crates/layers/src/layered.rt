@@ -79,7 +79,8 @@ impl<L: Construction, S: Register> Register for Layered<L, S> {
     ghost use Rattle.layers.specs.laws.Flat.{layered_frames_give_point, points_alike};
     ghost use Rattle.layers.specs.laws.Over.{over};
     ghost use Rattle.layers.specs.laws.Layered.{layer_lawful};
-    ghost use Rattle.layers.specs.laws.Equality.{nested_decides, layered_alike, both_true};
+    ghost use Rattle.layers.specs.laws.Equality.{nested_decides, layered_alike};
+    ghost use Rattle.std.proofs.lemmas.Bool.{and_parts};
 
     ghost Holds = { λ r. LayerHolds (L.table r.layer) (S.behaviour r.below) (S.Holds r.below) };
 
@@ -122,7 +123,7 @@ impl<L: Construction, S: Register> Register for Layered<L, S> {
     fn begin(&self, store: &mut Store, at: Place, who: u32, op: Op) -> Next<Self::Pending> {
         let mut stack = FlatStack::new();
         let end = self.begin_on(store, at, who, op, &mut stack);
-        self.reached_next(store.allocator(), &stack, who, end)
+        self.reached_next(&stack, who, end)
     }
 
     fn go(
@@ -132,13 +133,12 @@ impl<L: Construction, S: Register> Register for Layered<L, S> {
         pending: Self::Pending,
         choice: bool,
     ) -> Turned<Self::Pending> {
-        let alloc = store.allocator();
         let mut stack = FlatStack::new();
-        self.lay(alloc, &pending, &mut stack);
-        let who = self.process(alloc, &stack, &pending);
+        self.lay(store.allocator(), &pending, &mut stack);
+        let who = self.process(&stack, &pending);
         let progress = self.go_on(store, at, who, &mut stack, 0, choice);
         Turned {
-            next: self.reached_next(alloc, &stack, who, progress.end),
+            next: self.reached_next(&stack, who, progress.end),
             chosen: progress.chosen,
         }
     }
@@ -155,22 +155,8 @@ impl<L: Construction, S: Register> Register for Layered<L, S> {
         self.below.action(&pending.below, place)
     }
 
-    fn pending(&self, stack: &Stack, first: usize, who: u32) -> Option<Self::Pending> {
-        drive::pending(&self.layer, &self.below, stack, first, who)
-    }
-
-    fn pending_on(
-        &self,
-        alloc: Global,
-        stack: &FlatStack,
-        first: usize,
-        who: u32,
-    ) -> Option<Self::Pending> {
-        drive::pending_on(&self.layer, &self.below, alloc, stack, first, who)
-    }
-
-    fn lay(&self, alloc: Global, pending: &Self::Pending, stack: &mut FlatStack) {
-        drive::lay(&self.layer, &self.below, alloc, pending, stack);
+    fn pending_on(&self, stack: &FlatStack, first: usize, who: u32) -> Option<Self::Pending> {
+        drive::pending_on(&self.layer, &self.below, stack, first, who)
     }
 
     #[inline]
@@ -217,10 +203,10 @@ impl<L: Construction, S: Register> Register for Layered<L, S> {
 
     ghost lawful = { λ r. layer_lawful (over (S.lawful r.below) (L.sound r.layer) r.fit) };
 
-    ghost alike = { λ a b h. let both = both_true (S.PartialEq.eq a.below b.below) (L.PartialEq.eq a.layer b.layer) h in
+    ghost alike = { λ a b h. let both = and_parts (S.PartialEq.eq a.below b.below) (L.PartialEq.eq a.layer b.layer) h in
         layered_alike (L.table a.layer) (L.table b.layer) (S.behaviour a.below) (S.behaviour b.below) (L.alike a.layer b.layer both.1) (S.alike a.below b.below both.0) };
 
-    ghost finds_alike = { λ a b h. let both = both_true (S.PartialEq.eq a.below b.below) (L.PartialEq.eq a.layer b.layer) h in
+    ghost finds_alike = { λ a b h. let both = and_parts (S.PartialEq.eq a.below b.below) (L.PartialEq.eq a.layer b.layer) h in
         points_alike (L.table a.layer) (L.table b.layer) (S.point a.below) (S.point b.below) (L.alike a.layer b.layer both.1) (S.finds_alike a.below b.below both.0) };
 
     ghost same_pending = { nested_decides L.Task.PartialEq.eq S.Pending.PartialEq.eq L.same_task S.same_pending };

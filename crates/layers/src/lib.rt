@@ -7,6 +7,7 @@ mod drive;
 pub mod fit;
 pub mod layered;
 pub mod nested;
+pub mod prelude;
 
 pub use construction::{Construction, Rules, Shape};
 pub use fit::LayerError;

@@ -1,7 +1,7 @@
 -- A path ends alone exactly if its last item has one holder.
 use Rattle.std.proofs.Common.{◌≡◌, ◌≢◌, ℕ, ◌+◌, ◌<◌, ◌≤◌, true, false, List, [], ◌∷◌, length, set, Option, Some, None, refl, sym, ◌∙◌, ap, subst, arith, inl, inr, ◌⊎◌, eq-eqb, true≢false}
 use Rattle.std.specs.List.{count_by}
-use Rattle.std.proofs.lemmas.Bool.{cases_lt, cases_eq}
+use Rattle.std.proofs.lemmas.Bool.{cases_lt, cases_eq, false_from_ne_true}
 use Rattle.std.proofs.lemmas.List.{get_or_past, get_or-set_same, get_or-set_other}
 use Rattle.std.proofs.lemmas.List.Sums.{sum_by-set}
 use Rattle.lineage.specs.declared.node.Node.{Node}
@@ -12,7 +12,7 @@ use Rattle.lineage.proofs.Once.{has-head, has-reverse, has_not_from}
 use Rattle.lineage.proofs.Climbs.{climb_step, climb_unique}
 use Rattle.lineage.proofs.Walks.{path_at, path_to_is, last_is, no_end}
 use Rattle.lineage.proofs.Counts.{one, count_none, count_no}
-use Rattle.lineage.proofs.Kept.{false_from, is_key_true, node_from, node_climb}
+use Rattle.lineage.proofs.Kept.{is_above_true, is_key_true, node_from, node_climb}
 use Rattle.lineage.proofs.Onto.{climb_on, not_above}
 
 -- a tip that is a key has a node
@@ -44,10 +44,6 @@ module _ {X : Type 0} (s : List (Option (Node X))) (tips : List (Option ℕ)) (p
 
   has_path : (j : ℕ) → has key (path_in (family_on s tips) j) ≡ has key (sound.ends j).up
   has_path j = let e = sound.ends j in ap (has key) (path_at s tips j ∙ path_to_is s (tip_at tips j) e.up e.is) ∙ has-reverse key e.up
-
-  from_link : (o : Option (Option ℕ)) → is_above key o ≡ true → o ≡ Some (Some key)
-  from_link None h = absurd (cc)
-  from_link (Some next) h = ap Some (is_key_true key next h)
 
   pub alone : n.holders ≡ 1 → EndsAlone (family_on s tips) path
   alone one_holds = record {
@@ -89,7 +85,7 @@ module _ {X : Type 0} (s : List (Option (Node X))) (tips : List (Option ℕ)) (p
           true≢false (sym (begins (tip_at tips j) (sound.ends j).up (sound.ends j).is at) ∙ own j ne)
 
       no_tips : count_by (is_key key) without ≡ 0
-      no_tips = count_none (is_key key) refl without (λ j. false_from (is_key key (tip_at without j)) (tip_of j (cases_eq j path)))
+      no_tips = count_none (is_key key) refl without (λ j. false_from_ne_true (is_key key (tip_at without j)) (tip_of j (cases_eq j path)))
 
       up_here : (rest : List ℕ) × IsClimb (above_node s) (Some key) (key ∷ rest)
       up_here = node_climb s tips sound key n there
@@ -107,10 +103,10 @@ module _ {X : Type 0} (s : List (Option (Node X))) (tips : List (Option ℕ)) (p
 
       node_of : (i : ℕ) → is_above key (above_node s i) ≡ true → ⊥
       node_of i m =
-          let link = from_link (above_node s i) m in
+          let link = is_above_true key (above_node s i) m in
           let w = node_from (node_at s i) (Some key) link in
           let o = sound.live i w.0 w.1.0 in
           on_path i link o (cases_eq o.path path)
 
       no_nodes : count_by (links_to_key key) s ≡ 0
-      no_nodes = count_none (links_to_key key) refl s (λ i. false_from (links_to_key key (node_at s i)) (node_of i))
+      no_nodes = count_none (links_to_key key) refl s (λ i. false_from_ne_true (links_to_key key (node_at s i)) (node_of i))

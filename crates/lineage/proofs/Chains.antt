@@ -1,12 +1,13 @@
 -- A path of new items, added last.
-use Rattle.std.proofs.Common.{◌≡◌, ◌≢◌, ℕ, ◌+◌, ◌<◌, ◌^◌, Bool, true, false, ◌||◌, List, [], ◌∷◌, ◌++◌, length, map, set, Option, Some, None, refl, sym, ◌∙◌, ap, subst, arith, inl, inr, ◌⊎◌, true≢false, append_assoc}
+use Rattle.std.proofs.Common.{◌≡◌, ◌≢◌, ℕ, ◌+◌, ◌<◌, ◌^◌, true, false, List, [], ◌∷◌, ◌++◌, length, map, set, Option, Some, None, refl, sym, ◌∙◌, ap, subst, arith, inl, inr, ◌⊎◌, true≢false, append_assoc}
 use Rattle.std.specs.Prelude.{is_some}
 use Rattle.std.specs.List.{count_by}
+use Rattle.std.proofs.lemmas.Bool.{or_parts}
 use Rattle.std.proofs.lemmas.List.{map_push, set_at, get_or_push, length_push, append-nil}
 use Rattle.lineage.specs.declared.node.Node.{Node}
 use Rattle.lineage.specs.Family.{has}
 use Rattle.lineage.specs.Lineages.{tip_at, node, node_at, item_in, path_to, IsSoundFamily, IsPutLast}
-use Rattle.lineage.proofs.Once.{has-append, has-head, has-tail, has_cases}
+use Rattle.lineage.proofs.Once.{has-append, has-head, has-tail, has_cases, has-right}
 use Rattle.lineage.proofs.Walks.{path_to_is}
 use Rattle.lineage.proofs.Pushes.{pushed_sound, pushed_last}
 
@@ -96,20 +97,11 @@ module _ {X : Type 0} (s : List (Option (Node X))) (tips : List (Option ℕ)) wh
     not_here : (k : ℕ) → has k (path_to u (Some key)) ≡ false → k ≢ key
     not_here k m same =
         let here : has k (path_to u (Some key)) ≡ true =
-        ap (has k) path_now ∙ has-append k (path_to t put.tip) (key ∷ []) ∙ ap (λ b. has k (path_to t put.tip) || b) (ap (λ z. has z (key ∷ [])) same ∙ has-head key [])
-        ∙ or_true (has k (path_to t put.tip)) in
+        ap (has k) path_now ∙ has-right k (path_to t put.tip) (key ∷ []) (ap (λ z. has z (key ∷ [])) same ∙ has-head key []) in
         true≢false (sym here ∙ m)
-      where
-        or_true : (b : Bool) → (b || true) ≡ true
-        or_true true = refl
-        or_true false = refl
 
     not_before : (k : ℕ) → has k (path_to u (Some key)) ≡ false → has k (path_to t put.tip) ≡ false
-    not_before k m = left (has k (path_to t put.tip)) (has k (key ∷ [])) (sym (has-append k (path_to t put.tip) (key ∷ [])) ∙ sym (ap (has k) path_now) ∙ m)
-      where
-        left : (b c : Bool) → (b || c) ≡ false → b ≡ false
-        left true c h = h
-        left false c h = refl
+    not_before k m = (or_parts (has k (path_to t put.tip)) (has k (key ∷ [])) (sym (has-append k (path_to t put.tip) (key ∷ [])) ∙ sym (ap (has k) path_now) ∙ m)).0
 
     items_now : map (λ k. item_in (node_at u k)) (path_to u (Some key)) ≡ map Some (so_far.done ++ item ∷ [])
     items_now =

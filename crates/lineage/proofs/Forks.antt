@@ -5,7 +5,7 @@ use Rattle.std.specs.List.{count_by}
 use Rattle.std.proofs.lemmas.List.{get_or_append_left, map_push, reverse-reverse, length_push}
 use Rattle.std.proofs.lemmas.List.Sums.{sum_by_push}
 use Rattle.lineage.specs.declared.node.Node.{Node}
-use Rattle.lineage.specs.Family.{last_of, item_at, path_in, IsForked}
+use Rattle.lineage.specs.Family.{last_of, item_at, path_in, IsForked, Family}
 use Rattle.lineage.specs.Climbs.{IsClimb, Ends}
 use Rattle.lineage.specs.Lineages.{tip_at, is_key, is_above, node, node_at, item_in, above_in, above_node, path_to, links_to_key, holders_of, with_holder, family_on, IsOn, IsSoundFamily}
 use Rattle.lineage.proofs.Once.{reverse_cons}
@@ -47,14 +47,17 @@ module _ {X : Type 0} where
   same_items (m ∷ s) [] e h = absurd (omega arith)
   same_items (m ∷ s) (n ∷ t) e h = λ i. h zero i ∷ same_items s t (omega arith) (λ k. h (suc k)) i
 
-  pub some_node : (o : Option (Node X)) → IsSome (item_in o) → (n : Node X) × (o ≡ Some n)
+  some_node : (o : Option (Node X)) → IsSome (item_in o) → (n : Node X) × (o ≡ Some n)
   some_node None h = absurd (cc)
   some_node (Some n) h = (n, refl)
+
+  pub node_there : (s : List (Option (Node X))) (tips : List (Option ℕ)) (f : Family X) (key : ℕ) → family_on s tips ≡ f → IsSome (item_at f key) → (n : Node X) × (node_at s key ≡ Some n)
+  node_there s tips f key seen h = some_node (node_at s key) (subst IsSome (ap (λ z. item_at z key) (sym seen) ∙ item_is s tips key) h)
 
   pub some_there : (s : List (Option (Node X))) (tips : List (Option ℕ)) (key : Option ℕ) → IfSome key (λ k. IsSome (item_at (family_on s tips) k))
       → IfSome key (λ k. IsSome (node_at s k))
   some_there s tips None h = h
-  some_there s tips (Some k) h = let n = some_node (node_at s k) (subst IsSome (item_is s tips k) h) in subst IsSome (sym n.1) refl
+  some_there s tips (Some k) h = let n = node_there s tips (family_on s tips) k refl h in subst IsSome (sym n.1) refl
 
   module _ (s t : List (Option (Node X))) (tips new : List (Option ℕ)) (key : Option ℕ) (sound : IsSoundFamily s tips)
       (there : IfSome key (λ k. IsSome (item_at (family_on s tips) k))) (now : (k : ℕ) → node_at t k ≡ with_holder (is_key k key) (node_at s k))
@@ -71,7 +74,7 @@ module _ {X : Type 0} where
         by : (o : Option ℕ) → IfSome o (λ k. IsSome (item_at (family_on s tips) k)) → Ends (above_node s) o
         by None h = record { up = []; is = refl }
         by (Some k) h =
-            let n = some_node (node_at s k) (subst IsSome (item_is s tips k) h) in
+            let n = node_there s tips (family_on s tips) k refl h in
             let c = node_climb s tips sound k n.0 n.1 in
             record { up = k ∷ c.0; is = c.1 }
 

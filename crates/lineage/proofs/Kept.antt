@@ -1,6 +1,6 @@
 -- A change that keeps links keeps paths. Also what soundness says of each node.
-use Rattle.std.proofs.Common.{◌≡◌, ℕ, ◌<◌, ◌≤◌, zero, suc, Bool, true, false, List, [], ◌∷◌, ◌++◌, length, map, Option, Some, None, refl, sym, ◌∙◌, ap, subst, arith, inl, inr, ◌⊎◌}
-use Rattle.std.proofs.lemmas.Bool.{cases_lt, eqb-true}
+use Rattle.std.proofs.Common.{◌≡◌, ℕ, ◌<◌, ◌≤◌, zero, suc, true, List, [], ◌∷◌, ◌++◌, length, map, Option, Some, None, refl, sym, ◌∙◌, ap, subst, arith, inl, inr, ◌⊎◌}
+use Rattle.std.proofs.lemmas.Bool.{cases_lt, eqb-true, false_from_ne_true}
 use Rattle.std.proofs.lemmas.List.{get_or_past}
 use Rattle.lineage.specs.declared.node.Node.{Node}
 use Rattle.lineage.specs.Family.{has}
@@ -9,15 +9,15 @@ use Rattle.lineage.specs.Lineages.{tip_at, is_key, is_above, node_at, above_in, 
 use Rattle.lineage.proofs.Once.{stands}
 use Rattle.lineage.proofs.Climbs.{climb_kept, climb_from}
 use Rattle.lineage.proofs.Walks.{path_to_is, no_end}
-use Rattle.lineage.proofs.Counts.{count_none}
-
-pub false_from : (b : Bool) → (b ≡ true → ⊥) → b ≡ false
-false_from true h = absurd (h refl)
-false_from false h = refl
+use Rattle.lineage.proofs.Counts.{count_none, count_same}
 
 pub is_key_true : (k : ℕ) (o : Option ℕ) → is_key k o ≡ true → o ≡ Some k
 is_key_true k None h = absurd (cc)
 is_key_true k (Some j) h = ap Some (sym (eqb-true k j h))
+
+pub is_above_true : (k : ℕ) (o : Option (Option ℕ)) → is_above k o ≡ true → o ≡ Some (Some k)
+is_above_true k None h = absurd (cc)
+is_above_true k (Some next) h = ap Some (is_key_true k next h)
 
 -- functions that agree on each tip give the same list of values
 pub map_same : {Y : Type 0} (f g : Option ℕ → Y) (tips : List (Option ℕ)) → ((i : ℕ) → f (tip_at tips i) ≡ g (tip_at tips i)) → map f tips ≡ map g tips
@@ -36,6 +36,10 @@ tip_push P [] tip h p zero = p
 tip_push P [] tip h p (suc i) = h zero
 tip_push P (t ∷ tips) tip h p zero = h zero
 tip_push P (t ∷ tips) tip h p (suc i) = tip_push P tips tip (λ j. h (suc j)) p i
+
+-- holders are counted by the links alone
+pub holders_alike : {X : Type 0} (s t : List (Option (Node X))) (tips : List (Option ℕ)) (k : ℕ) → ((j : ℕ) → above_node t j ≡ above_node s j) → holders_of s tips k ≡ holders_of t tips k
+holders_alike s t tips k alike = let a = count_same (links_to_key k) refl s t (λ j. ap (is_above k) (alike j)) in omega (arith, a)
 
 module _ {X : Type 0} where
   pub node_from : (o : Option (Node X)) (next : Option ℕ) → above_in o ≡ Some next → (n : Node X) × ((o ≡ Some n) × (n.above ≡ next))
@@ -89,9 +93,9 @@ module _ {X : Type 0} where
       -- nothing links to a missing node
       pub absent_holders : (k : ℕ) → node_at s k ≡ None → holders_of s tips k ≡ 0
       absent_holders k none =
-          let a = count_none (is_key k) refl tips (λ i. false_from (is_key k (tip_at tips i))
+          let a = count_none (is_key k) refl tips (λ i. false_from_ne_true (is_key k (tip_at tips i))
           (λ m. no_end s (tip_at tips i) k (sound.ends i) (is_key_true k (tip_at tips i) m) none)) in
-          let b = count_none (links_to_key k) refl s (λ j. false_from (links_to_key k (node_at s j))
+          let b = count_none (links_to_key k) refl s (λ j. false_from_ne_true (links_to_key k (node_at s j))
           (λ m. let l = linked_there j k (stands_true j m) in let no : above_node s k ≡ None = ap above_in none in let yes = l.1 in cc)) in
           omega (arith, a, b)
         where

@@ -1,6 +1,6 @@
 -- Membership in lists of keys.
 use Rattle.std.proofs.Common.{◌≡◌, ℕ, Bool, true, false, ◌||◌, nat_eq, eqb, List, [], ◌∷◌, ◌++◌, Option, Some, reverse, refl, sym, ap, ◌∙◌, true≢false, eq-eqb}
-use Rattle.std.proofs.lemmas.Bool.{eqb-true}
+use Rattle.std.proofs.lemmas.Bool.{eqb-true, false_from_ne_true, or_left, or_right}
 use Rattle.std.proofs.lemmas.List.{reverse-append}
 use Rattle.std.specs.List.{AllByRecursion, list_any}
 use Rattle.lineage.specs.Family.{has, last_from, IsOnPath}
@@ -32,6 +32,12 @@ has-append x (y ∷ ys) zs = by (nat_eq x y) (has-append x ys zs)
     by true rest = refl
     by false rest = rest
 
+pub has-left : (x : ℕ) (ys zs : List ℕ) → has x ys ≡ true → has x (ys ++ zs) ≡ true
+has-left x ys zs h = has-append x ys zs ∙ or_left (has x ys) (has x zs) h
+
+pub has-right : (x : ℕ) (ys zs : List ℕ) → has x zs ≡ true → has x (ys ++ zs) ≡ true
+has-right x ys zs h = has-append x ys zs ∙ or_right (has x ys) (has x zs) h
+
 or_false : (b c : Bool) → (b || c) ≡ (c || (b || false))
 or_false true true = refl
 or_false true false = refl
@@ -49,11 +55,7 @@ has-reverse x (y ∷ ys) =
     ∙ sym (or_false (nat_eq x y) (has x ys))
 
 pub has_not_from : (x : ℕ) (ys : List ℕ) → (has x ys ≡ true → ⊥) → has x ys ≡ false
-has_not_from x ys h = by (has x ys) refl
-  where
-    by : (b : Bool) → has x ys ≡ b → has x ys ≡ false
-    by true e = absurd (h e)
-    by false e = e
+has_not_from x ys h = false_from_ne_true (has x ys) h
 
 -- a number in a list has a position there
 pub stands : (x : ℕ) (ys : List ℕ) → has x ys ≡ true → IsOnPath ys x

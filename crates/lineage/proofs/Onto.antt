@@ -1,13 +1,9 @@
 -- Climbs that pass a key.
-use Rattle.std.proofs.Common.{◌≡◌, ℕ, true, List, [], ◌∷◌, ◌++◌, length, Option, Some, sym, ◌∙◌, ap, subst, arith, length-append}
+use Rattle.std.proofs.Common.{◌≡◌, ℕ, true, List, ◌∷◌, ◌++◌, length, Option, Some, sym, ◌∙◌, ap, subst, arith, length-append}
 use Rattle.lineage.specs.Family.{has}
 use Rattle.lineage.specs.Climbs.{IsClimb}
-use Rattle.lineage.proofs.Once.{has-tail, stands}
+use Rattle.lineage.proofs.Once.{has-tail, stands, has-right}
 use Rattle.lineage.proofs.Climbs.{climb_from, climb_unique}
-
-has-behind : (x : ℕ) (ys zs : List ℕ) → has x zs ≡ true → has x (ys ++ zs) ≡ true
-has-behind x [] zs m = m
-has-behind x (y ∷ ys) zs m = has-tail x y (ys ++ zs) (has-behind x ys zs m)
 
 -- the climb from a key, and another key j that links to it
 module _ (p : ℕ → Option (Option ℕ)) (key : ℕ) (rest : List ℕ) (whole : IsClimb p (Some key) (key ∷ rest)) (j : ℕ) (link : p j ≡ Some (Some key)) where
@@ -23,7 +19,7 @@ module _ (p : ℕ → Option (Option ℕ)) (key : ℕ) (rest : List ℕ) (whole 
   climb_on at up h m k on =
       let w = stands j up m in
       let back = goes_on at w.front w.back (subst (IsClimb p at) w.is h) in
-      subst (λ u. has k u ≡ true) (sym w.is) (has-behind k w.front (j ∷ w.back) (has-tail k j w.back (subst (λ b. has k b ≡ true) (sym back) on)))
+      subst (λ u. has k u ≡ true) (sym w.is) (has-right k w.front (j ∷ w.back) (has-tail k j w.back (subst (λ b. has k b ≡ true) (sym back) on)))
 
   -- j isn't above the key
   pub not_above : has j (key ∷ rest) ≡ true → ⊥

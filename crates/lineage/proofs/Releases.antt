@@ -13,8 +13,8 @@ use Rattle.lineage.specs.Lineages.{tip_at, is_key, is_above, node, node_at, abov
 use Rattle.lineage.proofs.Once.{has_cases, has_not_from}
 use Rattle.lineage.proofs.Climbs.{climb_unique, climb_kept, climb_step, not_again}
 use Rattle.lineage.proofs.Walks.{keys_up_is}
-use Rattle.lineage.proofs.Counts.{one, count_changed, count_same, count_some, count_no}
-use Rattle.lineage.proofs.Kept.{node_from, over_climb, is_key_true}
+use Rattle.lineage.proofs.Counts.{one, count_changed, count_some, count_no}
+use Rattle.lineage.proofs.Kept.{node_from, over_climb, is_key_true, is_above_true, holders_alike}
 use Rattle.lineage.proofs.Onto.{climb_on, not_above}
 use Rattle.lineage.proofs.Removed.{removed_from, stays_at}
 
@@ -186,10 +186,6 @@ module _ {X : Type 0} (first s t : List (Option (Node X))) (tips : List (Option 
         from_node j e (inl o) = record { path = o.path; up = o.up; is = o.is; on = climb_on (above_node s) key rest whole j e (tip_at tips o.path) o.up o.is o.on k m }
         from_node j e (inr up) = absurd (not_above (above_node s) key rest whole j e (subst (λ u. has j u ≡ true) rest_of.1.0 up))
 
-        from_link : (o : Option (Option ℕ)) → is_above key o ≡ true → o ≡ Some (Some key)
-        from_link None h = absurd (cc)
-        from_link (Some next) h = ap Some (is_key_true key next h)
-
         by : (0 < count_by (is_key key) tips) ⊎ (count_by (is_key key) tips ≤ 0) → IsOn s tips k
         by (inl some) =
             let i = count_some (is_key key) tips some in
@@ -197,7 +193,7 @@ module _ {X : Type 0} (first s t : List (Option (Node X))) (tips : List (Option 
         by (inr none) =
             let some : 0 < count_by (links_to_key key) s = omega (arith, counted_here, more, none) in
             let j = count_some (links_to_key key) s some in
-            let e : above_node s j.0 ≡ Some (Some key) = from_link (above_node s j.0) j.1 in
+            let e : above_node s j.0 ≡ Some (Some key) = is_above_true key (above_node s j.0) j.1 in
             let w = node_from (node_at s j.0) (Some key) e in
             from_node j.0 e (r.live j.0 w.0 w.1.0)
 
@@ -214,10 +210,9 @@ module _ {X : Type 0} (first s t : List (Option (Node X))) (tips : List (Option 
       live = λ k m e. let w = was_more k m e (cases_eq k key) in inl (live_more k (r.live k w.0 w.1.0));
       counted = λ k m e.
           let w = was_more k m e (cases_eq k key) in
-          let is = r.counted k w.0 w.1.0 in
-          let a = count_same (links_to_key k) refl s t (λ j. ap (is_above k) (same_above j (cases_eq j key))) in
-          let b = w.1.1.0 in
-          omega (arith, is, a, b);
+          let is = w.1.1.0 ∙ r.counted k w.0 w.1.0 in
+          let a = holders_alike s t tips k (λ j. same_above j (cases_eq j key)) in
+          omega (arith, is, a);
       few =
           let a = count_changed is_some refl key s t (λ j ne. ap is_some (others j ne)) in
           let b : one (is_some (node_at t key)) ≡ one (is_some (node_at s key)) = ap (λ o. one (is_some o)) less ∙ sym (ap (λ o. one (is_some o)) there) in

@@ -4,10 +4,10 @@ use Rattle.std.specs.Prelude.{is_some}
 use Rattle.std.proofs.lemmas.Bool.{cases_eq}
 use Rattle.std.proofs.lemmas.List.{get_or-set_same, get_or-set_other}
 use Rattle.lineage.specs.declared.node.Node.{Node}
-use Rattle.lineage.specs.Lineages.{tip_at, is_above, node, node_at, above_in, above_node, path_to, links_to_key, IsSoundFamily}
+use Rattle.lineage.specs.Lineages.{tip_at, node, node_at, above_in, above_node, path_to, IsSoundFamily}
 use Rattle.lineage.proofs.Walks.{link_within}
 use Rattle.lineage.proofs.Counts.{count_same}
-use Rattle.lineage.proofs.Kept.{over_climb, over_path, map_same}
+use Rattle.lineage.proofs.Kept.{over_climb, over_path, map_same, holders_alike}
 
 -- the item at a key is replaced
 module _ {X : Type 0} (s : List (Option (Node X))) (tips : List (Option ℕ)) (key : ℕ) (n : Node X) (item : X) (sound : IsSoundFamily s tips) (there : node_at s key ≡ Some n) where
@@ -50,10 +50,7 @@ module _ {X : Type 0} (s : List (Option (Node X))) (tips : List (Option ℕ)) (k
         record { path = o.path; up = o.up; is = over_climb s now keeps (tip_at tips o.path) o.up o.is; on = o.on };
     counted = λ k m e.
         let w = was k m e (cases_eq k key) in
-        let is = sound.counted k w.0 w.1.0 in
-        let a = count_same (links_to_key k) refl s now (λ j. ap (is_above k) (same_above j (cases_eq j key))) in
-        let b = w.1.1 in
-        omega (arith, is, a, b);
+        w.1.1 ∙ sound.counted k w.0 w.1.0 ∙ holders_alike s now tips k (λ j. same_above j (cases_eq j key));
     few = let a = count_same is_some refl s now (λ j. same_some j (cases_eq j key)) in let few = sound.few in omega (arith, a, few);
   }
 

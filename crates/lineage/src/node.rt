@@ -71,7 +71,7 @@ impl Above {
 
 /// An item; its link, which is the key of the item above it, if any; and the number of its holders,
 /// which are the nodes and the tips (last keys of paths) that link to it.
-#[derive(Debug, Drop)]
+#[derive(Drop)]
 pub(crate) struct Node<X> {
     pub(crate) item: X,
     pub(crate) above: Above,

@@ -1,6 +1,7 @@
 //! Tests of what the program does with its words, its file and its streams, with readers and
 //! writers that fail on the way.
 
+ghost use Rattle.std.specs.Prelude.{◌<◌, ◌≤◌};
 ghost use Rattle.command_line.specs.Ranges.{AreOptionsInRange};
 
 mod cut;
@@ -13,15 +14,24 @@ use command_line::Options;
 use std::io;
 use std::io::{ErrorKind, Read, Write};
 
-/// Options without thieves, and with limits that are enough for the scripts here.
-fn options() -> Options
+/// Options without thieves, and with these limits.
+fn limited(cells: u32, branches: u32) -> Options
+    requires cells { 0 < cells × cells ≤ 64 }
+    requires branches { 0 < branches × branches ≤ 4 }
     ensures { AreOptionsInRange result }
 {
     Options {
         workers: 0,
-        cells: 64,
-        branches: 4,
+        cells,
+        branches,
     }
+}
+
+/// Options without thieves, and with limits that are enough for the scripts here.
+fn options() -> Options
+    ensures { AreOptionsInRange result }
+{
+    limited(64, 4)
 }
 
 /// A reader that gives its bytes one by one, each after `interruptions` interrupted reads. After

@@ -1,6 +1,6 @@
 -- The rules of copies meet the laws that every layer's rules must meet; and the equality test on
 -- tasks (points at which a copy is written or read) is right.
-use Rattle.std.proofs.Common.{◌≡◌, ℕ, zero, suc, ◌+◌, ◌-◌, ◌<◌, ◌≤◌, Bool, true, false, refl, ap, arith, nat_eq}
+use Rattle.std.proofs.Common.{◌≡◌, ℕ, zero, suc, ◌+◌, ◌-◌, ◌<◌, ◌≤◌, Bool, true, refl, ap, arith, nat_eq}
 use mathlib.Core.Bool.{◌&&◌}
 use Rattle.std.specs.Bool.{Decides}
 use Rattle.std.proofs.lemmas.Bool.Decides.{Decides-and, Decides-eqb, Decides-like}
@@ -16,6 +16,7 @@ use Rattle.frames.specs.declared.limits.TheConstants.{MOST_READERS}
 use Rattle.layers.specs.Sound.{IsSound, IsSoundTable, IsNotSpent, Falls, FitsPart}
 use Rattle.layers.specs.OneWriter.{one_writer}
 use Rattle.layers.specs.laws.OneWriter as writer
+use Rattle.reader_copies.specs.contracts.task.CopiesTaskPartialEq.TheImpl as tasks
 use Rattle.reader_copies.specs.declared.task.CopiesTask.{CopiesTask}
 use Rattle.reader_copies.specs.declared.task.CopiesTask.TheVariants.{Writing, Reading}
 use Rattle.reader_copies.specs.Program.{write_from, copies_program, copies_rest, copies_table, copies_asks, copies_frame, copies_find, CopiesMayBeAt}
@@ -101,21 +102,12 @@ module _ (readers values : ℕ) (some : 1 ≤ readers) (few : readers ≤ MOST_R
       (λ v j lt below. lt) (λ v k lt below. absurd (omega arith))
       asks_fit may_be_at_suits frame_gives_task begins_sound rest_sound rest_falls
 
--- whether two tasks are equal: both are writes of one value to one reader's copy, or both are reads
--- by one reader
-abbrev pub copies_task_eq : CopiesTask → CopiesTask → Bool
-copies_task_eq (Writing v p) (Writing w q) = nat_eq v w && nat_eq p q
-copies_task_eq (Reading p) (Reading q) = nat_eq p q
-copies_task_eq (Writing v p) (Reading q) = false
-copies_task_eq (Reading p) (Writing w q) = false
-
--- `copies_task_eq` is true exactly if the two tasks are equal
-pub copies_task_decides : (a b : CopiesTask) → Decides (copies_task_eq a b) (a ≡ b)
+-- the derived `==` of tasks is true exactly if the two tasks are equal
+pub copies_task_decides : (a b : CopiesTask) → Decides (tasks.eq-value.it a b) (a ≡ b)
 copies_task_decides (Writing v p) (Writing w q) =
     Decides-like (nat_eq v w && nat_eq p q) (λ e. λ i. Writing (e.0 i) (e.1 i)) (λ e. (cc, cc)) (Decides-and (nat_eq v w) (nat_eq p q) (Decides-eqb v w) (Decides-eqb p q))
 copies_task_decides (Reading p) (Reading q) = Decides-like (nat_eq p q) (λ e. ap Reading e) (λ e. cc) (Decides-eqb p q)
-copies_task_decides (Writing v p) (Reading q) = (λ h. cc, λ h. cc)
-copies_task_decides (Reading p) (Writing w q) = (λ h. cc, λ h. cc)
+copies_task_decides _ _ = (λ h. cc, λ h. cc)
 
 -- whether two registers made of copies have the same number of readers and the same number of
 -- values

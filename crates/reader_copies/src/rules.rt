@@ -2,19 +2,12 @@
 
 ghost use Rattle.std.specs.Prelude.{◌≡◌, ℕ, ◌<◌, ◌≤◌, ◌^◌, MatchResult, IfOk, Some, None};
 ghost use Rattle.frames.specs.declared.limits.TheConstants.{MOST_READERS};
-ghost use Rattle.layers.specs.OneWriter.{one_writer};
 ghost use Rattle.layers.specs.Nested.{layered};
-ghost use Rattle.reader_copies.specs.Program.{copies_table, copies_refusal};
+ghost use Rattle.reader_copies.specs.Program.{copies_table, copies_refusal, CopiesMayBeAt};
+ghost use Rattle.reader_copies.specs.Sound.{copies_left, copies_sound, copies_task_decides, layers_alike};
 
 use crate::task::CopiesTask;
-use frames::limits::MOST_READERS;
-use frames::register::{Behaves, Register};
-use frames::types::{Frame, FrameLayer, Op, Outcome};
-use layers::construction::{Construction, Rules, Shape, one_writer};
-use layers::fit::LayerError;
-use layers::layered::Layered;
-use layers::nested::{Ask, Continuation};
-use safe_bit::Store;
+use layers::prelude::*;
 
 /// A register of several readers: for each of them it has a copy of a register of one reader. A
 /// write writes the copies one after the other, beginning with the copy of reader 1. A reader reads
@@ -22,7 +15,7 @@ use safe_bit::Store;
 pub type Copies<S> = Layered<CopiesRules, S>;
 
 /// The two numbers that the rules of a register made of copies depend on.
-#[derive(Debug, PartialEq, Eq)]
+#[derive(Clone, Copy, Debug, PartialEq, Eq)]
 pub struct CopiesRules {
     /// The number of readers, each with its own copy.
     pub readers: u32,
@@ -31,14 +24,6 @@ pub struct CopiesRules {
     ghost some: { 1 ≤ readers },
     ghost few: { readers ≤ MOST_READERS },
 }
-
-impl Clone for CopiesRules {
-    fn clone(&self) -> Result<Self, std::alloc::AllocError> {
-        Ok(*self)
-    }
-}
-
-impl Copy for CopiesRules {}
 
 /// The trait that declares `Copies::new`. Import it to call `Copies::new`.
 pub trait NewCopies<S: Register>: Sized {
@@ -75,12 +60,6 @@ impl Rules for CopiesRules {
 }
 
 impl Construction for CopiesRules {
-    ghost use Rattle.std.specs.Prelude.{refl};
-    ghost use Rattle.reader_copies.specs.Program.{copies_table, CopiesMayBeAt};
-    ghost use Rattle.reader_copies.specs.Sound.{copies_left, copies_sound, copies_task_eq, copies_task_decides, layers_alike};
-    ghost use Rattle.reader_copies.specs.declared.task.CopiesTask.TheVariants.{Writing, Reading};
-    ghost use Rattle.layers.specs.laws.Equality.{decides_like};
-
     ghost MayBeAt = { λ l. CopiesMayBeAt l.readers l.values };
 
     ghost left = { λ l. copies_left l.readers };
@@ -139,18 +118,11 @@ impl Construction for CopiesRules {
     }
 
     fn asks(&self, task: CopiesTask) -> Ask {
-        match task {
-            CopiesTask::Writing { v, reader } => Ask {
-                part: reader - 1,
-                who: 0,
-                op: Op::Write(v),
-            },
-            CopiesTask::Reading { reader } => Ask {
-                part: reader - 1,
-                who: 1,
-                op: Op::Read,
-            },
-        }
+        let (part, who, op) = match task {
+            CopiesTask::Writing { v, reader } => (reader - 1, 0, Op::Write(v)),
+            CopiesTask::Reading { reader } => (reader - 1, 1, Op::Read),
+        };
+        Ask { part, who, op }
     }
 
     fn frame(&self, task: CopiesTask) -> Frame {
@@ -190,5 +162,5 @@ impl Construction for CopiesRules {
 
     ghost alike = { λ a b h. layers_alike a.readers b.readers a.values b.values h };
 
-    ghost same_task = { decides_like ⟦<CopiesTask as PartialEq>⟧.eq copies_task_eq (elim [ Writing _ _ ↦ elim [ Writing _ _ ↦ refl | Reading _ ↦ refl ] | Reading _ ↦ elim [ Writing _ _ ↦ refl | Reading _ ↦ refl ] ]) copies_task_decides };
+    ghost same_task = { copies_task_decides };
 }

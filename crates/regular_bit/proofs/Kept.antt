@@ -17,7 +17,7 @@ use Rattle.frames.specs.OneWriter.{one_writer}
 use Rattle.frames.specs.laws.OneWriter as writer
 use Rattle.frames.specs.correctness.Regularity.{in_progress, IsSafe, IsRegular}
 use Rattle.frames.proofs.Agreed.{fresh_alike, stray_alike}
-use Rattle.frames.proofs.Seen.{Seen, Returned, among, opening, sees, got, now_last, IsFreshAlone, IsNotStray, ended}
+use Rattle.frames.proofs.Seen.{Seen, Returned, among, opening, sees, got, now_last, IsFreshAlone, IsNotStray, ended, among_more, among_here}
 use Rattle.frames.proofs.Judged.{fresh_value}
 use Rattle.frames.proofs.Pointwise.{put, put_same, put_other}
 use Rattle.layers.specs.Nested.{Ends, Asks, Sets, Table, layered}
@@ -54,18 +54,12 @@ pub record Agree (u s : Seen) (word : ℕ) : Type 0 where
   pub says : WordSays word s.writing s.last
   pub other : (r : ℕ) → HasOther (s.fresh r) (s.overlaps r) s.last s.writing
 
-among_more : (x v : ℕ) (vs : List ℕ) → IsTrue (among x vs) → IsTrue (among x (v ∷ vs))
-among_more x v vs h = elim (v == x) as (λ c. IsTrue (c || among x vs)) [ true ↦ refl | false ↦ h ]
-
 among_both : (x v : ℕ) (vs ws : List ℕ) → (IsTrue (among x vs) → IsTrue (among x ws)) → IsTrue (among x (v ∷ vs)) → IsTrue (among x (v ∷ ws))
 among_both x v vs ws f h = go (v == x) h
   where
     go : (c : Bool) → IsTrue (c || among x vs) → IsTrue (c || among x ws)
     go true k = refl
     go false k = f k
-
-among_here : (x : ℕ) (vs : List ℕ) → IsTrue (among x (x ∷ vs))
-among_here x vs = ap (λ c. c || among x vs) (eq-eqb x x refl)
 
 agree_invoke : (p q v : ℕ) (u s : Seen) (word : ℕ) → Agree u s word → s.writing ≡ None → v < 2 → (word ≡ v → ⊥)
     → Agree (sees (Some (Invoke p (Write v))) u) (sees (Some (Invoke q (Write v))) s) v

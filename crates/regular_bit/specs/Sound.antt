@@ -13,6 +13,7 @@ use Rattle.layers.specs.Nested.{Ends, Asks, Sets}
 use Rattle.layers.specs.Sound.{IsSound, IsSoundTable, IsNotSpent, FitsPart}
 use Rattle.layers.specs.OneWriter.{one_writer}
 use Rattle.layers.specs.laws.OneWriter as writer
+use Rattle.regular_bit.specs.contracts.task.RegularTaskPartialEq.TheImpl as tasks
 use Rattle.regular_bit.specs.declared.task.RegularTask.{RegularTask}
 use Rattle.regular_bit.specs.declared.task.RegularTask.TheVariants.{Writing, Reading}
 use Rattle.regular_bit.specs.Program.{regular_program, regular_table, regular_asks, regular_frame, regular_find, RegularMayBeAt}
@@ -61,19 +62,11 @@ module _ (processes : ℕ) (some : 0 < processes) where
       (λ v j lt below. lt) (λ v k lt below. omega (arith, lt))
       asks_fit may_be_at_suits frame_gives_task begins_sound rest_sound (λ who o task outcome stands answers on. tt)
 
--- whether two tasks are equal: both are writes of one value, or both are reads by one process
-abbrev pub regular_task_eq : RegularTask → RegularTask → Bool
-regular_task_eq (Writing v) (Writing w) = nat_eq v w
-regular_task_eq (Reading p) (Reading q) = nat_eq p q
-regular_task_eq (Writing v) (Reading q) = false
-regular_task_eq (Reading p) (Writing w) = false
-
--- `regular_task_eq` is true exactly if the two tasks are equal
-pub regular_task_decides : (a b : RegularTask) → Decides (regular_task_eq a b) (a ≡ b)
+-- the derived `==` of tasks is true exactly if the two tasks are equal
+pub regular_task_decides : (a b : RegularTask) → Decides (tasks.eq-value.it a b) (a ≡ b)
 regular_task_decides (Writing v) (Writing w) = Decides-like (nat_eq v w) (λ p. ap Writing p) (λ p. cc) (Decides-eqb v w)
 regular_task_decides (Reading p) (Reading q) = Decides-like (nat_eq p q) (λ e. ap Reading e) (λ e. cc) (Decides-eqb p q)
-regular_task_decides (Writing v) (Reading q) = (λ h. cc, λ h. cc)
-regular_task_decides (Reading p) (Writing w) = (λ h. cc, λ h. cc)
+regular_task_decides _ _ = (λ h. cc, λ h. cc)
 
 -- regular bits with the same number of processes have the same rules
 pub regular_table_alike : (p q : ℕ) → nat_eq p q ≡ true → regular_table p ≡ regular_table q

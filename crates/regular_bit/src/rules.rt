@@ -1,19 +1,13 @@
 //! The rules of a regular bit, whichever register of two values is below it.
 
 ghost use Rattle.std.specs.Prelude.{◌≡◌, ℕ, ◌<◌, ◌≤◌, ◌^◌, MatchResult, IfOk, Some, None};
-ghost use Rattle.layers.specs.OneWriter.{one_writer};
 ghost use Rattle.layers.specs.Fit.{refusal_below};
 ghost use Rattle.layers.specs.Nested.{layered};
-ghost use Rattle.regular_bit.specs.Program.{regular_table};
+ghost use Rattle.regular_bit.specs.Program.{regular_table, RegularMayBeAt};
+ghost use Rattle.regular_bit.specs.Sound.{regular_sound, regular_task_decides, regular_table_alike};
 
 use crate::task::RegularTask;
-use frames::register::{Behaves, Register};
-use frames::types::{Frame, FrameLayer, Op, Outcome};
-use layers::construction::{Construction, Rules, Shape, one_writer};
-use layers::fit::LayerError;
-use layers::layered::Layered;
-use layers::nested::{Ask, Continuation};
-use safe_bit::Store;
+use layers::prelude::*;
 
 /// A bit over a register of two values. A write of the value that was written last ends at once,
 /// without a write of the register below; any other write writes the register below. A read reads
@@ -21,20 +15,12 @@ use safe_bit::Store;
 pub type RegularBit<S> = Layered<RegularBitRules, S>;
 
 /// The only number that a regular bit's rules depend on.
-#[derive(Debug, PartialEq, Eq)]
+#[derive(Clone, Copy, Debug, PartialEq, Eq)]
 pub struct RegularBitRules {
     /// The number of processes: process 0 writes, the others read.
     pub processes: u32,
     ghost some: { 0 < processes },
 }
-
-impl Clone for RegularBitRules {
-    fn clone(&self) -> Result<Self, std::alloc::AllocError> {
-        Ok(*self)
-    }
-}
-
-impl Copy for RegularBitRules {}
 
 /// The trait that declares `RegularBit::new`. Import it to call `RegularBit::new`.
 pub trait NewRegularBit<S: Register>: Sized {
@@ -71,12 +57,6 @@ impl Rules for RegularBitRules {
 }
 
 impl Construction for RegularBitRules {
-    ghost use Rattle.std.specs.Prelude.{refl};
-    ghost use Rattle.regular_bit.specs.Program.{regular_table, RegularMayBeAt};
-    ghost use Rattle.regular_bit.specs.Sound.{regular_sound, regular_task_eq, regular_task_decides, regular_table_alike};
-    ghost use Rattle.regular_bit.specs.declared.task.RegularTask.TheVariants.{Writing, Reading};
-    ghost use Rattle.layers.specs.laws.Equality.{decides_like};
-
     ghost MayBeAt = { λ l. RegularMayBeAt l.processes };
 
     ghost left = { λ _ _. 0 };
@@ -128,18 +108,11 @@ impl Construction for RegularBitRules {
     }
 
     fn asks(&self, task: RegularTask) -> Ask {
-        match task {
-            RegularTask::Writing(v) => Ask {
-                part: 0,
-                who: 0,
-                op: Op::Write(v),
-            },
-            RegularTask::Reading(who) => Ask {
-                part: 0,
-                who,
-                op: Op::Read,
-            },
-        }
+        let (who, op) = match task {
+            RegularTask::Writing(v) => (0, Op::Write(v)),
+            RegularTask::Reading(who) => (who, Op::Read),
+        };
+        Ask { part: 0, who, op }
     }
 
     fn frame(&self, task: RegularTask) -> Frame {
@@ -176,5 +149,5 @@ impl Construction for RegularBitRules {
 
     ghost alike = { λ a b h. regular_table_alike a.processes b.processes h };
 
-    ghost same_task = { decides_like ⟦<RegularTask as PartialEq>⟧.eq regular_task_eq (elim [ Writing _ ↦ elim [ Writing _ ↦ refl | Reading _ ↦ refl ] | Reading _ ↦ elim [ Writing _ ↦ refl | Reading _ ↦ refl ] ]) regular_task_decides };
+    ghost same_task = { regular_task_decides };
 }

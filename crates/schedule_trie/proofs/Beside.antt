@@ -1,12 +1,11 @@
 -- New segments that are added to the existing ones.
 use Rattle.std.proofs.Common.{◌≡◌, ℕ, zero, suc, ◌+◌, ◌<◌, ◌≤◌, Bool, true, false, nat_eq, cond, List, [], ◌∷◌, length, Option, Some, None, IsSome, refl, sym, ap, subst, ◌∙◌, true≢false, arith, eq-eqb}
 use Rattle.std.specs.Option.{IfSome}
-use Rattle.std.proofs.lemmas.Bool.{eqb-true}
+use Rattle.std.proofs.lemmas.Bool.{eqb-true, eqb-false}
 use Rattle.schedule_trie.specs.Forest.{branch, renumbered, only_in}
 use Rattle.schedule_trie.specs.Cut.{Piece, Strand, slots_of, note_of, line, branches_on, keys_in, set_keys, has, has_cell, Once, Linked, IsSegment, IsSoundCut, before_key}
 use Rattle.schedule_trie.proofs.Once.{has_not_from, has-head, has-tail}
-use Rattle.schedule_trie.proofs.Lines.{given_at}
-use Rattle.schedule_trie.proofs.Pushes.{not_equal}
+use Rattle.schedule_trie.proofs.Lines.{given_at, weaker}
 use Rattle.schedule_trie.proofs.Released.{IsSoundBut, line_alike, branches_alike}
 use Rattle.schedule_trie.proofs.Renumbered.{AreCopied, IsCopied, each_copied, apart_copied, line_copied}
 use Rattle.schedule_trie.proofs.Strands.{keys_in-set_other, keys_in-set_same}
@@ -66,16 +65,12 @@ module _ {T : Type 0} (at new : ℕ → Option (Piece T)) (strands : List Strand
       by true e = (copy_at k e).note
       by false e = ap note_of (others k e ∙ h)
 
-  weaker : (o : Option (Piece T)) → IfSome o (IsSegment made) → IfSome o (IsSegment more)
-  weaker None h = tt
-  weaker (Some p) h = record { some = h.some; few = h.few; once = h.once; given = λ x g. let l : x < made = h.given x g in omega arith }
-
   segments : (k : ℕ) → IfSome (new k) (IsSegment more)
   segments k = by (has k keys) refl
     where
       by : (b : Bool) → has k keys ≡ b → IfSome (new k) (IsSegment more)
       by true e = (copy_at k e).segment
-      by false e = subst (λ o. IfSome o (IsSegment more)) (sym (others k e)) (weaker (at k) (sound.segments k))
+      by false e = subst (λ o. IfSome o (IsSegment more)) (sym (others k e)) (weaker made more (omega arith) (at k) (sound.segments k))
 
   was_in : (k x : ℕ) → has k keys ≡ false → has_cell x (slots_of (new k)) ≡ true → has_cell x (slots_of (at k)) ≡ true
   was_in k x e h = subst (λ o. has_cell x (slots_of o) ≡ true) (others k e) h
@@ -114,7 +109,7 @@ module _ {T : Type 0} (at new : ℕ → Option (Piece T)) (strands : List Strand
     where
       by : (b : Bool) → nat_eq i index ≡ b → Linked above_now None (keys_in (set_keys strands index keys) i)
       by true e = subst (Linked above_now None) (sym (ap (keys_in (set_keys strands index keys)) (eqb-true i index e) ∙ keys_in-set_same strands index keys inside)) linked_new
-      by false e = subst (Linked above_now None) (sym (keys_in-set_other strands index i keys (not_equal i index e))) (linked_old i)
+      by false e = subst (Linked above_now None) (sym (keys_in-set_other strands index i keys (eqb-false i index e))) (linked_old i)
 
   held_now : (i k : ℕ) → has k (keys_in (set_keys strands index keys) i) ≡ true → IsSome (new k)
   held_now i k h = by (nat_eq i index) refl
@@ -123,7 +118,7 @@ module _ {T : Type 0} (at new : ℕ → Option (Piece T)) (strands : List Strand
       by true e =
           (copy_at k (subst (λ l. has k l ≡ true) (ap (keys_in (set_keys strands index keys)) (eqb-true i index e) ∙ keys_in-set_same strands index keys inside) h)).there
       by false e =
-          let was : has k (keys_in strands i) ≡ true = subst (λ l. has k l ≡ true) (keys_in-set_other strands index i keys (not_equal i index e)) h in
+          let was : has k (keys_in strands i) ≡ true = subst (λ l. has k l ≡ true) (keys_in-set_other strands index i keys (eqb-false i index e)) h in
           subst IsSome (sym (held_kept i k was)) (sound.held i k was)
 
   pub sound_beside : IsSoundBut new (set_keys strands index keys) more

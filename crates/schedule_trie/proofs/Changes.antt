@@ -12,6 +12,7 @@ use Rattle.schedule_trie.specs.Forest.{slot, cell_of, with_step, replaced, every
 use Rattle.schedule_trie.specs.Slots.{set_step}
 use Rattle.schedule_trie.specs.Cut.{Piece, Strand, piece, piece_at, slots_of, line, branches_on, has, has_cell, Once, IsSegment, IsSoundCut}
 use Rattle.schedule_trie.specs.Tries.{piece_of, pieces_of}
+use Rattle.schedule_trie.proofs.Lists.{turned}
 use Rattle.schedule_trie.proofs.Once.{has_not_from, has-head, has-tail}
 
 -- one key has another segment, and each other key still has the segment that it had
@@ -43,13 +44,6 @@ module _ {T : Type 0} where
         ∙ sym (get_or-map piece_of slots j None);
   }
 
-pub nat_eq-turned : (x y : ℕ) → nat_eq x y ≡ false → nat_eq y x ≡ false
-nat_eq-turned x y e = by (nat_eq y x) refl
-  where
-    by : (b : Bool) → nat_eq y x ≡ b → nat_eq y x ≡ false
-    by true f = absurd (true≢false (sym (eq-eqb x y (sym (eqb-true y x f))) ∙ e))
-    by false f = f
-
 -- induction on cells that don't have a number
 pub absent_by : (x : ℕ) (P : List Slot → Type 0) → P [] → ((s : Slot) (ss : List Slot) → nat_eq s.cell x ≡ false → P ss → P (s ∷ ss))
     → (slots : List Slot) → has_cell x slots ≡ false → P slots
@@ -58,7 +52,7 @@ absent_by x P none more (s ∷ ss) h = by (nat_eq x s.cell) refl (absent_by x P 
   where
     by : (b : Bool) → nat_eq x s.cell ≡ b → (has_cell x ss ≡ false → P ss) → P (s ∷ ss)
     by true e rest = absurd (true≢false (sym (ap (λ c. c || has_cell x ss) e) ∙ h))
-    by false e rest = more s ss (nat_eq-turned x s.cell e) (rest (sym (ap (λ c. c || has_cell x ss) e) ∙ h))
+    by false e rest = more s ss (turned s.cell x ∙ e) (rest (sym (ap (λ c. c || has_cell x ss) e) ∙ h))
 
 -- replacing the step of a cell that isn't there changes nothing
 pub replaced-absent : (x : ℕ) (step : Step) (slots : List Slot) → has_cell x slots ≡ false → replaced x step slots ≡ slots

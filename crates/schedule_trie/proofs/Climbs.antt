@@ -8,14 +8,13 @@ use Rattle.schedule_trie.specs.declared.slot.Slot.{Slot}
 use Rattle.schedule_trie.specs.Forest.{cell_of, is_cell}
 use Rattle.schedule_trie.specs.Cut.{Piece, slots_of, line, has, has_cell, Once, IsSpotInPath, LiesInPath}
 use Rattle.schedule_trie.specs.Climbs.{keys_up_to, keys_to, HasClimbedTo}
-use Rattle.schedule_trie.proofs.Once.{has-tail, has_cases, has_not_from}
+use Rattle.schedule_trie.proofs.Once.{has-tail, has_not_from, has-in, once_before}
 use Rattle.schedule_trie.proofs.Lines.{in_line}
 use Rattle.schedule_trie.proofs.Pushes.{line-append}
-use Rattle.schedule_trie.proofs.Partings.{parting, has-in}
+use Rattle.schedule_trie.proofs.Partings.{parting}
 use Rattle.std.proofs.lemmas.Bool.Decides.{nat_tests}
-use Rattle.schedule_trie.proofs.Changes.{nat_eq-turned}
 use Rattle.schedule_trie.proofs.Readings.{most, first_left, first_right, none_of, first_of, first_is, none_is}
-use Rattle.schedule_trie.proofs.Lists.{slice_get_left, slice_get_right}
+use Rattle.schedule_trie.proofs.Lists.{slice_get_left, slice_get_right, turned}
 
 -- the keys up to a key, if it isn't among those before it
 pub up_to-here : (key : ℕ) (front back : List ℕ) → has key front ≡ false → keys_up_to key (front ++ key ∷ back) ≡ front ++ key ∷ []
@@ -25,12 +24,6 @@ up_to-here key (k ∷ front) back h = by (nat_eq key k) refl (up_to-here key fro
     by : (b : Bool) → nat_eq key k ≡ b → (has key front ≡ false → keys_up_to key (front ++ key ∷ back) ≡ front ++ key ∷ []) → keys_up_to key (k ∷ (front ++ key ∷ back)) ≡ k ∷ (front ++ key ∷ [])
     by true e rest = absurd (true≢false (sym (ap (λ c. c || has key front) e) ∙ h))
     by false e rest = ap (λ b. cond b (k ∷ []) (k ∷ keys_up_to key (front ++ key ∷ back))) e ∙ ap (λ l. k ∷ l) (rest (sym (ap (λ c. c || has key front) e) ∙ h))
-
-pub once_before : (front : List ℕ) (key : ℕ) (back : List ℕ) → Once (front ++ key ∷ back) → has key front ≡ false
-once_before [] key back h = refl
-once_before (k ∷ front) key back h = has_not_from key (k ∷ front) (λ g. has_cases key k front ⊥ g
-    (λ e. true≢false (sym (subst (λ z. has z (front ++ key ∷ back) ≡ true) e (has-in key front back)) ∙ h.0))
-    (λ r. true≢false (sym r ∙ once_before front key back h.1)))
 
 -- `last` is the last of these keys, if there are any
 pub record IsLast (keys : List ℕ) (last : Option ℕ) : Type 0 where
@@ -97,7 +90,7 @@ lacks_past cell (s ∷ ss) h = by (nat_eq cell s.cell) refl (lacks_past cell ss)
     by true e rest = absurd (true≢false (sym (ap (λ c. c || has_cell cell ss) e) ∙ h))
     by false e rest =
         let more : 1 + position_or_len (is_cell cell) ss ≡ suc (length ss) = let r = rest (sym (ap (λ c. c || has_cell cell ss) e) ∙ h) in omega (arith, r) in
-        ap (λ b. cond (not b) (1 + position_or_len (is_cell cell) ss) 0) (nat_eq-turned cell s.cell e) ∙ more
+        ap (λ b. cond (not b) (1 + position_or_len (is_cell cell) ss) 0) (turned s.cell cell ∙ e) ∙ more
 
 has_found : (cell : ℕ) (slots : List Slot) (o : ℕ) → position_or_len (is_cell cell) slots ≡ o → o < length slots → has_cell cell slots ≡ true
 has_found cell [] o e h = absurd (omega arith)

@@ -2,6 +2,7 @@
 use Rattle.std.proofs.Common.{◌≡◌, ℕ, ◌+◌, ◌<◌, ◌≤◌, Bool, true, false, cond, List, [], ◌∷◌, ◌++◌, length, map, get_or, Option, Some, None, refl, sym, ap, subst, ◌∙◌}
 use Rattle.std.proofs.lemmas.List.{length-set, get_or-set_same}
 use Rattle.lineage.specs.Family.{item_at, path_in, IsOnPath, IsExchanged, IsFamily}
+use Rattle.lineage.proofs.Chains.{map_on}
 use Rattle.lineage.proofs.Once.{stands}
 use Rattle.schedule_trie.specs.declared.segment.Segment.{Segment}
 use Rattle.schedule_trie.specs.declared.trie.Trie.TheInside.{Inside}
@@ -9,7 +10,7 @@ use Rattle.schedule_trie.specs.Forest.{slots_in}
 use Rattle.schedule_trie.specs.Cut.{Piece, piece_at, forest, line, keys_in, set_keys, has, Once, IsSoundCut, branches_on}
 use Rattle.schedule_trie.specs.Tries.{piece_of, strands_of, names_of, cut_of, IsHeldCut}
 use Rattle.schedule_trie.specs.Copies.{AreCopies, IsDetached}
-use Rattle.schedule_trie.proofs.Once.{has_not_from, has-head, has-tail}
+use Rattle.schedule_trie.proofs.Once.{has_not_from}
 use Rattle.schedule_trie.proofs.Lines.{slots_in_on}
 use Rattle.schedule_trie.proofs.StepSet.{piece_seen, cut_from_sound}
 use Rattle.schedule_trie.proofs.Strands.{keys_in-of, length-strands, strands-set, length-set_keys}
@@ -40,10 +41,6 @@ have_values at (k ∷ ks) (x ∷ xs) e =
     let first : at k ≡ Some x = cc in
     let rest : map at ks ≡ map Some xs = cc in
     (first, have_values at ks xs rest)
-
-map_on : {Y : Type 0} (f g : ℕ → Y) (keys : List ℕ) → ((k : ℕ) → has k keys ≡ true → f k ≡ g k) → map f keys ≡ map g keys
-map_on f g [] h = refl
-map_on f g (k ∷ ks) h = λ i. h k (has-head k ks) i ∷ map_on f g ks (λ j e. h j (has-tail j k ks e)) i
 
 module _ {T : Type 0} (t u : Inside T) (index len : ℕ) (copies : List (Segment T)) (held : IsHeldCut t) (inside : index < length (cut_of t).strands)
     (are : AreCopies (piece_at (cut_of t).pieces) t.made (keys_in (cut_of t).strands index) copies)

@@ -1,14 +1,13 @@
 -- Cutting a segment in two. The upper part has a new key.
 use Rattle.std.proofs.Common.{◌≡◌, ℕ, zero, suc, ◌<◌, ◌≤◌, Bool, true, false, ◌||◌, nat_eq, cond, List, [], ◌∷◌, ◌++◌, length, map, Option, Some, None, IsSome, ◌⊎◌, refl, sym, ap, subst, ◌∙◌, true≢false, arith, eq-eqb, append_assoc, inl, inr}
 use Rattle.std.specs.Option.{IfSome}
-use Rattle.std.proofs.lemmas.Bool.{eqb-true}
+use Rattle.std.proofs.lemmas.Bool.{eqb-true, eqb-false}
 use Rattle.std.proofs.lemmas.List.{map-append}
 use Rattle.schedule_trie.specs.declared.slot.Slot.{Slot}
 use Rattle.schedule_trie.specs.Forest.{branch, cell_of, everywhere}
 use Rattle.schedule_trie.specs.Cut.{Cut, Piece, Strand, piece_at, slots_of, note_of, line, branches_on, keys_in, has, has_cell, Once, Linked, IsSegment, IsSoundCut, KeepsNotesOff, divided_keys, divided_strand}
-use Rattle.schedule_trie.proofs.Once.{has-append, has-head, has-tail, has_cases, has_not_from}
-use Rattle.schedule_trie.proofs.Lines.{given_at}
-use Rattle.schedule_trie.proofs.Pushes.{not_equal}
+use Rattle.schedule_trie.proofs.Once.{has-head, has-tail, has_cases, has_not_from, has-left, has-right, Once-left, Once-right, Once-apart}
+use Rattle.schedule_trie.proofs.Lines.{given_at, weaker}
 
 -- the key has the cells below the cut, and a new key has those above
 pub record Divides {T : Type 0} (old new : ℕ → Option (Piece T)) (key fresh : ℕ) (above below : Piece T) : Type 0 where
@@ -17,30 +16,6 @@ pub record Divides {T : Type 0} (old new : ℕ → Option (Piece T)) (key fresh 
   pub upper : new fresh ≡ Some above
   pub lower : new key ≡ Some below
   pub others : (j : ℕ) → (j ≡ key → ⊥) → (j ≡ fresh → ⊥) → new j ≡ old j
-
--- a part of a list that has no number twice has none twice
-Once-left : (xs ys : List ℕ) → Once (xs ++ ys) → Once xs
-Once-left [] ys h = tt
-Once-left (x ∷ xs) ys h =
-    (has_not_from x xs (λ g. true≢false (sym (has-append x xs ys ∙ ap (λ c. c || has x ys) g) ∙ h.0)), Once-left xs ys h.1)
-
-Once-right : (xs ys : List ℕ) → Once (xs ++ ys) → Once ys
-Once-right [] ys h = h
-Once-right (x ∷ xs) ys h = Once-right xs ys h.1
-
-has-left : (x : ℕ) (xs ys : List ℕ) → has x xs ≡ true → has x (xs ++ ys) ≡ true
-has-left x xs ys h = has-append x xs ys ∙ ap (λ c. c || has x ys) h
-
-has-right : (x : ℕ) (xs ys : List ℕ) → has x ys ≡ true → has x (xs ++ ys) ≡ true
-has-right x [] ys h = h
-has-right x (z ∷ xs) ys h = has-tail x z (xs ++ ys) (has-right x xs ys h)
-
-Once-apart : (x : ℕ) (xs ys : List ℕ) → Once (xs ++ ys) → has x xs ≡ true → has x ys ≡ true → ⊥
-Once-apart x [] ys once a b = true≢false (sym a)
-Once-apart x (z ∷ xs) ys once a b =
-    has_cases x z xs ⊥ a
-    (λ e. true≢false (sym (has-right z xs ys (subst (λ w. has w ys ≡ true) e b)) ∙ once.0))
-    (λ r. Once-apart x xs ys once.1 r b)
 
 -- the keys of divided paths
 module _ (key fresh : ℕ) where
@@ -154,8 +129,8 @@ module _ {T : Type 0} (old new : ℕ → Option (Piece T)) (key fresh : ℕ) (ab
             ∙ ap (λ l. g (slots_of (old k)) ++ l) rest
             ∙ sym (through (slots_of (old k)) (line old ks))
         by false e rest =
-            let other : k ≡ key → ⊥ = λ f. not_equal key k e (sym f) in
-            let lacks : k ≡ fresh → ⊥ = λ f. not_equal fresh k (lacks_head key fresh k ks h) (sym f) in
+            let other : k ≡ key → ⊥ = λ f. eqb-false key k e (sym f) in
+            let lacks : k ≡ fresh → ⊥ = λ f. eqb-false fresh k (lacks_head key fresh k ks h) (sym f) in
             ap (λ b. line new (part key fresh b k (divided_keys key fresh ks))) e
             ∙ ap (λ l. l ++ line new (divided_keys key fresh ks)) (ap slots_of (divides.others k other lacks) ∙ sym (elsewhere k other))
             ∙ ap (λ l. g (slots_of (old k)) ++ l) rest
@@ -189,7 +164,7 @@ module _ {T : Type 0} (old new : ℕ → Option (Piece T)) (key fresh : ℕ) (ab
         by : (b : Bool) → nat_eq k key ≡ b → (c : Bool) → nat_eq k fresh ≡ c → P k
         by true e c f = subst P (sym (eqb-true k key e)) at_key
         by false e true f = subst P (sym (eqb-true k fresh f)) at_fresh
-        by false e false f = at_other (not_equal k key e) (not_equal k fresh f)
+        by false e false f = at_other (eqb-false k key e) (eqb-false k fresh f)
 
     pub lacked-divided : (i : ℕ) → has fresh (keys_in strands i) ≡ false
     lacked-divided i = has_not_from fresh (keys_in strands i) (λ h. true≢false (sym (subst IsSome divides.vacant (sound.held i fresh h))))
@@ -212,10 +187,6 @@ module _ {T : Type 0} (old new : ℕ → Option (Piece T)) (key fresh : ℕ) (ab
       | inr g ↦ g.1
     ]
 
-    weaker : (o : Option (Piece T)) → IfSome o (IsSegment made) → IfSome o (IsSegment more)
-    weaker None h = tt
-    weaker (Some p) h = record { some = h.some; few = h.few; once = h.once; given = λ x g. let l : x < made = h.given x g in omega arith }
-
     segments : (k : ℕ) → IfSome (new k) (IsSegment more)
     segments k = cases k (λ j. IfSome (new j) (IsSegment more))
         (subst (λ o. IfSome o (IsSegment more)) (sym divides.lower) (record {
@@ -230,7 +201,7 @@ module _ {T : Type 0} (old new : ℕ → Option (Piece T)) (key fresh : ℕ) (ab
           once = Once-left (map cell_of above.slots) (map cell_of below.slots) once_parts;
           given = λ x h. given x (in_above x h);
         }))
-        (λ a b. subst (λ o. IfSome o (IsSegment more)) (sym (divides.others k a b)) (weaker (old k) (sound.segments k)))
+        (λ a b. subst (λ o. IfSome o (IsSegment more)) (sym (divides.others k a b)) (weaker made more grows (old k) (sound.segments k)))
 
     -- no other segment has a cell of the two parts
     outside : (k x : ℕ) → (k ≡ key → ⊥) → has_cell x (above.slots ++ below.slots) ≡ true → has_cell x (slots_of (old k)) ≡ true → ⊥
@@ -300,4 +271,4 @@ notes-divided c d key fresh above below divides none_above none_below = record {
     fresh_at : (k : ℕ) → piece_at c.pieces k ≡ None → (b : Bool) → nat_eq k key ≡ b → (e : Bool) → nat_eq k fresh ≡ e → note_of (piece_at d.pieces k) ≡ None
     fresh_at k h true e f g = subst (λ j. note_of (piece_at d.pieces j) ≡ None) (sym (eqb-true k key e)) cleared
     fresh_at k h false e true g = subst (λ j. note_of (piece_at d.pieces j) ≡ None) (sym (eqb-true k fresh g)) (ap note_of divides.upper ∙ none_above)
-    fresh_at k h false e false g = ap note_of (divides.others k (not_equal k key e) (not_equal k fresh g) ∙ h)
+    fresh_at k h false e false g = ap note_of (divides.others k (eqb-false k key e) (eqb-false k fresh g) ∙ h)

@@ -1,5 +1,6 @@
 -- Dropping a branch.
-use Rattle.std.proofs.Common.{◌≡◌, ℕ, zero, suc, ◌<◌, ◌≤◌, true, List, [], ◌∷◌, length, Option, None, refl, sym, ap, subst, ◌∙◌, arith}
+use Rattle.std.proofs.Common.{◌≡◌, ℕ, zero, suc, ◌<◌, ◌≤◌, true, List, [], ◌∷◌, length, Option, None, refl, sym, ap, subst, ◌∙◌, arith, ◌+◌}
+use Rattle.std.proofs.lemmas.List.Edits.{length-remove}
 use Rattle.std.specs.List.{remove}
 use Rattle.indexmap.proofs.SetLemmas.{map-remove}
 use Rattle.lineage.specs.Family.{path_in, IsReleased as IsReleasedIn}
@@ -11,7 +12,6 @@ use Rattle.schedule_trie.specs.Releases.{IsDropped}
 use Rattle.schedule_trie.proofs.Strands.{keys_in-of, length-strands, strands-remove}
 use Rattle.schedule_trie.proofs.StepSet.{piece_seen, cut_from_sound, within_still}
 use Rattle.schedule_trie.proofs.Released.{IsReleased, IsSoundBut, released_sound, released_branches, released_notes}
-use Rattle.schedule_trie.proofs.Lists.{length-remove}
 
 -- each branch that is left was there before
 keys_left : (strands : List Strand) (index j : ℕ) → (i : ℕ) × (keys_in (remove strands index) j ≡ keys_in strands i)
@@ -45,9 +45,9 @@ module _ {T : Type 0} (t u : Inside T) (index : ℕ) (held : IsHeldCut t) (insid
 
   many : length u.segments.paths ≡ length (names_of u)
   many =
-      let a : suc (length u.segments.paths) ≡ length t.segments.paths =
-      ap (λ l. suc (length l)) paths ∙ length-remove t.segments.paths index (subst (λ n. index < n) (sym held.paths) inside_names) in
-      let b : suc (length (names_of u)) ≡ length (names_of t) = ap (λ l. suc (length l)) names ∙ length-remove (names_of t) index inside_names in
+      let a : length u.segments.paths + 1 ≡ length t.segments.paths =
+      ap (λ l. length l + 1) paths ∙ length-remove t.segments.paths index (subst (λ n. index < n) (sym held.paths) inside_names) in
+      let b : length (names_of u) + 1 ≡ length (names_of t) = ap (λ l. length l + 1) names ∙ length-remove (names_of t) index inside_names in
       omega (arith, a, b, held.paths)
 
   keys : (i : ℕ) → keys_in (cut_of u).strands i ≡ path_in u.segments i
@@ -68,8 +68,8 @@ module _ {T : Type 0} (t u : Inside T) (index : ℕ) (held : IsHeldCut t) (insid
   sound : IsSoundCut (piece_at (cut_of u).pieces) (cut_of u).strands u.made
   sound = released_sound (piece_at (cut_of t).pieces) (piece_at (cut_of u).pieces) (cut_of u).strands pieces u.made before
 
-  count : suc (length (cut_of u).strands) ≡ length (cut_of t).strands
-  count = ap (λ l. suc (length l)) left ∙ length-remove (cut_of t).strands index inside
+  count : length (cut_of u).strands + 1 ≡ length (cut_of t).strands
+  count = ap (λ l. length l + 1) left ∙ length-remove (cut_of t).strands index inside
 
   pub drop_held : IsHeldCut u
   drop_held = record {

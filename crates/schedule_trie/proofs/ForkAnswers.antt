@@ -3,23 +3,12 @@ use Rattle.std.proofs.Common.{◌≡◌, ℕ, suc, ◌+◌, ◌<◌, ◌≤◌, 
 use Rattle.std.specs.List.{list_any, position_or_len}
 use Rattle.std.specs.Cmp.Lexicographic.{pointwise}
 use Rattle.std.proofs.lemmas.Bool.Decides.{nat_tests}
+use Rattle.std.proofs.lemmas.Bool.{lt-ltb, le-ltb, le-leb, lt-leb}
 use Rattle.schedule_trie.specs.declared.limits.Limits.{Limits}
 use Rattle.schedule_trie.specs.declared.refusal.Refusal.{Refusal}
 use Rattle.schedule_trie.specs.declared.refusal.Refusal.TheVariants.{NameTaken, BadName, NoPlace, TooManyBranches, Memory}
 use Rattle.schedule_trie.specs.Names.{is_well_formed}
 use Rattle.schedule_trie.specs.Forest.{Forest, branch, name_of, index_of, slots_in, on_found, fork, fork_at, IsRefused}
-
-nat_lt_true : (a b : ℕ) → a < b → nat_lt a b ≡ true
-nat_lt_true a b h = grind (arith, nat_tests)
-
-pub nat_lt_false : (a b : ℕ) → b ≤ a → nat_lt a b ≡ false
-nat_lt_false a b h = grind (arith, nat_tests)
-
-nat_le_true : (a b : ℕ) → a ≤ b → nat_le a b ≡ true
-nat_le_true a b h = grind (arith, nat_tests)
-
-pub nat_le_false : (a b : ℕ) → b < a → nat_le a b ≡ false
-nat_le_false a b h = grind (arith, nat_tests)
 
 nat_lt-more : (a b : ℕ) → nat_lt (1 + a) (suc b) ≡ nat_lt a b
 nat_lt-more a b = grind (arith, nat_tests)
@@ -31,7 +20,7 @@ any_or_none test (x ∷ xs) = by (test x) (any_or_none test xs)
   where
     by : (b : Bool) → nat_lt (position_or_len test xs) (length xs) ≡ list_any test xs
         → nat_lt (cond (not b) (1 + position_or_len test xs) 0) (suc (length xs)) ≡ (b || list_any test xs)
-    by true rest = nat_lt_true 0 (suc (length xs)) (omega arith)
+    by true rest = lt-ltb 0 (suc (length xs)) (omega arith)
     by false rest = nat_lt-more (position_or_len test xs) (length xs) ∙ rest
 
 pub none_from : {X : Type 0} (o : Option X) → is_some o ≡ false → o ≡ None
@@ -80,18 +69,18 @@ module _ (limits : Limits) (f : Forest) (name new : List ℕ) (place i : ℕ) (f
       pub no_place : length (slots_in f.branches i) < place → fork limits f name place new ≡ Err NoPlace
       no_place h =
           answered
-          ∙ (λ j. answer (free j) (formed j) (nat_lt_true (length (slots_in f.branches i)) place h j) (nat_le limits.branches (length f.branches)))
+          ∙ (λ j. answer (free j) (formed j) (lt-ltb (length (slots_in f.branches i)) place h j) (nat_le limits.branches (length f.branches)))
 
       module _ (fits : place ≤ length (slots_in f.branches i)) where
         pub too_many : limits.branches ≤ length f.branches → fork limits f name place new ≡ Err TooManyBranches
         too_many h =
             answered
-            ∙ (λ j. answer (free j) (formed j) (nat_lt_false (length (slots_in f.branches i)) place fits j) (nat_le_true limits.branches (length f.branches) h j))
+            ∙ (λ j. answer (free j) (formed j) (le-ltb (length (slots_in f.branches i)) place fits j) (le-leb limits.branches (length f.branches) h j))
 
         pub is_forked : length f.branches < limits.branches → fork limits f name place new ≡ Ok forked
         is_forked h =
             answered
-            ∙ (λ j. answer (free j) (formed j) (nat_lt_false (length (slots_in f.branches i)) place fits j) (nat_le_false limits.branches (length f.branches) h j))
+            ∙ (λ j. answer (free j) (formed j) (le-ltb (length (slots_in f.branches i)) place fits j) (lt-leb limits.branches (length f.branches) h j))
 
         pub memory_alone : length f.branches < limits.branches → IsRefused (fork limits f name place new) Memory
         memory_alone h = inr (refl, subst IsOk (sym (is_forked h)) refl)

@@ -93,7 +93,7 @@ module _ {T : Type 0} (t u : Inside T) (mid : Family (Segment T)) (name : List �
   as_many : length (map (divided_keys key new) t.segments.paths) ≡ length (names_of t)
   as_many = length-map t.segments.paths (divided_keys key new) ∙ held.paths
 
-  pub cut_fork_held : IsHeldCut u
+  cut_fork_held : IsHeldCut u
   cut_fork_held = fork_held middle u name index (count + 1) t.branches.entries (map (divided_keys key new) t.segments.paths) forked.path more
       (strands-divided key new (names_of t) t.segments.paths) as_many refl made limits free_now path_now (paths ∙ forked.paths) entries middle_whole room_now
 
@@ -106,7 +106,7 @@ module _ {T : Type 0} (t u : Inside T) (mid : Family (Segment T)) (name : List �
       (cut_line c (pieces_of u.segments.items) index count key new rest (piece above.items None) (piece below.items None) held.whole inside at_key divides parts len some within
       ∙ ap (λ l. length (line (piece_at c.pieces) l) + rest) front_is)
 
-  pub cut_fork_told : IsBranchForked c (cut_of u) index place name
+  cut_fork_told : IsBranchForked c (cut_of u) index place name
   cut_fork_told = record {
     branches = told.branches ∙ ap (λ l. l ++ branch name (take place (slots_in l index)) ∷ []) same;
     made = told.made;

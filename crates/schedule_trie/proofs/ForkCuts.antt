@@ -6,7 +6,7 @@ use Rattle.std.proofs.lemmas.List.{length-append, length-map, length-take-le, ta
 use Rattle.std.proofs.Math.Seq.{drop-cons, take-append_seam}
 use Rattle.schedule_trie.specs.Forest.{Branch, cell_of, everywhere}
 use Rattle.schedule_trie.specs.Cut.{Cut, Piece, piece_at, slots_of, line, forest, keys_in, has, has_cell, Once, IsSegment, IsWhole, divided_keys, divided_strand, above_key}
-use Rattle.schedule_trie.proofs.Once.{has-head, has-tail, Once-from_linked, once_front}
+use Rattle.schedule_trie.proofs.Once.{has-head, has-tail, Once-from_linked, once_before}
 use Rattle.schedule_trie.proofs.Lines.{once_at}
 use Rattle.schedule_trie.proofs.Pushes.{line-append}
 use Rattle.schedule_trie.proofs.Division.{Divides, keys_in-divided, branches-divided, lacked-divided, sound-divided}
@@ -95,7 +95,7 @@ module _ {T : Type 0} (c : Cut T) (pieces : List (Option (Piece T))) (index coun
 
   front_lacks : has key front ≡ false
   front_lacks =
-      once_front front key
+      once_before front key []
       (subst Once (take_more (keys_in c.strands index) count 0 inside ∙ ap (λ k. front ++ k ∷ []) (sym at_key))
       (Once-from_linked whole.sound.shares.above (take (count + 1) (keys_in c.strands index))
       (linked_front whole.sound.shares.above None (count + 1) (keys_in c.strands index) (whole.sound.shares.linked index))))

@@ -274,13 +274,16 @@ module _ {T : Type 0} (t d : Inside T) (view : Cut T) (view_is : cut_of t ≡ vi
   parts_before : above.items ++ below.items ≡ insert (slots_of (piece_at (cut_of t).pieces key)) offset (slot t.made step)
   parts_before = parts ∙ ap (λ l. insert l offset (slot t.made step)) (cells_are ∙ seen)
 
-  pub divided_held : IsHeldCut d
-  divided_held = record {
+  held_divided : IsHeldCut d
+  held_divided = record {
     whole = cut_held (cut_of t) (cut_of d) key fresh offset step (piece above.items None) (piece below.items None) held.whole divides strands made limits
         room_before inside_before full_before parts_before least most refl refl;
     paths = many;
   }
 
-  pub divided_told : IsPutBefore (cut_of t) (cut_of d) key offset step
-  divided_told = cut_told (cut_of t) (cut_of d) key fresh offset step (piece above.items None) (piece below.items None) held.whole divides strands made limits
-      room_before inside_before full_before parts_before least most refl refl
+  pub divided : IsHeldCut d × IsPutBefore (cut_of t) (cut_of d) key offset step
+  divided = (
+    held_divided,
+    cut_told (cut_of t) (cut_of d) key fresh offset step (piece above.items None) (piece below.items None) held.whole divides strands made limits
+        room_before inside_before full_before parts_before least most refl refl,
+  )

@@ -1,7 +1,7 @@
 -- A new cell before a cell.
 use Rattle.std.proofs.Common.{◌≡◌, ℕ, zero, suc, ◌+◌, ◌<◌, ◌≤◌, Bool, true, false, nat_eq, cond, List, [], ◌∷◌, ◌++◌, length, map, slice_get, Option, Some, IsSome, ◌⊎◌, refl, sym, ap, subst, ◌∙◌, true≢false, arith, eq-eqb, inl, inr}
 use Rattle.std.specs.List.{insert}
-use Rattle.std.proofs.lemmas.Bool.{eqb-true}
+use Rattle.std.proofs.lemmas.Bool.{eqb-true, eqb-false}
 use Rattle.std.proofs.lemmas.List.Concat.{flat_map-append}
 use Rattle.indexmap.proofs.SetLemmas.{map-insert}
 use Rattle.frames.specs.declared.types.Step.{Step}
@@ -11,7 +11,7 @@ use Rattle.schedule_trie.specs.Cut.{Piece, Strand, slots_of, branches_on, has, h
 use Rattle.schedule_trie.proofs.Once.{has-head, has-tail, has_cases, has_not_from}
 use Rattle.schedule_trie.proofs.Lines.{once_at, given_at}
 use Rattle.schedule_trie.proofs.Changes.{absent_by, Changes, line_through, everywhere_on, has_cell_get}
-use Rattle.schedule_trie.proofs.Pushes.{not_equal, segments_more, apart_more}
+use Rattle.schedule_trie.proofs.Pushes.{segments_more, apart_more}
 
 -- a number in a list after an insert was there before, or is the inserted one
 pub has-inserted : (x y : ℕ) (ys : List ℕ) (i : ℕ) → has x (insert ys i y) ≡ true → (has x ys ≡ true) ⊎ (x ≡ y)
@@ -107,14 +107,14 @@ module _ {T : Type 0} (old new : ℕ → Option (Piece T)) (key : ℕ) (q : Piec
         where
           by : (b : Bool) → nat_eq k key ≡ b → IsSome (new k)
           by true e = subst (λ j. IsSome (new j)) (sym (eqb-true k key e)) (subst IsSome (sym change.here) refl)
-          by false e = subst IsSome (sym (change.others k (not_equal k key e))) h
+          by false e = subst IsSome (sym (change.others k (eqb-false k key e))) h
 
       was_there : (k : ℕ) → IsSome (new k) → IsSome (old k)
       was_there k h = by (nat_eq k key) refl
         where
           by : (b : Bool) → nat_eq k key ≡ b → IsSome (old k)
           by true e = subst (λ j. IsSome (old j)) (sym (eqb-true k key e)) was
-          by false e = subst IsSome (change.others k (not_equal k key e)) h
+          by false e = subst IsSome (change.others k (eqb-false k key e)) h
 
 module _ {T : Type 0} (old new : ℕ → Option (Piece T)) (key : ℕ) (q : Piece T) (change : Changes old new key q) (g : List Slot → List Slot)
     (empty : g [] ≡ []) (through : (xs ys : List Slot) → g (xs ++ ys) ≡ g xs ++ g ys) (here : q.slots ≡ g (slots_of (old key)))
@@ -128,4 +128,4 @@ module _ {T : Type 0} (old new : ℕ → Option (Piece T)) (key : ℕ) (q : Piec
         where
           by : (b : Bool) → nat_eq j key ≡ b → slots_of (new j) ≡ g (slots_of (old j))
           by true e = subst (λ k. slots_of (new k) ≡ g (slots_of (old k))) (sym (eqb-true j key e)) (ap slots_of change.here ∙ here)
-          by false e = ap slots_of (change.others j (not_equal j key e)) ∙ sym (elsewhere j (not_equal j key e))
+          by false e = ap slots_of (change.others j (eqb-false j key e)) ∙ sym (elsewhere j (eqb-false j key e))

@@ -2,17 +2,18 @@
 use Rattle.std.proofs.Common.{◌≡◌, ℕ, zero, suc, ◌+◌, ◌<◌, ◌≤◌, Bool, true, false, nat_eq, cond, List, [], ◌∷◌, ◌++◌, length, map, take, slice_get, Some, refl, sym, ap, subst, ◌∙◌, arith, eq-eqb, true≢false}
 use Rattle.std.specs.List.{remove}
 use Rattle.std.proofs.lemmas.List.{length-map, length_push, length-take-le}
-use Rattle.std.proofs.lemmas.List.Edits.{length-insert}
+use Rattle.std.proofs.lemmas.List.Edits.{length-insert, length-remove}
 use Rattle.frames.specs.declared.types.Step.{Step}
 use Rattle.schedule_trie.specs.declared.slot.Slot.{Slot}
 use Rattle.schedule_trie.specs.Forest.{Branch, branch, cell_of, cell_in, changed, everywhere, only_in, put_before, put_last, slot, slots_in, without}
 use Rattle.schedule_trie.specs.Cut.{Cut, forest, piece_at, slots_of, branch_on, keys_in, Once, IsSpotInPath, IsWhole, IsInserted, IsRemoved}
 use Rattle.schedule_trie.specs.Forks.{IsBranchForked}
 use Rattle.schedule_trie.proofs.Insertion.{inserted-at}
+use Rattle.schedule_trie.proofs.LimbLists.{slots_in-last}
 use Rattle.schedule_trie.proofs.Lines.{line_once, slots_in_on, sound_short}
 use Rattle.schedule_trie.proofs.Once.{Once-from_linked}
 use Rattle.schedule_trie.proofs.Removals.{without-at}
-use Rattle.schedule_trie.proofs.Lists.{cell_in_at, length-remove, slice_get_some}
+use Rattle.schedule_trie.proofs.Lists.{cell_in_at, slice_get_some}
 use Rattle.std.proofs.lemmas.Option.{slice_get_within}
 
 slots_everywhere : (g : List Slot → List Slot) (branches : List Branch) (i : ℕ) → i < length branches → slots_in (everywhere g branches) i ≡ g (slots_in branches i)
@@ -29,10 +30,6 @@ count_only : (g : List Slot → List Slot) (branches : List Branch) (i : ℕ) �
 count_only g [] i = refl
 count_only g (b ∷ bs) zero = refl
 count_only g (b ∷ bs) (suc i) = ap suc (count_only g bs i)
-
-slots_last : (branches : List Branch) (b : Branch) → slots_in (branches ++ b ∷ []) (length branches) ≡ b.slots
-slots_last [] b = refl
-slots_last (x ∷ xs) b = slots_last xs b
 
 module _ {T : Type 0} (c : Cut T) (whole : IsWhole c) (index : ℕ) where
   pub cells_once : Once (map cell_of (slots_in (forest c).branches index))
@@ -105,7 +102,7 @@ module _ {T : Type 0} (old new : Cut T) (whole : IsWhole old) (index : ℕ) (ins
       let rest : slots_in (forest new).branches index ≡ remove slots place =
       ap (λ l. slots_in l index) (told.everywhere_gone p.0 p.1) ∙ slots_everywhere (without p.0.cell) (forest old).branches index within
       ∙ sym (without-at slots place p.0 (cells_once old whole index) there) in
-      let one : suc (length (remove slots place)) ≡ length slots = length-remove slots place less in
+      let one = length-remove slots place less in
       let same = ap length rest in
       omega (arith, one, same)
 
@@ -123,5 +120,5 @@ module _ {T : Type 0} (old new : Cut T) (index place : ℕ) (name : List ℕ) (t
   fork_long fits =
       sym (ap (λ l. length (slots_in l (length old.strands))) told.branches
       ∙ ap (λ n. length (slots_in ((forest old).branches ++ last ∷ []) n)) (sym (branch_count old))
-      ∙ ap length (slots_last (forest old).branches last)
+      ∙ ap length (slots_in-last (forest old).branches last)
       ∙ length-take-le place (slots_in (forest old).branches index) fits)

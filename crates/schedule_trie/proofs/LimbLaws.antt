@@ -1,16 +1,17 @@
 -- The limbs of the forest that limbs describe are these limbs.
 use Rattle.std.proofs.Common.{◌≡◌, ℕ, zero, suc, ◌+◌, ◌<◌, ◌≤◌, Bool, true, false, ◌&&◌, ◌||◌, nat_eq, nat_lt, nat_le, List, [], ◌∷◌, ◌++◌, length, map, take, drop, slice_get, Option, Some, None, refl, sym, ap, subst, ◌∙◌, true≢false, arith, append_assoc, append-nil}
-use Rattle.std.proofs.lemmas.Bool.{eqb-true}
+use Rattle.std.proofs.lemmas.Bool.{eqb-true, and_parts}
 use Rattle.std.proofs.lemmas.Bool.Decides.{nat_tests}
-use Rattle.std.proofs.lemmas.List.{length-append}
+use Rattle.std.proofs.lemmas.List.{length-append, length-take-le}
 use Rattle.std.proofs.Math.Seq.{drop-append_seam}
 use Rattle.frames.specs.declared.types.Step.{Step}
 use Rattle.schedule_trie.specs.declared.slot.Slot.{Slot}
 use Rattle.schedule_trie.specs.declared.limb.Limb.{Limb}
 use Rattle.schedule_trie.specs.Forest.{Forest, Branch, branch, numbered, slots_in, step_of, cell_in}
 use Rattle.schedule_trie.specs.Limbs.{has_slot, is_in_branches, shared_with, first_with, limb_of, limbs_after, limbs, slots_on, grown, grow, no_branches, forest_of, limb_length, cells_of, is_own_of, is_new_name, may_share, are_lawful_after, AreLawfulLimbs}
-use Rattle.schedule_trie.proofs.LimbLists.{slot-append, slot_not_from, length-numbered, numbered_below, slots_in-front, slots_in-last, slots_in-past, any_from, any_none, first_is, StopsAt, prefix_is, all_in, has_taken, cell_in-has, cell_in-taken, cell_in-own, steps-numbered, length-taken}
+use Rattle.schedule_trie.proofs.LimbLists.{slot-append, slot_not_from, numbered_below, slots_in-front, slots_in-last, slots_in-past, any_from, any_none, first_is, StopsAt, prefix_is, all_in, has_taken, cell_in-has, cell_in-taken, cell_in-own, steps-numbered}
 use Rattle.schedule_trie.proofs.Lists.{by_order, slice_get-last, slice_get_left}
+use Rattle.schedule_trie.proofs.Renumbered.{length-numbered}
 use Rattle.std.proofs.lemmas.Option.{slice_get_within}
 
 -- the last cell that a limb shares is one of the own cells of the branch that it is from
@@ -24,14 +25,10 @@ pub record SharesNone (l : Limb) : Type 0 where
   pub from : l.from ≡ 0
   pub shared : l.shared ≡ 0
 
-both : (a b : Bool) → (a && b) ≡ true → (a ≡ true) × (b ≡ true)
-both true b h = (refl, h)
-both false b h = absurd (true≢false (sym h))
-
 own_parts : (o : Option Limb) (k : ℕ) → is_own_of o k ≡ true → (p : Limb) × (o ≡ Some p) × (p.shared < k) × (k ≤ limb_length p)
 own_parts None k h = absurd (true≢false (sym h))
 own_parts (Some p) k h =
-    let r = both (nat_lt p.shared k) (nat_le k (limb_length p)) h in
+    let r = and_parts (nat_lt p.shared k) (nat_le k (limb_length p)) h in
     let a = r.0 in
     let b = r.1 in (p, refl, grind (arith, nat_tests), grind (arith, nat_tests))
 
@@ -39,7 +36,7 @@ pub may_share_parts : (earlier : List Limb) (l : Limb) (P : Type 0) → may_shar
 may_share_parts earlier l P h none some = by (nat_eq l.from 0 && nat_eq l.shared 0) refl
   where
     by : (b : Bool) → (nat_eq l.from 0 && nat_eq l.shared 0) ≡ b → P
-    by true e = let r = both (nat_eq l.from 0) (nat_eq l.shared 0) e in none (record { from = eqb-true l.from 0 r.0; shared = eqb-true l.shared 0 r.1 })
+    by true e = let r = and_parts (nat_eq l.from 0) (nat_eq l.shared 0) e in none (record { from = eqb-true l.from 0 r.0; shared = eqb-true l.shared 0 r.1 })
     by false e =
         let r = own_parts (slice_get earlier l.from) l.shared (sym (ap (λ c. c || is_own_of (slice_get earlier l.from) l.shared) e) ∙ h) in
         some (record { stem = r.0; there = r.1; more = r.2; within = r.3 })
@@ -75,7 +72,7 @@ module _ (earlier : List Limb) (f : Forest) (l : Limb) (h : HasGrown earlier f) 
   front = take l.shared stem
 
   length-front : length front ≡ l.shared
-  length-front = length-taken l.shared stem short
+  length-front = length-take-le l.shared stem short
 
   fresh : (x : ℕ) → f.made ≤ x → (j : ℕ) → has_slot x (slots_in bs j) ≡ false
   fresh x old j = slot_not_from x (slots_in bs j) (λ e. let less = h.given j x e in omega arith)
@@ -198,8 +195,8 @@ limbs_more : (earlier : List Limb) (f : Forest) (ls : List Limb) → HasGrown ea
     → limbs (grow f ls) ≡ earlier ++ ls
 limbs_more earlier f [] h same lawful = same ∙ sym (append-nil earlier)
 limbs_more earlier f (l ∷ ls) h same lawful =
-    let r = both (is_new_name earlier l.name) (may_share earlier l && are_lawful_after (earlier ++ l ∷ []) ls) lawful in
-    let q = both (may_share earlier l) (are_lawful_after (earlier ++ l ∷ []) ls) r.1 in
+    let r = and_parts (is_new_name earlier l.name) (may_share earlier l && are_lawful_after (earlier ++ l ∷ []) ls) lawful in
+    let q = and_parts (may_share earlier l) (are_lawful_after (earlier ++ l ∷ []) ls) r.1 in
     let next : limbs (grown f l) ≡ earlier ++ l ∷ [] = limbs_after-put [] f.branches (branch l.name (slots_on f l)) ∙ ap (λ m. m ++ limb_of f.branches (branch l.name (slots_on f l)) ∷ []) same
     ∙ ap (λ m. earlier ++ m ∷ []) (limb_is earlier f l h q.0) in
     limbs_more (earlier ++ l ∷ []) (grown f l) ls (grown_more earlier f l h q.0) next q.1 ∙ append_assoc earlier (l ∷ []) ls

@@ -167,15 +167,6 @@ pub steps-numbered : (n : ℕ) (steps : List Step) → map step_of (numbered n s
 steps-numbered n [] = refl
 steps-numbered n (s ∷ ss) = ap (λ l. s ∷ l) (steps-numbered (suc n) ss)
 
-pub length-taken : {X : Type 0} (n : ℕ) (xs : List X) → n ≤ length xs → length (take n xs) ≡ n
-length-taken zero xs h = refl
-length-taken (suc n) [] h = absurd (omega arith)
-length-taken (suc n) (x ∷ xs) h = ap suc (length-taken n xs (omega arith))
-
-pub length-numbered : (n : ℕ) (steps : List Step) → length (numbered n steps) ≡ length steps
-length-numbered n [] = refl
-length-numbered n (s ∷ ss) = ap suc (length-numbered (suc n) ss)
-
 -- each number that is given is below n plus the number of steps
 pub numbered_below : (n : ℕ) (steps : List Step) (x : ℕ) → has_slot x (numbered n steps) ≡ true → x < n + length steps
 numbered_below n [] x h = absurd (true≢false (sym h))

@@ -1,9 +1,8 @@
 -- The forest of a forest's limbs is that forest, except for the numbers of its cells.
-use Rattle.std.proofs.Common.{◌≡◌, ℕ, zero, suc, ◌+◌, ◌-◌, ◌<◌, ◌≤◌, Bool, true, false, nat_eq, nat_lt, List, [], ◌∷◌, ◌++◌, length, map, take, drop, slice_get, Some, cond, ◌&&◌, refl, sym, ap, subst, ◌∙◌, true≢false, arith, append_assoc, append-nil, eq-eqb}
+use Rattle.std.proofs.Common.{◌≡◌, ℕ, zero, suc, ◌+◌, ◌-◌, ◌<◌, ◌≤◌, Bool, true, false, nat_eq, nat_lt, List, [], ◌∷◌, ◌++◌, length, map, take, drop, slice_get, Some, cond, ◌&&◌, refl, sym, ap, subst, ◌∙◌, true≢false, arith, append_assoc, append-nil}
 use Rattle.std.specs.List.{list_all, prefix_len, position_or_len}
-use Rattle.std.proofs.lemmas.Bool.{eqb-true}
 use Rattle.std.proofs.lemmas.Bool.Decides.{nat_tests}
-use Rattle.std.proofs.lemmas.List.{length-append, length-map, map-append, take-append-drop, take-map}
+use Rattle.std.proofs.lemmas.List.{length-append, length-map, map-append, take-append-drop, take-map, length-take-le}
 use Rattle.std.proofs.lemmas.List.Sums.{prefix_len-le-length}
 use Rattle.frames.specs.declared.types.Step.{Step}
 use Rattle.schedule_trie.specs.declared.slot.Slot.{Slot}
@@ -11,20 +10,12 @@ use Rattle.schedule_trie.specs.declared.limb.Limb.{Limb}
 use Rattle.schedule_trie.specs.Forest.{Forest, Branch, branch, numbered, slots_in, step_of, cell_in, name_of, IsForest}
 use Rattle.schedule_trie.specs.Limbs.{has_slot, holds, is_in_branches, shared_with, first_with, limb_of, limbs_after, limbs, slots_on, grown, grow, no_branches, forest_of}
 use Rattle.schedule_trie.specs.Renumbering.{IsRenumbered, is_one_cell}
-use Rattle.schedule_trie.proofs.LimbLists.{slots_in-front, slots_in-last, slots_in-past, any_from, IsFirst, first_has, all_in, has_taken, cell_in-has, cell_in-taken, steps-numbered, length-taken, length-numbered}
+use Rattle.schedule_trie.proofs.LimbLists.{slots_in-front, slots_in-last, slots_in-past, any_from, IsFirst, first_has, all_in, has_taken, cell_in-has, cell_in-taken, steps-numbered}
 use Rattle.schedule_trie.proofs.LimbLaws.{HasGrown, grown_none, short, grown_more, limbs_after-put}
 use Rattle.schedule_trie.proofs.LimbsLawful.{AreSameUpTo, slots_in-left, slots_in-next, place_of_cell, passes_at, limb_may_share}
-use Rattle.schedule_trie.proofs.Lists.{by_order, cell_in_at, slice_get_some, turned}
+use Rattle.schedule_trie.proofs.Lists.{by_order, cell_in_at, slice_get_some, turned, alike}
+use Rattle.schedule_trie.proofs.Renumbered.{length-numbered}
 use Rattle.std.proofs.lemmas.Option.{slice_get_within}
-
--- two tests of numbers agree if either equality implies the other
-alike : (a b c d : ℕ) → (a ≡ b → c ≡ d) → (c ≡ d → a ≡ b) → nat_eq a b ≡ nat_eq c d
-alike a b c d there back = by (nat_eq a b) refl (nat_eq c d) refl
-  where
-    by : (x : Bool) → nat_eq a b ≡ x → (y : Bool) → nat_eq c d ≡ y → nat_eq a b ≡ nat_eq c d
-    by true e y g = e ∙ sym (eq-eqb c d (there (eqb-true a b e)))
-    by false e true g = eq-eqb a b (back (eqb-true c d g)) ∙ sym g
-    by false e false g = e ∙ sym g
 
 -- equal steps mean equal numbers of cells
 same_length : (xs ys : List Slot) → map step_of xs ≡ map step_of ys → length xs ≡ length ys
@@ -82,8 +73,8 @@ module _ (xs ys : List Slot) (agree : AreSameUpTo xs ys) (k m : ℕ) (inside : k
   -- and these are the same places
   same_place : k ≡ m
   same_place =
-      let left : length (take (suc k) xs) ≡ suc k = length-taken (suc k) xs (omega arith) in
-      let right : length (take (suc m) ys) ≡ suc m = length-taken (suc m) ys (omega arith) in
+      let left : length (take (suc k) xs) ≡ suc k = length-take-le (suc k) xs (omega arith) in
+      let right : length (take (suc m) ys) ≡ suc m = length-take-le (suc m) ys (omega arith) in
       let up : length (take (suc k) xs) ≡ length (take (suc m) ys) = ap length same_up_to in
       omega arith
 
@@ -265,7 +256,7 @@ module _ (earlier : List Branch) (b : Branch) (agree : (j : ℕ) → j < length 
   own_last i k d e place inside =
       let size : length b.slots ≡ l.shared + length l.steps =
       same_length b.slots new steps_new ∙ length-append (take l.shared origin) (numbered g.made l.steps)
-      ∙ (λ z. length-taken l.shared origin enough z + length-numbered g.made l.steps z) in
+      ∙ (λ z. length-take-le l.shared origin enough z + length-numbered g.made l.steps z) in
       record {
         d = d;
         place = place;

@@ -4,11 +4,12 @@ use Rattle.std.specs.List.{list_any, list_all, prefix_len, position_or_len}
 use Rattle.std.specs.Option.{IfSome}
 use Rattle.std.specs.Cmp.Lexicographic.{pointwise}
 use Rattle.std.proofs.lemmas.Bool.Decides.{nat_tests}
-use Rattle.std.proofs.lemmas.List.{length-map, map-append}
+use Rattle.std.proofs.lemmas.Bool.{or_right, and_parts, and_from}
+use Rattle.std.proofs.lemmas.List.{length-map, map-append, length-take-le}
 use Rattle.schedule_trie.specs.declared.slot.Slot.{Slot}
 use Rattle.schedule_trie.specs.Forest.{Forest, Branch, slots_in, step_of, cell_in, name_of, name_in, AreNamedApart, IsForest}
 use Rattle.schedule_trie.specs.Limbs.{has_slot, holds, is_in_branches, shared_with, first_with, limb_of, limbs_after, limbs, limb_length, is_own_of, is_new_name, has_name, may_share, are_lawful_after, is_name, HaveNames, AreLawfulLimbs}
-use Rattle.schedule_trie.proofs.LimbLists.{slot_cases, any_which, IsFirst, first_has, length-taken}
+use Rattle.schedule_trie.proofs.LimbLists.{slot_cases, any_which, IsFirst, first_has}
 use Rattle.schedule_trie.proofs.LimbLaws.{limbs_after-put}
 use Rattle.schedule_trie.proofs.Lists.{by_order, cell_in_at, slice_get_some}
 
@@ -66,13 +67,8 @@ limbs_at pre [] i b e = cc
 limbs_at pre (c ∷ bs) zero b e = let same : c ≡ b = cc in ap (λ z. Some (limb_of pre z)) same ∙ ap (λ l. Some (limb_of l b)) (sym (append-nil pre))
 limbs_at pre (c ∷ bs) (suc i) b e = limbs_at (pre ++ c ∷ []) bs i b e ∙ ap (λ l. Some (limb_of l b)) (append_assoc pre (c ∷ []) (take i bs))
 
-or_right : (a b : Bool) → b ≡ true → (a || b) ≡ true
-or_right true b h = refl
-or_right false b h = h
-
 all_three : (a b c : Bool) → a ≡ true → b ≡ true → c ≡ true → (a && (b && c)) ≡ true
-all_three true b c h g e = ap (λ z. z && c) g ∙ e
-all_three false b c h g e = absurd (true≢false (sym h))
+all_three a b c h g e = and_from a (b && c) h (and_from b c g e)
 
 length_of_limb : (earlier : List Branch) (b : Branch) → limb_length (limb_of earlier b) ≡ length b.slots
 length_of_limb earlier b =
@@ -123,8 +119,8 @@ module _ (earlier : List Branch) (b : Branch) (agree : (j : ℕ) → j < length 
         let p = place_of_cell s.cell c.0.slots (subst (λ xs. has_slot s.cell xs ≡ true) slots first.has_it) in
         let up : take (suc k) b.slots ≡ take (suc p.0) c.0.slots = subst (λ xs. AreSameUpTo b.slots xs) slots (agree stem first.within) k p.0 s p.1 here p.2 (sym p.3) in
         let most = prefix_most (is_in_branches earlier) b.slots in
-        let left : length (take (suc k) b.slots) ≡ suc k = length-taken (suc k) b.slots (omega arith) in
-        let right : length (take (suc p.0) c.0.slots) ≡ suc p.0 = length-taken (suc p.0) c.0.slots (inside c.0.slots p.0 p.1 p.2) in
+        let left : length (take (suc k) b.slots) ≡ suc k = length-take-le (suc k) b.slots (omega arith) in
+        let right : length (take (suc p.0) c.0.slots) ≡ suc p.0 = length-take-le (suc p.0) c.0.slots (inside c.0.slots p.0 p.1 p.2) in
         let places : p.0 ≡ k = let e : length (take (suc k) b.slots) ≡ length (take (suc p.0) c.0.slots) = ap length up in omega arith in
         is_own c.0 c.1 p.1 (subst (λ n. slice_get c.0.slots n ≡ Some p.1) places p.2) p.3
       where
@@ -175,16 +171,8 @@ name_next [] cs b = refl
 name_next (c ∷ bs) cs b = name_next bs cs b
 
 name_form_next : (bs cs : List Branch) (b : Branch) → list_all is_name (map name_of (bs ++ b ∷ cs)) ≡ true → is_name b.name ≡ true
-name_form_next [] cs b h = first_true (is_name b.name) (list_all is_name (map name_of cs)) h
-  where
-    first_true : (a c : Bool) → (a && c) ≡ true → a ≡ true
-    first_true true c e = refl
-    first_true false c e = absurd (true≢false (sym e))
-name_form_next (c ∷ bs) cs b h = name_form_next bs cs b (second_true (is_name c.name) (list_all is_name (map name_of (bs ++ b ∷ cs))) h)
-  where
-    second_true : (a c : Bool) → (a && c) ≡ true → c ≡ true
-    second_true true c e = e
-    second_true false c e = absurd (true≢false (sym e))
+name_form_next [] cs b h = (and_parts (is_name b.name) (list_all is_name (map name_of cs)) h).0
+name_form_next (c ∷ bs) cs b h = name_form_next bs cs b (and_parts (is_name c.name) (list_all is_name (map name_of (bs ++ b ∷ cs))) h).1
 
 name_is_new : (bs cs : List Branch) (b : Branch) → AreNamedApart (bs ++ b ∷ cs) → is_name b.name ≡ true → is_new_name (limbs_after [] bs) b.name ≡ true
 name_is_new bs cs b apart formed =

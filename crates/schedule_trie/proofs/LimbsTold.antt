@@ -2,10 +2,10 @@
 use Rattle.std.proofs.Common.{◌≡◌, ℕ, zero, suc, ◌+◌, ◌<◌, ◌≤◌, Bool, true, false, ◌||◌, nat_eq, List, [], ◌∷◌, ◌++◌, length, map, take, drop, slice_get, Option, Some, None, refl, sym, ap, subst, ◌∙◌, true≢false, arith, append_assoc, eq-eqb, cond}
 use Rattle.std.specs.List.{list_any}
 use Rattle.std.specs.Option.{IfSome, option_map}
-use Rattle.std.proofs.lemmas.Bool.{eqb-true}
+use Rattle.std.proofs.lemmas.Bool.{eqb-true, or_left, or_right}
 use Rattle.std.proofs.lemmas.List.{map-append, length-append}
 use Rattle.std.proofs.lemmas.Option.{slice_get-map}
-use Rattle.std.proofs.Math.Seq.{take-append_seam, drop-append_seam}
+use Rattle.std.proofs.Math.Seq.{drop-append_seam}
 use Rattle.lineage.specs.Family.{last_of}
 use Rattle.schedule_trie.specs.declared.slot.Slot.{Slot}
 use Rattle.schedule_trie.specs.declared.mark.Mark.{Mark}
@@ -14,14 +14,13 @@ use Rattle.schedule_trie.specs.Cut.{Cut, Piece, forest, piece_at, slots_of, line
 use Rattle.schedule_trie.specs.Climbs.{keys_up_to}
 use Rattle.schedule_trie.specs.Limbs.{has_slot, holds, is_in_branches, shared_with, first_with, limb_of, limbs}
 use Rattle.schedule_trie.specs.Marks.{mark, mark_at, IsMarkOf, IsOwnPart, AreMarked, IsMark, MarksFirst}
-use Rattle.schedule_trie.proofs.Changes.{nat_eq-turned}
-use Rattle.schedule_trie.proofs.Climbs.{last_some, up_to-here, once_before, line-last}
+use Rattle.schedule_trie.proofs.Climbs.{last_some, up_to-here, line-last}
 use Rattle.schedule_trie.proofs.Lines.{in_line, slots_in_on, sound_short}
 use Rattle.schedule_trie.proofs.LimbLists.{slot-head, slot-tail, slot_not_from, any_from, any_none, first_is, StopsAt, prefix_is, all_in}
 use Rattle.schedule_trie.proofs.LimbsLawful.{slots_at, slots_in-first, limbs_at}
-use Rattle.schedule_trie.proofs.Once.{has_cases, has-head, has-append, has_not_from, Once-from_linked}
+use Rattle.schedule_trie.proofs.Lists.{turned}
+use Rattle.schedule_trie.proofs.Once.{has_cases, has-head, has-append, has_not_from, Once-from_linked, has-left, has-right, Once-right, Once-apart, once_before}
 use Rattle.schedule_trie.proofs.Partings.{parting}
-use Rattle.schedule_trie.proofs.Positions.{one_place}
 use Rattle.schedule_trie.proofs.Pushes.{line-append}
 use Rattle.schedule_trie.proofs.Shared.{same_front}
 use Rattle.schedule_trie.proofs.Touched.{some_slots}
@@ -29,35 +28,10 @@ use Rattle.schedule_trie.proofs.Touched.{some_slots}
 -- membership of a cell, in its two definitions
 slot_is_cell : (x : ℕ) (xs : List Slot) → has_slot x xs ≡ has_cell x xs
 slot_is_cell x [] = refl
-slot_is_cell x (s ∷ xs) = (λ i. same (nat_eq s.cell x) refl i || slot_is_cell x xs i)
-  where
-    same : (b : Bool) → nat_eq s.cell x ≡ b → nat_eq s.cell x ≡ nat_eq x s.cell
-    same true e = e ∙ sym (eq-eqb x s.cell (sym (eqb-true s.cell x e)))
-    same false e = e ∙ sym (nat_eq-turned s.cell x e)
-
-or_left : (a b : Bool) → a ≡ true → (a || b) ≡ true
-or_left true b h = refl
-or_left false b h = absurd (true≢false (sym h))
-
-or_right : (a b : Bool) → b ≡ true → (a || b) ≡ true
-or_right true b h = refl
-or_right false b h = h
-
-has_left : (k : ℕ) (xs ys : List ℕ) → has k xs ≡ true → has k (xs ++ ys) ≡ true
-has_left k xs ys h = has-append k xs ys ∙ or_left (has k xs) (has k ys) h
-
-has_right : (k : ℕ) (xs ys : List ℕ) → has k ys ≡ true → has k (xs ++ ys) ≡ true
-has_right k xs ys h = has-append k xs ys ∙ or_right (has k xs) (has k ys) h
-
-once_right : (xs ys : List ℕ) → Once (xs ++ ys) → Once ys
-once_right [] ys h = h
-once_right (x ∷ xs) ys h = once_right xs ys h.1
+slot_is_cell x (s ∷ xs) = (λ i. turned s.cell x i || slot_is_cell x xs i)
 
 once_apart : (xs ys : List ℕ) (k : ℕ) → Once (xs ++ ys) → has k ys ≡ true → has k xs ≡ false
-once_apart [] ys k once h = refl
-once_apart (x ∷ xs) ys k once h = has_not_from k (x ∷ xs) (λ g. has_cases k x xs ⊥ g
-    (λ e. true≢false (sym (ap (λ z. has z (xs ++ ys)) (sym e) ∙ has_right k xs ys h) ∙ once.0))
-    (λ r. true≢false (sym r ∙ once_apart xs ys k once.1 h)))
+once_apart xs ys k once h = has_not_from k xs (λ g. Once-apart k xs ys once g h)
 
 up_to-behind : (k : ℕ) (xs ys : List ℕ) → has k xs ≡ false → keys_up_to k (xs ++ ys) ≡ xs ++ keys_up_to k ys
 up_to-behind k [] ys h = refl
@@ -118,10 +92,10 @@ module _ {T : Type 0} (c : Cut T) (whole : IsWhole c) (index : ℕ) (marks : Lis
   once = subst Once part.is (Once-from_linked above keys (whole.sound.shares.linked index))
 
   pub own_once : Once own
-  own_once = once_right part.front own once
+  own_once = Once-right part.front own once
 
   in_keys : (k : ℕ) → has k own ≡ true → has k keys ≡ true
-  in_keys k h = ap (has k) part.is ∙ has_right k part.front own h
+  in_keys k h = ap (has k) part.is ∙ has-right k part.front own h
 
   pub own_places : (k : ℕ) → has k own ≡ true → k < length marks
   own_places k h = first.places k (whole.sound.held index k (in_keys k h))
@@ -146,7 +120,7 @@ module _ {T : Type 0} (c : Cut T) (whole : IsWhole c) (index : ℕ) (marks : Lis
       let path = stem_path f j e marked in (
         m.branch,
         (is_mark j marked).within,
-        ap (has k) (path.1 ∙ sym (append_assoc f (j ∷ []) path.0)) ∙ has_left k (f ++ j ∷ []) path.0 (subst (λ l. has k l ≡ true) e h),
+        ap (has k) (path.1 ∙ sym (append_assoc f (j ∷ []) path.0)) ∙ has-left k (f ++ j ∷ []) path.0 (subst (λ l. has k l ≡ true) e h),
       ))
 
   pub cells_are : m.cells ≡ length (line at part.front)

@@ -2,7 +2,7 @@
 use Rattle.frames.specs.declared.types.Step.{Step}
 use Rattle.std.proofs.Common.{append_assoc, append-nil, ◌≡◌, ℕ, zero, suc, ◌+◌, ◌<◌, ◌≤◌, nat_eq, Bool, true, false, ◌||◌, List, [], ◌∷◌, ◌++◌, length, map, drop, get_or, slice_get, Option, Some, None, refl, sym, ap, subst, ◌∙◌, true≢false, arith}
 use Rattle.std.specs.Option.{option_map, IfSome}
-use Rattle.std.proofs.lemmas.List.{map-append, length-map, length-append}
+use Rattle.std.proofs.lemmas.List.{map-append, length-map, length-append, drop_all}
 use Rattle.std.proofs.Math.Seq.{drop-cons}
 use Rattle.std.specs.List.{position}
 use Rattle.schedule_trie.specs.declared.trie.Trie.TheInside.{Inside}
@@ -15,7 +15,7 @@ use Rattle.schedule_trie.specs.Tries.{names_of, cut_of, IsHeldCut}
 use Rattle.schedule_trie.proofs.Strands.{names_on, length-strands, keys_in-of}
 use Rattle.schedule_trie.proofs.Once.{has-append, has-head, has-tail, Once-append, Once-bounded, has_not_from, Once-from_linked}
 use Rattle.schedule_trie.specs.declared.limits.TheConstants.{MOST_CELLS_MADE}
-use Rattle.schedule_trie.proofs.Lists.{drop_past, slice_get_right}
+use Rattle.schedule_trie.proofs.Lists.{slice_get_right}
 
 module _ {T : Type 0} (at : ℕ → Option (Piece T)) where
   pub slots_in_on : (strands : List Strand) (i : ℕ) → slots_in (branches_on at strands) i ≡ line at (keys_in strands i)
@@ -70,6 +70,11 @@ module _ {T : Type 0} (at : ℕ → Option (Piece T)) where
         let b : length (map cell_of (line at ks)) ≤ made = Once-bounded (map cell_of (line at ks)) made (line_once ks h) (λ x e. let p = in_line x ks e in given_at p.0 x p.2) in
         subst (λ n. n ≤ made) (length-map (line at ks) cell_of) b
 
+-- a segment of a cut is one of a cut in which more cells were made
+pub weaker : {T : Type 0} (made more : ℕ) → made ≤ more → (o : Option (Piece T)) → IfSome o (IsSegment made) → IfSome o (IsSegment more)
+weaker made more grows None h = tt
+weaker made more grows (Some p) h = record { some = h.some; few = h.few; once = h.once; given = λ x g. let l : x < made = h.given x g in omega arith }
+
 pub sound_short : {T : Type 0} (at : ℕ → Option (Piece T)) (strands : List Strand) (made : ℕ) → IsSoundCut at strands made → (i : ℕ) → length (line at (keys_in strands i)) ≤ made
 sound_short at strands made s i =
     line_short at made s.segments s.apart (keys_in strands i)
@@ -119,7 +124,7 @@ pub none_found : {T : Type 0} (at : ℕ → Option (Piece T)) (strands : List St
     → length (line at (drop i keys)) + place ≡ length (line at keys) + rest → keys ≡ keys_in strands index
     → length (slots_in (branches_on at strands) index) ≤ place
 none_found at strands index place i rest keys past sum same =
-    let none : length (line at (drop i keys)) ≡ 0 = ap (λ l. length (line at l)) (drop_past i keys past) in
+    let none : length (line at (drop i keys)) ≡ 0 = ap (λ l. length (line at l)) (drop_all i keys past) in
     let all : length (line at keys) ≡ length (slots_in (branches_on at strands) index) = ap (λ l. length (line at l)) same ∙ ap length (sym (slots_in_on at strands index)) in
     omega arith
 
@@ -138,4 +143,4 @@ module _ {T : Type 0} (at : ℕ → Option (Piece T)) where
 
   pub steps_all : (i : ℕ) (keys : List ℕ) (done : List Step) → length keys ≤ i
       → done ++ map step_of (line at (drop i keys)) ≡ map step_of (line at keys) → done ≡ map step_of (line at keys)
-  steps_all i keys done past sum = sym (append-nil done) ∙ sym (ap (λ l. done ++ map step_of (line at l)) (drop_past i keys past)) ∙ sum
+  steps_all i keys done past sum = sym (append-nil done) ∙ sym (ap (λ l. done ++ map step_of (line at l)) (drop_all i keys past)) ∙ sum

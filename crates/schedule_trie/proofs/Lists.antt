@@ -1,30 +1,23 @@
 -- Numbers, keys, and lists of any items or of cells.
-use Rattle.std.proofs.Common.{◌≡◌, ℕ, zero, suc, ◌+◌, ◌<◌, ◌≤◌, Bool, true, false, nat_eq, nat_lt, List, [], ◌∷◌, ◌++◌, length, drop, slice_get, Option, Some, None, Result, Ok, Err, IfOk, refl, sym, ap, ◌∙◌, arith, eq-eqb}
-use Rattle.std.specs.List.{remove}
+use Rattle.std.proofs.Common.{◌≡◌, ℕ, zero, suc, ◌+◌, ◌<◌, Bool, true, false, nat_eq, List, [], ◌∷◌, ◌++◌, length, slice_get, Option, Some, None, Result, Ok, Err, IfOk, refl, sym, ap, ◌∙◌, arith, eq-eqb, inl, inr}
 use Rattle.std.specs.Option.{option_eq}
-use Rattle.std.proofs.lemmas.Bool.{eqb-true}
-use Rattle.std.proofs.lemmas.Bool.Decides.{nat_tests}
+use Rattle.std.proofs.lemmas.Bool.{cases_order, eqb-true, eqb-false, ne_eqb}
 use Rattle.schedule_trie.specs.declared.slot.Slot.{Slot}
 use Rattle.schedule_trie.specs.Forest.{cell_of, cell_in}
 
 pub by_order : (i n : ℕ) (P : Type 0) → (i < n → P) → (i ≡ n → P) → (n < i → P) → P
-by_order i n P below same above = by (nat_lt i n) refl
-  where
-    other : (b : Bool) → nat_lt n i ≡ b → n ≤ i → P
-    other true e h = above (grind (arith, nat_tests))
-    other false e h = let few : i ≤ n = grind (arith, nat_tests) in same (omega arith)
+by_order i n P below same above = elim (cases_order i n) [ inl e ↦ same e | inr (inl h) ↦ below h | inr (inr h) ↦ above h ]
 
-    by : (b : Bool) → nat_lt i n ≡ b → P
-    by true e = below (grind (arith, nat_tests))
-    by false e = other (nat_lt n i) refl (grind (arith, nat_tests))
+-- two tests of numbers agree if either equality implies the other
+pub alike : (a b c d : ℕ) → (a ≡ b → c ≡ d) → (c ≡ d → a ≡ b) → nat_eq a b ≡ nat_eq c d
+alike a b c d there back = by (nat_eq a b) refl
+  where
+    by : (x : Bool) → nat_eq a b ≡ x → nat_eq a b ≡ nat_eq c d
+    by true e = e ∙ sym (eq-eqb c d (there (eqb-true a b e)))
+    by false e = e ∙ sym (ne_eqb c d (λ g. eqb-false a b e (back g)))
 
 pub turned : (x y : ℕ) → nat_eq x y ≡ nat_eq y x
-turned x y = by (nat_eq x y) (nat_eq y x) refl refl
-  where
-    by : (b c : Bool) → nat_eq x y ≡ b → nat_eq y x ≡ c → nat_eq x y ≡ nat_eq y x
-    by true c e f = e ∙ sym (eq-eqb y x (sym (eqb-true x y e)))
-    by false true e f = eq-eqb x y (sym (eqb-true y x f)) ∙ sym f
-    by false false e f = e ∙ sym f
+turned x y = alike x y y x (λ e. sym e) (λ e. sym e)
 
 -- two keys that compare equal are the same, and so are two of None
 pub same_key : (a b : Option ℕ) → option_eq nat_eq a b ≡ true → a ≡ b
@@ -52,17 +45,6 @@ slice_get_right (x ∷ xs) ys (suc i) j e = slice_get_right xs ys i j (omega ari
 pub slice_get-last : {X : Type 0} (xs : List X) (x : X) → slice_get (xs ++ x ∷ []) (length xs) ≡ Some x
 slice_get-last [] x = refl
 slice_get-last (y ∷ ys) x = slice_get-last ys x
-
-pub drop_past : (n : ℕ) (xs : List ℕ) → length xs ≤ n → drop n xs ≡ []
-drop_past zero [] h = refl
-drop_past zero (x ∷ xs) h = absurd (omega arith)
-drop_past (suc n) [] h = refl
-drop_past (suc n) (x ∷ xs) h = drop_past n xs (omega arith)
-
-pub length-remove : {X : Type 0} (xs : List X) (i : ℕ) → i < length xs → suc (length (remove xs i)) ≡ length xs
-length-remove [] i h = absurd (omega arith)
-length-remove (x ∷ xs) zero h = refl
-length-remove (x ∷ xs) (suc i) h = ap suc (length-remove xs i (omega arith))
 
 pub cell_in_at : (slots : List Slot) (k : ℕ) (s : Slot) → slice_get slots k ≡ Some s → cell_in slots k ≡ s.cell
 cell_in_at [] k s e = absurd (cc)

@@ -1,9 +1,10 @@
 -- Adding limbs one by one.
-use Rattle.std.proofs.Common.{◌≡◌, ℕ, zero, suc, ◌+◌, ◌-◌, ◌<◌, ◌≤◌, Bool, true, false, not, ◌&&◌, ◌||◌, cond, nat_eq, List, [], ◌∷◌, ◌++◌, length, map, take, drop, get_or, position, Some, None, refl, sym, ap, subst, ◌∙◌, true≢false, arith, append_assoc, append-nil}
+use Rattle.std.proofs.Common.{◌≡◌, ℕ, zero, suc, ◌+◌, ◌-◌, ◌<◌, ◌≤◌, Bool, true, false, not, ◌&&◌, ◌||◌, cond, nat_eq, List, [], ◌∷◌, ◌++◌, length, map, take, drop, get_or, position, Some, None, refl, sym, ap, subst, ◌∙◌, arith, append_assoc, append-nil}
 use Rattle.std.specs.List.{list_any, position_or_len}
 use Rattle.std.specs.Option.{IfSome}
 use Rattle.std.specs.Cmp.Lexicographic.{pointwise}
-use Rattle.std.proofs.lemmas.List.{length-map, length-append, map-append, take_more}
+use Rattle.std.proofs.lemmas.Bool.{and_parts, and_from, not-true}
+use Rattle.std.proofs.lemmas.List.{length-map, length-append, map-append, take_more, length-take-le}
 use Rattle.frames.specs.declared.types.Step.{Step}
 use Rattle.schedule_trie.specs.declared.slot.Slot.{Slot}
 use Rattle.schedule_trie.specs.declared.limb.Limb.{Limb}
@@ -16,11 +17,11 @@ use Rattle.schedule_trie.proofs.ForkAnswers.{any_or_none}
 use Rattle.schedule_trie.proofs.LengthsAfter.{branch_count, cells_few}
 use Rattle.schedule_trie.proofs.LimbCounts.{cells_of-first, cells_of-next, taken_whole}
 use Rattle.schedule_trie.proofs.LimbLaws.{may_share_parts, HasGrown, grown_none, grown_more, short, forest_made, forest_count}
-use Rattle.schedule_trie.proofs.LimbLists.{length-taken, length-numbered, slots_in-last}
-use Rattle.schedule_trie.proofs.NamesKept.{and_both, and_true}
+use Rattle.schedule_trie.proofs.LimbLists.{slots_in-last}
 use Rattle.schedule_trie.proofs.Notes.{blank_kept}
 use Rattle.schedule_trie.specs.declared.limits.TheConstants.{MOST_CELLS_MADE}
 use Rattle.schedule_trie.proofs.Lists.{slice_get_some}
+use Rattle.schedule_trie.proofs.Renumbered.{length-numbered}
 use Rattle.std.proofs.lemmas.Option.{slice_get_within}
 
 only_last : (g : List Slot → List Slot) (bs : List Branch) (b : Branch) → only_in (length bs) g (bs ++ b ∷ []) ≡ bs ++ changed g b ∷ []
@@ -57,7 +58,7 @@ module _ {T : Type 0} (a was b d : Cut T) (l : Limb) (steps : List Step) (index 
       ∙ ap (λ n. length (slots_in ((forest a).branches ++ branch l.name (slots_on (forest a) l) ∷ []) n)) last
       ∙ ap length (slots_in-last (forest a).branches (branch l.name (slots_on (forest a) l)))
       ∙ length-append (take l.shared (slots_in (forest a).branches l.from)) (numbered a.made l.steps)
-      ∙ ap (λ n. n + length (numbered a.made l.steps)) (length-taken l.shared (slots_in (forest a).branches l.from) can.place)
+      ∙ ap (λ n. n + length (numbered a.made l.steps)) (length-take-le l.shared (slots_in (forest a).branches l.from) can.place)
       ∙ ap (λ n. l.shared + n) (length-numbered a.made l.steps))
 
   pub grown_blank : IsForest (forest a) → IsBlank a → IsBlank d
@@ -91,28 +92,28 @@ lawful_first : (earlier ls : List Limb) (n : ℕ) → are_lawful_after earlier l
 lawful_first earlier ls zero h = refl
 lawful_first earlier [] (suc n) h = refl
 lawful_first earlier (l ∷ ls) (suc n) h =
-    let p = and_both (is_new_name earlier l.name) (may_share earlier l && are_lawful_after (earlier ++ l ∷ []) ls) h in
-    let q = and_both (may_share earlier l) (are_lawful_after (earlier ++ l ∷ []) ls) p.1 in
-    and_true (is_new_name earlier l.name) (may_share earlier l && are_lawful_after (earlier ++ l ∷ []) (take n ls)) p.0
-    (and_true (may_share earlier l) (are_lawful_after (earlier ++ l ∷ []) (take n ls)) q.0 (lawful_first (earlier ++ l ∷ []) ls n q.1))
+    let p = and_parts (is_new_name earlier l.name) (may_share earlier l && are_lawful_after (earlier ++ l ∷ []) ls) h in
+    let q = and_parts (may_share earlier l) (are_lawful_after (earlier ++ l ∷ []) ls) p.1 in
+    and_from (is_new_name earlier l.name) (may_share earlier l && are_lawful_after (earlier ++ l ∷ []) (take n ls)) p.0
+    (and_from (may_share earlier l) (are_lawful_after (earlier ++ l ∷ []) (take n ls)) q.0 (lawful_first (earlier ++ l ∷ []) ls n q.1))
 
 lawful_last : (earlier xs : List Limb) (l : Limb) → are_lawful_after earlier (xs ++ l ∷ []) ≡ true
     → (is_new_name (earlier ++ xs) l.name ≡ true) × (may_share (earlier ++ xs) l ≡ true)
 lawful_last earlier [] l h =
-    let p = and_both (is_new_name earlier l.name) (may_share earlier l && true) h in
-    let q = and_both (may_share earlier l) true p.1 in
+    let p = and_parts (is_new_name earlier l.name) (may_share earlier l && true) h in
+    let q = and_parts (may_share earlier l) true p.1 in
     subst (λ e. (is_new_name e l.name ≡ true) × (may_share e l ≡ true)) (sym (append-nil earlier)) (p.0, q.0)
 lawful_last earlier (x ∷ xs) l h =
-    let p = and_both (is_new_name earlier x.name) (may_share earlier x && are_lawful_after (earlier ++ x ∷ []) (xs ++ l ∷ [])) h in
-    let q = and_both (may_share earlier x) (are_lawful_after (earlier ++ x ∷ []) (xs ++ l ∷ [])) p.1 in
+    let p = and_parts (is_new_name earlier x.name) (may_share earlier x && are_lawful_after (earlier ++ x ∷ []) (xs ++ l ∷ [])) h in
+    let q = and_parts (may_share earlier x) (are_lawful_after (earlier ++ x ∷ []) (xs ++ l ∷ [])) p.1 in
     subst (λ e. (is_new_name e l.name ≡ true) × (may_share e l ≡ true)) (append_assoc earlier (x ∷ []) xs) (lawful_last (earlier ++ x ∷ []) xs l q.1)
 
 -- the invariant of a forest of lawful limbs
 grown_all : (earlier : List Limb) (f : Forest) (ls : List Limb) → HasGrown earlier f → are_lawful_after earlier ls ≡ true → HasGrown (earlier ++ ls) (grow f ls)
 grown_all earlier f [] h lawful = subst (λ e. HasGrown e f) (sym (append-nil earlier)) h
 grown_all earlier f (l ∷ ls) h lawful =
-    let p = and_both (is_new_name earlier l.name) (may_share earlier l && are_lawful_after (earlier ++ l ∷ []) ls) lawful in
-    let q = and_both (may_share earlier l) (are_lawful_after (earlier ++ l ∷ []) ls) p.1 in
+    let p = and_parts (is_new_name earlier l.name) (may_share earlier l && are_lawful_after (earlier ++ l ∷ []) ls) lawful in
+    let q = and_parts (may_share earlier l) (are_lawful_after (earlier ++ l ∷ []) ls) p.1 in
     subst (λ e. HasGrown e (grow (grown f l) ls)) (append_assoc earlier (l ∷ []) ls)
     (grown_all (earlier ++ l ∷ []) (grown f l) ls (grown_more earlier f l h q.0) q.1)
 
@@ -137,16 +138,12 @@ any_names name (l ∷ ls) = ap (λ b. pointwise nat_eq name l.name || b) (any_na
 none_found : {X : Type 0} (p : X → Bool) (xs : List X) → list_any p xs ≡ false → position p xs ≡ None
 none_found p xs h = ap (λ b. cond b (Some (position_or_len p xs)) None) (any_or_none p xs ∙ h)
 
-not_false : (b : Bool) → not b ≡ true → b ≡ false
-not_false true h = absurd (true≢false (sym h))
-not_false false h = refl
-
 free_name : (ls : List Limb) (name : List ℕ) → is_new_name ls name ≡ true → (is_name name ≡ true) × (index_of (forest_of ls).branches name ≡ None)
 free_name ls name new =
-    let p = and_both (is_name name) (not (list_any (has_name name) ls)) new in
+    let p = and_parts (is_name name) (not (list_any (has_name name) ls)) new in
     let names : map name_of (forest_of ls).branches ≡ map limb_name ls = grow_names no_branches ls in
     let none : list_any (pointwise nat_eq name) (map name_of (forest_of ls).branches) ≡ false =
-    ap (list_any (pointwise nat_eq name)) names ∙ any_names name ls ∙ not_false (list_any (has_name name) ls) p.1 in
+    ap (list_any (pointwise nat_eq name)) names ∙ any_names name ls ∙ not-true (list_any (has_name name) ls) p.1 in
     (p.0, none_found (pointwise nat_eq name) (map name_of (forest_of ls).branches) none)
 
 -- the next of lawful limbs
@@ -164,7 +161,7 @@ module _ (ls : List Limb) (lawful : AreLawfulLimbs ls) (n : ℕ) (l : Limb) (les
   has_grown = grown_all [] no_branches xs grown_none (lawful_first [] ls n lawful)
 
   count : length xs ≡ n
-  count = length-taken n ls (omega arith)
+  count = length-take-le n ls (omega arith)
 
   module _ {T : Type 0} (c : Cut T) (is : forest c ≡ forest_of xs) where
     pub can_grow : 0 < n → cells_of ls ≤ c.limits.cells → length ls ≤ c.limits.branches → CanGrow c l

@@ -1,16 +1,15 @@
 -- Marking keys of a path one by one.
 use Rattle.std.proofs.Common.{◌≡◌, ℕ, zero, suc, ◌+◌, ◌<◌, ◌≤◌, ◌^◌, Bool, true, false, ◌||◌, nat_eq, List, [], ◌∷◌, ◌++◌, length, take, get_or, set, Option, Some, None, refl, sym, ap, subst, ◌∙◌, true≢false, arith}
-use Rattle.std.proofs.lemmas.Bool.{eqb-true}
+use Rattle.std.proofs.lemmas.Bool.{eqb-true, eqb-false, or_parts}
 use Rattle.std.proofs.lemmas.List.{length-append, length-set, take_more, get_or-set_same, get_or-set_other}
 use Rattle.schedule_trie.specs.declared.mark.Mark.{Mark}
 use Rattle.schedule_trie.specs.Cut.{Piece, slots_of, line, has, Once}
 use Rattle.schedule_trie.specs.Climbs.{keys_up_to}
 use Rattle.schedule_trie.specs.Marks.{mark, mark_at, AreMarked}
-use Rattle.schedule_trie.proofs.Climbs.{up_to-here, once_before, line-last}
+use Rattle.schedule_trie.proofs.Climbs.{up_to-here, line-last}
 use Rattle.schedule_trie.proofs.LimbCounts.{taken_whole}
-use Rattle.schedule_trie.proofs.Once.{has-append, has_cases}
-use Rattle.schedule_trie.proofs.Partings.{has-in}
-use Rattle.schedule_trie.proofs.Pushes.{line-append, not_equal}
+use Rattle.schedule_trie.proofs.Once.{has-append, has_cases, has-in, once_before}
+use Rattle.schedule_trie.proofs.Pushes.{line-append}
 
 split_at : {X : Type 0} (xs : List X) (i : ℕ) (d : X) → i < length xs → get_or xs i d ≡ d → (back : List X) × (xs ≡ take i xs ++ d ∷ back)
 split_at [] i d less e = absurd (omega arith)
@@ -85,17 +84,13 @@ module _ {T : Type 0} (at : ℕ → Option (Piece T)) (old : List (Option Mark))
 
         by_key : {P : Type 0} (k : ℕ) (b : Bool) → nat_eq k key ≡ b → (k ≡ key → P) → ((k ≡ key → ⊥) → nat_eq k key ≡ false → P) → P
         by_key k true e same other = same (eqb-true k key e)
-        by_key k false e same other = other (not_equal k key e) e
+        by_key k false e same other = other (eqb-false k key e) e
 
         by_other : (k : ℕ) → has k (take (i + 1) keys) ≡ false → mark_at (set new key (Some (mark branch (cells + len)))) k ≡ mark_at old k
         by_other k h =
             let split : (has k (take i keys) || has k (key ∷ [])) ≡ false = sym (has-append k (take i keys) (key ∷ [])) ∙ sym (ap (has k) more) ∙ h in
             let ne : k ≡ key → ⊥ = λ e. true≢false (sym (ap (λ z. has z (take (i + 1) keys)) e ∙ ap (has key) more ∙ has-in key (take i keys) []) ∙ h) in
-            get_or-set_other new key k (Some (mark branch (cells + len))) None ne ∙ so.others k (left (has k (take i keys)) (has k (key ∷ [])) split)
-          where
-            left : (a b : Bool) → (a || b) ≡ false → a ≡ false
-            left true b e = absurd (true≢false e)
-            left false b e = refl
+            get_or-set_other new key k (Some (mark branch (cells + len))) None ne ∙ so.others k (or_parts (has k (take i keys)) (has k (key ∷ [])) split).0
 
   pub marked_all : (new : List (Option Mark)) (i cells : ℕ) → length keys ≤ i → AreMarkedSoFar at old new keys branch above i cells → AreMarked at old new keys branch above
   marked_all new i cells end so =

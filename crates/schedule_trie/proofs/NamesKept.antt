@@ -1,8 +1,9 @@
 -- Names of branches keep their form.
-use Rattle.std.proofs.Common.{◌≡◌, ℕ, zero, suc, Bool, true, false, ◌&&◌, nat_eq, List, [], ◌∷◌, ◌++◌, position, Option, None, refl, sym, ap, subst, ◌∙◌, true≢false}
+use Rattle.std.proofs.Common.{◌≡◌, ℕ, zero, suc, true, nat_eq, List, [], ◌∷◌, ◌++◌, position, Option, None, refl, sym, ap, subst, ◌∙◌}
 use Rattle.std.specs.Cmp.Lexicographic.{pointwise}
 use Rattle.std.specs.List.{remove, list_all}
 use Rattle.std.specs.Map.{keys_of}
+use Rattle.std.proofs.lemmas.Bool.{and_parts, and_from}
 use Rattle.std.proofs.lemmas.List.{map-append}
 use Rattle.indexmap.specs.IndexMap.{insert_entry}
 use Rattle.indexmap.proofs.MapLemmas.{Missing-position, insert_entry-absent}
@@ -14,29 +15,21 @@ use Rattle.schedule_trie.specs.Tries.{names_of, cut_of, AreNames}
 use Rattle.schedule_trie.proofs.Lines.{index_is}
 use Rattle.schedule_trie.proofs.Strands.{names_on}
 
-pub and_both : (a b : Bool) → (a && b) ≡ true → (a ≡ true) × (b ≡ true)
-and_both true b h = (refl, h)
-and_both false b h = absurd (true≢false (sym h))
-
-pub and_true : (a b : Bool) → a ≡ true → b ≡ true → (a && b) ≡ true
-and_true true b h g = g
-and_true false b h g = absurd (true≢false (sym h))
-
 -- names keep their form when a branch is removed
 pub names_left : (es : List (List ℕ × Option ℕ)) (index : ℕ) → AreNames (keys_of es) → AreNames (keys_of (remove es index))
 names_left [] zero h = refl
 names_left [] (suc index) h = refl
-names_left (e ∷ es) zero h = (and_both (is_name e.0) (list_all is_name (keys_of es)) h).1
+names_left (e ∷ es) zero h = (and_parts (is_name e.0) (list_all is_name (keys_of es)) h).1
 names_left (e ∷ es) (suc index) h =
-    let p = and_both (is_name e.0) (list_all is_name (keys_of es)) h in
-    and_true (is_name e.0) (list_all is_name (keys_of (remove es index))) p.0 (names_left es index p.1)
+    let p = and_parts (is_name e.0) (list_all is_name (keys_of es)) h in
+    and_from (is_name e.0) (list_all is_name (keys_of (remove es index))) p.0 (names_left es index p.1)
 
 -- names keep their form when a branch is added last
 pub names_more : (names : List (List ℕ)) (name : List ℕ) → AreNames names → is_name name ≡ true → AreNames (names ++ name ∷ [])
-names_more [] name h g = and_true (is_name name) true g refl
+names_more [] name h g = and_from (is_name name) true g refl
 names_more (n ∷ ns) name h g =
-    let p = and_both (is_name n) (list_all is_name ns) h in
-    and_true (is_name n) (list_all is_name (ns ++ name ∷ [])) p.0 (names_more ns name p.1 g)
+    let p = and_parts (is_name n) (list_all is_name ns) h in
+    and_from (is_name n) (list_all is_name (ns ++ name ∷ [])) p.0 (names_more ns name p.1 g)
 
 pub forked_names : {T : Type 0} (t : Inside T) (entries : List (List ℕ × Option ℕ)) (name : List ℕ) → AreNames (names_of t) → is_name name ≡ true
     → index_of (forest (cut_of t)).branches name ≡ None → entries ≡ insert_entry (pointwise nat_eq) t.branches.entries name None → AreNames (keys_of entries)

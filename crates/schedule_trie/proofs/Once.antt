@@ -5,13 +5,31 @@ use Rattle.std.proofs.lemmas.Map.Steps.{length-le_from_distinct_below}
 use Rattle.std.specs.List.{IsDistinct, list_any}
 use Rattle.schedule_trie.specs.Cut.{has, Once, Linked}
 use Rattle.lineage.proofs.Once.{AllByRecursion-from_has}
-pub use Rattle.lineage.proofs.Once.{has_cases, has-head, has-tail, has-append, has_not_from}
+pub use Rattle.lineage.proofs.Once.{has_cases, has-head, has-tail, has-append, has-left, has-right, has_not_from, last_from-push}
 
 -- two joined lists have no number twice if neither has, and they have none in common
 pub Once-append : (xs ys : List ℕ) → Once xs → Once ys → ((x : ℕ) → has x xs ≡ true → has x ys ≡ false) → Once (xs ++ ys)
 Once-append [] ys a b h = b
 Once-append (x ∷ xs) ys a b h =
     (has-append x xs ys ∙ ap (λ c. c || has x ys) a.0 ∙ h x (has-head x xs), Once-append xs ys a.1 b (λ z e. h z (has-tail z x xs e)))
+
+-- a part of a list that has no number twice has none twice
+pub Once-left : (xs ys : List ℕ) → Once (xs ++ ys) → Once xs
+Once-left [] ys h = tt
+Once-left (x ∷ xs) ys h =
+    (has_not_from x xs (λ g. true≢false (sym (has-left x xs ys g) ∙ h.0)), Once-left xs ys h.1)
+
+pub Once-right : (xs ys : List ℕ) → Once (xs ++ ys) → Once ys
+Once-right [] ys h = h
+Once-right (x ∷ xs) ys h = Once-right xs ys h.1
+
+-- no number is in two parts of it
+pub Once-apart : (x : ℕ) (xs ys : List ℕ) → Once (xs ++ ys) → has x xs ≡ true → has x ys ≡ true → ⊥
+Once-apart x [] ys once a b = true≢false (sym a)
+Once-apart x (z ∷ xs) ys once a b =
+    has_cases x z xs ⊥ a
+    (λ e. true≢false (sym (has-right z xs ys (subst (λ w. has w ys ≡ true) e b)) ∙ once.0))
+    (λ r. Once-apart x xs ys once.1 r b)
 
 IsDistinct-from_once : (xs : List ℕ) → Once xs → IsDistinct eqb xs
 unfolding IsDistinct
@@ -72,12 +90,8 @@ has-get_or [] i h = absurd (omega arith)
 has-get_or (k ∷ ks) zero h = has-head k ks
 has-get_or (k ∷ ks) (suc i) h = has-tail (get_or ks i 0) k ks (has-get_or ks i (omega arith))
 
-pub has-last : (key : ℕ) (front : List ℕ) → has key (front ++ key ∷ []) ≡ true
-has-last key [] = has-head key []
-has-last key (k ∷ front) = has-tail key k (front ++ key ∷ []) (has-last key front)
+pub has-in : (key : ℕ) (front back : List ℕ) → has key (front ++ key ∷ back) ≡ true
+has-in key front back = has-right key front (key ∷ back) (has-head key back)
 
-pub once_front : (front : List ℕ) (key : ℕ) → Once (front ++ key ∷ []) → has key front ≡ false
-once_front [] key h = refl
-once_front (k ∷ front) key h = has_not_from key (k ∷ front) (λ g. has_cases key k front ⊥ g
-    (λ e. true≢false (sym (subst (λ z. has z (front ++ key ∷ []) ≡ true) e (has-last key front)) ∙ h.0))
-    (λ r. true≢false (sym r ∙ once_front front key h.1)))
+pub once_before : (front : List ℕ) (key : ℕ) (back : List ℕ) → Once (front ++ key ∷ back) → has key front ≡ false
+once_before front key back h = has_not_from key front (λ g. Once-apart key front (key ∷ back) h g (has-head key back))

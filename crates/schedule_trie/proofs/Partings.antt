@@ -3,7 +3,6 @@ use Rattle.std.proofs.Common.{◌≡◌, ℕ, Bool, true, false, ◌||◌, nat_e
 use Rattle.std.proofs.lemmas.Bool.{eqb-true}
 use Rattle.schedule_trie.specs.Cut.{has}
 use Rattle.schedule_trie.specs.Climbs.{keys_up_to}
-use Rattle.schedule_trie.proofs.Once.{has-head, has-tail}
 
 -- a key of a list, with the keys before it and those after it
 pub record IsParting (keys : List ℕ) (key : ℕ) : Type 0 where
@@ -36,7 +35,3 @@ parting (k ∷ ks) key h = by (nat_eq key k) refl (parting ks key)
           to = ap (λ b. cond b (k ∷ []) (k ∷ keys_up_to key ks)) e ∙ ap (λ l. k ∷ l) p.to;
           lacks = ap (λ c. c || has key p.front) e ∙ p.lacks;
         }
-
-pub has-in : (key : ℕ) (front back : List ℕ) → has key (front ++ key ∷ back) ≡ true
-has-in key [] back = has-head key back
-has-in key (k ∷ front) back = has-tail key k (front ++ key ∷ back) (has-in key front back)

@@ -1,6 +1,5 @@
 -- The position of a key in the paths that have it.
 use Rattle.std.proofs.Common.{◌≡◌, ℕ, zero, suc, ◌+◌, true, List, [], ◌∷◌, length, slice_get, Option, Some, None, refl, sym, ap, subst, ◌∙◌, true≢false, arith}
-use Rattle.std.proofs.lemmas.Bool.Decides.{nat_tests}
 use Rattle.schedule_trie.specs.Cut.{has, Linked}
 use Rattle.schedule_trie.proofs.Once.{Ups, Ups-one, has_cases}
 

@@ -1,6 +1,6 @@
 -- A push as a new segment, in terms of the fields.
 use Rattle.std.proofs.Common.{◌≡◌, ℕ, ◌+◌, ◌<◌, Bool, true, false, ◌||◌, nat_eq, cond, List, [], ◌∷◌, ◌++◌, length, set, Option, Some, None, IsSome, refl, sym, ap, subst, ◌∙◌, true≢false, arith, eq-eqb, append-nil}
-use Rattle.std.proofs.lemmas.Bool.{eqb-true}
+use Rattle.std.proofs.lemmas.Bool.{eqb-true, eqb-false}
 use Rattle.std.proofs.lemmas.List.{length-set}
 use Rattle.lineage.specs.Family.{path_in, last_from, IsAdded}
 use Rattle.frames.specs.declared.types.Step.{Step}
@@ -12,7 +12,6 @@ use Rattle.schedule_trie.specs.Tries.{piece_of, strands_of, names_of, cut_of, Is
 use Rattle.schedule_trie.proofs.Once.{has_not_from}
 use Rattle.schedule_trie.proofs.Changes.{Changes}
 use Rattle.schedule_trie.proofs.Notes.{notes_beside}
-use Rattle.schedule_trie.proofs.Pushes.{not_equal}
 use Rattle.schedule_trie.proofs.Whole.{whole_pushed, is_pushed}
 use Rattle.schedule_trie.proofs.PushSteps.{has_front}
 use Rattle.schedule_trie.proofs.StepSet.{piece_seen}
@@ -83,7 +82,7 @@ module _ {T : Type 0} (t grown : Inside T) (index key : ℕ) (s : Segment T) (st
       linked_at i false e =
           subst (Linked (above_with held.whole.sound.shares.above key (last_from None (keys_in (cut_of t).strands index))) None)
           (sym (ap (λ l. keys_in l i) strands
-          ∙ keys_in-set_other (cut_of t).strands index i (keys_in (cut_of t).strands index ++ key ∷ []) (not_equal i index e)))
+          ∙ keys_in-set_other (cut_of t).strands index i (keys_in (cut_of t).strands index ++ key ∷ []) (eqb-false i index e)))
           (linked_other held.whole.sound.shares.above key (last_from None (keys_in (cut_of t).strands index)) None (keys_in (cut_of t).strands i) (lacked i) (held.whole.sound.shares.linked i))
 
   few : length (slots_of (piece_at (cut_of t).pieces key)) < 128

@@ -1,5 +1,5 @@
 -- A push, in terms of the fields.
-use Rattle.std.proofs.Common.{◌≡◌, ℕ, ◌+◌, ◌<◌, true, false, ◌||◌, List, [], ◌∷◌, ◌++◌, length, Option, Some, None, IsSome, Result, Ok, Err, refl, sym, ap, subst, ◌∙◌, append-nil, arith}
+use Rattle.std.proofs.Common.{◌≡◌, ℕ, ◌+◌, ◌<◌, true, false, ◌||◌, List, [], ◌∷◌, ◌++◌, length, Some, None, IsSome, Result, Ok, Err, refl, sym, ap, subst, ◌∙◌, append-nil, arith}
 use Rattle.std.specs.Map.{keys_of}
 use Rattle.std.specs.Result.{OnErr}
 use Rattle.std.proofs.Math.Seq.{map-set_same}
@@ -9,13 +9,13 @@ use Rattle.frames.specs.declared.types.Step.{Step}
 use Rattle.schedule_trie.specs.declared.segment.Segment.{Segment}
 use Rattle.schedule_trie.specs.declared.trie.Trie.TheInside.{Inside}
 use Rattle.schedule_trie.specs.Forest.{slot}
-use Rattle.schedule_trie.specs.Cut.{forest, piece, piece_at, slots_of, note_of, line, keys_in, set_keys, has, Once, IsOwnEnd, IsChangedEnd, Nowhere, HasChanged, IsPushed, IsWhole}
+use Rattle.schedule_trie.specs.Cut.{Cut, forest, piece, piece_at, slots_of, note_of, line, keys_in, set_keys, has, Once, IsOwnEnd, IsChangedEnd, Nowhere, HasChanged, IsPushed, IsWhole}
 use Rattle.schedule_trie.specs.Tries.{piece_of, pieces_of, strands_of, cut_of, AreLengths, AreNames, IsHeldCut, IsKept}
-use Rattle.schedule_trie.proofs.Once.{has-append, Once-from_linked, has-last, once_front}
+use Rattle.schedule_trie.proofs.Once.{has-append, Once-from_linked, has-in, once_before}
 use Rattle.schedule_trie.proofs.Changes.{Changes, piece_at_set}
 use Rattle.schedule_trie.proofs.Climbs.{last_parts}
 use Rattle.schedule_trie.proofs.Lines.{keys_are}
-use Rattle.schedule_trie.proofs.StepSet.{piece_seen, key_within}
+use Rattle.schedule_trie.proofs.StepSet.{piece_seen, key_within, item_there}
 use Rattle.schedule_trie.proofs.Notes.{notes_at, notes_but}
 use Rattle.schedule_trie.proofs.Pushes.{line-append}
 use Rattle.schedule_trie.proofs.Touched.{some_slots}
@@ -47,7 +47,7 @@ kept_held t key w kept same = record {
 -- only capacity has changed
 module _ {T : Type 0} (t u : Inside T) (entries : u.branches.entries ≡ t.branches.entries)
     (segments : u.segments ≡ t.segments) (made : u.made ≡ t.made) (limits : u.limits ≡ t.limits) where
-  pub roomed_seen : cut_of u ≡ cut_of t
+  roomed_seen : cut_of u ≡ cut_of t
   roomed_seen = λ i. record {
     strands = strands_of (keys_of (entries i)) (segments i).paths;
     pieces = pieces_of (segments i).items;
@@ -66,16 +66,14 @@ module _ {T : Type 0} (t u : Inside T) (entries : u.branches.entries ≡ t.branc
     names = subst (λ es. AreNames (keys_of es)) (sym entries) kept.names;
   }
 
+  pub roomed_err : {A E : Type 0} (r : Result A E) {cut : Cut T} → cut_of t ≡ cut → OnErr r (cut_of u ≡ cut)
+  roomed_err r was = on_err r _ (roomed_seen ∙ was)
+
 -- a push in the last segment of a branch
 module _ {T : Type 0} (t : Inside T) (index key : ℕ) (held : IsHeldCut t) (end : IsOwnEnd (cut_of t) index key) where
-  some_slab : (o : Option (Segment T)) → IsSome (piece_of o) → IsSome o
-  some_slab None h = h
-  some_slab (Some v) h = refl
-
   pub own_there : IsSome (item_at t.segments key)
   own_there =
-      some_slab (item_at t.segments key) (subst IsSome (piece_seen t key)
-      (held.whole.sound.held index key (subst (λ l. has key l ≡ true) (sym end.last) (has-last key end.front))))
+      item_there t key (held.whole.sound.held index key (subst (λ l. has key l ≡ true) (sym end.last) (has-in key end.front [])))
 
   module _ (v w : Segment T) (there : item_at t.segments key ≡ Some v) where
     seen : piece_at (cut_of t).pieces key ≡ Some (piece v.slots.items v.note)
@@ -104,7 +102,7 @@ module _ {T : Type 0} (t : Inside T) (index key : ℕ) (held : IsHeldCut t) (end
           ∙ ap (λ l. line (piece_at (cut_of t).pieces) end.front ++ l) (append-nil (slots_of (piece_at (cut_of t).pieces key)))
 
       fresh : has key end.front ≡ false
-      fresh = once_front end.front key (subst Once end.last (Once-from_linked held.whole.sound.shares.above (keys_in (cut_of t).strands index) (held.whole.sound.shares.linked index)))
+      fresh = once_before end.front key [] (subst Once end.last (Once-from_linked held.whole.sound.shares.above (keys_in (cut_of t).strands index) (held.whole.sound.shares.linked index)))
 
       kept : (k : ℕ) → has k (keys_in (cut_of t).strands index) ≡ true → has k (end.front ++ key ∷ []) ≡ true
       kept k h = subst (λ l. has k l ≡ true) end.last h

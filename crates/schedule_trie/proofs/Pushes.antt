@@ -1,15 +1,12 @@
 -- A new cell at the end of a branch.
-use Rattle.std.proofs.Common.{◌≡◌, ℕ, zero, suc, ◌+◌, ◌<◌, ◌≤◌, Bool, true, false, ◌||◌, nat_eq, List, [], ◌∷◌, ◌++◌, length, map, Option, Some, None, ◌⊎◌, refl, sym, ap, subst, ◌∙◌, true≢false, arith, eq-eqb, append_assoc, append-nil, inl, inr}
+use Rattle.std.proofs.Common.{◌≡◌, ℕ, zero, suc, ◌+◌, ◌<◌, ◌≤◌, Bool, true, false, ◌||◌, nat_eq, List, [], ◌∷◌, ◌++◌, length, map, Option, ◌⊎◌, refl, sym, ap, subst, ◌∙◌, true≢false, arith, append_assoc, append-nil, inl, inr}
 use Rattle.std.specs.Option.{IfSome}
-use Rattle.std.proofs.lemmas.Bool.{eqb-true}
+use Rattle.std.proofs.lemmas.Bool.{eqb-true, eqb-false}
 use Rattle.schedule_trie.specs.declared.slot.Slot.{Slot}
 use Rattle.schedule_trie.specs.Forest.{branch, cell_of, only_in, put_last}
 use Rattle.schedule_trie.specs.Cut.{Piece, Strand, slots_of, line, branches_on, keys_in, set_keys, has, has_cell, Once, IsSegment, IsSoundCut, LackedByOthers}
-use Rattle.schedule_trie.proofs.Lines.{given_at}
+use Rattle.schedule_trie.proofs.Lines.{given_at, weaker}
 use Rattle.schedule_trie.proofs.Changes.{Changes}
-
-pub not_equal : (a b : ℕ) → nat_eq a b ≡ false → a ≡ b → ⊥
-not_equal a b e f = true≢false (sym (eq-eqb a b f) ∙ e)
 
 module _ {T : Type 0} where
   pub line-append : (at : ℕ → Option (Piece T)) (a b : List ℕ) → line at (a ++ b) ≡ line at a ++ line at b
@@ -25,7 +22,7 @@ module _ {T : Type 0} (old new : ℕ → Option (Piece T)) (key : ℕ) (q : Piec
       by : (b : Bool) → nat_eq key k ≡ b → (has key ks ≡ false → line new ks ≡ line old ks) → line new (k ∷ ks) ≡ line old (k ∷ ks)
       by true e rest = absurd (true≢false (sym (ap (λ c. c || has key ks) e) ∙ h))
       by false e rest =
-          ap (λ o. slots_of o ++ line new ks) (change.others k (λ f. not_equal key k e (sym f)))
+          ap (λ o. slots_of o ++ line new ks) (change.others k (λ f. eqb-false key k e (sym f)))
           ∙ ap (λ l. slots_of (old k) ++ l) (rest (sym (ap (λ c. c || has key ks) e) ∙ h))
 
   pub line_pushed : (front : List ℕ) (s : Slot) → has key front ≡ false → q.slots ≡ slots_of (old key) ++ s ∷ []
@@ -55,10 +52,6 @@ module _ {T : Type 0} (old new : ℕ → Option (Piece T)) (key : ℕ) (q : Piec
   module _ (strands : List Strand) (made : ℕ) (sound : IsSoundCut old strands made) (some : 0 < length q.slots) (few : length q.slots ≤ 128)
       (once : Once (map cell_of q.slots))
       (cells : (x : ℕ) → has_cell x q.slots ≡ true → (has_cell x (slots_of (old key)) ≡ true) ⊎ (x ≡ made)) where
-    weaker : (o : Option (Piece T)) → IfSome o (IsSegment made) → IfSome o (IsSegment (made + 1))
-    weaker None h = tt
-    weaker (Some p) h = record { some = h.some; few = h.few; once = h.once; given = λ x g. let l : x < made = h.given x g in omega arith }
-
     given_old : (k x : ℕ) → has_cell x (slots_of (old k)) ≡ true → x < made
     given_old = given_at old made sound.segments sound.apart
 
@@ -70,7 +63,7 @@ module _ {T : Type 0} (old new : ℕ → Option (Piece T)) (key : ℕ) (q : Piec
 
         by : (b : Bool) → nat_eq k key ≡ b → IfSome (new k) (IsSegment (made + 1))
         by true e = subst (λ j. IfSome (new j) (IsSegment (made + 1))) (sym (eqb-true k key e)) (subst (λ o. IfSome o (IsSegment (made + 1))) (sym change.here) at_key)
-        by false e = subst (λ o. IfSome o (IsSegment (made + 1))) (sym (change.others k (not_equal k key e))) (weaker (old k) (sound.segments k))
+        by false e = subst (λ o. IfSome o (IsSegment (made + 1))) (sym (change.others k (eqb-false k key e))) (weaker made (made + 1) (omega arith) (old k) (sound.segments k))
 
     in_other : (k x : ℕ) → (k ≡ key → ⊥) → has_cell x (slots_of (new k)) ≡ true → has_cell x (slots_of (old k)) ≡ true
     in_other k x ne h = subst (λ o. has_cell x (slots_of o) ≡ true) (change.others k ne) h
@@ -90,6 +83,6 @@ module _ {T : Type 0} (old new : ℕ → Option (Piece T)) (key : ℕ) (q : Piec
       where
         by : (c d : Bool) → nat_eq j key ≡ c → nat_eq k key ≡ d → j ≡ k
         by true true e f = eqb-true j key e ∙ sym (eqb-true k key f)
-        by true false e f = absurd (key_apart k x (not_equal k key f) (subst (λ z. has_cell x (slots_of (new z)) ≡ true) (eqb-true j key e) a) b)
-        by false true e f = absurd (key_apart j x (not_equal j key e) (subst (λ z. has_cell x (slots_of (new z)) ≡ true) (eqb-true k key f) b) a)
-        by false false e f = sound.apart j k x (in_other j x (not_equal j key e) a) (in_other k x (not_equal k key f) b)
+        by true false e f = absurd (key_apart k x (eqb-false k key f) (subst (λ z. has_cell x (slots_of (new z)) ≡ true) (eqb-true j key e) a) b)
+        by false true e f = absurd (key_apart j x (eqb-false j key e) (subst (λ z. has_cell x (slots_of (new z)) ≡ true) (eqb-true k key f) b) a)
+        by false false e f = sound.apart j k x (in_other j x (eqb-false j key e) a) (in_other k x (eqb-false k key f) b)

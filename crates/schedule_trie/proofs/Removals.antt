@@ -1,16 +1,18 @@
 -- Removing a cell from its segment, and so from each line.
-use Rattle.std.proofs.Common.{◌≡◌, ℕ, zero, suc, ◌<◌, Bool, true, false, not, ◌||◌, nat_eq, cond, List, [], ◌∷◌, ◌++◌, length, map, slice_get, Option, Some, None, IsSome, refl, sym, ap, subst, ◌∙◌, true≢false, arith, eq-eqb}
+use Rattle.std.proofs.Common.{◌≡◌, ℕ, zero, suc, ◌<◌, Bool, true, false, not, ◌||◌, nat_eq, cond, List, [], ◌∷◌, ◌++◌, length, map, slice_get, Option, Some, None, IsSome, refl, sym, ap, subst, ◌∙◌, true≢false, arith, eq-eqb, ◌+◌}
 use Rattle.std.specs.Option.{IfSome}
 use Rattle.std.specs.List.{remove}
-use Rattle.std.proofs.lemmas.Bool.{eqb-true}
+use Rattle.std.proofs.lemmas.Bool.{eqb-true, eqb-false}
+use Rattle.std.proofs.lemmas.List.Edits.{length-remove}
 use Rattle.std.proofs.lemmas.List.Elements.{filter-append}
+use Rattle.std.proofs.lemmas.Option.{slice_get_within}
 use Rattle.schedule_trie.specs.declared.slot.Slot.{Slot}
 use Rattle.schedule_trie.specs.Forest.{branch, cell_of, is_other, without, everywhere}
 use Rattle.schedule_trie.specs.Cut.{Piece, Strand, slots_of, line, branches_on, keys_in, has, has_cell, Once, Linked, IsSegment, IsSoundCut, keys_without, strand_without}
+use Rattle.schedule_trie.proofs.Lists.{turned}
 use Rattle.schedule_trie.proofs.Once.{has_not_from, has-head, has-tail, has_cases}
-use Rattle.schedule_trie.proofs.Changes.{line_through, everywhere_on, nat_eq-turned, cell_apart, has_cell_get}
+use Rattle.schedule_trie.proofs.Changes.{line_through, everywhere_on, cell_apart, has_cell_get}
 use Rattle.schedule_trie.proofs.Lines.{once_at, given_at}
-use Rattle.schedule_trie.proofs.Pushes.{not_equal}
 use Rattle.schedule_trie.proofs.PathsWithout.{keys_in-without, has_from_without, has_other, has-without, past, linked_without}
 
 -- removing a cell that isn't there changes nothing
@@ -21,7 +23,7 @@ without-absent x (s ∷ ss) h = by (nat_eq x s.cell) refl (without-absent x ss)
     by : (b : Bool) → nat_eq x s.cell ≡ b → (has_cell x ss ≡ false → without x ss ≡ ss) → without x (s ∷ ss) ≡ s ∷ ss
     by true e rest = absurd (true≢false (sym (ap (λ c. c || has_cell x ss) e) ∙ h))
     by false e rest =
-        ap (λ b. cond (not b) (s ∷ without x ss) (without x ss)) (nat_eq-turned x s.cell e) ∙ ap (λ l. s ∷ l) (rest (sym (ap (λ c. c || has_cell x ss) e) ∙ h))
+        ap (λ b. cond (not b) (s ∷ without x ss) (without x ss)) (turned s.cell x ∙ e) ∙ ap (λ l. s ∷ l) (rest (sym (ap (λ c. c || has_cell x ss) e) ∙ h))
 
 -- removing the item at an index removes just that cell, if no cell is twice
 pub without-at : (slots : List Slot) (i : ℕ) (s : Slot) → Once (map cell_of slots) → slice_get slots i ≡ Some s → remove slots i ≡ without s.cell slots
@@ -55,21 +57,6 @@ once_without x (s ∷ ss) h = by (nat_eq s.cell x) refl (once_without x ss h.1)
     by false e rest = subst (λ b. Once (map cell_of (cond (not b) (s ∷ without x ss) (without x ss)))) (sym e)
         (has_not_from s.cell (map cell_of (without x ss)) (λ g. true≢false (sym (has_cell_without x s.cell ss g) ∙ h.0)), rest)
 
-length-remove : (slots : List Slot) (i : ℕ) → i < length slots → length (remove slots i) < length slots
-length-remove [] i h = absurd (omega arith)
-length-remove (s ∷ ss) zero h = omega arith
-length-remove (s ∷ ss) (suc i) h = let rest : length (remove ss i) < length ss = length-remove ss i (omega arith) in omega arith
-
-length-remove_more : (slots : List Slot) (i : ℕ) → 1 < length slots → 0 < length (remove slots i)
-length-remove_more [] i h = absurd (omega arith)
-length-remove_more (s ∷ ss) zero h = omega arith
-length-remove_more (s ∷ ss) (suc i) h = omega arith
-
-within_from : (slots : List Slot) (i : ℕ) (s : Slot) → slice_get slots i ≡ Some s → i < length slots
-within_from [] i s e = absurd (cc)
-within_from (z ∷ zs) zero s e = omega arith
-within_from (z ∷ zs) (suc i) s e = let h : i < length zs = within_from zs i s e in omega arith
-
 module _ {T : Type 0} (old new : ℕ → Option (Piece T)) (key offset : ℕ) (s : Slot) (strands : List Strand) (made : ℕ) (sound : IsSoundCut old strands made)
     (here : slots_of (new key) ≡ remove (slots_of (old key)) offset) (others : (j : ℕ) → (j ≡ key → ⊥) → new j ≡ old j)
     (at_cell : slice_get (slots_of (old key)) offset ≡ Some s) where
@@ -81,7 +68,7 @@ module _ {T : Type 0} (old new : ℕ → Option (Piece T)) (key offset : ℕ) (s
           subst (λ k. slots_of (new k) ≡ without s.cell (slots_of (old k))) (sym (eqb-true j key e))
           (here ∙ without-at (slots_of (old key)) offset s (once_at old made sound.segments sound.apart key) at_cell)
       by false e =
-          let ne : j ≡ key → ⊥ = not_equal j key e in
+          let ne : j ≡ key → ⊥ = eqb-false j key e in
           ap slots_of (others j ne) ∙ sym (without-absent s.cell (slots_of (old j)) (has_not_from s.cell (map cell_of (slots_of (old j)))
           (λ h. ne (sound.apart j key s.cell h (has_cell_get (slots_of (old key)) offset s at_cell)))))
 
@@ -103,17 +90,17 @@ module _ {T : Type 0} (old new : ℕ → Option (Piece T)) (key offset : ℕ) (s
   module _ (p q : Piece T) (was : old key ≡ Some p) (is : new key ≡ Some q) (more : 1 < length (slots_of (old key))) where
     segment : IsSegment made q
     segment = record {
-      some = subst (λ l. 0 < length l) (sym slots) (length-remove_more (slots_of (old key)) offset more);
-      few = let long : length q.slots < length (slots_of (old key)) = subst (λ l. length l < length (slots_of (old key))) (sym slots)
-          (length-remove (slots_of (old key)) offset (within_from (slots_of (old key)) offset s at_cell)) in
-          let short : length (slots_of (old key)) < 129 = short_at (old key) (sound.segments key) (omega arith) in
-          omega arith;
+      some = omega (arith, more, size);
+      few = let short : length (slots_of (old key)) < 129 = short_at (old key) (sound.segments key) (omega arith) in omega (arith, short, size);
       once = subst (λ l. Once (map cell_of l)) (sym without_it) (once_without s.cell (slots_of (old key)) (once_at old made sound.segments sound.apart key));
       given = λ x h. given_at old made sound.segments sound.apart key x (fewer key x (subst (λ o. has_cell x (slots_of o) ≡ true) (sym is) h));
     }
       where
         slots : q.slots ≡ remove (slots_of (old key)) offset
         slots = sym (ap slots_of is) ∙ here
+
+        size : length q.slots + 1 ≡ length (slots_of (old key))
+        size = ap (λ l. length l + 1) slots ∙ length-remove (slots_of (old key)) offset (slice_get_within (slots_of (old key)) offset s at_cell)
 
         without_it : q.slots ≡ without s.cell (slots_of (old key))
         without_it = sym (ap slots_of is) ∙ each_without key
@@ -123,14 +110,14 @@ module _ {T : Type 0} (old new : ℕ → Option (Piece T)) (key offset : ℕ) (s
       where
         by : (b : Bool) → nat_eq k key ≡ b → IsSome (new k)
         by true e = subst (λ j. IsSome (new j)) (sym (eqb-true k key e)) (subst IsSome (sym is) refl)
-        by false e = subst IsSome (sym (others k (not_equal k key e))) h
+        by false e = subst IsSome (sym (others k (eqb-false k key e))) h
 
     was_there : (k : ℕ) → IsSome (new k) → IsSome (old k)
     was_there k h = by (nat_eq k key) refl
       where
         by : (b : Bool) → nat_eq k key ≡ b → IsSome (old k)
         by true e = subst (λ j. IsSome (old j)) (sym (eqb-true k key e)) (subst IsSome (sym was) refl)
-        by false e = subst IsSome (others k (not_equal k key e)) h
+        by false e = subst IsSome (others k (eqb-false k key e)) h
 
     pub sound_within : IsSoundCut new strands made
     sound_within = record {
@@ -143,7 +130,7 @@ module _ {T : Type 0} (old new : ℕ → Option (Piece T)) (key offset : ℕ) (s
       where
         segment_at : (k : ℕ) (b : Bool) → nat_eq k key ≡ b → IfSome (new k) (IsSegment made)
         segment_at k true e = subst (λ j. IfSome (new j) (IsSegment made)) (sym (eqb-true k key e)) (subst (λ o. IfSome o (IsSegment made)) (sym is) segment)
-        segment_at k false e = subst (λ o. IfSome o (IsSegment made)) (sym (others k (not_equal k key e))) (sound.segments k)
+        segment_at k false e = subst (λ o. IfSome o (IsSegment made)) (sym (others k (eqb-false k key e))) (sound.segments k)
 
   -- the segment is removed with its last cell
   module _ (gone : new key ≡ None) where
@@ -193,4 +180,4 @@ module _ {T : Type 0} (old new : ℕ → Option (Piece T)) (key offset : ℕ) (s
 
         segment_at : (k : ℕ) (b : Bool) → nat_eq k key ≡ b → IfSome (new k) (IsSegment made)
         segment_at k true e = subst (λ j. IfSome (new j) (IsSegment made)) (sym (eqb-true k key e)) (subst (λ o. IfSome o (IsSegment made)) (sym gone) tt)
-        segment_at k false e = subst (λ o. IfSome o (IsSegment made)) (sym (others k (not_equal k key e))) (sound.segments k)
+        segment_at k false e = subst (λ o. IfSome o (IsSegment made)) (sym (others k (eqb-false k key e))) (sound.segments k)

@@ -13,7 +13,7 @@ use Rattle.schedule_trie.proofs.Once.{has_cases, has_not_from, has-head, has-tai
 use Rattle.schedule_trie.proofs.Lines.{line-drop}
 use Rattle.schedule_trie.proofs.Pushes.{line-append}
 
-length-numbered : (n : ℕ) (steps : List Step) → length (numbered n steps) ≡ length steps
+pub length-numbered : (n : ℕ) (steps : List Step) → length (numbered n steps) ≡ length steps
 length-numbered n [] = refl
 length-numbered n (s ∷ ss) = ap suc (length-numbered (suc n) ss)
 

@@ -1,7 +1,6 @@
 -- Setting a step in a segment of a trie.
-use Rattle.std.proofs.Common.{map, ◌++◌, ◌≡◌, ℕ, ◌<◌, Bool, true, false, nat_eq, nat_le, zero, suc, ◌≤◌, List, [], ◌∷◌, length, slice_get, slice_index_or, Option, Some, None, IsSome, Ok, Err, refl, sym, ap, subst, ◌∙◌, true≢false, arith, cond, eq-eqb}
-use Rattle.std.proofs.lemmas.Bool.{eqb-true}
-use Rattle.std.proofs.lemmas.Bool.Decides.{nat_tests}
+use Rattle.std.proofs.Common.{map, ◌++◌, ◌≡◌, ℕ, ◌<◌, Bool, true, false, nat_eq, zero, suc, ◌≤◌, List, [], ◌∷◌, length, slice_get, slice_index_or, Option, Some, None, IsSome, Ok, Err, refl, sym, ap, subst, ◌∙◌, true≢false, arith, cond, eq-eqb}
+use Rattle.std.proofs.lemmas.Bool.{eqb-true, lt-leb}
 use Rattle.std.specs.Option.{IfSome, option_map}
 use Rattle.std.proofs.Math.ListN.{get_or-map}
 use Rattle.lineage.specs.Family.{item_at, with_item}
@@ -22,13 +21,10 @@ use Rattle.schedule_trie.proofs.Notes.{notes_at, notes_but}
 use Rattle.schedule_trie.proofs.Lists.{cell_in_at, slice_get_some}
 use Rattle.std.proofs.lemmas.Option.{slice_get_within}
 
-get_or_within : {X : Type 0} (xs : List (Option X)) (i : ℕ) (x : X) → slice_index_or xs i None ≡ Some x → i < length xs
-get_or_within [] i x e = absurd (cc)
-get_or_within (o ∷ xs) zero x e = omega arith
-get_or_within (o ∷ xs) (suc i) x e = let h : i < length xs = get_or_within xs i x e in omega arith
-
-nat_le_false : (a b : ℕ) → b < a → nat_le a b ≡ false
-nat_le_false a b h = grind (arith, nat_tests)
+pub key_within : {X : Type 0} (xs : List (Option X)) (key : ℕ) (x : X) → slice_index_or xs key None ≡ Some x → key < length xs
+key_within [] key x e = absurd (cc)
+key_within (o ∷ xs) zero x e = omega arith
+key_within (o ∷ xs) (suc key) x e = let h : key < length xs = key_within xs key x e in omega arith
 
 module _ {T : Type 0} where
   pub piece_seen : (t : Inside T) (key : ℕ) → piece_at (cut_of t).pieces key ≡ piece_of (item_at t.segments key)
@@ -44,8 +40,9 @@ module _ {T : Type 0} where
   there_from_slots None offset h = absurd (omega arith)
   there_from_slots (Some v) offset h = refl
 
-  pub held_there : (t : Inside T) (key offset : ℕ) → offset < length (slots_of (piece_at (cut_of t).pieces key)) → IsSome (item_at t.segments key)
-  held_there t key offset h = there_from_slots (item_at t.segments key) offset (subst (λ o. offset < length (slots_of o)) (piece_seen t key) h)
+  pub held_there : (t : Inside T) (key offset : ℕ) (c : Cut T) → cut_of t ≡ c → offset < length (slots_of (piece_at c.pieces key)) → IsSome (item_at t.segments key)
+  held_there t key offset c seen h =
+      there_from_slots (item_at t.segments key) offset (subst (λ o. offset < length (slots_of o)) (ap (λ b. piece_at b.pieces key) (sym seen) ∙ piece_seen t key) h)
 
   pub item_there : (t : Inside T) (key : ℕ) → IsSome (piece_at (cut_of t).pieces key) → IsSome (item_at t.segments key)
   item_there t key h = by (item_at t.segments key) (subst IsSome (piece_seen t key) h)
@@ -68,9 +65,6 @@ module _ {T : Type 0} where
   pub cut_from_sound : (c : Cut T) (made : ℕ) → IsSoundCut (piece_at c.pieces) c.strands made → IsCut c
   cut_from_sound c made s =
       record { held = s.held; sizes = λ k. sizes_from made (piece_at c.pieces k) (s.segments k); live = s.live; shares = s.shares }
-
-  pub key_within : (xs : List (Option (Segment T))) (key : ℕ) (v : Segment T) → slice_index_or xs key None ≡ Some v → key < length xs
-  key_within xs key v e = get_or_within xs key v e
 
 -- the fields, with the segment at a key replaced
 abbrev pub with_segment : {T : Type 0} → Inside T → ℕ → Segment T → Inside T
@@ -142,7 +136,7 @@ module _ {T : Type 0} (old new : Cut T) (name : List ℕ) (place index key offse
   command_at change =
       ap (λ o. on_found o (at_cell (forest old) place change)) found
       ∙ ap (λ b. cond b (Err NoPlace) (Ok (record { branches = everywhere (change (cell_in (slots_in (forest old).branches index) place)) (forest old).branches; made = old.made })))
-      (nat_le_false (length (slots_in (forest old).branches index)) place (slice_get_within (slots_in (forest old).branches index) place the_cell.0 at_place))
+      (lt-leb (length (slots_in (forest old).branches index)) place (slice_get_within (slots_in (forest old).branches index) place the_cell.0 at_place))
       ∙ ap (λ x. Ok (record { branches = everywhere (change x) (forest old).branches; made = old.made })) (cell_in_at (slots_in (forest old).branches index) place the_cell.0 at_place)
 
   pub replace_ok : (step : Step) → IsStepSet old new key offset step → replace_step (forest old) name place step ≡ Ok (forest new)

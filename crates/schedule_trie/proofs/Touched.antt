@@ -7,7 +7,7 @@ use Rattle.schedule_trie.specs.Forest.{cell_on_branch, cell_by, cell_of, index_o
 use Rattle.schedule_trie.specs.Cut.{Cut, Piece, piece_at, slots_of, line, forest, keys_in, has, has_cell, Once, IsSpotInPath, IsSegment, IsWhole, IsEnd, HoldsCellAt, HoldsCellBefore, IsParted}
 use Rattle.schedule_trie.proofs.Changes.{has_cell_get}
 use Rattle.schedule_trie.proofs.Lines.{in_line, slots_in_on, line-drop}
-use Rattle.schedule_trie.proofs.Once.{has_cases, has-tail, Once-from_linked, has-get_or, has-last}
+use Rattle.schedule_trie.proofs.Once.{Once-from_linked, has-get_or, Once-apart, has-in}
 use Rattle.schedule_trie.proofs.Pushes.{line-append}
 use Rattle.schedule_trie.proofs.StepSet.{holds_cell}
 use Rattle.schedule_trie.proofs.Lists.{slice_get_left, slice_get_right}
@@ -29,7 +29,7 @@ module _ {T : Type 0} (at : ℕ → Option (Piece T)) where
   -- a cell's place in the last segment
   stands_last : (front : List ℕ) (key offset : ℕ) → offset < length (slots_of (at key)) → IsSpotInPath at (front ++ key ∷ []) (length (line at front) + offset) (key, offset)
   stands_last front key offset within = record {
-    member = has-last key front;
+    member = has-in key front [];
     within = within;
     same = ap (λ l. slice_get l offset) (sym (append-nil (slots_of (at key))))
         ∙ sym (slice_get_right (line at front) (slots_of (at key) ++ []) (length (line at front) + offset) offset refl)
@@ -86,18 +86,6 @@ some_cell : (o : Option Slot) (x : ℕ) → option_map cell_of o ≡ Some x → 
 some_cell None x e = absurd (cc)
 some_cell (Some s) x e = (s, refl, cc)
 
--- a key of a path's front isn't after it
-once_parts : (k : ℕ) (front back : List ℕ) → Once (front ++ back) → has k front ≡ true → has k back ≡ true → ⊥
-once_parts k [] back once h g = true≢false (sym h)
-once_parts k (f ∷ front) back once h g =
-    has_cases k f front ⊥ h
-    (λ e. true≢false (sym (has-after f front back (subst (λ z. has z back ≡ true) e g)) ∙ once.0))
-    (λ r. once_parts k front back once.1 r g)
-  where
-    has-after : (j : ℕ) (front back : List ℕ) → has j back ≡ true → has j (front ++ back) ≡ true
-    has-after j [] back h = h
-    has-after j (f ∷ front) back h = has-tail j f (front ++ back) (has-after j front back h)
-
 module _ {T : Type 0} (c : Cut T) (name : List ℕ) (index place : ℕ) (found : index_of (forest c).branches name ≡ Some index) where
   -- the cell at a place is on the branch's line
   read_at : (x : ℕ) → cell_on_branch (forest c) name place ≡ Some x → (s : Slot) × (slice_get (line (piece_at c.pieces) (keys_in c.strands index)) place ≡ Some s) × (s.cell ≡ x)
@@ -142,6 +130,6 @@ module _ {T : Type 0} (c : Cut T) (name : List ℕ) (index place count : ℕ) (w
       let in_back = in_keys back h.below.cell k 0 lower.0
       (sym (slice_get_right (line (piece_at c.pieces) front) (line (piece_at c.pieces) back) place 0 (omega (arith, long)))
       ∙ ap (λ l. slice_get l place) (sym parts) ∙ lower.1) lower.2 h.below.held in
-      once_parts k front back
+      Once-apart k front back
       (subst Once (sym (take-append-drop count (keys_in c.strands index))) (Once-from_linked whole.sound.shares.above (keys_in c.strands index) (whole.sound.shares.linked index)))
       in_front in_back

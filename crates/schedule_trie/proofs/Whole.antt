@@ -1,15 +1,15 @@
 -- A push keeps a cut whole.
 use Rattle.std.proofs.Common.{◌≡◌, ℕ, ◌+◌, ◌<◌, ◌≤◌, Bool, true, false, ◌||◌, nat_eq, List, [], ◌∷◌, ◌++◌, length, map, Option, Some, None, IsSome, ◌⊎◌, refl, sym, ap, subst, ◌∙◌, true≢false, arith, inl, inr}
 use Rattle.std.specs.Option.{IfSome}
-use Rattle.std.proofs.lemmas.Bool.{eqb-true}
+use Rattle.std.proofs.lemmas.Bool.{eqb-true, eqb-false}
 use Rattle.std.proofs.lemmas.List.{map-append, length-append}
 use Rattle.frames.specs.declared.types.Step.{Step}
 use Rattle.schedule_trie.specs.Forest.{slot, cell_of, only_in, put_last}
 use Rattle.schedule_trie.specs.Cut.{Cut, Piece, piece_at, slots_of, line, forest, branches_on, keys_in, set_keys, has, has_cell, Once, SharesAbove, IsSegment, IsSoundCut, IsWhole, KeepsNotesBut, Nowhere, IsChangedEnd, IsPushed, LackedByOthers}
-use Rattle.schedule_trie.proofs.Once.{has-append, has_not_from, has_cases, Once-append, has-last}
+use Rattle.schedule_trie.proofs.Once.{has-append, has_not_from, has_cases, Once-append, has-in}
 use Rattle.schedule_trie.proofs.Changes.{Changes}
 use Rattle.schedule_trie.proofs.StepSet.{cut_from_sound}
-use Rattle.schedule_trie.proofs.Pushes.{not_equal, line_pushed, only_pushed, segments_more, apart_more}
+use Rattle.schedule_trie.proofs.Pushes.{line_pushed, only_pushed, segments_more, apart_more}
 use Rattle.schedule_trie.specs.declared.limits.TheConstants.{MOST_CELLS_MADE}
 use Rattle.schedule_trie.proofs.Strands.{keys_in-set_other, keys_in-set_same, length-set_keys}
 
@@ -59,7 +59,7 @@ module _ {T : Type 0} (c d : Cut T) (index key : ℕ) (step : Step) (front : Lis
     where
       by : (b : Bool) → nat_eq k key ≡ b → IsSome (piece_at d.pieces k)
       by true e = subst (λ j. IsSome (piece_at d.pieces j)) (sym (eqb-true k key e)) (subst IsSome (sym change.here) refl)
-      by false e = subst IsSome (sym (change.others k (not_equal k key e))) h
+      by false e = subst IsSome (sym (change.others k (eqb-false k key e))) h
 
   keys_here : keys_in d.strands index ≡ front ++ key ∷ []
   keys_here = ap (λ l. keys_in l index) strands ∙ keys_in-set_same c.strands index (front ++ key ∷ []) inside
@@ -84,18 +84,18 @@ module _ {T : Type 0} (c d : Cut T) (index key : ℕ) (step : Step) (front : Lis
 
       by : (b : Bool) → nat_eq i index ≡ b → IsSome (piece_at d.pieces k)
       by true e = at_index (subst (λ l. has k l ≡ true) (ap (keys_in d.strands) (eqb-true i index e) ∙ keys_here) h)
-      by false e = there k (whole.sound.held i k (subst (λ l. has k l ≡ true) (keys_there i (not_equal i index e)) h))
+      by false e = there k (whole.sound.held i k (subst (λ l. has k l ≡ true) (keys_there i (eqb-false i index e)) h))
 
   live : (k : ℕ) → IsSome (piece_at d.pieces k) → (i : ℕ) × (has k (keys_in d.strands i) ≡ true)
   live k h = by (nat_eq k key) refl
     where
       from_old : (p : (i : ℕ) × (has k (keys_in c.strands i) ≡ true)) → (b : Bool) → nat_eq p.0 index ≡ b → (j : ℕ) × (has k (keys_in d.strands j) ≡ true)
       from_old p true e = (index, subst (λ l. has k l ≡ true) (sym keys_here) (kept k (subst (λ n. has k (keys_in c.strands n) ≡ true) (eqb-true p.0 index e) p.1)))
-      from_old p false e = (p.0, subst (λ l. has k l ≡ true) (sym (keys_there p.0 (not_equal p.0 index e))) p.1)
+      from_old p false e = (p.0, subst (λ l. has k l ≡ true) (sym (keys_there p.0 (eqb-false p.0 index e))) p.1)
 
       by : (b : Bool) → nat_eq k key ≡ b → (i : ℕ) × (has k (keys_in d.strands i) ≡ true)
-      by true e = (index, subst (λ l. has k l ≡ true) (sym keys_here) (subst (λ z. has z (front ++ key ∷ []) ≡ true) (sym (eqb-true k key e)) (has-last key front)))
-      by false e = let o = whole.sound.live k (subst IsSome (change.others k (not_equal k key e)) h) in from_old o (nat_eq o.0 index) refl
+      by true e = (index, subst (λ l. has k l ≡ true) (sym keys_here) (subst (λ z. has z (front ++ key ∷ []) ≡ true) (sym (eqb-true k key e)) (has-in key front [])))
+      by false e = let o = whole.sound.live k (subst IsSome (change.others k (eqb-false k key e)) h) in from_old o (nat_eq o.0 index) refl
 
   sound : IsSoundCut (piece_at d.pieces) d.strands d.made
   sound = record {

@@ -1,24 +1,12 @@
 -- The effects of wrong bodies of edits: each clause that refuses one is false of an example.
 use Rattle.std.proofs.Common.{◌≡◌, ℕ, true, List, [], ◌∷◌, length, Option, Some, None, inl, inr, refl, sym, ap, subst, ◌∙◌, true≢false, arith}
-use Rattle.std.specs.Prelude.{codes}
 use Rattle.frames.specs.declared.types.Step.{Step}
-use Rattle.frames.specs.declared.types.Step.TheVariants.{Read, Write, Go}
+use Rattle.frames.specs.declared.types.Step.TheVariants.{Write}
+use Rattle.schedule_trie.specs.Rows.{main, a, read, go}
 use Rattle.schedule_trie.specs.declared.slot.Slot.{Slot}
 use Rattle.schedule_trie.specs.Forest.{slot, slots_in}
 use Rattle.schedule_trie.specs.Cut.{Cut, Piece, Strand, strand, piece, note_of, slots_of, has_cell, HoldsCellAt, IsInserted, IsOwnEnd}
 use Rattle.schedule_trie.specs.Edits.{Insert, Replace, IsEdited}
-
-abbrev main : List ℕ
-main = codes "main"
-
-abbrev a : List ℕ
-a = codes "a"
-
-abbrev read : Step
-read = Read 1
-
-abbrev go : Step
-go = Go 1 0
 
 abbrev cut : List Strand → List (Option (Piece ℕ)) → ℕ → Cut ℕ
 cut strands pieces made = record { strands = strands; pieces = pieces; made = made; limits = record { cells = 64; branches = 64; log = 64 } }

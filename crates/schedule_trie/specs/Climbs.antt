@@ -1,5 +1,5 @@
 -- Climbs: reading the keys of a path from one of them up to the first.
-pub use Rattle.lineage.specs.Family.{last_of}
+pub use Rattle.lineage.specs.Family.{last_from, last_of}
 use Rattle.std.specs.Prelude.{ℕ, ◌≡◌, true, nat_eq, List, [], ◌∷◌, Option, Some, None, if◌then◌else◌}
 use Rattle.schedule_trie.specs.Cut.{has}
 

@@ -2,8 +2,8 @@
 use Rattle.std.specs.Prelude.{ℕ, List, [], ◌∷◌, Result, Ok, Err, codes, ◌≡◌, refl, true, false}
 use Rattle.frames.specs.declared.types.Step.{Step}
 use Rattle.frames.specs.declared.types.Step.TheVariants.{Read, Write, Go}
+use Rattle.schedule_trie.specs.Rows.{and_then, plenty}
 use Rattle.schedule_trie.specs.declared.limb.Limb.{Limb}
-use Rattle.schedule_trie.specs.declared.limits.Limits.{Limits}
 use Rattle.schedule_trie.specs.declared.refusal.Refusal.{Refusal}
 use Rattle.schedule_trie.specs.declared.refusal.Refusal.TheVariants.{Full, TooManyBranches}
 use Rattle.schedule_trie.specs.Forest.{Forest, insert, drop_branch}
@@ -12,19 +12,12 @@ use Rattle.schedule_trie.specs.Limbs.{limbs, forest_of, are_lawful_after, loaded
 abbrev limb : List ℕ → ℕ → ℕ → List Step → Limb
 limb name from shared steps = record { name = name; from = from; shared = shared; steps = steps }
 
-abbrev plenty : Limits
-plenty = record { cells = 65536; branches = 64; log = 1024 }
-
 abbrev bench : List Limb
 bench = limb (codes "main") 0 0 (Read 1 ∷ Write 0 1 ∷ []) ∷ limb (codes "a") 0 1 (Go 1 0 ∷ []) ∷ limb (codes "b") 1 2 (Go 1 1 ∷ []) ∷ []
 
 abbrev then_limbs : Result Forest Refusal → List Limb
 then_limbs (Ok f) = limbs f
 then_limbs (Err e) = []
-
-abbrev after : Result Forest Refusal → (Forest → Result Forest Refusal) → Result Forest Refusal
-after (Ok f) command = command f
-after (Err e) command = Err e
 
 lawful : are_lawful_after [] bench ≡ true
 lawful = refl
@@ -36,7 +29,7 @@ inserted : then_limbs (insert plenty (forest_of bench) (codes "a") 1 (Write 0 0)
     ≡ limb (codes "main") 0 0 (Read 1 ∷ Write 0 1 ∷ []) ∷ limb (codes "a") 0 1 (Write 0 0 ∷ Go 1 0 ∷ []) ∷ limb (codes "b") 1 3 (Go 1 1 ∷ []) ∷ []
 inserted = refl
 
-dropped : then_limbs (after (insert plenty (forest_of bench) (codes "a") 1 (Write 0 0)) (λ f. drop_branch f (codes "a")))
+dropped : then_limbs (and_then (insert plenty (forest_of bench) (codes "a") 1 (Write 0 0)) (λ f. drop_branch f (codes "a")))
     ≡ limb (codes "main") 0 0 (Read 1 ∷ Write 0 1 ∷ []) ∷ limb (codes "b") 0 1 (Write 0 0 ∷ Go 1 0 ∷ Go 1 1 ∷ []) ∷ []
 dropped = refl
 

@@ -7,8 +7,8 @@
 
 pub mod edit;
 pub mod limb;
-mod limbs;
 pub mod limits;
+pub mod listed;
 mod mark;
 pub mod name;
 pub mod refusal;
@@ -17,9 +17,9 @@ pub mod slot;
 pub mod trie;
 
 pub use edit::Edit;
-pub use limb::{Limb, Steps};
-pub use limbs::Limbs;
+pub use limb::{Limb, Limbs, Steps};
 pub use limits::Limits;
+pub use listed::Listed;
 pub use name::Name;
 pub use refusal::Refusal;
 pub use segment::SegKey;

@@ -1,52 +1,17 @@
 //! Limbs: branches as a file stores them.
 
-ghost use Rattle.std.specs.Prelude.{◌≡◌, ◌∷◌, [], ◌++◌, OnOk, IfErr, nat_lt};
+ghost use Rattle.std.specs.Prelude.{◌≡◌, nat_lt};
 ghost use Rattle.schedule_trie.specs.Limbs as spec;
 
+use crate::listed::Listed;
 use crate::name::Name;
 use frames::types::Step;
-use std::alloc::AllocError;
-use std::marker::Model;
 
-/// A list of steps. Contracts see the steps in order, but not the list's capacity.
-#[derive(Debug, Drop)]
-pub struct Steps {
-    items: Vec<Step>,
-}
+/// The steps of a limb, in order.
+pub type Steps = Listed<Step>;
 
-impl Model for Steps {
-    ghost use Rattle.std.specs.Prelude.{List};
-    ghost use Rattle.frames.specs.declared.types.Step.{Step};
-
-    ghost Value = { List Step };
-
-    ghost view = { λ s. s.items.items };
-}
-
-impl Steps {
-    /// The list of these steps. Never allocates.
-    pub fn new(items: Vec<Step>) -> Steps
-        ensures { result ≡ items.items }
-    {
-        Steps { items }
-    }
-
-    /// Adds a step at the end. If memory runs out, nothing changes.
-    pub fn push(&mut self, step: Step) -> Result<(), AllocError>
-        ensures pushed { OnOk result (self.new ≡ self.old ++ step ∷ []) }
-        ensures kept { IfErr result (λ _. self.new ≡ self.old) }
-    {
-        self.items.push(step)?;
-        Ok(())
-    }
-
-    /// The steps, in order.
-    pub fn as_slice(&self) -> &[Step]
-        ensures { result.now ≡ self.now }
-    {
-        &self.items
-    }
-}
+/// The limbs of a file, in order.
+pub type Limbs = Listed<Limb>;
 
 /// A branch as a file stores it: its name; `shared`, how many of its first cells it shares with an
 /// earlier branch; `from`, the index of that branch in the file (both are 0 if no cell is shared);

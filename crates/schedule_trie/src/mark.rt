@@ -3,7 +3,7 @@
 
 /// The mark of a segment: `branch` is the index of the first branch that has the segment, and
 /// `cells` the number of that branch's cells down to the segment's end.
-#[derive(Clone, Copy, Debug, PartialEq, Eq)]
+#[derive(Clone, Copy)]
 pub(crate) struct Mark {
     pub(crate) branch: u32,
     pub(crate) cells: u32,

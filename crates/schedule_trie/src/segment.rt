@@ -17,7 +17,7 @@ pub type SegKey = usize;
 
 /// Consecutive cells of a branch, and the segment's note (a value that the trie's owner has set for
 /// these cells), if it has one.
-#[derive(Debug, Drop)]
+#[derive(Drop)]
 pub(crate) struct Segment<T> {
     pub(crate) slots: Vec<Slot>,
     pub(crate) note: Option<T>,

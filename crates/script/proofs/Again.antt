@@ -1,5 +1,5 @@
 -- The words of a sound call are read as that call.
-use Rattle.std.proofs.Common.{◌≡◌, ◌==◌, ℕ, ◌<◌, ◌≤◌, ◌^◌, true, false, cond, ◌&&◌, nat_le, nat_lt, List, [], ◌∷◌, length, map, Option, Some, None, refl, sym, ap, ◌∙◌, arith}
+use Rattle.std.proofs.Common.{◌≡◌, ◌==◌, ℕ, ◌≤◌, ◌^◌, true, false, cond, ◌&&◌, nat_le, List, [], ◌∷◌, length, map, Option, Some, None, refl, sym, ap, ◌∙◌, arith}
 use Rattle.std.specs.Prelude.{codes}
 use Rattle.std.specs.Fmt.{decimal}
 use Rattle.std.specs.Option.{option_map, option_and_then}
@@ -8,21 +8,28 @@ use Rattle.std.proofs.lemmas.Bool.{and_parts}
 use Rattle.std.proofs.lemmas.Bool.Decides.{nat_tests}
 use Rattle.frames.specs.declared.types.Step.{Step}
 use Rattle.frames.specs.declared.types.Step.TheVariants as step
-use Rattle.views.specs.declared.breakpoint.Break.{Break}
-use Rattle.views.specs.declared.breakpoint.Break.TheVariants as break
-use Rattle.views.specs.declared.query.Query.{Query}
-use Rattle.views.specs.declared.query.Query.TheVariants.{State, Process, Bits, Pending, History, Verdict, Branches, Cursor, Steps}
+use Rattle.pages.specs.declared.breakpoint.Break.{Break}
+use Rattle.pages.specs.declared.breakpoint.Break.TheVariants as break
+use Rattle.pages.specs.declared.query.Query.{Query}
+use Rattle.pages.specs.declared.query.Query.TheVariants.{State, Process, Bits, Pending, History, Verdict, Branches, Cursor, Steps}
 use Rattle.sessions.specs.declared.command.Command.{Command}
 use Rattle.sessions.specs.declared.command.Command.TheVariants as command
 use Rattle.words.specs.Words.{next, after_next, number, one_number, two_numbers}
 use Rattle.words.specs.Steps.{step_of_words}
 use Rattle.words.proofs.Numbers.{number-decimal}
+use Rattle.script.specs.declared.verb.Verb.{Verb}
+use Rattle.script.specs.declared.verb.Verb.TheVariants as verb
+use Rattle.script.specs.declared.verb.LookVerb.{LookVerb}
+use Rattle.script.specs.declared.verb.LookVerb.TheVariants as look
+use Rattle.script.specs.declared.verb.CommandVerb.{CommandVerb}
+use Rattle.script.specs.declared.verb.CommandVerb.TheVariants as act
 use Rattle.script.specs.declared.call.Request.{Request}
 use Rattle.script.specs.declared.call.Request.TheVariants.{Act, Look, Fill}
 use Rattle.script.specs.declared.call.Call.{Call}
-use Rattle.script.specs.Lines.{branch_word, only_branch, branch_and_place, process_at, step_at, fork_of, break_of, command_of, unguarded, guarded, request_of, call_of}
+use Rattle.script.specs.Lines.{branch_word, only_branch, branch_and_place, placed, break_of, verb_of, look_of, command_of, guarded_by, guarded, request_by, request_of, call_of}
 use Rattle.script.specs.Spelling.{Word, spelled, step_words, break_words, place_words, command_words, query_words, request_words, call_words, is_visible, is_sound, IsOwn}
 use Rattle.script.proofs.Shapes.{call_with}
+use Rattle.script.proofs.Bytes.{lt_is}
 use Rattle.script.specs.Spelling.{Text, Number, Guard}
 
 abbrev AreSound : List Word → Type 0
@@ -30,9 +37,6 @@ AreSound shape = list_all is_sound shape ≡ true
 
 both : (x : Word) (xs : List Word) → AreSound (x ∷ xs) → (is_sound x ≡ true) × AreSound xs
 both x xs h = and_parts (is_sound x) (list_all is_sound xs) h
-
-lt_is : (m n : ℕ) → nat_lt m n ≡ true → m < n
-lt_is m n h = grind (arith, nat_tests)
 
 pub number_again : (n : ℕ) → is_sound (Number n) ≡ true → number (decimal n) ≡ Some n
 number_again n h = number-decimal n (lt_is n (10 ^ 9) h)
@@ -63,39 +67,25 @@ module _ (b : List ℕ) (k : ℕ) where
   place_again : AreSound (place_words b k) → branch_and_place (b ∷ decimal k ∷ []) ≡ Some (b, k)
   place_again h =
       let a = both (Text b) (Number k ∷ []) h in
-      ap (option_and_then (λ (x : List ℕ). option_and_then (λ (n : ℕ). Some (x, n)) (number (decimal k)))) (branch_again b a.0)
-      ∙ ap (option_and_then (λ (n : ℕ). Some (b, n))) (number_again k (both (Number k) [] a.1).0)
+      ap (option_and_then (λ (x : List ℕ). option_and_then (λ (n : ℕ). Some (x, n)) (one_number (decimal k ∷ [])))) (branch_again b a.0)
+      ∙ ap (option_and_then (λ (n : ℕ). Some (b, n))) (one_again k a.1)
 
-  process_again : (p : ℕ) → AreSound (Text b ∷ Number k ∷ Number p ∷ []) → process_at (b ∷ decimal k ∷ decimal p ∷ []) ≡ Some (b, k, p)
-  process_again p h =
-      let a = both (Text b) (Number k ∷ Number p ∷ []) h in
-      let c = both (Number k) (Number p ∷ []) a.1 in
-      ap (option_and_then (λ (x : List ℕ). option_and_then (λ (n : ℕ). option_and_then (λ (m : ℕ). Some (x, n, m)) (number (decimal p))) (number (decimal k)))) (branch_again b a.0)
-      ∙ ap (option_and_then (λ (n : ℕ). option_and_then (λ (m : ℕ). Some (b, n, m)) (number (decimal p)))) (number_again k c.0)
-      ∙ ap (option_and_then (λ (m : ℕ). Some (b, k, m))) (number_again p (both (Number p) [] c.1).0)
-
-  fork_again : (name : List ℕ) → AreSound (Text b ∷ Number k ∷ Text name ∷ []) → fork_of (b ∷ decimal k ∷ name ∷ []) ≡ Some (b, k, name)
-  fork_again name h =
-      let a = both (Text b) (Number k ∷ Text name ∷ []) h in
-      let c = both (Number k) (Text name ∷ []) a.1 in
-      ap (option_and_then (λ (x : List ℕ). option_and_then (λ (n : ℕ). option_and_then (λ (m : List ℕ). Some (x, n, m)) (branch_word name)) (number (decimal k)))) (branch_again b a.0)
-      ∙ ap (option_and_then (λ (n : ℕ). option_and_then (λ (m : List ℕ). Some (b, n, m)) (branch_word name))) (number_again k c.0)
-      ∙ ap (option_and_then (λ (m : List ℕ). Some (b, k, m))) (branch_again name (both (Text name) [] c.1).0)
+  placed_again : {A : Type 0} (read : List (List ℕ) → Option A) (shape : List Word) (x : A) → (AreSound shape → read (map spelled shape) ≡ Some x)
+      → AreSound (Text b ∷ Number k ∷ shape) → placed read (b ∷ decimal k ∷ map spelled shape) ≡ Some (b, k, x)
+  placed_again {A} read shape x again h =
+      let a = both (Text b) (Number k ∷ shape) h in
+      let c = both (Number k) shape a.1 in
+      let ws = map spelled shape in
+      let behind : List ℕ × ℕ → Option (List ℕ × ℕ × A) = λ p. option_and_then (λ (y : A). Some (p.0, p.1, y)) (read ws) in
+      ap (λ (o : Option (List ℕ)). option_and_then behind (option_and_then (λ (w : List ℕ). option_and_then (λ (n : ℕ). Some (w, n)) (number (decimal k))) o)) (branch_again b a.0)
+      ∙ ap (λ (o : Option ℕ). option_and_then behind (option_and_then (λ (n : ℕ). Some (b, n)) o)) (number_again k c.0)
+      ∙ ap (option_and_then (λ (y : A). Some (b, k, y))) (again c.1)
 
 step_again : (s : Step) → AreSound (step_words s) → step_of_words (map spelled (step_words s)) ≡ Some s
 step_again (step.Write p v) h = ap (option_map (λ (n : ℕ × ℕ). step.Write n.0 n.1)) (two_again p v (both (Text (codes "w")) (Number p ∷ Number v ∷ []) h).1)
 step_again (step.Read p) h = ap (option_map (λ (n : ℕ). step.Read n)) (one_again p (both (Text (codes "r")) (Number p ∷ []) h).1)
 step_again (step.Go p c) h = ap (option_map (λ (n : ℕ × ℕ). step.Go n.0 n.1)) (two_again p c (both (Text (codes "g")) (Number p ∷ Number c ∷ []) h).1)
 step_again (step.Stop p) h = ap (option_map (λ (n : ℕ). step.Stop n)) (one_again p (both (Text (codes "x")) (Number p ∷ []) h).1)
-
-step_at_again : (b : List ℕ) (k : ℕ) (s : Step) → AreSound (Text b ∷ Number k ∷ step_words s) → step_at (b ∷ decimal k ∷ map spelled (step_words s)) ≡ Some (b, k, s)
-step_at_again b k s h =
-    let a = both (Text b) (Number k ∷ step_words s) h in
-    let c = both (Number k) (step_words s) a.1 in
-    let ws = map spelled (step_words s) in
-    ap (option_and_then (λ (x : List ℕ). option_and_then (λ (n : ℕ). option_and_then (λ (m : Step). Some (x, n, m)) (step_of_words ws)) (number (decimal k)))) (branch_again b a.0)
-    ∙ ap (option_and_then (λ (n : ℕ). option_and_then (λ (m : Step). Some (b, n, m)) (step_of_words ws))) (number_again k c.0)
-    ∙ ap (option_and_then (λ (m : Step). Some (b, k, m))) (step_again s c.1)
 
 break_again : (br : Break) → AreSound (break_words br) → break_of (map spelled (break_words br)) ≡ Some br
 break_again (break.Returns p) h = ap (option_map break.Returns) (one_again p (both (Text (codes "returns")) (Number p ∷ []) h).1)
@@ -106,70 +96,54 @@ break_again break.Refused h = refl
 
 -- ---- commands and looks
 
-command_again : (c : Command) → AreSound (command_words c) → command_of (next (map spelled (command_words c))) (after_next (map spelled (command_words c))) ≡ Some c
-command_again command.Join h = refl
-command_again command.Leave h = refl
-command_again (command.Insert b k s) h =
-    ap (option_map (λ (p : List ℕ × ℕ × Step). command.Insert p.0 p.1 p.2)) (step_at_again b k s (both (Text (codes "insert")) (Text b ∷ Number k ∷ step_words s) h).1)
-command_again (command.Remove b k) h = ap (option_map (λ (p : List ℕ × ℕ). command.Remove p.0 p.1)) (place_again b k (both (Text (codes "remove")) (place_words b k) h).1)
-command_again (command.Replace b k s) h =
-    ap (option_map (λ (p : List ℕ × ℕ × Step). command.Replace p.0 p.1 p.2)) (step_at_again b k s (both (Text (codes "replace")) (Text b ∷ Number k ∷ step_words s) h).1)
-command_again (command.Fork b k name) h =
-    ap (option_map (λ (p : List ℕ × ℕ × List ℕ). command.Fork p.0 p.1 p.2)) (fork_again b k name (both (Text (codes "fork")) (Text b ∷ Number k ∷ Text name ∷ []) h).1)
-command_again (command.Detach b) h = ap (option_map command.Detach) (branch_of_again b (both (Text (codes "detach")) (Text b ∷ []) h).1)
-command_again (command.Drop b) h = ap (option_map command.Drop) (branch_of_again b (both (Text (codes "drop")) (Text b ∷ []) h).1)
-command_again (command.Go b k) h = ap (option_map (λ (p : List ℕ × ℕ). command.Go p.0 p.1)) (place_again b k (both (Text (codes "go")) (place_words b k) h).1)
-command_again command.Seek h = refl
-command_again command.Back h = refl
-command_again (command.Break br) h = ap (option_map command.Break) (break_again br (both (Text (codes "break")) (break_words br) h).1)
-command_again (command.Clear br) h = ap (option_map command.Clear) (break_again br (both (Text (codes "clear")) (break_words br) h).1)
+-- a command's first word selects the verb by which the words after it are read as the command
+command_again : (c : Command) → AreSound (command_words c)
+    → (v : CommandVerb) × (verb_of (next (map spelled (command_words c))) ≡ Some (verb.Command v)) × (command_of v (after_next (map spelled (command_words c))) ≡ Some c)
+command_again command.Join h = (act.Join, refl, refl)
+command_again command.Leave h = (act.Leave, refl, refl)
+command_again (command.Insert b k s) h = (act.Insert, refl, ap (option_map (λ (p : List ℕ × ℕ × Step). command.Insert p.0 p.1 p.2)) (placed_again b k step_of_words (step_words s) s (step_again s) (both (Text (codes "insert")) (Text b ∷ Number k ∷ step_words s) h).1))
+command_again (command.Remove b k) h = (act.Remove, refl, ap (option_map (λ (p : List ℕ × ℕ). command.Remove p.0 p.1)) (place_again b k (both (Text (codes "remove")) (place_words b k) h).1))
+command_again (command.Replace b k s) h = (act.Replace, refl, ap (option_map (λ (p : List ℕ × ℕ × Step). command.Replace p.0 p.1 p.2)) (placed_again b k step_of_words (step_words s) s (step_again s) (both (Text (codes "replace")) (Text b ∷ Number k ∷ step_words s) h).1))
+command_again (command.Fork b k name) h = (act.Fork, refl, ap (option_map (λ (p : List ℕ × ℕ × List ℕ). command.Fork p.0 p.1 p.2)) (placed_again b k only_branch (Text name ∷ []) name (branch_of_again name) (both (Text (codes "fork")) (Text b ∷ Number k ∷ Text name ∷ []) h).1))
+command_again (command.Detach b) h = (act.Detach, refl, ap (option_map command.Detach) (branch_of_again b (both (Text (codes "detach")) (Text b ∷ []) h).1))
+command_again (command.Drop b) h = (act.Drop, refl, ap (option_map command.Drop) (branch_of_again b (both (Text (codes "drop")) (Text b ∷ []) h).1))
+command_again (command.Go b k) h = (act.Go, refl, ap (option_map (λ (p : List ℕ × ℕ). command.Go p.0 p.1)) (place_again b k (both (Text (codes "go")) (place_words b k) h).1))
+command_again command.Seek h = (act.Seek, refl, refl)
+command_again command.Back h = (act.Back, refl, refl)
+command_again (command.Break br) h = (act.Break, refl, ap (option_map command.Break) (break_again br (both (Text (codes "break")) (break_words br) h).1))
+command_again (command.Clear br) h = (act.Clear, refl, ap (option_map command.Clear) (break_again br (both (Text (codes "clear")) (break_words br) h).1))
 
 look_again : (session : ℕ) (q : Query) → IsOwn session (Look q) → AreSound (query_words q)
-    → request_of session (next (map spelled (query_words q))) (after_next (map spelled (query_words q))) ≡ Some (Look q)
-look_again session (State b k) own h =
-    ap (λ (o : Option (List ℕ × ℕ)). option_map Look (option_and_then (λ (p : List ℕ × ℕ). Some (State p.0 p.1)) o)) (place_again b k (both (Text (codes "state")) (place_words b k) h).1)
-look_again session (Process b k p) own h =
-    ap (λ (o : Option (List ℕ × ℕ × ℕ)). option_map Look (option_map (λ (p : List ℕ × ℕ × ℕ). Process p.0 p.1 p.2) o)) (process_again b k p (both (Text (codes "process")) (Text b ∷ Number k ∷ Number p ∷ []) h).1)
-look_again session (Bits b k) own h =
-    ap (λ (o : Option (List ℕ × ℕ)). option_map Look (option_and_then (λ (p : List ℕ × ℕ). Some (Bits p.0 p.1)) o)) (place_again b k (both (Text (codes "bits")) (place_words b k) h).1)
-look_again session (Pending b k) own h =
-    ap (λ (o : Option (List ℕ × ℕ)). option_map Look (option_and_then (λ (p : List ℕ × ℕ). Some (Pending p.0 p.1)) o)) (place_again b k (both (Text (codes "pending")) (place_words b k) h).1)
-look_again session (History b k) own h =
-    ap (λ (o : Option (List ℕ × ℕ)). option_map Look (option_and_then (λ (p : List ℕ × ℕ). Some (History p.0 p.1)) o)) (place_again b k (both (Text (codes "history")) (place_words b k) h).1)
-look_again session (Verdict b k) own h =
-    ap (λ (o : Option (List ℕ × ℕ)). option_map Look (option_and_then (λ (p : List ℕ × ℕ). Some (Verdict p.0 p.1)) o)) (place_again b k (both (Text (codes "verdict")) (place_words b k) h).1)
-look_again session Branches own h = refl
-look_again session (Cursor who) own h = ap (λ (s : ℕ). Some (Look (Cursor s))) (sym own)
-look_again session (Steps b) own h = ap (λ (o : Option (List ℕ)). option_map Look (option_map Steps o)) (branch_of_again b (both (Text (codes "steps")) (Text b ∷ []) h).1)
-
--- a command's first word begins no look, no fill and no guard
-is_command : (session : ℕ) (c : Command) → request_of session (next (map spelled (command_words c))) (after_next (map spelled (command_words c)))
-    ≡ unguarded (next (map spelled (command_words c))) (after_next (map spelled (command_words c)))
-is_command session command.Join = refl
-is_command session command.Leave = refl
-is_command session (command.Insert b k s) = refl
-is_command session (command.Remove b k) = refl
-is_command session (command.Replace b k s) = refl
-is_command session (command.Fork b k name) = refl
-is_command session (command.Detach b) = refl
-is_command session (command.Drop b) = refl
-is_command session (command.Go b k) = refl
-is_command session command.Seek = refl
-is_command session command.Back = refl
-is_command session (command.Break br) = refl
-is_command session (command.Clear br) = refl
+    → (v : LookVerb) × (verb_of (next (map spelled (query_words q))) ≡ Some (verb.Look v)) × (look_of session v (after_next (map spelled (query_words q))) ≡ Some q)
+look_again session (State b k) own h = (look.State, refl, ap (option_map (λ (p : List ℕ × ℕ). State p.0 p.1)) (place_again b k (both (Text (codes "state")) (place_words b k) h).1))
+look_again session (Process b k p) own h = (look.Process, refl, ap (option_map (λ (p : List ℕ × ℕ × ℕ). Process p.0 p.1 p.2)) (placed_again b k one_number (Number p ∷ []) p (one_again p) (both (Text (codes "process")) (Text b ∷ Number k ∷ Number p ∷ []) h).1))
+look_again session (Bits b k) own h = (look.Bits, refl, ap (option_map (λ (p : List ℕ × ℕ). Bits p.0 p.1)) (place_again b k (both (Text (codes "bits")) (place_words b k) h).1))
+look_again session (Pending b k) own h = (look.Pending, refl, ap (option_map (λ (p : List ℕ × ℕ). Pending p.0 p.1)) (place_again b k (both (Text (codes "pending")) (place_words b k) h).1))
+look_again session (History b k) own h = (look.History, refl, ap (option_map (λ (p : List ℕ × ℕ). History p.0 p.1)) (place_again b k (both (Text (codes "history")) (place_words b k) h).1))
+look_again session (Verdict b k) own h = (look.Verdict, refl, ap (option_map (λ (p : List ℕ × ℕ). Verdict p.0 p.1)) (place_again b k (both (Text (codes "verdict")) (place_words b k) h).1))
+look_again session Branches own h = (look.Branches, refl, refl)
+look_again session (Cursor who) own h = (look.Cursor, refl, ap (λ (s : ℕ). Some (Cursor s)) (sym own))
+look_again session (Steps b) own h = (look.Steps, refl, ap (option_map Steps) (branch_of_again b (both (Text (codes "steps")) (Text b ∷ []) h).1))
 
 request_again : (session : ℕ) (r : Request) → IsOwn session r → AreSound (request_words r)
     → request_of session (next (map spelled (request_words r))) (after_next (map spelled (request_words r))) ≡ Some r
-request_again session (Act None c) own h = is_command session c ∙ ap (option_map (Act None)) (command_again c h)
+request_again session (Act None c) own h =
+    let a = command_again c h in
+    let ws = map spelled (command_words c) in
+    ap (λ (o : Option Verb). request_by session (next ws) o (after_next ws)) a.1 ∙ ap (option_map (Act None)) a.2
 request_again session (Act (Some edits) c) own h =
     let a = both (Guard edits) (command_words c) h in
+    let b = command_again c a.1 in
     let ws = map spelled (command_words c) in
-    let guard : request_of session (64 ∷ decimal edits) ws ≡ guarded (decimal edits) ws = refl in
+    let guard : request_of session (64 ∷ decimal edits) ws ≡ guarded (64 ∷ decimal edits) ws = refl in
     guard
-    ∙ ap (option_and_then (λ (n : ℕ). option_and_then (λ (x : Command). Some (Act (Some n) x)) (command_of (next ws) (after_next ws)))) (number_again edits a.0)
-    ∙ ap (option_and_then (λ (x : Command). Some (Act (Some edits) x))) (command_again c a.1)
-request_again session (Look q) own h = look_again session q own h
+    ∙ ap (option_and_then (λ (n : ℕ). guarded_by n (verb_of (next ws)) (after_next ws))) (number_again edits a.0)
+    ∙ ap (λ (o : Option Verb). guarded_by edits o (after_next ws)) b.1
+    ∙ ap (option_map (Act (Some edits))) b.2
+request_again session (Look q) own h =
+    let a = look_again session q own h in
+    let ws = map spelled (query_words q) in
+    ap (λ (o : Option Verb). request_by session (next ws) o (after_next ws)) a.1 ∙ ap (option_map Look) a.2
 request_again session (Fill b) own h = ap (option_map Fill) (branch_of_again b (both (Text (codes "fill")) (Text b ∷ []) h).1)
 
 pub call_again : (c : Call) → IsOwn c.session c.request → list_all is_sound (call_words c) ≡ true → call_of (map spelled (call_words c)) ≡ Some c

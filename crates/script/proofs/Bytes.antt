@@ -19,7 +19,7 @@ use Rattle.script.proofs.Shapes.{is_small}
 abbrev pub are_visible : List (List ℕ) → Bool
 are_visible ws = list_all (list_all is_visible) ws
 
-lt_is : (m n : ℕ) → nat_lt m n ≡ true → m < n
+pub lt_is : (m n : ℕ) → nat_lt m n ≡ true → m < n
 lt_is m n h = grind (arith, nat_tests)
 
 le_is : (m n : ℕ) → nat_le m n ≡ true → m ≤ n

@@ -1,5 +1,6 @@
 pub mod Shapes
 pub mod Bytes
+pub mod Verbs
 pub mod Sound
 pub mod Again
 pub mod Said

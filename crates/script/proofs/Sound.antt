@@ -1,27 +1,35 @@
 -- Words that are read as a call are that call's words.
-use Rattle.std.proofs.Common.{◌≡◌, ◌==◌, ℕ, Bool, true, false, cond, List, [], ◌∷◌, Option, Some, None, refl, sym, ap, subst}
+use Rattle.std.proofs.Common.{◌≡◌, ◌==◌, ℕ, true, cond, List, [], ◌∷◌, Option, Some, None, refl, sym, ap, ◌∙◌, subst}
 use Rattle.std.specs.Prelude.{codes}
+use Rattle.std.specs.Fmt.{decimal}
 use Rattle.std.specs.Option.{option_map, option_and_then}
 use Rattle.std.specs.Str.{bytes_eq}
 use Rattle.std.proofs.lemmas.Bool.{eqb-true}
 use Rattle.std.proofs.lemmas.Option.{cond_some, same_Some}
 use Rattle.frames.specs.declared.types.Step.{Step}
 use Rattle.frames.specs.declared.types.Step.TheVariants as step
-use Rattle.views.specs.declared.breakpoint.Break.{Break}
-use Rattle.views.specs.declared.breakpoint.Break.TheVariants as break
-use Rattle.views.specs.declared.query.Query.{Query}
-use Rattle.views.specs.declared.query.Query.TheVariants.{State, Process, Bits, Pending, History, Verdict, Branches, Cursor, Steps}
+use Rattle.pages.specs.declared.breakpoint.Break.{Break}
+use Rattle.pages.specs.declared.breakpoint.Break.TheVariants as break
+use Rattle.pages.specs.declared.query.Query.{Query}
+use Rattle.pages.specs.declared.query.Query.TheVariants.{State, Process, Bits, Pending, History, Verdict, Branches, Cursor, Steps}
 use Rattle.sessions.specs.declared.command.Command.{Command}
 use Rattle.sessions.specs.declared.command.Command.TheVariants as command
 use Rattle.words.specs.Words.{next, after_next, is_end, number, one_number, two_numbers}
 use Rattle.words.specs.Steps.{step_of_words}
 use Rattle.words.proofs.Steps.{some_then}
+use Rattle.script.specs.declared.verb.Verb.{Verb}
+use Rattle.script.specs.declared.verb.Verb.TheVariants as verb
+use Rattle.script.specs.declared.verb.LookVerb.{LookVerb}
+use Rattle.script.specs.declared.verb.LookVerb.TheVariants as look
+use Rattle.script.specs.declared.verb.CommandVerb.{CommandVerb}
+use Rattle.script.specs.declared.verb.CommandVerb.TheVariants as act
 use Rattle.script.specs.declared.call.Request.{Request}
 use Rattle.script.specs.declared.call.Request.TheVariants.{Act, Look, Fill}
 use Rattle.script.specs.declared.call.Call.{Call}
-use Rattle.script.specs.Lines.{branch_word, only_branch, branch_and_place, process_at, step_at, fork_of, if_no_more, kind_of, break_of, is_look, query_at, place_look_of, look_of, branch_command_of, cell_command_of, break_command_of, command_of, unguarded, guarded, act_of, request_of, call_of}
-use Rattle.script.specs.Spelling.{Word, spelled, step_words, break_words, place_words, command_words, query_words, request_words, call_words, IsOwn}
+use Rattle.script.specs.Lines.{branch_word, only_branch, branch_and_place, place_in, placed, kind_of, break_of, verb_of, look_of, command_of, guarded_by, guarded, request_by, request_of, call_of}
+use Rattle.script.specs.Spelling.{Word, step_words, break_words, place_words, command_words, query_words, request_words, call_words, IsOwn}
 use Rattle.script.specs.Spelling.{Text, Number, Guard}
+use Rattle.script.proofs.Verbs.{text_of, named}
 use Rattle.script.proofs.Shapes.{call_with, is_small, Shows, one_more, begins, at_end, keyword, first_word, either, when_some, mapped_to, alone_to, some_to, number_shows, branch_shows, one_shows, two_shows}
 
 branch_of_shows : (ws : List (List ℕ)) (b : List ℕ) → only_branch ws ≡ Some b → Shows ws (Text b ∷ [])
@@ -31,43 +39,29 @@ branch_of_shows ws b h =
     let s = branch_shows a.0 a.1 a.3 in
     subst (λ (x : List ℕ). Shows ws (Text x ∷ [])) e.1 (begins ws a.0 (Text a.1) [] a.2 s.0 s.1 (at_end (after_next ws) e.0))
 
--- a branch and a place, and the shape of the words after them
-module _ {B : Type 0} (ws : List (List ℕ)) (f : List ℕ → ℕ → Option B) (y : B) where
-  placed : option_and_then (λ b. option_and_then (f b) (number (next (after_next ws)))) (branch_word (next ws)) ≡ Some y
-      → (b : List ℕ) × (k : ℕ) × (f b k ≡ Some y) × ((shape : List Word) → Shows (after_next (after_next ws)) shape → Shows ws (Text b ∷ Number k ∷ shape))
-  placed h =
-      let a = first_word branch_word (λ b. option_and_then (f b) (number (next (after_next ws)))) ws y refl h in
-      let k = first_word number (f a.1) (after_next ws) y refl a.4 in
-      let s = branch_shows a.0 a.1 a.3 in
-      let t = number_shows k.0 k.1 k.3 in
-      (a.1, k.1, k.4, λ shape shows. begins ws a.0 (Text a.1) (Number k.1 ∷ shape) a.2 s.0 s.1 (begins (after_next ws) k.0 (Number k.1) shape k.2 t.0 t.1 shows))
-
 place_of_shows : (ws : List (List ℕ)) (p : List ℕ × ℕ) → branch_and_place ws ≡ Some p → Shows ws (place_words p.0 p.1)
 place_of_shows ws p h =
-    let left = after_next (after_next ws) in
-    let a = placed ws (λ b k. cond (is_end left) (Some (b, k)) None) p h in
-    let e = cond_some (is_end left) (a.0, a.1) p a.2 in
-    subst (λ (q : List ℕ × ℕ). Shows ws (place_words q.0 q.1)) e.1 (a.3 [] (at_end left e.0))
+    let a = first_word branch_word (λ b. option_and_then (λ k. Some (b, k)) (one_number (after_next ws))) ws p refl h in
+    let k = some_then (one_number (after_next ws)) (λ k. Some (a.1, k)) p a.4 in
+    let s = branch_shows a.0 a.1 a.3 in
+    subst (λ (q : List ℕ × ℕ). Shows ws (place_words q.0 q.1)) (same_Some (a.1, k.0) p k.2)
+    (begins ws a.0 (Text a.1) (Number k.0 ∷ []) a.2 s.0 s.1 (one_shows (after_next ws) k.0 k.1))
 
--- one more word after a place, and no others
-module _ {C : Type 0} (read : List ℕ → Option C) (word : C → Word) (none : read [] ≡ None) (reads : (w : List ℕ) (x : C) → read w ≡ Some x → (w ≡ spelled (word x)) × (is_small (word x) ≡ true)) where
-  three_show : (ws : List (List ℕ)) (p : List ℕ × ℕ × C)
-      → option_and_then (λ b. option_and_then (λ k. option_and_then (λ x. cond (is_end (after_next (after_next (after_next ws)))) (Some (b, k, x)) None) (read (next (after_next (after_next ws))))) (number (next (after_next ws)))) (branch_word (next ws)) ≡ Some p
-      → Shows ws (Text p.0 ∷ Number p.1 ∷ word p.2 ∷ [])
-  three_show ws p h =
+-- the words of a branch, of a place, and of what is read after them
+module _ {A : Type 0} (read : List (List ℕ) → Option A) (shape : A → List Word) (reads : (ws : List (List ℕ)) (x : A) → read ws ≡ Some x → Shows ws (shape x)) where
+  placed_shows : (ws : List (List ℕ)) (p : List ℕ × ℕ × A) → placed read ws ≡ Some p → Shows ws (Text p.0 ∷ Number p.1 ∷ shape p.2)
+  placed_shows ws p h =
       let left = after_next (after_next ws) in
-      let a = placed ws (λ b k. option_and_then (λ x. cond (is_end (after_next left)) (Some (b, k, x)) None) (read (next left))) p h in
-      let n = first_word read (λ x. cond (is_end (after_next left)) (Some (a.0, a.1, x)) None) left p none a.2 in
-      let e = cond_some (is_end (after_next left)) (a.0, a.1, n.1) p n.4 in
-      let s = reads n.0 n.1 n.3 in
-      subst (λ (q : List ℕ × ℕ × C). Shows ws (Text q.0 ∷ Number q.1 ∷ word q.2 ∷ [])) e.1
-      (a.3 (word n.1 ∷ []) (begins left n.0 (word n.1) [] n.2 s.0 s.1 (at_end (after_next left) e.0)))
-
-process_at_shows : (ws : List (List ℕ)) (p : List ℕ × ℕ × ℕ) → process_at ws ≡ Some p → Shows ws (Text p.0 ∷ Number p.1 ∷ Number p.2 ∷ [])
-process_at_shows ws p h = three_show number (λ n. Number n) refl number_shows ws p h
-
-fork_of_shows : (ws : List (List ℕ)) (p : List ℕ × ℕ × List ℕ) → fork_of ws ≡ Some p → Shows ws (Text p.0 ∷ Number p.1 ∷ Text p.2 ∷ [])
-fork_of_shows ws p h = three_show branch_word (λ name. Text name) refl branch_shows ws p h
+      let q = some_then (place_in ws) (λ q. option_and_then (λ x. Some (q.0, q.1, x)) (read left)) p h in
+      let a = first_word branch_word (λ b. option_and_then (λ k. Some (b, k)) (number (next (after_next ws)))) ws q.0 refl q.1 in
+      let k = first_word number (λ k. Some (a.1, k)) (after_next ws) q.0 refl a.4 in
+      let x = some_then (read left) (λ x. Some (q.0.0, q.0.1, x)) p q.2 in
+      let s = branch_shows a.0 a.1 a.3 in
+      let t = number_shows k.0 k.1 k.3 in
+      let words_of : List ℕ × ℕ × A → List Word = λ r. Text r.0 ∷ Number r.1 ∷ shape r.2 in
+      let shown : Shows ws (words_of (a.1, k.1, x.0)) =
+      begins ws a.0 (Text a.1) (Number k.1 ∷ shape x.0) a.2 s.0 s.1 (begins (after_next ws) k.0 (Number k.1) (shape x.0) k.2 t.0 t.1 (reads left x.0 x.1)) in
+      subst (λ r. Shows ws (words_of r)) (ap (λ (place : List ℕ × ℕ). (place.0, place.1, x.0)) (same_Some (a.1, k.1) q.0 k.4) ∙ same_Some (q.0.0, q.0.1, x.0) p x.2) shown
 
 step_of_shows : (ws : List (List ℕ)) (s : Step) → step_of_words ws ≡ Some s → Shows ws (step_words s)
 step_of_shows ws s h =
@@ -81,13 +75,6 @@ step_of_shows ws s h =
     (either {P = P s} (bytes_eq (next ws) (codes "x")) (option_map (λ (p : ℕ). step.Stop p) (one_number (after_next ws))) None s
     (λ b. mapped_to P (λ (p : ℕ). step.Stop p) (one_number (after_next ws)) s (λ p e. keyword ws (codes "x") (Number p ∷ []) refl b (one_shows (after_next ws) p e)))
     (λ e. absurd cc)))) h
-
-step_at_shows : (ws : List (List ℕ)) (p : List ℕ × ℕ × Step) → step_at ws ≡ Some p → Shows ws (Text p.0 ∷ Number p.1 ∷ step_words p.2)
-step_at_shows ws p h =
-    let left = after_next (after_next ws) in
-    let a = placed ws (λ b k. option_and_then (λ s. Some (b, k, s)) (step_of_words left)) p h in
-    let n = some_then (step_of_words left) (λ s. Some (a.0, a.1, s)) p a.2 in
-    subst (λ (q : List ℕ × ℕ × Step). Shows ws (Text q.0 ∷ Number q.1 ∷ step_words q.2)) (same_Some (a.0, a.1, n.0) p n.2) (a.3 (step_words n.0) (step_of_shows left n.0 n.1))
 
 kind_of_shows : (ws : List (List ℕ)) (br : Break) → is_end (after_next ws) ≡ true → kind_of (next ws) ≡ Some br → Shows ws (break_words br)
 kind_of_shows ws br ended h =
@@ -107,113 +94,77 @@ break_of_shows ws br h =
     (λ b. mapped_to P (λ (n : ℕ × ℕ). break.Bit n.0 n.1) (two_numbers (after_next ws)) br (λ n e. keyword ws (codes "bit") (Number n.0 ∷ Number n.1 ∷ []) refl b (two_shows (after_next ws) n e)))
     (λ e. let a = when_some (is_end (after_next ws)) (kind_of (next ws)) br e in kind_of_shows ws br a.0 a.1)) h
 
--- ---- commands
+-- ---- the words after a first word
 
-branch_command_shows : (ws : List (List ℕ)) (c : Command) → branch_command_of (next ws) (after_next ws) ≡ Some c → Shows ws (command_words c)
-branch_command_shows ws c h =
-    let P : Command → Type 0 = λ x. Shows ws (command_words x) in
-    either {P = P c} (bytes_eq (next ws) (codes "fork")) (option_map (λ (p : List ℕ × ℕ × List ℕ). command.Fork p.0 p.1 p.2) (fork_of (after_next ws))) _ c
-    (λ b. mapped_to P (λ (p : List ℕ × ℕ × List ℕ). command.Fork p.0 p.1 p.2) (fork_of (after_next ws)) c (λ a e. keyword ws (codes "fork") (Text a.0 ∷ Number a.1 ∷ Text a.2 ∷ []) refl b (fork_of_shows (after_next ws) a e)))
-    (either {P = P c} (bytes_eq (next ws) (codes "detach")) (option_map command.Detach (only_branch (after_next ws))) _ c
-    (λ b. mapped_to P command.Detach (only_branch (after_next ws)) c (λ a e. keyword ws (codes "detach") (Text a ∷ []) refl b (branch_of_shows (after_next ws) a e)))
-    (either {P = P c} (bytes_eq (next ws) (codes "drop")) (option_map command.Drop (only_branch (after_next ws))) None c
-    (λ b. mapped_to P command.Drop (only_branch (after_next ws)) c (λ a e. keyword ws (codes "drop") (Text a ∷ []) refl b (branch_of_shows (after_next ws) a e)))
-    (λ e. absurd cc))) h
+module _ (ws : List (List ℕ)) where
+  abbrev left : List (List ℕ)
+  left = after_next ws
 
-cell_command_shows : (ws : List (List ℕ)) (c : Command) → cell_command_of (next ws) (after_next ws) ≡ Some c → Shows ws (command_words c)
-cell_command_shows ws c h =
-    let P : Command → Type 0 = λ x. Shows ws (command_words x) in
-    either {P = P c} (bytes_eq (next ws) (codes "insert")) (option_map (λ (p : List ℕ × ℕ × Step). command.Insert p.0 p.1 p.2) (step_at (after_next ws))) _ c
-    (λ b. mapped_to P (λ (p : List ℕ × ℕ × Step). command.Insert p.0 p.1 p.2) (step_at (after_next ws)) c (λ a e. keyword ws (codes "insert") (Text a.0 ∷ Number a.1 ∷ step_words a.2) refl b (step_at_shows (after_next ws) a e)))
-    (either {P = P c} (bytes_eq (next ws) (codes "remove")) (option_map (λ (p : List ℕ × ℕ). command.Remove p.0 p.1) (branch_and_place (after_next ws))) _ c
-    (λ b. mapped_to P (λ (p : List ℕ × ℕ). command.Remove p.0 p.1) (branch_and_place (after_next ws)) c (λ a e. keyword ws (codes "remove") (place_words a.0 a.1) refl b (place_of_shows (after_next ws) a e)))
-    (either {P = P c} (bytes_eq (next ws) (codes "replace")) (option_map (λ (p : List ℕ × ℕ × Step). command.Replace p.0 p.1 p.2) (step_at (after_next ws))) (branch_command_of (next ws) (after_next ws)) c
-    (λ b. mapped_to P (λ (p : List ℕ × ℕ × Step). command.Replace p.0 p.1 p.2) (step_at (after_next ws)) c (λ a e. keyword ws (codes "replace") (Text a.0 ∷ Number a.1 ∷ step_words a.2) refl b (step_at_shows (after_next ws) a e)))
-    (branch_command_shows ws c))) h
+  abbrev P : Command → Type 0
+  P c = Shows ws (command_words c)
 
-break_command_shows : (ws : List (List ℕ)) (c : Command) → break_command_of (next ws) (after_next ws) ≡ Some c → Shows ws (command_words c)
-break_command_shows ws c h =
-    let P : Command → Type 0 = λ x. Shows ws (command_words x) in
-    either {P = P c} (bytes_eq (next ws) (codes "break")) (option_map command.Break (break_of (after_next ws))) _ c
-    (λ b. mapped_to P command.Break (break_of (after_next ws)) c (λ a e. keyword ws (codes "break") (break_words a) refl b (break_of_shows (after_next ws) a e)))
-    (either {P = P c} (bytes_eq (next ws) (codes "clear")) (option_map command.Clear (break_of (after_next ws))) (cell_command_of (next ws) (after_next ws)) c
-    (λ b. mapped_to P command.Clear (break_of (after_next ws)) c (λ a e. keyword ws (codes "clear") (break_words a) refl b (break_of_shows (after_next ws) a e)))
-    (cell_command_shows ws c)) h
+  command_shows : (v : CommandVerb) (c : Command) → bytes_eq (next ws) (text_of (verb.Command v)) ≡ true → command_of v left ≡ Some c → P c
+  command_shows act.Join c b h = alone_to P command.Join c left (λ e. keyword ws (codes "join") [] refl b (at_end left e)) h
+  command_shows act.Leave c b h = alone_to P command.Leave c left (λ e. keyword ws (codes "leave") [] refl b (at_end left e)) h
+  command_shows act.Seek c b h = alone_to P command.Seek c left (λ e. keyword ws (codes "seek") [] refl b (at_end left e)) h
+  command_shows act.Back c b h = alone_to P command.Back c left (λ e. keyword ws (codes "back") [] refl b (at_end left e)) h
+  command_shows act.Go c b h = mapped_to P (λ (p : List ℕ × ℕ). command.Go p.0 p.1) (branch_and_place left) c (λ a e. keyword ws (codes "go") (place_words a.0 a.1) refl b (place_of_shows left a e)) h
+  command_shows act.Break c b h = mapped_to P command.Break (break_of left) c (λ a e. keyword ws (codes "break") (break_words a) refl b (break_of_shows left a e)) h
+  command_shows act.Clear c b h = mapped_to P command.Clear (break_of left) c (λ a e. keyword ws (codes "clear") (break_words a) refl b (break_of_shows left a e)) h
+  command_shows act.Insert c b h = mapped_to P (λ (p : List ℕ × ℕ × Step). command.Insert p.0 p.1 p.2) (placed step_of_words left) c (λ a e. keyword ws (codes "insert") (Text a.0 ∷ Number a.1 ∷ step_words a.2) refl b (placed_shows step_of_words step_words step_of_shows left a e)) h
+  command_shows act.Remove c b h = mapped_to P (λ (p : List ℕ × ℕ). command.Remove p.0 p.1) (branch_and_place left) c (λ a e. keyword ws (codes "remove") (place_words a.0 a.1) refl b (place_of_shows left a e)) h
+  command_shows act.Replace c b h = mapped_to P (λ (p : List ℕ × ℕ × Step). command.Replace p.0 p.1 p.2) (placed step_of_words left) c (λ a e. keyword ws (codes "replace") (Text a.0 ∷ Number a.1 ∷ step_words a.2) refl b (placed_shows step_of_words step_words step_of_shows left a e)) h
+  command_shows act.Fork c b h = mapped_to P (λ (p : List ℕ × ℕ × List ℕ). command.Fork p.0 p.1 p.2) (placed only_branch left) c (λ a e. keyword ws (codes "fork") (Text a.0 ∷ Number a.1 ∷ Text a.2 ∷ []) refl b (placed_shows only_branch (λ name. Text name ∷ []) branch_of_shows left a e)) h
+  command_shows act.Detach c b h = mapped_to P command.Detach (only_branch left) c (λ a e. keyword ws (codes "detach") (Text a ∷ []) refl b (branch_of_shows left a e)) h
+  command_shows act.Drop c b h = mapped_to P command.Drop (only_branch left) c (λ a e. keyword ws (codes "drop") (Text a ∷ []) refl b (branch_of_shows left a e)) h
 
-command_shows : (ws : List (List ℕ)) (c : Command) → command_of (next ws) (after_next ws) ≡ Some c → Shows ws (command_words c)
-command_shows ws c h =
-    let P : Command → Type 0 = λ x. Shows ws (command_words x) in
-    either {P = P c} (bytes_eq (next ws) (codes "join")) (if_no_more command.Join (after_next ws)) _ c
-    (λ b. alone_to P command.Join c (after_next ws) (λ e. keyword ws (codes "join") [] refl b (at_end (after_next ws) e)))
-    (either {P = P c} (bytes_eq (next ws) (codes "leave")) (if_no_more command.Leave (after_next ws)) _ c
-    (λ b. alone_to P command.Leave c (after_next ws) (λ e. keyword ws (codes "leave") [] refl b (at_end (after_next ws) e)))
-    (either {P = P c} (bytes_eq (next ws) (codes "seek")) (if_no_more command.Seek (after_next ws)) _ c
-    (λ b. alone_to P command.Seek c (after_next ws) (λ e. keyword ws (codes "seek") [] refl b (at_end (after_next ws) e)))
-    (either {P = P c} (bytes_eq (next ws) (codes "back")) (if_no_more command.Back (after_next ws)) _ c
-    (λ b. alone_to P command.Back c (after_next ws) (λ e. keyword ws (codes "back") [] refl b (at_end (after_next ws) e)))
-    (either {P = P c} (bytes_eq (next ws) (codes "go")) (option_map (λ (p : List ℕ × ℕ). command.Go p.0 p.1) (branch_and_place (after_next ws))) (break_command_of (next ws) (after_next ws)) c
-    (λ b. mapped_to P (λ (p : List ℕ × ℕ). command.Go p.0 p.1) (branch_and_place (after_next ws)) c (λ a e. keyword ws (codes "go") (place_words a.0 a.1) refl b (place_of_shows (after_next ws) a e)))
-    (break_command_shows ws c))))) h
+  abbrev Q : ℕ → Query → Type 0
+  Q session q = Shows ws (query_words q) × IsOwn session (Look q)
 
--- ---- looks
-
-query_at_shows : (ws : List (List ℕ)) (b : List ℕ) (k : ℕ) (q : Query) → Shows (after_next ws) (place_words b k) → query_at (next ws) b k ≡ Some q
-    → (session : ℕ) → Shows ws (query_words q) × IsOwn session (Look q)
-query_at_shows ws b k q shows h session =
-    let P : Query → Type 0 = λ x. Shows ws (query_words x) × IsOwn session (Look x) in
-    either {P = P q} (bytes_eq (next ws) (codes "state")) (Some (State b k)) _ q (λ e. some_to P (State b k) q (keyword ws (codes "state") (place_words b k) refl e shows, tt))
-    (either {P = P q} (bytes_eq (next ws) (codes "pending")) (Some (Pending b k)) _ q (λ e. some_to P (Pending b k) q (keyword ws (codes "pending") (place_words b k) refl e shows, tt))
-    (either {P = P q} (bytes_eq (next ws) (codes "bits")) (Some (Bits b k)) _ q (λ e. some_to P (Bits b k) q (keyword ws (codes "bits") (place_words b k) refl e shows, tt))
-    (either {P = P q} (bytes_eq (next ws) (codes "history")) (Some (History b k)) _ q (λ e. some_to P (History b k) q (keyword ws (codes "history") (place_words b k) refl e shows, tt))
-    (either {P = P q} (bytes_eq (next ws) (codes "verdict")) (Some (Verdict b k)) None q (λ e. some_to P (Verdict b k) q (keyword ws (codes "verdict") (place_words b k) refl e shows, tt))
-    (λ e. absurd cc))))) h
-
-look_shows : (session : ℕ) (ws : List (List ℕ)) (q : Query) → look_of session (next ws) (after_next ws) ≡ Some q → Shows ws (query_words q) × IsOwn session (Look q)
-look_shows session ws q h =
-    let P : Query → Type 0 = λ x. Shows ws (query_words x) × IsOwn session (Look x) in
-    either {P = P q} (bytes_eq (next ws) (codes "branches")) (if_no_more Branches (after_next ws)) _ q
-    (λ b. alone_to P Branches q (after_next ws) (λ e. (keyword ws (codes "branches") [] refl b (at_end (after_next ws) e), tt)))
-    (either {P = P q} (bytes_eq (next ws) (codes "cursor")) (if_no_more (Cursor session) (after_next ws)) _ q
-    (λ b. alone_to P (Cursor session) q (after_next ws) (λ e. (keyword ws (codes "cursor") [] refl b (at_end (after_next ws) e), refl)))
-    (either {P = P q} (bytes_eq (next ws) (codes "steps")) (option_map Steps (only_branch (after_next ws))) _ q
-    (λ b. mapped_to P Steps (only_branch (after_next ws)) q (λ a e. (keyword ws (codes "steps") (Text a ∷ []) refl b (branch_of_shows (after_next ws) a e), tt)))
-    (either {P = P q} (bytes_eq (next ws) (codes "process")) (option_map (λ (p : List ℕ × ℕ × ℕ). Process p.0 p.1 p.2) (process_at (after_next ws))) (place_look_of (next ws) (after_next ws)) q
-    (λ b. mapped_to P (λ (p : List ℕ × ℕ × ℕ). Process p.0 p.1 p.2) (process_at (after_next ws)) q
-    (λ a e. (keyword ws (codes "process") (Text a.0 ∷ Number a.1 ∷ Number a.2 ∷ []) refl b (process_at_shows (after_next ws) a e), tt)))
-    (λ e. let p = some_then (branch_and_place (after_next ws)) (λ (p : List ℕ × ℕ). query_at (next ws) p.0 p.1) q e in
-    query_at_shows ws p.0.0 p.0.1 q (place_of_shows (after_next ws) p.0 p.1) p.2 session)))) h
+  look_shows : (session : ℕ) (v : LookVerb) (q : Query) → bytes_eq (next ws) (text_of (verb.Look v)) ≡ true → look_of session v left ≡ Some q → Q session q
+  look_shows session look.Branches q b h = alone_to (Q session) Branches q left (λ e. (keyword ws (codes "branches") [] refl b (at_end left e), tt)) h
+  look_shows session look.Cursor q b h = alone_to (Q session) (Cursor session) q left (λ e. (keyword ws (codes "cursor") [] refl b (at_end left e), refl)) h
+  look_shows session look.Steps q b h = mapped_to (Q session) Steps (only_branch left) q (λ a e. (keyword ws (codes "steps") (Text a ∷ []) refl b (branch_of_shows left a e), tt)) h
+  look_shows session look.Process q b h = mapped_to (Q session) (λ (p : List ℕ × ℕ × ℕ). Process p.0 p.1 p.2) (placed one_number left) q (λ a e. (keyword ws (codes "process") (Text a.0 ∷ Number a.1 ∷ Number a.2 ∷ []) refl b (placed_shows one_number (λ p. Number p ∷ []) one_shows left a e), tt)) h
+  look_shows session look.State q b h = mapped_to (Q session) (λ (p : List ℕ × ℕ). State p.0 p.1) (branch_and_place left) q (λ a e. (keyword ws (codes "state") (place_words a.0 a.1) refl b (place_of_shows left a e), tt)) h
+  look_shows session look.Pending q b h = mapped_to (Q session) (λ (p : List ℕ × ℕ). Pending p.0 p.1) (branch_and_place left) q (λ a e. (keyword ws (codes "pending") (place_words a.0 a.1) refl b (place_of_shows left a e), tt)) h
+  look_shows session look.Bits q b h = mapped_to (Q session) (λ (p : List ℕ × ℕ). Bits p.0 p.1) (branch_and_place left) q (λ a e. (keyword ws (codes "bits") (place_words a.0 a.1) refl b (place_of_shows left a e), tt)) h
+  look_shows session look.History q b h = mapped_to (Q session) (λ (p : List ℕ × ℕ). History p.0 p.1) (branch_and_place left) q (λ a e. (keyword ws (codes "history") (place_words a.0 a.1) refl b (place_of_shows left a e), tt)) h
+  look_shows session look.Verdict q b h = mapped_to (Q session) (λ (p : List ℕ × ℕ). Verdict p.0 p.1) (branch_and_place left) q (λ a e. (keyword ws (codes "verdict") (place_words a.0 a.1) refl b (place_of_shows left a e), tt)) h
 
 -- ---- calls
 
-unguarded_shows : (session : ℕ) (ws : List (List ℕ)) (r : Request) → unguarded (next ws) (after_next ws) ≡ Some r → Shows ws (request_words r) × IsOwn session r
-unguarded_shows session ws r h =
-    mapped_to (λ x. Shows ws (request_words x) × IsOwn session x) (Act None) (command_of (next ws) (after_next ws)) r (λ c e. (command_shows ws c e, tt)) h
+abbrev IsShown : ℕ → List (List ℕ) → Request → Type 0
+IsShown session ws r = Shows ws (request_words r) × IsOwn session r
 
-guarded_shows : (session : ℕ) (guard : List ℕ) (ws : List (List ℕ)) (r : Request) → guarded guard ws ≡ Some r → Shows ((64 ∷ guard) ∷ ws) (request_words r) × IsOwn session r
-guarded_shows session guard ws r h =
-    let a = some_then (number guard) (λ edits. option_and_then (λ c. Some (Act (Some edits) c)) (command_of (next ws) (after_next ws))) r h in
-    let c = some_then (command_of (next ws) (after_next ws)) (λ c. Some (Act (Some a.0) c)) r a.2 in
-    let s = number_shows guard a.0 a.1 in
-    subst (λ (x : Request). Shows ((64 ∷ guard) ∷ ws) (request_words x) × IsOwn session x) (same_Some (Act (Some a.0) c.0) r c.2)
-    (one_more (64 ∷ guard) ws (Guard a.0) (command_words c.0) (ap (λ (d : List ℕ). 64 ∷ d) s.0) s.1 (command_shows ws c.0 c.1), tt)
+guarded_by_shows : (session edits : ℕ) (guard : List ℕ) (ws : List (List ℕ)) (r : Request) (o : Option Verb) → guard ≡ decimal edits → is_small (Guard edits) ≡ true
+    → verb_of (next ws) ≡ o → guarded_by edits o (after_next ws) ≡ Some r → IsShown session ((64 ∷ guard) ∷ ws) r
+guarded_by_shows session edits guard ws r (Some (verb.Command v)) same small e h =
+    mapped_to (IsShown session ((64 ∷ guard) ∷ ws)) (Act (Some edits)) (command_of v (after_next ws)) r
+    (λ c f. (one_more (64 ∷ guard) ws (Guard edits) (command_words c) (ap (λ (d : List ℕ). 64 ∷ d) same) small (command_shows ws v c (named (next ws) (verb.Command v) e) f), tt)) h
+guarded_by_shows session edits guard ws r (Some (verb.Look v)) same small e h = absurd cc
+guarded_by_shows session edits guard ws r (Some verb.Fill) same small e h = absurd cc
+guarded_by_shows session edits guard ws r None same small e h = absurd cc
 
-act_shows : (session : ℕ) (ws : List (List ℕ)) (r : Request) → act_of (next ws) (after_next ws) ≡ Some r → Shows ws (request_words r) × IsOwn session r
-act_shows session [] r h = unguarded_shows session [] r h
-act_shows session ([] ∷ ws) r h = unguarded_shows session ([] ∷ ws) r h
-act_shows session ((b ∷ bs) ∷ ws) r h = by (b == 64) refl h
+guarded_shows : (session : ℕ) (ws : List (List ℕ)) (r : Request) → guarded (next ws) (after_next ws) ≡ Some r → IsShown session ws r
+guarded_shows session [] r h = absurd cc
+guarded_shows session ([] ∷ ws) r h = absurd cc
+guarded_shows session ((b ∷ bs) ∷ ws) r h =
+    let by : ℕ → Option Request = λ edits. guarded_by edits (verb_of (next ws)) (after_next ws) in
+    let t = when_some (b == 64) (option_and_then by (number bs)) r h in
+    let a = some_then (number bs) by r t.1 in
+    let s = number_shows bs a.0 a.1 in
+    subst (λ (x : ℕ). IsShown session ((x ∷ bs) ∷ ws) r) (sym (eqb-true b 64 t.0)) (guarded_by_shows session a.0 bs ws r (verb_of (next ws)) s.0 s.1 refl a.2)
+
+request_shows : (session : ℕ) (ws : List (List ℕ)) (r : Request) → request_of session (next ws) (after_next ws) ≡ Some r → IsShown session ws r
+request_shows session ws r h = by (verb_of (next ws)) refl h
   where
-    by : (t : Bool) → (b == 64) ≡ t → cond t (guarded bs ws) (unguarded (b ∷ bs) ws) ≡ Some r → Shows ((b ∷ bs) ∷ ws) (request_words r) × IsOwn session r
-    by true e k = subst (λ x. Shows ((x ∷ bs) ∷ ws) (request_words r) × IsOwn session r) (sym (eqb-true b 64 e)) (guarded_shows session bs ws r k)
-    by false e k = unguarded_shows session ((b ∷ bs) ∷ ws) r k
-
-request_shows : (session : ℕ) (ws : List (List ℕ)) (r : Request) → request_of session (next ws) (after_next ws) ≡ Some r → Shows ws (request_words r) × IsOwn session r
-request_shows session ws r h =
-    let P : Request → Type 0 = λ x. Shows ws (request_words x) × IsOwn session x in
-    either {P = P r} (is_look (next ws)) (option_map Look (look_of session (next ws) (after_next ws))) _ r
-    (λ b. mapped_to P Look (look_of session (next ws) (after_next ws)) r (λ q e. look_shows session ws q e))
-    (either {P = P r} (bytes_eq (next ws) (codes "fill")) (option_map Fill (only_branch (after_next ws))) (act_of (next ws) (after_next ws)) r
-    (λ b. mapped_to P Fill (only_branch (after_next ws)) r (λ a e. (keyword ws (codes "fill") (Text a ∷ []) refl b (branch_of_shows (after_next ws) a e), tt)))
-    (act_shows session ws r)) h
+    by : (o : Option Verb) → verb_of (next ws) ≡ o → request_by session (next ws) o (after_next ws) ≡ Some r → IsShown session ws r
+    by None e k = guarded_shows session ws r k
+    by (Some (verb.Look v)) e k = mapped_to (IsShown session ws) Look (look_of session v (after_next ws)) r (λ q f. look_shows ws session v q (named (next ws) (verb.Look v) e) f) k
+    by (Some verb.Fill) e k =
+        mapped_to (IsShown session ws) Fill (only_branch (after_next ws)) r (λ a f. (keyword ws (codes "fill") (Text a ∷ []) refl (named (next ws) verb.Fill e) (branch_of_shows (after_next ws) a f), tt)) k
+    by (Some (verb.Command v)) e k = mapped_to (IsShown session ws) (Act None) (command_of v (after_next ws)) r (λ c f. (command_shows ws v c (named (next ws) (verb.Command v) e) f, tt)) k
 
 pub call_shows : (ws : List (List ℕ)) (c : Call) → call_of ws ≡ Some c → Shows ws (call_words c) × IsOwn c.session c.request
 call_shows ws c h =

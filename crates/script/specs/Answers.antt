@@ -4,9 +4,9 @@ use Rattle.schedule_trie.specs.declared.refusal.Refusal.{Refusal}
 use Rattle.schedule_trie.specs.declared.refusal.Refusal.TheVariants.{NoBranch, Memory}
 use Rattle.schedule_trie.specs.Forest.{Forest, index_of}
 use Rattle.conversation.specs.Scripts.{Answered}
-use Rattle.views.specs.declared.query.Query.{Query}
-use Rattle.views.specs.declared.page.Page.{Page}
-use Rattle.views.specs.Pages.{page_text}
+use Rattle.pages.specs.declared.query.Query.{Query}
+use Rattle.pages.specs.declared.page.Page.{Page}
+use Rattle.pages.specs.Pages.{page_text}
 use Rattle.sessions.specs.declared.reply.Reply.TheVariants.{No}
 use Rattle.sessions.specs.World.{World}
 use Rattle.sessions.specs.Acts.{CommandResult, command_result}

@@ -1,19 +1,24 @@
 -- The grammar of a line of a script. A definition with an optional result reads one or more words,
 -- and gives `None` if they don't have the form that its comment gives.
-use Rattle.std.specs.Prelude.{ℕ, List, [], ◌∷◌, Option, Some, None, Bool, ◌==◌, ◌&&◌, ◌||◌, nat_le, length, codes, if◌then◌else◌}
-use Rattle.std.specs.Option.{option_map}
+use Rattle.std.specs.Prelude.{ℕ, List, [], ◌∷◌, Option, Some, None, Bool, ◌==◌, ◌&&◌, nat_le, length, codes, if◌then◌else◌}
+use Rattle.std.specs.Option.{option_map, option_and_then}
 use Rattle.std.specs.List.{list_all}
 use Rattle.std.specs.Str.{bytes_eq}
-use Rattle.frames.specs.declared.types.Step.{Step}
 use Rattle.schedule_trie.specs.Names.{name_of_bytes}
-use Rattle.views.specs.declared.breakpoint.Break.{Break}
-use Rattle.views.specs.declared.breakpoint.Break.TheVariants as break
-use Rattle.views.specs.declared.query.Query.{Query}
-use Rattle.views.specs.declared.query.Query.TheVariants.{State, Process, Bits, Pending, History, Verdict, Branches, Cursor, Steps}
+use Rattle.pages.specs.declared.breakpoint.Break.{Break}
+use Rattle.pages.specs.declared.breakpoint.Break.TheVariants as break
+use Rattle.pages.specs.declared.query.Query.{Query}
+use Rattle.pages.specs.declared.query.Query.TheVariants.{State, Process, Bits, Pending, History, Verdict, Branches, Cursor, Steps}
 use Rattle.sessions.specs.declared.command.Command.{Command}
 use Rattle.sessions.specs.declared.command.Command.TheVariants as command
 use Rattle.words.specs.Words.{◌>>=◌, words, next, after_next, is_end, number, one_number, two_numbers}
 use Rattle.words.specs.Steps.{step_of_words}
+use Rattle.script.specs.declared.verb.Verb.{Verb}
+use Rattle.script.specs.declared.verb.Verb.TheVariants as verb
+use Rattle.script.specs.declared.verb.LookVerb.{LookVerb}
+use Rattle.script.specs.declared.verb.LookVerb.TheVariants as look
+use Rattle.script.specs.declared.verb.CommandVerb.{CommandVerb}
+use Rattle.script.specs.declared.verb.CommandVerb.TheVariants as act
 use Rattle.script.specs.declared.call.Request.{Request}
 use Rattle.script.specs.declared.call.Request.TheVariants.{Act, Look, Fill}
 use Rattle.script.specs.declared.call.Call.{Call}
@@ -34,32 +39,22 @@ only_branch ws = do
 abbrev pub branch_and_place : List (List ℕ) → Option (List ℕ × ℕ)
 branch_and_place ws = do
   b ← branch_word (next ws)
-  k ← number (next (after_next ws))
-  if is_end (after_next (after_next ws)) then Some (b, k) else None
+  k ← one_number (after_next ws)
+  Some (b, k)
 
--- reads a branch's name, a place and a process, with no words after them
-abbrev pub process_at : List (List ℕ) → Option (List ℕ × ℕ × ℕ)
-process_at ws = do
+-- reads a branch's name and a place, which more words may follow
+abbrev pub place_in : List (List ℕ) → Option (List ℕ × ℕ)
+place_in ws = do
   b ← branch_word (next ws)
   k ← number (next (after_next ws))
-  p ← number (next (after_next (after_next ws)))
-  if is_end (after_next (after_next (after_next ws))) then Some (b, k, p) else None
+  Some (b, k)
 
--- reads a branch's name, a place and a step, with no words after them
-abbrev pub step_at : List (List ℕ) → Option (List ℕ × ℕ × Step)
-step_at ws = do
-  b ← branch_word (next ws)
-  k ← number (next (after_next ws))
-  s ← step_of_words (after_next (after_next ws))
-  Some (b, k, s)
-
--- reads a branch's name, a place and a new branch's name, with no words after them
-abbrev pub fork_of : List (List ℕ) → Option (List ℕ × ℕ × List ℕ)
-fork_of ws = do
-  b ← branch_word (next ws)
-  k ← number (next (after_next ws))
-  n ← branch_word (next (after_next (after_next ws)))
-  if is_end (after_next (after_next (after_next ws))) then Some (b, k, n) else None
+-- reads a branch's name and a place, and the words after them by `read`
+abbrev pub placed : {A : Type 0} → (List (List ℕ) → Option A) → List (List ℕ) → Option (List ℕ × ℕ × A)
+placed read ws = do
+  p ← place_in ws
+  x ← read (after_next (after_next ws))
+  Some (p.0, p.1, x)
 
 -- `it`, if no words are left
 abbrev pub if_no_more : {A : Type 0} → A → List (List ℕ) → Option A
@@ -81,108 +76,98 @@ break_of ws =
     else (if bytes_eq (next ws) (codes "bit") then option_map (λ n. break.Bit n.0 n.1) (two_numbers (after_next ws))
     else (if is_end (after_next ws) then kind_of (next ws) else None))
 
--- whether this is the first word of a look at a place as a whole, not at one process
-abbrev pub is_place_look : List ℕ → Bool
-is_place_look word =
-    bytes_eq word (codes "state") || (bytes_eq word (codes "pending") || (bytes_eq word (codes "bits")
-    || (bytes_eq word (codes "history") || bytes_eq word (codes "verdict"))))
+-- the first word of each request, and what it selects
+abbrev pub verb_words : List (List ℕ × Verb)
+verb_words =
+    (codes "branches", verb.Look look.Branches)
+    ∷ (codes "cursor", verb.Look look.Cursor)
+    ∷ (codes "steps", verb.Look look.Steps)
+    ∷ (codes "process", verb.Look look.Process)
+    ∷ (codes "state", verb.Look look.State)
+    ∷ (codes "pending", verb.Look look.Pending)
+    ∷ (codes "bits", verb.Look look.Bits)
+    ∷ (codes "history", verb.Look look.History)
+    ∷ (codes "verdict", verb.Look look.Verdict)
+    ∷ (codes "fill", verb.Fill)
+    ∷ (codes "join", verb.Command act.Join)
+    ∷ (codes "leave", verb.Command act.Leave)
+    ∷ (codes "seek", verb.Command act.Seek)
+    ∷ (codes "back", verb.Command act.Back)
+    ∷ (codes "go", verb.Command act.Go)
+    ∷ (codes "break", verb.Command act.Break)
+    ∷ (codes "clear", verb.Command act.Clear)
+    ∷ (codes "insert", verb.Command act.Insert)
+    ∷ (codes "remove", verb.Command act.Remove)
+    ∷ (codes "replace", verb.Command act.Replace)
+    ∷ (codes "fork", verb.Command act.Fork)
+    ∷ (codes "detach", verb.Command act.Detach)
+    ∷ (codes "drop", verb.Command act.Drop)
+    ∷ []
 
--- whether this is the first word of a look
-abbrev pub is_look : List ℕ → Bool
-is_look word =
-    bytes_eq word (codes "branches") || (bytes_eq word (codes "cursor") || (bytes_eq word (codes "steps")
-    || (bytes_eq word (codes "process") || is_place_look word)))
+-- what a word selects by a table; `None` if the table doesn't have the word
+abbrev pub verb_in : List (List ℕ × Verb) → List ℕ → Option Verb
+verb_in [] word = None
+verb_in (row ∷ rows) word = if bytes_eq word row.0 then Some row.1 else verb_in rows word
 
--- the look with the first word `word` (such as `state`), at this place of branch b; `None` if
--- `word` isn't the first word of a look at a place as a whole
-abbrev pub query_at : List ℕ → List ℕ → ℕ → Option Query
-query_at word b place =
-    if bytes_eq word (codes "state") then Some (State b place)
-    else (if bytes_eq word (codes "pending") then Some (Pending b place)
-    else (if bytes_eq word (codes "bits") then Some (Bits b place)
-    else (if bytes_eq word (codes "history") then Some (History b place)
-    else (if bytes_eq word (codes "verdict") then Some (Verdict b place)
-    else None))))
+-- what the first word of a request selects; `None` if it is no such word
+abbrev pub verb_of : List ℕ → Option Verb
+verb_of word = verb_in verb_words word
 
--- reads a look at a place as a whole. `word` is the look's first word; the words after it must be
--- just a branch's name and a place.
-abbrev pub place_look_of : List ℕ → List (List ℕ) → Option Query
-place_look_of word ws = do
-  p ← branch_and_place ws
-  query_at word p.0 p.1
+-- reads the words of a session's look after its first word
+abbrev pub look_of : ℕ → LookVerb → List (List ℕ) → Option Query
+look_of session look.Branches ws = if_no_more Branches ws
+look_of session look.Cursor ws = if_no_more (Cursor session) ws
+look_of session look.Steps ws = option_map Steps (only_branch ws)
+look_of session look.Process ws = option_map (λ p. Process p.0 p.1 p.2) (placed one_number ws)
+look_of session look.State ws = option_map (λ p. State p.0 p.1) (branch_and_place ws)
+look_of session look.Pending ws = option_map (λ p. Pending p.0 p.1) (branch_and_place ws)
+look_of session look.Bits ws = option_map (λ p. Bits p.0 p.1) (branch_and_place ws)
+look_of session look.History ws = option_map (λ p. History p.0 p.1) (branch_and_place ws)
+look_of session look.Verdict ws = option_map (λ p. Verdict p.0 p.1) (branch_and_place ws)
 
--- reads a session's look, which is `branches`, `cursor`, `steps B`, `process B K P`, or a look at a
--- place as a whole (its first word, and then `B K`). `word` is the look's first word.
-abbrev pub look_of : ℕ → List ℕ → List (List ℕ) → Option Query
-look_of session word ws =
-    if bytes_eq word (codes "branches") then if_no_more Branches ws
-    else (if bytes_eq word (codes "cursor") then if_no_more (Cursor session) ws
-    else (if bytes_eq word (codes "steps") then option_map Steps (only_branch ws)
-    else (if bytes_eq word (codes "process") then option_map (λ p. Process p.0 p.1 p.2) (process_at ws)
-    else place_look_of word ws)))
+-- reads the words of a command after its first word
+abbrev pub command_of : CommandVerb → List (List ℕ) → Option Command
+command_of act.Join ws = if_no_more command.Join ws
+command_of act.Leave ws = if_no_more command.Leave ws
+command_of act.Seek ws = if_no_more command.Seek ws
+command_of act.Back ws = if_no_more command.Back ws
+command_of act.Go ws = option_map (λ p. command.Go p.0 p.1) (branch_and_place ws)
+command_of act.Break ws = option_map command.Break (break_of ws)
+command_of act.Clear ws = option_map command.Clear (break_of ws)
+command_of act.Insert ws = option_map (λ p. command.Insert p.0 p.1 p.2) (placed step_of_words ws)
+command_of act.Remove ws = option_map (λ p. command.Remove p.0 p.1) (branch_and_place ws)
+command_of act.Replace ws = option_map (λ p. command.Replace p.0 p.1 p.2) (placed step_of_words ws)
+command_of act.Fork ws = option_map (λ p. command.Fork p.0 p.1 p.2) (placed only_branch ws)
+command_of act.Detach ws = option_map command.Detach (only_branch ws)
+command_of act.Drop ws = option_map command.Drop (only_branch ws)
 
--- reads an edit of a branch as a whole, which is `fork B K NAME`, `detach B` or `drop B`. `word` is
--- the edit's first word.
-abbrev pub branch_command_of : List ℕ → List (List ℕ) → Option Command
-branch_command_of word ws =
-    if bytes_eq word (codes "fork") then option_map (λ p. command.Fork p.0 p.1 p.2) (fork_of ws)
-    else (if bytes_eq word (codes "detach") then option_map command.Detach (only_branch ws)
-    else (if bytes_eq word (codes "drop") then option_map command.Drop (only_branch ws)
-    else None))
+-- reads the words of a command after its first word; the guard, if it has one, is given
+abbrev pub act_of : Option ℕ → CommandVerb → List (List ℕ) → Option Request
+act_of guard v ws = option_map (Act guard) (command_of v ws)
 
--- reads an edit, which is `insert B K STEP`, `remove B K`, `replace B K STEP`, or an edit of a
--- branch as a whole. `word` is the edit's first word.
-abbrev pub cell_command_of : List ℕ → List (List ℕ) → Option Command
-cell_command_of word ws =
-    if bytes_eq word (codes "insert") then option_map (λ p. command.Insert p.0 p.1 p.2) (step_at ws)
-    else (if bytes_eq word (codes "remove") then option_map (λ p. command.Remove p.0 p.1) (branch_and_place ws)
-    else (if bytes_eq word (codes "replace") then option_map (λ p. command.Replace p.0 p.1 p.2) (step_at ws)
-    else branch_command_of word ws))
+-- reads the words of a command with a guard after its first word, given what that word selects
+abbrev pub guarded_by : ℕ → Option Verb → List (List ℕ) → Option Request
+guarded_by edits (Some (verb.Command v)) ws = act_of (Some edits) v ws
+guarded_by edits other ws = None
 
--- reads a command that is `break BR` or `clear BR` (BR is a break), or an edit. `word` is the
--- command's first word.
-abbrev pub break_command_of : List ℕ → List (List ℕ) → Option Command
-break_command_of word ws =
-    if bytes_eq word (codes "break") then option_map command.Break (break_of ws)
-    else (if bytes_eq word (codes "clear") then option_map command.Clear (break_of ws)
-    else cell_command_of word ws)
-
--- reads a command, which is `join`, `leave`, `seek`, `back`, `go B K`, `break BR`, `clear BR` (BR
--- is a break), or an edit. `word` is the command's first word.
-abbrev pub command_of : List ℕ → List (List ℕ) → Option Command
-command_of word ws =
-    if bytes_eq word (codes "join") then if_no_more command.Join ws
-    else (if bytes_eq word (codes "leave") then if_no_more command.Leave ws
-    else (if bytes_eq word (codes "seek") then if_no_more command.Seek ws
-    else (if bytes_eq word (codes "back") then if_no_more command.Back ws
-    else (if bytes_eq word (codes "go") then option_map (λ p. command.Go p.0 p.1) (branch_and_place ws)
-    else break_command_of word ws))))
-
--- reads a request that is a command without a guard, given its first word
-abbrev pub unguarded : List ℕ → List (List ℕ) → Option Request
-unguarded word ws = option_map (Act None) (command_of word ws)
-
--- reads a request that is a command with a guard, given the text after `@`, which must be a number;
--- the words are those of the command
+-- reads a command with a guard. `word` is `@` and the guard, which must be a number; the words
+-- after it are those of the command.
 abbrev pub guarded : List ℕ → List (List ℕ) → Option Request
-guarded guard ws = do
-  edits ← number guard
-  c ← command_of (next ws) (after_next ws)
-  Some (Act (Some edits) c)
+guarded [] ws = None
+guarded (b ∷ bs) ws =
+    if b == 64 then option_and_then (λ edits. guarded_by edits (verb_of (next ws)) (after_next ws)) (number bs) else None
 
--- reads a request that is a command, given its first word: `@N` if the command has a guard, and
--- otherwise the command's own first word
-abbrev pub act_of : List ℕ → List (List ℕ) → Option Request
-act_of [] ws = unguarded [] ws
-act_of (b ∷ bs) ws = if b == 64 then guarded bs ws else unguarded (b ∷ bs) ws
+-- reads the words of a request after its first word `word`, given what that word selects
+abbrev pub request_by : ℕ → List ℕ → Option Verb → List (List ℕ) → Option Request
+request_by session word (Some (verb.Look v)) ws = option_map Look (look_of session v ws)
+request_by session word (Some verb.Fill) ws = option_map Fill (only_branch ws)
+request_by session word (Some (verb.Command v)) ws = act_of None v ws
+request_by session word None ws = guarded word ws
 
--- reads a session's request, which is a look, `fill B`, or a command; only a command may have a
+-- reads a session's request, which is a look, a fill, or a command; only a command may have a
 -- guard. `word` is the request's first word.
 abbrev pub request_of : ℕ → List ℕ → List (List ℕ) → Option Request
-request_of session word ws =
-    if is_look word then option_map Look (look_of session word ws)
-    else (if bytes_eq word (codes "fill") then option_map Fill (only_branch ws)
-    else act_of word ws)
+request_of session word ws = request_by session word (verb_of word) ws
 
 -- reads a call: the number of a session, and then that session's request
 abbrev pub call_of : List (List ℕ) → Option Call

@@ -3,10 +3,10 @@ use Rattle.std.specs.Prelude.{ℕ, ◌≡◌, ◌^◌, Bool, true, ◌&&◌, nat
 use Rattle.std.specs.List.{list_all, join_with_byte}
 use Rattle.frames.specs.declared.types.Step.{Step}
 use Rattle.frames.specs.declared.types.Step.TheVariants as step
-use Rattle.views.specs.declared.breakpoint.Break.{Break}
-use Rattle.views.specs.declared.breakpoint.Break.TheVariants as break
-use Rattle.views.specs.declared.query.Query.{Query}
-use Rattle.views.specs.declared.query.Query.TheVariants.{State, Process, Bits, Pending, History, Verdict, Branches, Cursor, Steps}
+use Rattle.pages.specs.declared.breakpoint.Break.{Break}
+use Rattle.pages.specs.declared.breakpoint.Break.TheVariants as break
+use Rattle.pages.specs.declared.query.Query.{Query}
+use Rattle.pages.specs.declared.query.Query.TheVariants.{State, Process, Bits, Pending, History, Verdict, Branches, Cursor, Steps}
 use Rattle.sessions.specs.declared.command.Command.{Command}
 use Rattle.sessions.specs.declared.command.Command.TheVariants as command
 use Rattle.script.specs.declared.call.Request.{Request}

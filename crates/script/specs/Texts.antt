@@ -6,7 +6,7 @@ use Rattle.schedule_trie.specs.declared.refusal.Refusal.TheVariants.{Newer, BadL
 use Rattle.schedule_trie.specs.Refusals.{refusal_number, refusal_name}
 use Rattle.sessions.specs.declared.reply.Reply.{Reply}
 use Rattle.sessions.specs.declared.reply.Reply.TheVariants.{Joined, Left, Edited, Moved, NoHit, BreakSet, BreakCleared, No}
-use Rattle.views.specs.page.Head.{line_end}
+use Rattle.pages.specs.page.Head.{line_end}
 
 -- the text after a refusal's name: for Newer, a space and the edit count; otherwise nothing
 abbrev pub refusal_detail : Refusal → List ℕ

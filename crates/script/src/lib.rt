@@ -6,6 +6,7 @@ pub mod laws;
 pub mod line;
 pub mod look;
 pub mod text;
+mod verb;
 
 pub use call::{Call, Line, Request};
 pub use line::read_line;

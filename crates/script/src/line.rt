@@ -3,12 +3,14 @@
 
 ghost use Rattle.std.specs.Prelude.{◌≡◌};
 ghost use Rattle.std.specs.List.{list_all};
+ghost use Rattle.words.specs.Steps.{step_of_words};
 ghost use Rattle.script.specs.declared.call.Line.{Line};
 ghost use Rattle.script.specs.Lines as spec;
 ghost use Rattle.script.specs.Spelling.{LineSays};
 
 use crate::call::{Call, Line, Request};
-use crate::look::{branch, branch_and_place, is_look, look_of, only_branch};
+use crate::look::{branch_and_place, look_of, only_branch, place_in};
+use crate::verb::{CommandVerb, Verb, verb_of};
 use frames::types::Step;
 use schedule_trie::name::Name;
 use sessions::command::Command;
@@ -81,119 +83,58 @@ fn call_of(words: &mut Parts<'_>) -> Option<Call>
 fn request_of(session: u32, word: &[u8], words: &mut Parts<'_>) -> Option<Request>
     ensures { result ≡ spec.request_of session word.now words.old }
 {
-    if is_look(word) {
-        let query = look_of(session, word, words)?;
-        return Some(Request::Look(query));
-    }
-    if is(word, "fill") {
-        let branch = only_branch(words)?;
-        return Some(Request::Fill(branch));
-    }
-    match word.split_first() {
-        Some((b'@', guard)) => guarded(guard, words),
-        _ => unguarded(word, words),
+    match verb_of(word) {
+        None => guarded(word, words),
+        Some(Verb::Look(verb)) => look_of(session, verb, words).map(Request::Look),
+        Some(Verb::Fill) => only_branch(words).map(Request::Fill),
+        Some(Verb::Command(verb)) => act_of(None, verb, words),
     }
 }
 
-/// Reads a command that has a guard; `guard` is the text after `@`.
-fn guarded(guard: &[u8], words: &mut Parts<'_>) -> Option<Request>
-    ensures { result ≡ spec.guarded guard.now words.old }
+/// Reads a command that has a guard; `word` is `@` and the guard.
+fn guarded(word: &[u8], words: &mut Parts<'_>) -> Option<Request>
+    ensures { result ≡ spec.guarded word.now words.old }
 {
+    let Some((b'@', guard)) = word.split_first() else {
+        return None;
+    };
     let edits = number(guard)?;
-    let word = words.next();
-    let command = command_of(word, words)?;
-    Some(Request::Act {
-        if_at: Some(u64::from(edits)),
-        command,
-    })
+    match verb_of(words.next()) {
+        Some(Verb::Command(verb)) => act_of(Some(u64::from(edits)), verb, words),
+        _ => None,
+    }
 }
 
-/// Reads a command that begins with this word and has no guard.
-fn unguarded(word: &[u8], words: &mut Parts<'_>) -> Option<Request>
-    ensures { result ≡ spec.unguarded word.now words.old }
+/// Reads the words of a command after the command's first word; the guard is read already.
+fn act_of(if_at: Option<u64>, verb: CommandVerb, words: &mut Parts<'_>) -> Option<Request>
+    ensures { result ≡ spec.act_of if_at verb words.old }
 {
-    let command = command_of(word, words)?;
-    Some(Request::Act {
-        if_at: None,
-        command,
-    })
+    let command = command_of(verb, words)?;
+    Some(Request::Act { if_at, command })
 }
 
-/// Reads a command that begins with this word.
-fn command_of(word: &[u8], words: &mut Parts<'_>) -> Option<Command>
-    ensures { result ≡ spec.command_of word.now words.old }
+/// Reads the words of a command after its first word.
+fn command_of(verb: CommandVerb, words: &mut Parts<'_>) -> Option<Command>
+    ensures { result ≡ spec.command_of verb words.old }
 {
-    if is(word, "join") {
-        return words.is_end().then_some(Command::Join);
+    match verb {
+        CommandVerb::Join => words.is_end().then_some(Command::Join),
+        CommandVerb::Leave => words.is_end().then_some(Command::Leave),
+        CommandVerb::Seek => words.is_end().then_some(Command::Seek),
+        CommandVerb::Back => words.is_end().then_some(Command::Back),
+        CommandVerb::Go => branch_and_place(words).map(|(b, k)| Command::Go { b, k }),
+        CommandVerb::Break => break_of(words).map(Command::Break),
+        CommandVerb::Clear => break_of(words).map(Command::Clear),
+        CommandVerb::Insert => step_at(words).map(|(b, k, step)| Command::Insert { b, k, step }),
+        CommandVerb::Remove => branch_and_place(words).map(|(b, k)| Command::Remove { b, k }),
+        CommandVerb::Replace => step_at(words).map(|(b, k, step)| Command::Replace { b, k, step }),
+        CommandVerb::Fork => {
+            let (b, k) = place_in(words)?;
+            only_branch(words).map(|name| Command::Fork { b, k, name })
+        }
+        CommandVerb::Detach => only_branch(words).map(|b| Command::Detach { b }),
+        CommandVerb::Drop => only_branch(words).map(|b| Command::Drop { b }),
     }
-    if is(word, "leave") {
-        return words.is_end().then_some(Command::Leave);
-    }
-    if is(word, "seek") {
-        return words.is_end().then_some(Command::Seek);
-    }
-    if is(word, "back") {
-        return words.is_end().then_some(Command::Back);
-    }
-    if is(word, "go") {
-        let (b, k) = branch_and_place(words)?;
-        return Some(Command::Go { b, k });
-    }
-    break_command_of(word, words)
-}
-
-/// Reads a command that begins with this word. The command is an edit, or sets or clears a break.
-fn break_command_of(word: &[u8], words: &mut Parts<'_>) -> Option<Command>
-    ensures { result ≡ spec.break_command_of word.now words.old }
-{
-    if is(word, "break") {
-        let added = break_of(words)?;
-        return Some(Command::Break(added));
-    }
-    if is(word, "clear") {
-        let gone = break_of(words)?;
-        return Some(Command::Clear(gone));
-    }
-    cell_command_of(word, words)
-}
-
-/// Reads an edit that begins with this word. The edit inserts, removes or replaces one step, or is
-/// an edit of a branch as a whole.
-fn cell_command_of(word: &[u8], words: &mut Parts<'_>) -> Option<Command>
-    ensures { result ≡ spec.cell_command_of word.now words.old }
-{
-    if is(word, "insert") {
-        let (b, k, step) = step_at(words)?;
-        return Some(Command::Insert { b, k, step });
-    }
-    if is(word, "remove") {
-        let (b, k) = branch_and_place(words)?;
-        return Some(Command::Remove { b, k });
-    }
-    if is(word, "replace") {
-        let (b, k, step) = step_at(words)?;
-        return Some(Command::Replace { b, k, step });
-    }
-    branch_command_of(word, words)
-}
-
-/// Reads an edit of a branch as a whole, given the edit's first word.
-fn branch_command_of(word: &[u8], words: &mut Parts<'_>) -> Option<Command>
-    ensures { result ≡ spec.branch_command_of word.now words.old }
-{
-    if is(word, "fork") {
-        let (b, k, name) = fork_of(words)?;
-        return Some(Command::Fork { b, k, name });
-    }
-    if is(word, "detach") {
-        let b = only_branch(words)?;
-        return Some(Command::Detach { b });
-    }
-    if is(word, "drop") {
-        let b = only_branch(words)?;
-        return Some(Command::Drop { b });
-    }
-    None
 }
 
 /// Reads a break, after which the line has to end.
@@ -229,20 +170,8 @@ fn kind_of(word: &[u8]) -> Option<Break>
 
 /// Reads a branch, a place and a step, after which the line has to end.
 fn step_at(words: &mut Parts<'_>) -> Option<(Name, u32, Step)>
-    ensures { result ≡ spec.step_at words.old }
+    ensures { result ≡ spec.placed step_of_words words.old }
 {
-    let branch = branch(words.next())?;
-    let place = number(words.next())?;
-    let step = step_of(words)?;
-    Some((branch, place, step))
-}
-
-/// Reads a branch, a place and the name of a new branch, after which the line has to end.
-fn fork_of(words: &mut Parts<'_>) -> Option<(Name, u32, Name)>
-    ensures { result ≡ spec.fork_of words.old }
-{
-    let from = branch(words.next())?;
-    let place = number(words.next())?;
-    let name = branch(words.next())?;
-    words.is_end().then_some((from, place, name))
+    let (branch, place) = place_in(words)?;
+    step_of(words).map(|step| (branch, place, step))
 }

@@ -1,11 +1,19 @@
 -- How a command is answered: by its first refusal, or by carrying it out.
-use Rattle.std.proofs.Common.{◌≡◌, ℕ, ◌<◌, Bool, true, false, not, ◌||◌, nat_lt, List, [], ◌∷◌, ◌++◌, Option, Some, None, refl, sym, ap, ◌∙◌, arith}
+use Rattle.std.proofs.Common.{◌≡◌, ℕ, ◌<◌, Bool, true, false, not, ◌||◌, nat_lt, List, [], ◌∷◌, ◌++◌, Option, Some, None, refl, sym, ap, ◌∙◌, inl, inr, arith}
 use Rattle.schedule_trie.specs.declared.refusal.Refusal.{Refusal}
 use Rattle.sessions.specs.declared.command.Command.{Command}
 use Rattle.sessions.specs.declared.reply.Reply.{Reply}
 use Rattle.sessions.specs.declared.reply.Reply.TheVariants.{No}
 use Rattle.sessions.specs.World.{World}
-use Rattle.sessions.specs.Acts.{command_result, answered, early_refusals, late_refusals, first_refusal, refused_if, refused, left, reply_to, is_full, lacks_session, is_missed, fits_command}
+use Rattle.sessions.specs.Acts.{command_result, answered, early_refusals, late_refusals, first_refusal, refused_if, refusals, refused, left, reply_to, is_full, lacks_session, is_missed, fits_command, with_one_logged}
+use Rattle.schedule_trie.specs.declared.refusal.Refusal.TheVariants.{LogFull, Memory}
+use Rattle.sessions.specs.Logs.{is_logged}
+use Rattle.sessions.specs.Books.{IsLate}
+use Rattle.sessions.proofs.Ordinary.{acted_logged}
+
+pub lacks_some : {A : Type 0} (o : Option A) → ((x : A) → o ≡ Some x → ⊥) → None ≡ o
+lacks_some None h = refl
+lacks_some (Some x) h = absurd (h x refl)
 
 -- if the first list has no refusal, the first refusal is that of the second list
 pub first_behind : (xs ys : List (Option Refusal)) → first_refusal xs ≡ None → first_refusal (xs ++ ys) ≡ first_refusal ys
@@ -18,13 +26,12 @@ first_before [] ys r e = cc
 first_before (None ∷ xs) ys r e = first_before xs ys r e
 first_before (Some q ∷ xs) ys r e = e
 
--- four conditions of which none holds
-none_of : (a b c d : Bool) (r s t u : Refusal) → first_refusal (refused_if a r ∷ refused_if b s ∷ refused_if c t ∷ refused_if d u ∷ []) ≡ None → (b ≡ false) × (d ≡ false)
-none_of true b c d r s t u e = cc
-none_of false true c d r s t u e = cc
-none_of false false true d r s t u e = cc
-none_of false false false true r s t u e = cc
-none_of false false false false r s t u e = (refl, refl)
+-- three conditions of which none holds
+none_of : (a b c : Bool) (r s t : Refusal) → first_refusal (refused_if a r ∷ refused_if b s ∷ refused_if c t ∷ []) ≡ None → (a ≡ false) × (c ≡ false)
+none_of true b c r s t e = cc
+none_of false true c r s t e = cc
+none_of false false true r s t e = cc
+none_of false false false r s t e = (refl, refl)
 
 or_left : (a b : Bool) → (a || b) ≡ false → a ≡ false
 or_left true b e = cc
@@ -37,28 +44,48 @@ from_not false e = cc
 below_16 : (who : ℕ) (t : Bool) → nat_lt 15 who ≡ t → t ≡ false → who < 16
 below_16 who t e f = grind (arith, e, f)
 
-module _ {P : Type 0} (who : ℕ) (c : Command) (w : World P) where
-  -- a command that has no late refusal is carried out
-  pub late_done : (after : World P) (reply : Reply) → first_refusal (late_refusals who c w) ≡ None → left who c w ≡ after → reply_to who c w ≡ reply
-      → answered (first_refusal (late_refusals who c w)) who c w ≡ record { world = after; reply = reply }
-  late_done after reply late leaves replies = ap (λ o. answered o who c w) late ∙ λ i. record { world = leaves i; reply = replies i }
-
 module _ {P : Type 0} (who : ℕ) (guard : Option ℕ) (c : Command) (w : World P) where
   pub early_none : first_refusal (early_refusals who guard c w) ≡ None → (who < 16) × (fits_command w.tower c ≡ true)
   early_none e =
-      let none = none_of (is_full w) (lacks_session who c w.cursors) (is_missed guard w.edits) (not (fits_command w.tower c)) _ _ _ _ e in
+      let none = none_of (lacks_session who c w.cursors) (is_missed guard w.edits) (not (fits_command w.tower c)) _ _ _ e in
       (below_16 who (nat_lt 15 who) refl (or_left (nat_lt 15 who) _ none.0), from_not (fits_command w.tower c) none.1)
 
-  acted_early : (r : Refusal) → first_refusal (early_refusals who guard c w) ≡ Some r → command_result who guard c w ≡ record { world = refused r w; reply = No r }
-  acted_early r e = ap (λ o. answered o who c w) (first_before (early_refusals who guard c w) (late_refusals who c w) r e)
+  module _ (room : is_full w ≡ false) where
+    -- if the log isn't full and a command has no early refusal, its late refusals decide
+    pub not_early : None ≡ first_refusal (early_refusals who guard c w) → first_refusal (refusals who guard c w) ≡ first_refusal (late_refusals who c w)
+    not_early e =
+        ap (λ t. first_refusal (refused_if t LogFull ∷ (early_refusals who guard c w ++ late_refusals who c w))) room
+        ∙ first_behind (early_refusals who guard c w) (late_refusals who c w) (sym e)
 
-  pub early_refused : (r : Refusal) (after : World P) (reply : Reply) → Some r ≡ first_refusal (early_refusals who guard c w) → after ≡ refused r w → reply ≡ No r
-      → command_result who guard c w ≡ record { world = after; reply = reply }
-  early_refused r after reply early count replies =
-      let world : refused r w ≡ after = sym count in
-      let told : No r ≡ reply = sym replies in
-      acted_early r (sym early) ∙ λ i. record { world = world i; reply = told i }
+    counted : (r : Refusal) → is_logged (No r) ≡ true → refused r w ≡ with_one_logged w
+    counted LogFull h = cc
+    counted r h = refl
 
-  -- if a command has no early refusal, its late refusals decide
-  pub not_early : None ≡ first_refusal (early_refusals who guard c w) → command_result who guard c w ≡ answered (first_refusal (late_refusals who c w)) who c w
-  not_early e = ap (λ o. answered o who c w) (first_behind (early_refusals who guard c w) (late_refusals who c w) (sym e))
+    pub refused_so : (r : Refusal) → first_refusal (refusals who guard c w) ≡ Some r → command_result who guard c w ≡ record { world = with_one_logged w; reply = No r }
+    refused_so r e =
+        let acts : command_result who guard c w ≡ record { world = refused r w; reply = No r } = ap (λ o. answered o who c w) e in
+        let logged = ap (λ a. is_logged a.reply) (sym acts) ∙ (acted_logged who w guard c room).0 in
+        acts ∙ ap (λ v. record { world = v; reply = No r }) (counted r logged)
+
+    pub early_refused : (r : Refusal) → Some r ≡ first_refusal (early_refusals who guard c w) → command_result who guard c w ≡ record { world = with_one_logged w; reply = No r }
+    early_refused r e =
+        refused_so r (ap (λ t. first_refusal (refused_if t LogFull ∷ (early_refusals who guard c w ++ late_refusals who c w))) room
+        ∙ first_before (early_refusals who guard c w) (late_refusals who c w) r (sym e))
+
+    -- a command that nothing refuses is carried out
+    pub done_so : (after : World P) (reply : Reply) → first_refusal (refusals who guard c w) ≡ None → left who c w ≡ after → reply_to who c w ≡ reply
+        → command_result who guard c w ≡ record { world = after; reply = reply }
+    done_so after reply none leaves replies = ap (λ o. answered o who c w) none ∙ λ i. record { world = leaves i; reply = replies i }
+
+    -- if it runs out of memory, nothing refuses it
+    pub late_none : None ≡ first_refusal (early_refusals who guard c w) → (r : Refusal) → r ≡ Memory → IsLate who c w r → first_refusal (refusals who guard c w) ≡ None
+    late_none early r is (inr none) = not_early early ∙ none.1
+    late_none early r is (inl e) =
+        let memory : first_refusal (refusals who guard c w) ≡ Some Memory = not_early early ∙ e ∙ ap Some is in
+        let logged : is_logged (No Memory) ≡ true = ap (λ o. is_logged (answered o who c w).reply) (sym memory) ∙ (acted_logged who w guard c room).0 in
+        absurd (cc)
+
+    pub late_refused : None ≡ first_refusal (early_refusals who guard c w) → (r : Refusal) → (r ≡ Memory → ⊥) → IsLate who c w r → (after : World P) → after ≡ w
+        → command_result who guard c w ≡ record { world = with_one_logged after; reply = No r }
+    late_refused early r other (inr none) after same = absurd (other none.0)
+    late_refused early r other (inl e) after same = refused_so r (not_early early ∙ e) ∙ λ i. record { world = with_one_logged (sym same i); reply = No r }

@@ -1,25 +1,24 @@
 -- How a command on a session's breaks is answered.
-use Rattle.std.proofs.Common.{◌≡◌, ◌∙◌, ◌∷◌, ◌+◌, ◌<◌, ℕ, true, false, not, List, [], Result, Ok, Err, inl, inr, refl, sym, ap, arith}
+use Rattle.std.proofs.Common.{◌≡◌, ◌∷◌, ℕ, true, false, not, List, [], Result, Ok, Err, inl, inr, refl, sym, ap}
 use Rattle.std.specs.Prelude.{slice_set}
 use Rattle.std.specs.Result.{IsErrAnd}
-use Rattle.std.proofs.lemmas.List.{length-set}
 use Rattle.frames.specs.Behaviour.{Behaviour}
 use Rattle.schedule_trie.specs.declared.refusal.Refusal.{Refusal}
 use Rattle.schedule_trie.specs.declared.refusal.Refusal.TheVariants.{Memory, NoBreak}
-use Rattle.views.specs.declared.breakpoint.Break.{Break}
+use Rattle.pages.specs.declared.breakpoint.Break.{Break}
 use Rattle.sessions.specs.declared.command.Command.TheVariants as command
 use Rattle.sessions.specs.declared.reply.Reply.{Reply}
 use Rattle.sessions.specs.declared.reply.Reply.TheVariants.{BreakSet, BreakCleared}
-use Rattle.sessions.specs.Acts.{first_refusal, refused_if}
+use Rattle.sessions.specs.Acts.{first_refusal, refused_if, with_one_logged}
 use Rattle.sessions.specs.BreakLists.{breaks_at, has_break, with_break, without_break}
-use Rattle.sessions.specs.Books.{Staged, IsStaged, Does, IsCarriedOut, Undone, world_of}
+use Rattle.sessions.specs.Books.{Staged, Does, IsCarriedOut, Undone, world_of}
 
 module _ {R P : Type 0} (is : R → Behaviour P) (old : Staged R P) (who : ℕ) (b : Break) (new : List Break) where
   pub break_set : new ≡ with_break b (breaks_at old.breaks who)
-      → IsCarriedOut is who (command.Break b) old (record old { breaks = slice_set old.breaks who new; logged = old.logged + 1 }) BreakSet
+      → IsCarriedOut is who (command.Break b) old (record old { breaks = slice_set old.breaks who new }) BreakSet
   break_set e = record {
     fine = refl;
-    leaves = λ i. world_of is (record old { breaks = slice_set old.breaks who (sym e i); logged = old.logged + 1 });
+    leaves = λ i. with_one_logged (world_of is (record old { breaks = slice_set old.breaks who (sym e i) }));
     replies = refl;
   }
 
@@ -34,24 +33,11 @@ module _ {R P : Type 0} (is : R → Behaviour P) (old : Staged R P) (who : ℕ) 
   }
 
   pub break_cleared : has_break b (breaks_at old.breaks who) ≡ true → new ≡ without_break b (breaks_at old.breaks who)
-      → IsCarriedOut is who (command.Clear b) old (record old { breaks = slice_set old.breaks who new; logged = old.logged + 1 }) BreakCleared
+      → IsCarriedOut is who (command.Clear b) old (record old { breaks = slice_set old.breaks who new }) BreakCleared
   break_cleared has e = record {
     fine = ap (λ h. first_refusal (refused_if (not h) NoBreak ∷ [])) has;
-    leaves = λ i. world_of is (record old { breaks = slice_set old.breaks who (sym e i); logged = old.logged + 1 });
+    leaves = λ i. with_one_logged (world_of is (record old { breaks = slice_set old.breaks who (sym e i) }));
     replies = refl;
-  }
-
-  pub break_staged : IsStaged old → old.logged < old.limits.log
-      → IsStaged (record old { breaks = slice_set old.breaks who new; logged = old.logged + 1 })
-  break_staged held room = record {
-    same_limits = held.same_limits;
-    in_range = held.in_range;
-    few_cells = held.few_cells;
-    all_placed = held.all_placed;
-    cursors = held.cursors;
-    breaks = length-set old.breaks who new ∙ held.breaks;
-    few_edits = omega (arith, held.few_edits);
-    few_logged = omega (arith, room);
   }
 
 pub break_lacks : {R P : Type 0} (is : R → Behaviour P) (old : Staged R P) (who : ℕ) (b : Break)

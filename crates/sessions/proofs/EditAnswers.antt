@@ -1,10 +1,9 @@
--- How a command that edits is answered, and what it keeps of the stage.
-use Rattle.std.proofs.Common.{◌≡◌, ℕ, ◌+◌, ◌<◌, Bool, true, false, cond, ◌&&◌, ◌⊎◌, nat_lt, nat_le, List, [], ◌∷◌, length, Option, None, Some, IsSome, Result, Ok, Err, IsOk, is_some, inl, inr, refl, sym, ap, subst, ◌∙◌, arith}
+-- How a command that edits is answered.
+use Rattle.std.proofs.Common.{◌≡◌, ℕ, ◌+◌, Bool, true, false, cond, ◌&&◌, ◌⊎◌, nat_lt, nat_le, List, [], ◌∷◌, length, Option, None, Some, IsSome, Result, Ok, Err, IsOk, is_some, inl, inr, refl, sym, ap, subst, ◌∙◌, arith}
 use Rattle.std.specs.Option.{option_map}
 use Rattle.std.specs.List.{remove}
 use Rattle.std.specs.Result.{IsErrAnd}
 use Rattle.std.proofs.lemmas.Bool.Decides.{nat_tests}
-use Rattle.std.proofs.lemmas.List.{length-map, length-set}
 use Rattle.frames.specs.Behaviour.{Behaviour}
 use Rattle.schedule_trie.specs.declared.limits.Limits.{Limits}
 use Rattle.schedule_trie.specs.declared.refusal.Refusal.{Refusal}
@@ -12,23 +11,20 @@ use Rattle.schedule_trie.specs.declared.refusal.Refusal.TheVariants.{Occupied, M
 use Rattle.schedule_trie.specs.Forest as forests
 use Rattle.schedule_trie.specs.Forest.{Forest, IsForest, IsRefused, index_of, slots_in}
 use Rattle.schedule_trie.specs.Cut.{forest}
-use Rattle.schedule_trie.specs.Edits.{Edit, Insert, Remove, Replace, Fork, Detach, Drop, edited, WhyRefused, IsEdited}
+use Rattle.schedule_trie.specs.Edits.{Edit, Insert, Remove, Replace, Fork, Detach, Drop, edited, WhyRefused}
 use Rattle.cutoff.specs.Charts.{Charted}
 use Rattle.cutoff.specs.Edits.{Edits}
 use Rattle.sessions.specs.declared.cursor.Cursor.{Cursor}
-use Rattle.sessions.specs.declared.cursor.Shift.TheVariants as shift
 use Rattle.sessions.specs.declared.command.Command.{Command}
 use Rattle.sessions.specs.declared.command.Command.TheVariants as command
 use Rattle.sessions.specs.declared.reply.Reply.{Reply}
 use Rattle.sessions.specs.declared.reply.Reply.TheVariants.{Edited}
 use Rattle.sessions.specs.World.{World}
-use Rattle.sessions.specs.Cursors.{shifted, is_occupied, AreAtPlaces, IsAtPlace}
+use Rattle.sessions.specs.Cursors.{is_occupied}
 use Rattle.sessions.specs.Edits.{edit_of, moved_by, drops_occupied, is_held_up}
-use Rattle.sessions.specs.Acts.{late_by, first_refusal, refusal_in, refused_if, left_by, reply_to, edited_world, kept_or}
-use Rattle.sessions.specs.Books.{Staged, IsStaged, Does, IsCarriedOut, IsLate, world_of}
-use Rattle.sessions.proofs.Standing.{edited_stand, made_within, put_stands}
-use Rattle.views.specs.declared.breakpoint.Break.{Break}
-use Rattle.std.specs.Prelude.{slice_set, IfSome}
+use Rattle.sessions.specs.Acts.{late_by, first_refusal, refusal_in, refused_if, left_by, reply_to, edited_world, kept_or, with_one_logged}
+use Rattle.sessions.specs.Books.{Does, IsCarriedOut, IsLate, staged, world_of}
+use Rattle.sessions.specs.declared.workspace.Workspace.{Workspace}
 
 below_one : (n : ℕ) → nat_le n 1 ≡ false → nat_lt 1 n ≡ true
 below_one n e = grind (arith, nat_tests)
@@ -126,102 +122,56 @@ pub not_held_up : (b : Bool) (done : Unit {0}) → (b ≡ true → Ok done ≡ E
 not_held_up true done h = let clash = h refl in absurd (cc)
 not_held_up false done h = refl
 
--- the stage after an edit
-abbrev pub after : {R P : Type 0} → Staged R P → Charted R P → List (Option Cursor) → Staged R P
-after old chart cursors = record { chart = chart; limits = old.limits; cursors = cursors; breaks = old.breaks; edits = old.edits + 1; logged = old.logged + 1 }
+-- the workspace after an edit
+abbrev pub after : {R P : Type 0} → Workspace R P → Charted R P → List (Option Cursor) → Workspace R P
+after old chart cursors = record old { chart = chart; cursors = cursors; edits = old.edits + 1 }
 
-sixteen : (edit : Edit) (f : Forest) (cursors : List (Option Cursor)) → length (moved_by edit f cursors) ≡ length cursors
-sixteen (Insert name place step) f cursors = length-map cursors (option_map (shifted shift.Up f name place))
-sixteen (Remove name place) f cursors = length-map cursors (option_map (shifted shift.Down f name place))
-sixteen (Replace name place step) f cursors = refl
-sixteen (Fork name place new) f cursors = refl
-sixteen (Detach name) f cursors = refl
-sixteen (Drop name) f cursors = refl
-
-module _ {R P : Type 0} (is : R → Behaviour P) (old : Staged R P) (chart : Charted R P) (cursors : List (Option Cursor)) (held : IsStaged old) (edit : Edit) where
-  edits : IsEdited old.chart.cut chart.cut edit → edited old.limits (forest old.chart.cut) edit ≡ Ok (forest chart.cut)
-  edits h = subst (λ l. edited l (forest old.chart.cut) edit ≡ Ok (forest chart.cut)) held.same_limits h.forest
-
-  module _ (before : IsForest (forest old.chart.cut)) (behind : IsForest (forest chart.cut)) (room : old.logged < old.limits.log) where
-    pub staged_after : (done : Unit {0}) → is_held_up edit (forest old.chart.cut) old.cursors ≡ false → Edits old.chart chart edit (Ok done)
-        → cursors ≡ moved_by edit (forest old.chart.cut) old.cursors → IsStaged (after old chart cursors)
-    staged_after done h e m =
-        let made : edited old.limits (forest old.chart.cut) edit ≡ Ok (forest chart.cut) = edits e.0 in
-        let stays = free old.limits (forest old.chart.cut) (forest chart.cut) edit old.cursors made h in
-        let moved = edited_stand old.limits (forest old.chart.cut) (forest chart.cut) before behind.apart old.cursors held.all_placed edit made stays in
-        let long : length cursors ≡ length old.cursors = ap length m ∙ sixteen edit (forest old.chart.cut) old.cursors in
-        record {
-          same_limits = e.0.limits ∙ held.same_limits;
-          in_range = held.in_range;
-          few_cells = made_within old.limits (forest old.chart.cut) held.few_cells (forest chart.cut) edit made;
-          all_placed = subst (AreAtPlaces (forest chart.cut)) (sym m) moved;
-          cursors = long ∙ held.cursors;
-          breaks = held.breaks;
-          few_edits = omega (arith, held.few_edits);
-          few_logged = omega arith;
-        }
-
+module _ {R P : Type 0} (is : R → Behaviour P) (n : ℕ) (old : Workspace R P) (chart : Charted R P) (cursors : List (Option Cursor)) (edit : Edit) where
   module _ (who : ℕ) (c : Command) (is_edit : edit_of c ≡ Some edit) where
     pub done_edit : (done : Unit {0}) → is_held_up edit (forest old.chart.cut) old.cursors ≡ false → Edits old.chart chart edit (Ok done)
-        → cursors ≡ moved_by edit (forest old.chart.cut) old.cursors → IsCarriedOut is who c old (after old chart cursors) (Edited (old.edits + 1))
+        → cursors ≡ moved_by edit (forest old.chart.cut) old.cursors → IsCarriedOut is who c (staged old n) (staged (after old chart cursors) n) (Edited (old.edits + 1))
     done_edit done h e m =
-        let w = world_of is old in
-        let made : edited old.limits (forest old.chart.cut) edit ≡ Ok (forest chart.cut) = edits e.0 in
-        let stays = free old.limits (forest old.chart.cut) (forest chart.cut) edit old.cursors made h in
-        let forests_same : kept_or (edited old.limits (forest old.chart.cut) edit) (forest old.chart.cut) ≡ forest chart.cut = ap (λ x. kept_or x (forest old.chart.cut)) made in
+        let limits = old.chart.cut.limits in
+        let w = world_of is (staged old n) in
+        let stays = free limits (forest old.chart.cut) (forest chart.cut) edit old.cursors e.0.forest h in
+        let forests_same : kept_or (edited limits (forest old.chart.cut) edit) (forest old.chart.cut) ≡ forest chart.cut = ap (λ x. kept_or x (forest old.chart.cut)) e.0.forest in
         let register : is old.chart.start.register ≡ is chart.start.register = sym (ap (λ s. is s.register) e.1.0) in
         let value : old.chart.value ≡ chart.value = sym e.1.1 in
-        let leaves : edited_world edit w ≡ world_of is (after old chart cursors) =
+        let same_limits : limits ≡ chart.cut.limits = sym e.0.limits in
+        let leaves : edited_world edit w ≡ with_one_logged (world_of is (staged (after old chart cursors) n)) =
         λ i. record {
           tower = register i;
           value = value i;
-          limits = old.limits;
+          limits = same_limits i;
           forest = forests_same i;
           cursors = sym m i;
-          breaks = old.breaks;
+          breaks = old.breaks.items;
           edits = old.edits + 1;
-          logged = old.logged + 1;
+          logged = n + 1;
         } in
         record {
-          fine = ap (λ o. first_refusal (late_by o who c w)) is_edit ∙ fine who c w edit (forest chart.cut) made stays;
+          fine = ap (λ o. first_refusal (late_by o who c w)) is_edit ∙ fine who c w edit (forest chart.cut) e.0.forest stays;
           leaves = ap (λ o. left_by o who c w) is_edit ∙ leaves;
           replies = edit_reply who c w (subst IsSome (sym is_edit) refl);
         }
 
-    why_edit : (e : Refusal) → (is_held_up edit (forest old.chart.cut) old.cursors ≡ true → ◌≡◌ {A = Result (Unit {0}) Refusal} (Err e) (Err Occupied)) → (is_held_up edit (forest old.chart.cut) old.cursors ≡ false → Edits old.chart chart edit (Err e)) → IsLate who c (world_of is old) e
+    why_edit : (e : Refusal) → (is_held_up edit (forest old.chart.cut) old.cursors ≡ true → ◌≡◌ {A = Result (Unit {0}) Refusal} (Err e) (Err Occupied)) → (is_held_up edit (forest old.chart.cut) old.cursors ≡ false → Edits old.chart chart edit (Err e)) → IsLate who c (world_of is (staged old n)) e
     why_edit e up h = by (is_held_up edit (forest old.chart.cut) old.cursors) refl
       where
-        by : (b : Bool) → is_held_up edit (forest old.chart.cut) old.cursors ≡ b → IsLate who c (world_of is old) e
+        by : (b : Bool) → is_held_up edit (forest old.chart.cut) old.cursors ≡ b → IsLate who c (world_of is (staged old n)) e
         by true held_up =
             let occupied : e ≡ Occupied = (let failed = up held_up in cc) in
-            subst (IsLate who c (world_of is old)) (sym occupied) (inl (ap (λ o. first_refusal (late_by o who c (world_of is old))) is_edit ∙ held_up_by who c (world_of is old) edit held_up))
+            subst (IsLate who c (world_of is (staged old n))) (sym occupied) (inl (ap (λ o. first_refusal (late_by o who c (world_of is (staged old n)))) is_edit ∙ held_up_by who c (world_of is (staged old n)) edit held_up))
         by false free =
-            rw is_edit (late_edit who c (world_of is old) edit e (subst (λ l. WhyRefused edit (edited l (forest old.chart.cut) edit) e) held.same_limits (h free).0))
+            rw is_edit (late_edit who c (world_of is (staged old n)) edit e (h free).0)
 
     -- an edit that is refused, or runs out of memory
     pub undone_edit : (r : Result Reply Refusal) (e : Refusal) (Is : Refusal → Type 0) → IsErrAnd r Is → ((x : Refusal) → Is x → x ≡ e) → (is_held_up edit (forest old.chart.cut) old.cursors ≡ true → ◌≡◌ {A = Result (Unit {0}) Refusal} (Err e) (Err Occupied))
         → (is_held_up edit (forest old.chart.cut) old.cursors ≡ false → Edits old.chart chart edit (Err e)) → (chart ≡ old.chart) × (cursors ≡ old.cursors)
-        → Does is who c old (record old { chart = chart; cursors = cursors }) r
+        → Does is who c (staged old n) (staged (record old { chart = chart; cursors = cursors }) n) r
     undone_edit (Ok reply) e Is told one up h kept = absurd told
     undone_edit (Err x) e Is told one up h kept =
         record {
-          why = subst (IsLate who c (world_of is old)) (sym (one x told)) (why_edit e up h);
-          same = λ i. world_of is (record old { chart = kept.0 i; cursors = kept.1 i });
+          why = subst (IsLate who c (world_of is (staged old n))) (sym (one x told)) (why_edit e up h);
+          same = λ i. world_of is (staged (record old { chart = kept.0 i; cursors = kept.1 i }) n);
         }
-
--- the stage after a command that puts a session's cursor keeps what stages guarantee
-pub put_staged : {R P : Type 0} (s : Staged R P) (who : ℕ) (o : Option Cursor) (breaks : List (List Break)) → IsStaged s → who < 16 → IfSome o (IsAtPlace (forest s.chart.cut)) → length breaks ≡ 16
-    → s.logged < s.limits.log
-    → IsStaged (record { chart = s.chart; limits = s.limits; cursors = slice_set s.cursors who o; breaks = breaks; edits = s.edits; logged = s.logged + 1 })
-put_staged s who o breaks held few one long room =
-    let same : length (slice_set s.cursors who o) ≡ length s.cursors = length-set s.cursors who o in
-    record {
-      same_limits = held.same_limits;
-      in_range = held.in_range;
-      few_cells = held.few_cells;
-      all_placed = put_stands (forest s.chart.cut) s.cursors who o (omega (arith, held.cursors)) one held.all_placed;
-      cursors = same ∙ held.cursors;
-      breaks = long;
-      few_edits = omega (arith, held.few_edits);
-      few_logged = omega arith;
-    }

@@ -1,5 +1,5 @@
--- A stage whose chart changes but keeps its branches.
-use Rattle.std.proofs.Common.{◌≡◌, ◌≤◌, ℕ, Bool, sym, ap, subst, ◌∙◌}
+-- A workspace whose chart changes but keeps its branches.
+use Rattle.std.proofs.Common.{◌≡◌, ℕ, Bool, ap}
 use Rattle.frames.specs.Behaviour.{Behaviour}
 use Rattle.checkpoints.specs.Segment.{SegmentRun}
 use Rattle.schedule_trie.specs.Cut.{forest}
@@ -8,8 +8,8 @@ use Rattle.cutoff.specs.declared.install.Installation.TheVariants.{Installed, St
 use Rattle.cutoff.specs.Charts.{Charted}
 use Rattle.cutoff.specs.Installs.{Installs}
 use Rattle.views.specs.Looks.{IsChartKept}
-use Rattle.sessions.specs.Cursors.{AreAtPlaces}
-use Rattle.sessions.specs.Books.{Staged, IsStaged, world_of}
+use Rattle.sessions.specs.Books.{staged, world_of}
+use Rattle.sessions.specs.declared.workspace.Workspace.{Workspace}
 
 module _ {R P : Type 0} where
   same_kept : (old new : Charted R P) → new ≡ old → IsChartKept old new
@@ -29,30 +29,15 @@ module _ {R P : Type 0} where
       let noted = h.2.noted.2 in
       record { branches = noted.unchanged; limits = noted.limits; start = h.2.start; value = h.2.value }
 
-  abbrev pub with_chart : Staged R P → Charted R P → Staged R P
-  with_chart s chart = record s { chart = chart }
-
-  pub kept_staged : (s : Staged R P) (new : Charted R P) → IsChartKept s.chart new → IsStaged s → IsStaged (with_chart s new)
-  kept_staged s new kept held = record {
-    same_limits = kept.limits ∙ held.same_limits;
-    in_range = held.in_range;
-    few_cells = subst (λ f. f.made ≤ s.limits.cells) (sym kept.branches) held.few_cells;
-    all_placed = subst (λ f. AreAtPlaces f s.cursors) (sym kept.branches) held.all_placed;
-    cursors = held.cursors;
-    breaks = held.breaks;
-    few_edits = held.few_edits;
-    few_logged = held.few_logged;
-  }
-
-  pub kept_world : (is : R → Behaviour P) (s : Staged R P) (new : Charted R P) → IsChartKept s.chart new
-      → world_of is (with_chart s new) ≡ world_of is s
-  kept_world is s new kept = λ i. record {
+  pub kept_world : (is : R → Behaviour P) (s : Workspace R P) (new : Charted R P) (n : ℕ) → IsChartKept s.chart new
+      → world_of is (staged (record s { chart = new }) n) ≡ world_of is (staged s n)
+  kept_world is s new n kept = λ i. record {
     tower = is (kept.start i).register;
     value = kept.value i;
-    limits = s.limits;
+    limits = kept.limits i;
     forest = kept.branches i;
     cursors = s.cursors;
-    breaks = s.breaks;
+    breaks = s.breaks.items;
     edits = s.edits;
-    logged = s.logged;
+    logged = n;
   }

@@ -9,9 +9,11 @@ pub mod Looks
 pub mod Towers
 pub mod Rows
 pub mod Standing
+pub mod Sound
 pub mod Unmoved
 pub mod EditAnswers
 pub mod Loads
 pub mod Openings
 pub mod Kept
 pub mod BreakAnswers
+pub mod SeekAnswers

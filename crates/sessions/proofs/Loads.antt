@@ -13,7 +13,8 @@ use Rattle.schedule_trie.specs.Limbs.{FitLimits, AreLawfulLimbs, cells_of, fores
 use Rattle.schedule_trie.proofs.LimbLaws.{forest_made}
 use Rattle.cutoff.specs.Charts.{Charted, LimbsFit}
 use Rattle.sessions.specs.World.{opening}
-use Rattle.sessions.specs.Books.{Staged, opening_over, world_of}
+use Rattle.sessions.specs.Books.{opening_over, staged, world_of}
+use Rattle.sessions.specs.declared.workspace.Workspace.{Workspace}
 use Rattle.sessions.specs.Saves.{IsSaved}
 
 pub loaded_is : (limits : Limits) (ls : List Limb) (f : Forest) → loaded limits ls ≡ Ok f → (f ≡ forest_of ls) × (f.made ≤ limits.cells)
@@ -43,10 +44,9 @@ opening_so is chart register value limits f same_register same_value same =
     λ i. opening (is (same_register i)) (same_value i) limits (same i)
 
 -- a chart's limbs are what is saved of its world
-pub saved_so : {R P A E : Type 0} (is : R → Behaviour P) (s : Staged R P) (items : A → List Limb) (told : Result A E) → s.chart.cut.limits ≡ s.limits
+pub saved_so : {R P A E : Type 0} (is : R → Behaviour P) (s : Workspace R P) (n : ℕ) (items : A → List Limb) (told : Result A E)
     → IfOk told (λ r. items r ≡ limbs (forest s.chart.cut)) → IfOk told (λ r. AreLawfulLimbs (items r)) → IfOk told (λ r. 0 < length (items r))
     → IfOk told (λ r. FitLimits s.chart.cut.limits (items r)) → IfOk told (λ r. LimbsFit (is s.chart.start.register) (items r))
-    → IfOk told (λ r. IsSaved (world_of is s) (items r))
-saved_so is s items (Ok r) limits same lawful some near fit =
-    record { same = same; lawful = lawful; some = some; fit = fit; near = subst (λ l. FitLimits l (items r)) limits near }
-saved_so is s items (Err e) limits same lawful some near fit = tt
+    → IfOk told (λ r. IsSaved (world_of is (staged s n)) (items r))
+saved_so is s n items (Ok r) same lawful some near fit = record { same = same; lawful = lawful; some = some; fit = fit; near = near }
+saved_so is s n items (Err e) same lawful some near fit = tt

@@ -1,9 +1,9 @@
 -- Looks at one branch, and at a session.
-use Rattle.std.proofs.Common.{◌≡◌, ◌∙◌, ◌<◌, ◌||◌, ℕ, true, false, nat_lt, List, length, Option, None, Some, is_none, get_or, refl, sym, ap, arith}
+use Rattle.std.proofs.Common.{◌≡◌, ◌∙◌, ◌<◌, ◌||◌, ℕ, true, false, nat_lt, List, length, Option, None, is_none, get_or, refl, ap, arith}
 use Rattle.std.proofs.lemmas.Bool.Decides.{nat_tests}
 use Rattle.std.proofs.lemmas.List.{get_or_default}
-use Rattle.views.specs.declared.query.Query.{Query}
-use Rattle.views.specs.declared.query.Query.TheVariants.{Branches, Cursor}
+use Rattle.pages.specs.declared.query.Query.{Query}
+use Rattle.pages.specs.declared.query.Query.TheVariants.{Branches, Cursor}
 use Rattle.views.specs.Looks as views
 use Rattle.views.specs.Looks.{is_at_branch}
 use Rattle.sessions.specs.World.{World}
@@ -23,15 +23,19 @@ shown_at w query h = (alike_at w query h).0
 pub looked_at : {P : Type 0} (w : World P) (query : Query) → is_at_branch query ≡ true → views.looked query w.forest ≡ looked_in w query
 looked_at w query h = (alike_at w query h).1
 
+pub at_branch : (query : Query) → (query ≡ Branches → ⊥) → ((who : ℕ) → query ≡ Cursor who → ⊥) → is_at_branch query ≡ true
+at_branch Branches branches cursor = absurd (branches refl)
+at_branch (Cursor who) branches cursor = absurd (cursor who refl)
+at_branch query branches cursor = refl
+
 not_past : (who : ℕ) → who < 16 → nat_lt 15 who ≡ false
 not_past who h = grind (arith, nat_tests)
 
 -- a session's cursor
-module _ (inside now : List (Option declared.Cursor)) (who : ℕ) (default : Option declared.Cursor) (cursor : declared.Cursor)
-    (same : inside ≡ now) (sixteen : length inside ≡ 16) (within : who < 16) (here : get_or inside who default ≡ Some cursor) where
-  pub stands_at : cursor_at now who ≡ Some cursor
-  stands_at =
-      ap (λ l. cursor_at l who) (sym same) ∙ get_or_default inside who None default (omega (arith, within, sixteen)) ∙ here
+module _ (cursors : List (Option declared.Cursor)) (who : ℕ) (default cursor : Option declared.Cursor)
+    (sixteen : length cursors ≡ 16) (within : who < 16) (here : get_or cursors who default ≡ cursor) where
+  pub stands_at : cursor_at cursors who ≡ cursor
+  stands_at = get_or_default cursors who None default (omega (arith, within, sixteen)) ∙ here
 
-  pub lacks_none : lacks_cursor who now ≡ false
-  lacks_none = ap (λ b. b || is_none (cursor_at now who)) (not_past who within) ∙ ap is_none stands_at
+  pub lacks_so : lacks_cursor who cursors ≡ is_none cursor
+  lacks_so = ap (λ b. b || is_none (cursor_at cursors who)) (not_past who within) ∙ ap is_none stands_at

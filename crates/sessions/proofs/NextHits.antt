@@ -2,16 +2,12 @@
 use Rattle.std.proofs.Common.{◌≡◌, ℕ, zero, suc, ◌+◌, ◌<◌, Bool, true, false, ◌&&◌, cond, nat_lt, [], ◌∷◌, Option, Some, None, MatchOption, IfSome, inl, inr, refl, sym, ap, subst, ◌∙◌, arith, reverse}
 use Rattle.std.specs.List.{find}
 use Rattle.std.specs.Option.{option_or}
-use Rattle.std.proofs.lemmas.Bool.{cases_lt}
+use Rattle.std.proofs.lemmas.Bool.{cases_lt, and_parts}
 use Rattle.std.proofs.lemmas.List.Folds.{find-append}
 use Rattle.sessions.specs.declared.way.Way.{Way}
 use Rattle.sessions.specs.declared.way.Way.TheVariants.{Forth, Back}
 use Rattle.sessions.specs.Seeks.{places_with, next_place, is_ahead, IsNextHit}
 use Rattle.sessions.proofs.Searches.{places_more, find_one, find_last}
-
-both : (a b : Bool) → (a && b) ≡ true → (a ≡ true) × (b ≡ true)
-both true b e = (refl, e)
-both false b e = cc
 
 not_first : (a b : Bool) → (a && b) ≡ false → b ≡ true → a ≡ false
 not_first true b e f = cc
@@ -42,7 +38,7 @@ module _ (test : ℕ → Bool) (from : ℕ) where
 
   by_here : (n : ℕ) (t : Bool) → (test n && nat_lt from n) ≡ t → ((j : ℕ) → j < n → (test j && nat_lt from j) ≡ false) → Found Forth (suc n) (cond t (Some n) None)
   by_here n true e none =
-      let here = both (test n) (nat_lt from n) e in
+      let here = and_parts (test n) (nat_lt from n) e in
       record {
         within = omega arith;
         hit = here.0;
@@ -82,7 +78,7 @@ module _ (test : ℕ → Bool) (from : ℕ) where
 
   by_last : (n : ℕ) (t : Bool) (o : Option ℕ) → (test n && nat_lt n from) ≡ t → Found Back n o → Found Back (suc n) (cond t (Some n) o)
   by_last n true o e h =
-      let here = both (test n) (nat_lt n from) e in
+      let here = and_parts (test n) (nat_lt n from) e in
       record {
         within = omega arith;
         hit = here.0;

@@ -1,5 +1,5 @@
 -- Every reply to a command that can be logged is logged.
-use Rattle.std.proofs.Common.{◌≡◌, ℕ, ◌+◌, Bool, true, false, not, cond, nat_le, nat_lt, nat_eq, List, [], ◌∷◌, Option, Some, None, Result, Ok, Err, length, map, refl, sym, ap, subst, ◌∙◌, inl, inr}
+use Rattle.std.proofs.Common.{◌≡◌, ℕ, ◌+◌, Bool, true, false, not, cond, nat_le, nat_lt, nat_eq, List, [], ◌∷◌, Option, Some, None, Result, Ok, Err, length, map, refl, sym, ap, subst, ◌∙◌}
 use Rattle.std.specs.List.{list_any}
 use Rattle.std.specs.Cmp.Lexicographic.{pointwise}
 use Rattle.schedule_trie.specs.declared.limits.Limits.{Limits}
@@ -17,10 +17,9 @@ use Rattle.sessions.specs.declared.reply.Reply.{Reply}
 use Rattle.sessions.specs.declared.reply.Reply.TheVariants.{No}
 use Rattle.sessions.specs.declared.way.Way.TheVariants as way
 use Rattle.sessions.specs.World.{World}
-use Rattle.sessions.specs.Acts.{command_result, answered, refusals, late_refusals, first_refusal, refused_if, refusal_in, refused, reply_to, hit_reply, hit_of, is_full, lacks_session, is_missed, fits_command, lacks_break, looked_by, late_by, left_by}
+use Rattle.sessions.specs.Acts.{command_result, answered, refusals, first_refusal, refused_if, refusal_in, refused, reply_to, hit_reply, hit_of, is_full, lacks_session, is_missed, fits_command, lacks_break, looked_by, late_by, left_by}
 use Rattle.sessions.specs.Edits.{edit_of, drops_occupied}
 use Rattle.sessions.specs.Logs.{is_logged}
-use Rattle.sessions.specs.Books.{IsLate}
 
 -- a refusal, if there is one, is logged
 abbrev IsOrdinary : Option Refusal → Type 0

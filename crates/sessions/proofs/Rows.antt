@@ -7,7 +7,7 @@ use Rattle.frames.specs.declared.safe.SafePoint.{SafePoint}
 use Rattle.schedule_trie.specs.declared.limits.Limits.{Limits}
 use Rattle.schedule_trie.specs.declared.refusal.Refusal.TheVariants.{NoBranch, NameTaken, BadName, NoPlace, LastBranch, TooManyBranches, BadStep, Occupied, NoBreak, NoSession, Newer, LogFull}
 use Rattle.schedule_trie.specs.Forest as forests
-use Rattle.views.specs.declared.breakpoint.Break.TheVariants as break
+use Rattle.pages.specs.declared.breakpoint.Break.TheVariants as break
 use Rattle.sessions.specs.declared.command.Command.{Command}
 use Rattle.sessions.specs.declared.command.Command.TheVariants as command
 use Rattle.sessions.specs.declared.reply.Reply.{Reply}

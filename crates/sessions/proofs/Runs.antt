@@ -17,8 +17,8 @@ use Rattle.cutoff.specs.Settles.{Settles, IsSettled}
 use Rattle.cutoff.specs.Charts.{Charted, keys_named}
 use Rattle.cutoff.specs.Links.{without_register}
 use Rattle.cutoff.proofs.Fits.{register_kept, alone_same}
-use Rattle.views.specs.declared.breakpoint.Break.{Break}
-use Rattle.views.specs.Breaks.{is_met}
+use Rattle.pages.specs.declared.breakpoint.Break.{Break}
+use Rattle.pages.specs.Breaks.{is_met}
 use Rattle.frames.specs.Recorded.{Alone, first_configuration, shown}
 use Rattle.views.specs.Looks.{steps_in}
 use Rattle.views.proofs.Spots.{steps_named}

@@ -5,12 +5,13 @@ use Rattle.std.specs.Option.{option_or}
 use Rattle.std.proofs.lemmas.List.{reverse-append}
 use Rattle.std.proofs.lemmas.List.Elements.{filter-append}
 use Rattle.std.proofs.lemmas.List.Folds.{find-append}
+use Rattle.std.proofs.lemmas.Bool.{or_parts}
 use Rattle.safe_bit.specs.Memory.{Memory}
 use Rattle.frames.specs.declared.types.StepEvents.{StepEvents}
-use Rattle.views.specs.declared.breakpoint.Break.{Break}
-use Rattle.views.specs.declared.breakpoint.Break.TheVariants.{Returns, Bit, Chosen, Void, Refused}
+use Rattle.pages.specs.declared.breakpoint.Break.{Break}
+use Rattle.pages.specs.declared.breakpoint.Break.TheVariants.{Returns, Bit, Chosen, Void, Refused}
 use Rattle.frames.specs.declared.types.Event.{Event}
-use Rattle.views.specs.Breaks.{is_met, is_in, is_recorded, is_shown}
+use Rattle.pages.specs.Breaks.{is_met, is_in, is_recorded, is_shown}
 use Rattle.sessions.specs.declared.way.Way.{Way}
 use Rattle.sessions.specs.declared.way.Way.TheVariants.{Forth, Back}
 use Rattle.sessions.specs.Seeks.{places_with, least_above, greatest_below, next_place}
@@ -90,11 +91,6 @@ either_in first second (b ∷ bs) =
     or_apart (is_in b first) (list_any (λ break. is_in break first) bs) (is_in b second) (list_any (λ break. is_in break second) bs)
     ∙ ap (λ rest. (is_in b first || is_in b second) || rest) (either_in first second bs)
 
--- breaks of which none is on a bit
-or_false : (a b : Bool) → (a || b) ≡ false → (a ≡ false) × (b ≡ false)
-or_false true b e = cc
-or_false false b e = (refl, e)
-
 shown_false : (break : Break) (m : Memory) → is_on_bit break ≡ false → is_shown break m ≡ false
 shown_false (Returns p) m e = refl
 shown_false (Bit j v) m e = cc
@@ -109,7 +105,7 @@ or_nothing false b e = e
 pub met_by_records : (breaks : List Break) (events : StepEvents) (m : Memory) → list_any is_on_bit breaks ≡ false → is_met breaks events m ≡ records_any breaks events
 met_by_records [] events m e = refl
 met_by_records (break ∷ breaks) events m e =
-    let none = or_false (is_on_bit break) (list_any is_on_bit breaks) e in
+    let none = or_parts (is_on_bit break) (list_any is_on_bit breaks) e in
     ap (λ b. b || is_met breaks events m) (or_nothing (is_recorded break events) (is_shown break m) (shown_false break m none.0))
     ∙ ap (λ b. is_recorded break events || b) (met_by_records breaks events m none.1)
 

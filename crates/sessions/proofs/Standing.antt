@@ -6,13 +6,15 @@ use Rattle.std.specs.Cmp.Lexicographic.{pointwise, nat_list_eq_equiv}
 use Rattle.std.proofs.lemmas.Bool.Decides.{nat_tests}
 use Rattle.std.proofs.lemmas.List.{length-append, length-map, length-take-le, get_or-set_same, get_or-set_other}
 use Rattle.std.specs.List.{IsDistinct, AllByRecursion}
-use Rattle.std.specs.Prelude.{replicate, slice_set}
+use Rattle.std.specs.Prelude.{slice_set}
 use Rattle.std.proofs.lemmas.Map.Steps.{length-le_from_distinct_below}
 use Rattle.std.proofs.lemmas.List.Folds.{list_any_at}
 use Rattle.std.proofs.Math.ListN.{get_or-map}
 use Rattle.std.proofs.lemmas.List.Quantifiers.{position-Some}
 use Rattle.std.proofs.lemmas.List.Sums.{fails_before_first}
 use Rattle.std.proofs.lemmas.Option.{slice_get-get_or, slice_get_within, slice_get_past, get_or_from_slice_get}
+use Rattle.std.proofs.lemmas.Bool.{and_parts}
+use Rattle.schedule_trie.proofs.Lists.{cell_in_at}
 use Rattle.frames.specs.declared.types.Step.{Step}
 use Rattle.schedule_trie.specs.declared.slot.Slot.{Slot}
 use Rattle.schedule_trie.specs.declared.limits.Limits.{Limits}
@@ -202,15 +204,6 @@ at_place [] k h = absurd (omega arith)
 at_place (y ∷ ys) zero h = (y, refl)
 at_place (y ∷ ys) (suc k) h = at_place ys k (omega arith)
 
-cell_there : (slots : List Slot) (k : ℕ) (s : Slot) → slice_get slots k ≡ Some s → cell_in slots k ≡ s.cell
-cell_there [] k s e = absurd (cc)
-cell_there (y ∷ ys) zero s e = let same : y ≡ s = cc in ap (λ z. z.cell) same
-cell_there (y ∷ ys) (suc k) s e = cell_there ys k s e
-
-both : (a b : Bool) → (a && b) ≡ true → (a ≡ true) × (b ≡ true)
-both true b e = (refl, e)
-both false b e = absurd (cc)
-
 some_at : (o : Option ℕ) → is_some o ≡ true → (k : ℕ) × (o ≡ Some k)
 some_at None e = absurd (cc)
 some_at (Some k) e = (k, refl)
@@ -247,7 +240,7 @@ module _ (f : Forest) (held : IsForest f) (name : List ℕ) (place i : ℕ) (fou
   -- at the end of a branch no cursor is after the place
   last_behind : length here ≤ place → is_shifted_by f name place c ≡ true → ⊥
   last_behind past e =
-      let p = both (pointwise nat_eq name c.branch) (nat_lt place c.place) (ap (λ o. acts_in o f name c.branch && nat_lt place c.place) (sym (cell_none past)) ∙ e) in
+      let p = and_parts (pointwise nat_eq name c.branch) (nat_lt place c.place) (ap (λ o. acts_in o f name c.branch && nat_lt place c.place) (sym (cell_none past)) ∙ e) in
       let same : name ≡ c.branch = same_name name c.branch p.0 in
       let index : Some i ≡ Some s.index = sym found ∙ ap (index_of f.branches) same ∙ found_apart f.branches s.index c.branch held.apart s.named in
       let one : i ≡ s.index = cc in
@@ -258,7 +251,7 @@ module _ (f : Forest) (held : IsForest f) (name : List ℕ) (place i : ℕ) (fou
   -- a cursor after a cell is on a branch that has it
   has_behind : (t : Slot) → slice_get here place ≡ Some t → is_shifted_by f name place c ≡ true → ((k : ℕ) × (position (is_cell t.cell) there ≡ Some k)) × (place < c.place)
   has_behind t at e =
-      let p = both (is_some (place_of f c.branch t.cell)) (nat_lt place c.place) (ap (λ o. acts_in o f name c.branch && nat_lt place c.place) (sym (cell_is t at)) ∙ e) in
+      let p = and_parts (is_some (place_of f c.branch t.cell)) (nat_lt place c.place) (ap (λ o. acts_in o f name c.branch && nat_lt place c.place) (sym (cell_is t at)) ∙ e) in
       (some_at (position (is_cell t.cell) there) (ap is_some (sym (placed t.cell)) ∙ p.0), above place c.place p.1)
 
   goes : (cs : List Branch) (sh : Shift) → (is_shifted_by f name place c ≡ true → Stands cs (cursor c.branch (shifted_place sh c.place)))
@@ -437,7 +430,7 @@ module _ (limits : Limits) (f : Forest) (held : IsForest f) (c : Cursor) (s : St
       by i found within false other =
           let apart = other_number place (length (slots_in f.branches i)) other in
           let t = at_place (slots_in f.branches i) place (below place (length (slots_in f.branches i)) within apart) in
-          subst (λ x. Stands (everywhere (put_before x (forests.slot f.made step)) f.branches) (shifted shift.Up f name place c)) (sym (cell_there (slots_in f.branches i) place t.0 t.1))
+          subst (λ x. Stands (everywhere (put_before x (forests.slot f.made step)) f.branches) (shifted shift.Up f name place c)) (sym (cell_in_at (slots_in f.branches i) place t.0 t.1))
           (insert_before f held name place i found c s (forests.slot f.made step) t.0 t.1)
   edited_one (Remove name place) h =
       let goes = Goes (Remove name place) in
@@ -445,7 +438,7 @@ module _ (limits : Limits) (f : Forest) (held : IsForest f) (c : Cursor) (s : St
       (λ i found. asked_ok goes (nat_le (length (slots_in f.branches i)) place) NoPlace _ (λ fits.
       let here = slots_in f.branches i in
       let t = at_place here place (not_below (length here) place fits) in
-      subst (λ x. Stands (everywhere (without x) f.branches) (shifted shift.Down f name place c)) (sym (cell_there here place t.0 t.1)) (remove_at f held name place i found c s t.0 t.1)))
+      subst (λ x. Stands (everywhere (without x) f.branches) (shifted shift.Down f name place c)) (sym (cell_in_at here place t.0 t.1)) (remove_at f held name place i found c s t.0 t.1)))
   edited_one (Replace name place step) h =
       let goes = Goes (Replace name place step) in
       found_ok goes (index_of f.branches name) (forests.at_cell f place (forests.replaced_by step))
@@ -603,17 +596,6 @@ goes_within f c place n h len few =
     let same : length (slots_in f.branches p.0) ≡ n = cc in
     ap (λ o. forests.on_found o (looked_at f place)) p.1 ∙ ap (λ b. cond b (Err NoPlace) (Ok f)) (lt_false (length (slots_in f.branches p.0)) place (omega arith))
 
--- a place that is at most a branch's length exists
-pub goes_to : (f : Forest) (branch : List ℕ) (place n : ℕ) → len_of f branch ≡ Some n → place ≤ n → IsAtPlace f (cursor branch place)
-goes_to f branch place n = by (index_of f.branches branch)
-  where
-    by : (o : Option ℕ) → option_map (λ i. length (slots_in f.branches i)) o ≡ Some n → place ≤ n
-        → forests.on_found o (looked_at f place) ≡ Ok f
-    by None len few = absurd (cc)
-    by (Some i) len few =
-        let same : length (slots_in f.branches i) ≡ n = cc in
-        ap (λ b. cond b (Err NoPlace) (Ok f)) (lt_false (length (slots_in f.branches i)) place (omega (arith, same, few)))
-
 -- the place of a hit exists
 pub hit_stands : (f : Forest) (c : Cursor) (place : ℕ) → IsAtPlace f c → place < length (steps_in f c.branch) + 1
     → IsAtPlace f (cursor c.branch place)
@@ -623,9 +605,3 @@ hit_stands f c place h within =
     let len : len_of f c.branch ≡ Some n = ap (option_map (λ i. length (slots_in f.branches i))) p.1 in
     let long = length_told f c.branch n (sym len) in
     goes_within f c place n h len (omega (arith, long, within))
-
--- before any session has joined, each cursor is at a place that exists
-pub none_stand : (f : Forest) (n who : ℕ) → IfSome (cursor_at (replicate n None) who) (IsAtPlace f)
-none_stand f zero who = tt
-none_stand f (suc n) zero = tt
-none_stand f (suc n) (suc who) = none_stand f n who

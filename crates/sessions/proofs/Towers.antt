@@ -7,7 +7,7 @@ use Rattle.schedule_trie.specs.Edits.{Edit}
 use Rattle.sessions.specs.declared.command.Command.{Command}
 use Rattle.sessions.specs.declared.log.Entry.{Entry}
 use Rattle.sessions.specs.World.{World}
-use Rattle.sessions.specs.Acts.{command_result, answered, first_refusal, left_by, refusals, refused}
+use Rattle.sessions.specs.Acts.{answered, first_refusal, left_by, refusals, refused}
 use Rattle.sessions.specs.Edits.{edit_of}
 use Rattle.sessions.specs.Logs.{acted_by, world_after}
 use Rattle.sessions.specs.Books.{Held, IsHeld, opening_of, world_of}

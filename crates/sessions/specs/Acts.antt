@@ -10,7 +10,7 @@ use Rattle.schedule_trie.specs.Forest.{Forest}
 use Rattle.schedule_trie.specs.Edits.{Edit, edited, step_in}
 use Rattle.cutoff.specs.Charts.{look}
 use Rattle.cutoff.specs.Edits.{fits_if_any}
-use Rattle.views.specs.declared.breakpoint.Break.{Break}
+use Rattle.pages.specs.declared.breakpoint.Break.{Break}
 use Rattle.views.specs.Looks.{steps_in}
 use Rattle.sessions.specs.declared.cursor.Cursor.{Cursor}
 use Rattle.sessions.specs.declared.way.Way.{Way}
@@ -78,12 +78,11 @@ module _ {P : Type 0} where
   abbrev pub is_full : World P → Bool
   is_full w = nat_le w.limits.log w.logged
 
-  -- the reasons to refuse a command that are tested before its branch is looked up, in the order
-  -- they are tested; `None` for each that doesn't apply
+  -- the reasons to refuse a command, if the log isn't full, that are tested before its branch is
+  -- looked up, in the order they are tested; `None` for each that doesn't apply
   abbrev pub early_refusals : ℕ → Option ℕ → Command → World P → List (Option Refusal)
   early_refusals who guard c w =
-      refused_if (is_full w) LogFull
-      ∷ refused_if (lacks_session who c w.cursors) NoSession
+      refused_if (lacks_session who c w.cursors) NoSession
       ∷ refused_if (is_missed guard w.edits) (Newer w.edits)
       ∷ refused_if (not (fits_command w.tower c)) BadStep
       ∷ []
@@ -115,9 +114,10 @@ module _ {P : Type 0} where
   abbrev pub late_refusals : ℕ → Command → World P → List (Option Refusal)
   late_refusals who c w = late_by (edit_of c) who c w
 
-  -- all reasons to refuse a command, in that order; `None` for each that doesn't apply
+  -- all reasons to refuse a command, in the order they are tested, a full log first; `None` for each
+  -- that doesn't apply
   abbrev pub refusals : ℕ → Option ℕ → Command → World P → List (Option Refusal)
-  refusals who guard c w = early_refusals who guard c w ++ late_refusals who c w
+  refusals who guard c w = refused_if (is_full w) LogFull ∷ (early_refusals who guard c w ++ late_refusals who c w)
 
   -- what a seek in this direction moves the cursor `c` to: the nearest place, other than c's, at
   -- which one of these breaks is met; `None` if there is no such place

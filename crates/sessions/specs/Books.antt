@@ -1,5 +1,7 @@
 -- What a book guarantees by its type. `is` gives the behaviour of a register.
-use Rattle.std.specs.Prelude.{ℕ, ◌≡◌, ◌≤◌, ◌⊎◌, false, List, Option, Some, None, Result, Ok, Err, length}
+use Rattle.std.specs.Prelude.{ℕ, ◌≡◌, ◌≤◌, ◌-◌, ◌⊎◌, false, List, Option, Some, None, Result, Ok, Err, length, vec_capacity, vec_len}
+use Rattle.std.specs.Global.{Vec}
+use Rattle.std.specs.declared.alloc.AllocError.{AllocError}
 use Rattle.frames.specs.Behaviour.{Behaviour}
 use Rattle.frames.specs.Configuration.{initial_configuration}
 use Rattle.schedule_trie.specs.declared.limits.Limits.{Limits}
@@ -7,7 +9,7 @@ use Rattle.schedule_trie.specs.declared.refusal.Refusal.{Refusal}
 use Rattle.schedule_trie.specs.declared.refusal.Refusal.TheVariants.{Memory}
 use Rattle.schedule_trie.specs.Cut.{AreLimits, forest}
 use Rattle.cutoff.specs.Charts.{Charted}
-use Rattle.views.specs.declared.breakpoint.Break.{Break}
+use Rattle.pages.specs.declared.breakpoint.Break.{Break}
 use Rattle.sessions.specs.declared.cursor.Cursor.{Cursor}
 use Rattle.sessions.specs.declared.command.Command.{Command}
 use Rattle.sessions.specs.declared.command.Command.TheVariants as command
@@ -16,9 +18,10 @@ use Rattle.sessions.specs.declared.way.Way.TheVariants.{Forth, Back}
 use Rattle.sessions.specs.declared.reply.Reply.{Reply}
 use Rattle.sessions.specs.declared.reply.Reply.TheVariants.{No}
 use Rattle.sessions.specs.declared.log.Entry.{Entry}
+use Rattle.sessions.specs.declared.workspace.Workspace.{Workspace}
 use Rattle.sessions.specs.Cursors.{AreAtPlaces}
 use Rattle.sessions.specs.World.{World, opening}
-use Rattle.sessions.specs.Acts.{command_result, first_refusal, refusals, late_refusals, is_full, left, reply_to}
+use Rattle.sessions.specs.Acts.{command_result, first_refusal, refusals, late_refusals, is_full, left, reply_to, with_one_logged}
 use Rattle.sessions.specs.Logs.{IsLegal, world_after, logged}
 
 -- a stage: a world whose branches are kept in a chart, with stored runs that commands don't see
@@ -44,19 +47,20 @@ world_of is s =
       logged = s.logged;
     }
 
--- the invariant of a stage: its limits are in their ranges, and equal those of its chart; the
--- numbers of cells ever made and of logged commands are within these limits; it has sixteen
--- sessions, whose cursors are at places that exist; and the number of edits is at most that of
--- logged commands
-pub record IsStaged {R P : Type 0} (s : Staged R P) : Type 0 where
-  pub same_limits : s.chart.cut.limits ≡ s.limits
-  pub in_range : AreLimits s.limits
-  pub few_cells : (forest s.chart.cut).made ≤ s.limits.cells
-  pub all_placed : AreAtPlaces (forest s.chart.cut) s.cursors
-  pub cursors : length s.cursors ≡ 16
-  pub breaks : length s.breaks ≡ 16
-  pub few_edits : s.edits ≤ s.logged
-  pub few_logged : s.logged ≤ s.limits.log
+-- the stage of a workspace, when n commands are logged
+abbrev pub staged : {R P : Type 0} → Workspace R P → ℕ → Staged R P
+staged s n = record { chart = s.chart; limits = s.chart.cut.limits; cursors = s.cursors; breaks = s.breaks.items; edits = s.edits; logged = n }
+
+-- what every command keeps of a world: its limits are in their ranges; the number of cells ever
+-- made is within them; it has sixteen sessions, whose cursors are at places that exist; and the
+-- number of edits is at most that of logged commands
+pub record IsLawfulWorld {P : Type 0} (w : World P) : Type 0 where
+  pub in_range : AreLimits w.limits
+  pub few_cells : w.forest.made ≤ w.limits.cells
+  pub all_placed : AreAtPlaces w.forest w.cursors
+  pub cursors : length w.cursors ≡ 16
+  pub breaks : length w.breaks ≡ 16
+  pub few_edits : w.edits ≤ w.logged
 
 -- a book: the chart that it opened with, its present stage, its log, and the number of further
 -- entries that the log has memory reserved for
@@ -90,6 +94,16 @@ pub record IsHeld {R P : Type 0} (is : R → Behaviour P) (h : Held R P) : Type 
   pub count : length h.log ≡ h.now.logged
   pub few : h.now.logged ≤ h.now.limits.log
   pub most_log : h.now.limits.log ≤ 1048576
+
+-- a book, from its fields
+abbrev pub book_of : {R P : Type 0} → Charted R P → Workspace R P → Vec Entry → Held R P
+book_of first s log = record { first = first; now = staged s (length log.items); log = log.items; room = vec_capacity log - vec_len log }
+
+-- the invariant of a book whose log may have `log_limit` entries
+pub record IsBook {R P : Type 0} (is : R → Behaviour P) (log_limit : ℕ) (h : Held R P) : Type 0 where
+  pub held : IsHeld is h
+  pub sound : IsLawfulWorld (world_of is h.now)
+  pub same_limit : h.now.limits.log ≡ log_limit
 
 -- a book answers the command of the entry e: the reply in e and the new world are those that
 -- `command_result` gives in the old world; e is added to the log, unless the reply is LogFull or
@@ -130,11 +144,11 @@ RefusesMemoryLast is h who guard c reply = reply ≡ No Memory → MayLackMemory
 abbrev pub IsLate : {P : Type 0} → ℕ → Command → World P → Refusal → Type 0
 IsLate who c w r = (first_refusal (late_refusals who c w) ≡ Some r) ⊎ ((r ≡ Memory) × NoneDueLate who c w)
 
--- a command is carried out: `late_refusals` gives no reason to refuse it, and its new world and its
--- reply are those that `left` and `reply_to` give
+-- a command is carried out: `late_refusals` gives no reason to refuse it, and its reply and, once the
+-- command is counted as logged, the new world are those that `reply_to` and `left` give
 pub record IsCarriedOut {R P : Type 0} (is : R → Behaviour P) (who : ℕ) (c : Command) (old new : Staged R P) (reply : Reply) : Type 0 where
   pub fine : first_refusal (late_refusals who c (world_of is old)) ≡ None
-  pub leaves : left who c (world_of is old) ≡ world_of is new
+  pub leaves : left who c (world_of is old) ≡ with_one_logged (world_of is new)
   pub replies : reply_to who c (world_of is old) ≡ reply
 
 -- a command isn't carried out: r is the first reason that `late_refusals` gives, or Memory if it
@@ -148,6 +162,13 @@ pub record Undone {R P : Type 0} (is : R → Behaviour P) (who : ℕ) (c : Comma
 abbrev pub Does : {R P : Type 0} → (R → Behaviour P) → ℕ → Command → Staged R P → Staged R P → Result Reply Refusal → Type 0
 Does is who c old new (Ok reply) = IsCarriedOut is who c old new reply
 Does is who c old new (Err r) = Undone is who c old new r
+
+-- the answer to a command, if the log isn't full: Ok with the reply that `command_result` gives, and
+-- the world that it gives once the command is counted as logged; or an error, if memory runs out and
+-- there is no reason to refuse the command, with the world unchanged
+abbrev pub HasAnswer : {R P : Type 0} → (R → Behaviour P) → ℕ → Option ℕ → Command → Staged R P → Staged R P → Result Reply AllocError → Type 0
+HasAnswer is who guard c old new (Ok reply) = command_result who guard c (world_of is old) ≡ record { world = with_one_logged (world_of is new); reply = reply }
+HasAnswer is who guard c old new (Err e) = NoneDue who guard c (world_of is old) × (world_of is new ≡ world_of is old)
 
 -- the command that seeks in this direction
 abbrev pub seek_command : Way → Command

@@ -1,13 +1,9 @@
--- Bounds on places, and on the number of logged commands.
-use Rattle.std.specs.Prelude.{ℕ, ◌<◌, ◌≤◌, ◌^◌, List, Option, IfSome}
+-- Bounds on places, and on what a workspace has.
+use Rattle.std.specs.Prelude.{ℕ, ◌<◌, ◌≤◌, ◌^◌, ◌≡◌, List, Option, IfSome, length}
 use Rattle.sessions.specs.declared.cursor.Cursor.{Cursor}
 use Rattle.sessions.specs.Cursors.{cursor_at}
-use Rattle.sessions.specs.Books.{Staged}
+use Rattle.sessions.specs.declared.workspace.Workspace.{Workspace}
 use Rattle.schedule_trie.specs.declared.limits.TheConstants.{MOST_CELLS_MADE}
-
--- one more command can be logged: the number of logged commands is below its limit
-abbrev pub CanLog : {R P : Type 0} → Staged R P → Type 0
-CanLog s = s.logged < s.limits.log
 
 -- a place fits in 32 bits
 abbrev pub IsPlace : ℕ → Type 0
@@ -16,3 +12,10 @@ IsPlace place = place < 2 ^ 32
 -- each cursor's place is at most the number of cells that can ever be made
 abbrev pub AreWithin : List (Option Cursor) → Type 0
 AreWithin cursors = (who : ℕ) → IfSome (cursor_at cursors who) (λ c. c.place ≤ MOST_CELLS_MADE)
+
+-- a workspace can change: its cursors are within their bounds, it has sixteen lists of breaks, and
+-- one more edit can be counted
+pub record CanAct {R P : Type 0} (s : Workspace R P) : Type 0 where
+  pub within : AreWithin s.cursors
+  pub breaks : length s.breaks.items ≡ 16
+  pub few_edits : s.edits ≤ 1048576

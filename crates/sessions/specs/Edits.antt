@@ -1,9 +1,8 @@
 -- Commands that edit: what each does to the branches and to the cursors.
-use Rattle.std.specs.Prelude.{ℕ, ◌≡◌, Bool, false, ◌&&◌, nat_lt, List, Option, Some, None, is_some, length}
+use Rattle.std.specs.Prelude.{Bool, false, ◌&&◌, nat_lt, List, Option, Some, None, is_some, length}
 use Rattle.schedule_trie.specs.Forest.{Forest, len_of}
 use Rattle.schedule_trie.specs.Edits.{Edit, Insert, Remove, Replace, Fork, Detach, Drop}
 use Rattle.sessions.specs.declared.cursor.Cursor.{Cursor}
-use Rattle.sessions.specs.declared.cursor.Shift.{Shift}
 use Rattle.sessions.specs.declared.cursor.Shift.TheVariants as shift
 use Rattle.sessions.specs.declared.command.Command.{Command}
 use Rattle.sessions.specs.declared.command.Command.TheVariants as command

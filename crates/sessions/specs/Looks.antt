@@ -3,12 +3,12 @@ use Rattle.std.specs.Prelude.{ℕ, Bool, ◌||◌, nat_lt, List, Option, Some, N
 use Rattle.schedule_trie.specs.declared.refusal.Refusal.{Refusal}
 use Rattle.schedule_trie.specs.declared.refusal.Refusal.TheVariants.{NoSession}
 use Rattle.schedule_trie.specs.Forest.{Forest}
-use Rattle.views.specs.declared.breakpoint.Break.{Break}
-use Rattle.views.specs.declared.query.Query.{Query}
-use Rattle.views.specs.declared.query.Query.TheVariants.{Branches, Cursor}
-use Rattle.views.specs.declared.page.Page.{Page}
-use Rattle.views.specs.declared.page.Page.TheVariants as page
-use Rattle.views.specs.page.Branches.{branches_page}
+use Rattle.pages.specs.declared.breakpoint.Break.{Break}
+use Rattle.pages.specs.declared.query.Query.{Query}
+use Rattle.pages.specs.declared.query.Query.TheVariants.{Branches, Cursor}
+use Rattle.pages.specs.declared.page.Page.{Page}
+use Rattle.pages.specs.declared.page.Page.TheVariants as page
+use Rattle.pages.specs.page.Branches.{branches_page}
 use Rattle.views.specs.Looks as views
 use Rattle.sessions.specs.declared.cursor.Cursor as declared
 use Rattle.sessions.specs.Cursors.{cursor_at}

@@ -5,8 +5,8 @@ use Rattle.frames.specs.declared.types.Step.{Step}
 use Rattle.frames.specs.declared.types.StepEvents.{StepEvents}
 use Rattle.frames.specs.Behaviour.{Behaviour}
 use Rattle.frames.specs.Configuration.{history}
-use Rattle.views.specs.declared.breakpoint.Break.{Break}
-use Rattle.views.specs.Breaks.{is_met}
+use Rattle.pages.specs.declared.breakpoint.Break.{Break}
+use Rattle.pages.specs.Breaks.{is_met}
 use Rattle.frames.specs.Recorded.{first_configuration, shown}
 use Rattle.sessions.specs.declared.way.Way.{Way}
 use Rattle.sessions.specs.declared.way.Way.TheVariants.{Forth, Back}

@@ -7,9 +7,9 @@ use Rattle.frames.specs.Behaviour.{Behaviour}
 use Rattle.frames.specs.declared.types.Step.{Step}
 use Rattle.frames.specs.Configuration.{Configuration, replayed, history}
 use Rattle.cutoff.specs.Fitting.{RunPart}
-use Rattle.views.specs.declared.breakpoint.Break.{Break}
-use Rattle.views.specs.declared.breakpoint.Break.TheVariants.{Bit}
-use Rattle.views.specs.Breaks.{is_met, is_recorded}
+use Rattle.pages.specs.declared.breakpoint.Break.{Break}
+use Rattle.pages.specs.declared.breakpoint.Break.TheVariants.{Bit}
+use Rattle.pages.specs.Breaks.{is_met, is_recorded}
 use Rattle.sessions.specs.declared.seek.Search.{Search}
 use Rattle.sessions.specs.Seeks.{next_place, no_events, places_with}
 

@@ -3,7 +3,7 @@ use Rattle.std.specs.Prelude.{ℕ, List, [], Option, None, replicate}
 use Rattle.frames.specs.Behaviour.{Behaviour}
 use Rattle.schedule_trie.specs.declared.limits.Limits.{Limits}
 use Rattle.schedule_trie.specs.Forest.{Forest}
-use Rattle.views.specs.declared.breakpoint.Break.{Break}
+use Rattle.pages.specs.declared.breakpoint.Break.{Break}
 use Rattle.sessions.specs.declared.cursor.Cursor.{Cursor}
 
 -- a world: the register and its initial value; the limits; the branches; for each of sixteen

@@ -9,18 +9,21 @@ ghost use Rattle.schedule_trie.specs.Cut.{AreLimits, IsCut, forest, if_lacks};
 ghost use Rattle.cutoff.specs.Plans.{IsPlan};
 ghost use Rattle.cutoff.specs.Installs.{Installs};
 ghost use Rattle.sessions.specs.World.{opening};
-ghost use Rattle.views.specs.Strays.{IsRegularOrAtomic, ShowsNoStray};
+ghost use Rattle.pages.specs.Strays.{IsRegularOrAtomic, ShowsNoStray};
 ghost use Rattle.sessions.specs.Logs.{IsLegal, world_after};
 ghost use Rattle.sessions.specs.Logs as spec;
 ghost use Rattle.sessions.specs.Looks.{looked_in, shown_in};
 ghost use Rattle.sessions.specs.Books.{ActsOnBook, BeginsAtOpening, IsHeld, RefusesMemoryLast, LacksMemory, opening_of, opening_over, world_of};
 
 mod limbs;
+mod looks;
 
+use crate::breaks::no_breaks;
 use crate::command::Command;
+use crate::cursor::SESSIONS;
 use crate::log::{Entry, Log};
 use crate::reply::Reply;
-use crate::stage::Stage;
+use crate::workspace::Workspace;
 use checkpoints::run::Run;
 use cutoff::chart::Chart;
 use cutoff::install::Installation;
@@ -28,6 +31,7 @@ use cutoff::plan::Job;
 use frames::register::Register;
 use frames::types::Step;
 use schedule_trie::limits::Limits;
+use schedule_trie::listed::Listed;
 use schedule_trie::name::Name;
 use schedule_trie::refusal::Refusal;
 use schedule_trie::trie::SegKey;
@@ -44,19 +48,19 @@ use views::slip::Slip;
 #[derive(Drop)]
 pub struct Book<R: Register> {
     first: Snapshot<Chart<R>>,
-    stage: Stage<R>,
+    log_limit: u32,
+    workspace: Workspace<R>,
     log: Vec<Entry>,
 }
 
 impl<R: Register> Model for Book<R> {
-    ghost use Rattle.std.specs.Prelude.{◌-◌, vec_capacity, vec_len};
-    ghost use Rattle.sessions.specs.Books.{Held, IsHeld};
+    ghost use Rattle.sessions.specs.Books.{Held, IsBook, book_of};
 
     ghost Value = { Held R R.Pending };
 
-    ghost view = { λ b. record { first = b.first.value; now = b.stage; log = b.log.items; room = vec_capacity b.log - vec_len b.log } };
+    ghost view = { λ b. book_of b.first.value b.workspace b.log };
 
-    ghost invariant = { λ b. IsHeld R.behaviour (record { first = b.first.value; now = b.stage; log = b.log.items; room = vec_capacity b.log - vec_len b.log }) };
+    ghost invariant = { λ b. IsBook R.behaviour b.log_limit (book_of b.first.value b.workspace b.log) };
 }
 
 impl<R: Register> Book<R> {
@@ -107,10 +111,16 @@ impl<R: Register> Book<R> {
         ensures log { IfOk result (λ book. book.log ≡ []) }
     {
         let first = Snapshot::of(&chart);
-        let stage = Stage::new(alloc, chart, limits)?;
+        let breaks = no_breaks(alloc)?;
         Ok(Book {
             first,
-            stage,
+            log_limit: limits.log,
+            workspace: Workspace {
+                chart,
+                cursors: [None; SESSIONS],
+                breaks,
+                edits: 0,
+            },
             log: Vec::new(alloc),
         })
     }
@@ -136,15 +146,17 @@ impl<R: Register> Book<R> {
         ensures memory { RefusesMemoryLast R.behaviour self.old who if_at command.now result }
         ensures opening { opening_of R.behaviour self.new ≡ opening_of R.behaviour self.old }
     {
-        if self.stage.is_full() {
+        if self.len() >= self.log_limit {
             return Reply::No(Refusal::LogFull);
         }
         let Ok(()) = self.log.reserve(1) else {
             return Reply::No(Refusal::Memory);
         };
-        let Ok(reply) = self.stage.act(alloc, who, if_at, command) else {
+        self.workspace.chart.held();
+        let Ok(reply) = self.workspace.answer(alloc, who, if_at, command) else {
             return Reply::No(Refusal::Memory);
         };
+        self.workspace.chart.held();
         push_within(&mut self.log, entry(chair, who, if_at, command, &reply));
         reply
     }
@@ -173,7 +185,11 @@ impl<R: Register> Book<R> {
         ensures opening { opening_of R.behaviour self.new ≡ opening_of R.behaviour self.old }
         ensures log { self.new.log ≡ self.old.log }
     {
-        self.stage.look(alloc, query)
+        match query {
+            Query::Branches => self.look_at_branches(alloc),
+            Query::Cursor { who } => self.look_at_cursor(alloc, who),
+            _ => Slip::at(alloc, &mut self.workspace.chart, query),
+        }
     }
 
     /// The plan: jobs for segments to replay before a look needs their runs. For each branch there
@@ -194,7 +210,7 @@ impl<R: Register> Book<R> {
         ensures err { IfErr result
             (λ e. if_lacks (index_of (forest self.now.now.chart.cut).branches branch.now) ≡ e) }
     {
-        self.stage.chart().plan(alloc, branch)
+        self.workspace.chart.plan(alloc, branch)
     }
 
     /// Stores a run that was replayed elsewhere, on two conditions: the run fits the segment with
@@ -209,7 +225,7 @@ impl<R: Register> Book<R> {
         ensures opening { opening_of R.behaviour self.new ≡ opening_of R.behaviour self.old }
         ensures log { self.new.log ≡ self.old.log }
     {
-        self.stage.install(key, run)
+        self.workspace.chart.install(key, run)
     }
 
     /// How many commands are logged. The contract also says what a book's type guarantees: each
@@ -232,14 +248,14 @@ impl<R: Register> Book<R> {
         ensures cut { IsCut self.now.now.chart.cut }
         ensures begins { BeginsAtOpening R.behaviour self.now }
     {
-        self.stage.chart().held();
+        self.workspace.chart.held();
     }
 
     /// How many edits were accepted.
     pub fn edits(&self) -> u64
         ensures { result ≡ self.now.now.edits }
     {
-        self.stage.edits()
+        self.workspace.edits
     }
 
     /// The log, which is legal: each entry's reply is neither LogFull nor Memory, and is the one
@@ -250,7 +266,7 @@ impl<R: Register> Book<R> {
         ensures legal { IsLegal (opening_of R.behaviour self) result }
     {
         let Self { log, .. } = self;
-        Log::new(log)
+        Listed::new(log)
     }
 }
 

@@ -1,8 +1,9 @@
 //! The breaks of a session: what its seeks stop at.
 
-ghost use Rattle.std.specs.Prelude.{◌≡◌, [], not, OnOk, OnErr};
+ghost use Rattle.std.specs.Prelude.{◌≡◌, [], not, replicate, IfOk, OnOk, OnErr};
 ghost use Rattle.sessions.specs.BreakLists as spec;
 
+use crate::cursor::SESSIONS;
 use std::alloc::{AllocError, Global};
 use std::marker::Model;
 use views::breakpoint::Break;
@@ -15,7 +16,7 @@ pub(crate) struct Breaks {
 
 impl Model for Breaks {
     ghost use Rattle.std.specs.Prelude.{List};
-    ghost use Rattle.views.specs.declared.breakpoint.Break.{Break};
+    ghost use Rattle.pages.specs.declared.breakpoint.Break.{Break};
 
     ghost Value = { List Break };
 
@@ -64,6 +65,17 @@ impl Breaks {
     {
         self.list.retain(|other| is_other(gone, *other));
     }
+}
+
+/// Sixteen empty lists of breaks, for sessions that haven't joined.
+pub(crate) fn no_breaks(alloc: Global) -> Result<Vec<Breaks>, AllocError>
+    ensures { IfOk result (λ breaks. breaks.items ≡ replicate 16 []) }
+{
+    let mut breaks = Vec::new(alloc);
+    while breaks.len() < SESSIONS {
+        breaks.push(Breaks::new(alloc))?;
+    }
+    Ok(breaks)
 }
 
 /// Whether two breaks are equal.

@@ -12,8 +12,8 @@ pub mod cursor;
 pub mod log;
 pub mod reply;
 pub mod seek;
-mod stage;
 pub mod way;
+mod workspace;
 
 pub use book::Book;
 pub use command::Command;

@@ -6,7 +6,7 @@ ghost use Rattle.std.specs.Option.{option_or};
 ghost use Rattle.frames.specs.Recorded.{AllFit};
 ghost use Rattle.schedule_trie.specs.Cut.{forest};
 ghost use Rattle.cutoff.specs.Fitting.{counted, part_of};
-ghost use Rattle.views.specs.Breaks as breaks_spec;
+ghost use Rattle.pages.specs.Breaks as breaks_spec;
 ghost use Rattle.views.specs.Looks.{IsChartKept, steps_in};
 ghost use Rattle.sessions.specs.Bounds.{IsPlace};
 ghost use Rattle.sessions.specs.Seeks.{hits, next_place, no_events, IsNextHit, is_hit};

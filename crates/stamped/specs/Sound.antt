@@ -3,7 +3,7 @@
 use Rattle.std.proofs.Common.{◌%◌, ◌≡◌, ◌≢◌, ℕ, ◌+◌, ◌*◌, ◌<◌, ◌≤◌, max, Bool, true, false, refl, ap, arith, nat_eq}
 use Rattle.std.specs.Bool.{Decides}
 use Rattle.std.specs.Prelude.{◌==◌, if◌then◌else◌, ◌&&◌}
-use Rattle.std.proofs.lemmas.Bool.{eqb-false}
+use Rattle.std.proofs.lemmas.Bool.{eqb-false, and_parts}
 use Rattle.std.proofs.lemmas.Bool.Decides.{Decides-and, Decides-eqb, Decides-like}
 use Rattle.std.proofs.Math.Nat.{add-mul}
 use Rattle.std.proofs.lemmas.Nat.{mul-add-lt, mod_below, mod-mul-add}
@@ -18,7 +18,7 @@ use Rattle.frames.specs.declared.limits.TheConstants.{LEAST_VALUES}
 use Rattle.layers.specs.Sound.{IsSound, IsSoundTable, IsNotSpent, Falls, FitsPart}
 use Rattle.layers.specs.OneWriter.{one_writer}
 use Rattle.layers.specs.laws.OneWriter as writer
-use Rattle.layers.specs.laws.Equality.{both_true}
+use Rattle.stamped.specs.contracts.task.StampedTaskPartialEq.TheImpl as tasks
 use Rattle.stamped.specs.declared.task.StampedTask.{StampedTask}
 use Rattle.stamped.specs.declared.task.StampedTask.TheVariants.{Writing, Reading}
 use Rattle.stamped.specs.Program.{stamped_program, stamped_table, stamped_asks, stamped_rest, stamped_frame, stamped_find, stamped_code_count, StampedMayBeAt}
@@ -85,10 +85,8 @@ module _ (values last : ℕ) (some : LEAST_VALUES ≤ values) where
   -- an operation has at most one task: the rest of its program, after a task, has no task
   rest_falls : (who : ℕ) (o : Op) (task : StampedTask) (outcome : Outcome) → StampedMayBeAt values last who o task → Answers (stamped_code_count values last) (stamped_asks task).op outcome → IsNotSpent outcome
       → Falls {Task = StampedTask} (λ _. 0) 0 (stamped_rest values task outcome)
-  rest_falls who o (Writing v code) outcome stands answers on = tt
-  rest_falls who o Reading Written stands answers on = tt
   rest_falls who o Reading (Value code) stands answers on = λ best. tt
-  rest_falls who o Reading (Spent layer) stands answers on = tt
+  rest_falls who o _ _ stands answers on = tt
 
   may_be_at_suits : (who : ℕ) (o : Op) (task : StampedTask) → StampedMayBeAt values last who o task → one_writer values 2 who o ≡ true
   may_be_at_suits who (op.Write w) (Writing v code) stands =
@@ -110,25 +108,17 @@ module _ (values last : ℕ) (some : LEAST_VALUES ≤ values) where
       (λ v j lt below. value_fits values last v lt) first_words
       asks_fit may_be_at_suits frame_gives_task begins_sound rest_sound rest_falls
 
--- whether two tasks are equal: both are reads, or both are writes with equal values and codes
-abbrev pub stamped_task_eq : StampedTask → StampedTask → Bool
-stamped_task_eq (Writing v x) (Writing w y) = nat_eq v w && nat_eq x y
-stamped_task_eq Reading Reading = true
-stamped_task_eq (Writing v x) Reading = false
-stamped_task_eq Reading (Writing w y) = false
-
--- `stamped_task_eq` is true exactly if the two tasks are equal
-pub stamped_task_decides : (a b : StampedTask) → Decides (stamped_task_eq a b) (a ≡ b)
+-- the derived `==` of tasks is true exactly if the two tasks are equal
+pub stamped_task_decides : (a b : StampedTask) → Decides (tasks.eq-value.it a b) (a ≡ b)
 stamped_task_decides (Writing v x) (Writing w y) =
     Decides-like (nat_eq v w && nat_eq x y) (λ p. λ i. Writing (p.0 i) (p.1 i)) (λ p. (cc, cc)) (Decides-and (nat_eq v w) (nat_eq x y) (Decides-eqb v w) (Decides-eqb x y))
 stamped_task_decides Reading Reading = (λ h. refl, λ h. refl)
-stamped_task_decides (Writing v x) Reading = (λ h. cc, λ h. cc)
-stamped_task_decides Reading (Writing w y) = (λ h. cc, λ h. cc)
+stamped_task_decides _ _ = (λ h. cc, λ h. cc)
 
 -- stamped registers with the same number of values and the same last stamp have the same rules
 pub stamped_table_alike : (v w l m : ℕ) → (nat_eq v w && nat_eq l m) ≡ true → stamped_table v l ≡ stamped_table w m
 stamped_table_alike v w l m h =
-    let both = both_true (nat_eq v w) (nat_eq l m) h in
+    let both = and_parts (nat_eq v w) (nat_eq l m) h in
     let e = (Decides-eqb v w).0 both.0 in
     let f = (Decides-eqb l m).0 both.1 in
     λ i. stamped_table (e i) (f i)

@@ -3,18 +3,12 @@
 ghost use Rattle.std.specs.Prelude.{◌≡◌, ℕ, ◌+◌, ◌*◌, ◌<◌, ◌≤◌, ◌^◌, MatchResult, IfOk, Some, None};
 ghost use Rattle.frames.specs.declared.limits.TheConstants.{LEAST_VALUES, MOST_VALUES};
 ghost use Rattle.layers.specs.Nested.{layered};
-ghost use Rattle.stamped.specs.Program.{stamped_table};
+ghost use Rattle.stamped.specs.Program.{stamped_table, StampedMayBeAt};
+ghost use Rattle.stamped.specs.Sound.{stamped_sound, stamped_task_decides, stamped_table_alike};
 ghost use Rattle.stamped.specs.Limits.{stamped_refusal};
 
 use crate::task::StampedTask;
-use frames::limits::{LEAST_VALUES, MOST_VALUES};
-use frames::register::{Behaves, Register};
-use frames::types::{Frame, FrameLayer, Layer, Op, Outcome};
-use layers::construction::{Construction, Rules, Shape, one_writer};
-use layers::fit::LayerError;
-use layers::layered::Layered;
-use layers::nested::{Ask, Continuation};
-use safe_bit::Store;
+use layers::prelude::*;
 
 /// A register of one writer and one reader, over a register of `(last + 1) * values` codes; a code
 /// is one number for a stamp and a value. A write of v takes the next stamp, and writes the code of
@@ -24,7 +18,7 @@ use safe_bit::Store;
 pub type Stamped<S> = Layered<StampedRules, S>;
 
 /// A stamped register's own numbers, within their limits. They determine its rules.
-#[derive(Debug, PartialEq, Eq)]
+#[derive(Clone, Copy, Debug, PartialEq, Eq)]
 pub struct StampedRules {
     /// The number of values that the stamped register can hold.
     pub values: u32,
@@ -35,14 +29,6 @@ pub struct StampedRules {
     ghost few_stamps: { last < MOST_VALUES },
     ghost few_codes: { (last + 1) * values ≤ MOST_VALUES },
 }
-
-impl Clone for StampedRules {
-    fn clone(&self) -> Result<Self, std::alloc::AllocError> {
-        Ok(*self)
-    }
-}
-
-impl Copy for StampedRules {}
 
 /// The trait that declares `Stamped::new`. Import it to call `Stamped::new`.
 pub trait NewStamped<S: Register>: Sized {
@@ -80,12 +66,6 @@ impl Rules for StampedRules {
 }
 
 impl Construction for StampedRules {
-    ghost use Rattle.std.specs.Prelude.{refl};
-    ghost use Rattle.stamped.specs.Program.{stamped_table, StampedMayBeAt};
-    ghost use Rattle.stamped.specs.Sound.{stamped_sound, stamped_task_eq, stamped_task_decides, stamped_table_alike};
-    ghost use Rattle.stamped.specs.declared.task.StampedTask.TheVariants.{Writing, Reading};
-    ghost use Rattle.layers.specs.laws.Equality.{decides_like};
-
     ghost MayBeAt = { λ l. StampedMayBeAt l.values l.last };
 
     ghost left = { λ _ _. 0 };
@@ -146,18 +126,11 @@ impl Construction for StampedRules {
     }
 
     fn asks(&self, task: StampedTask) -> Ask {
-        match task {
-            StampedTask::Writing(_, code) => Ask {
-                part: 0,
-                who: 0,
-                op: Op::Write(code),
-            },
-            StampedTask::Reading => Ask {
-                part: 0,
-                who: 1,
-                op: Op::Read,
-            },
-        }
+        let (who, op) = match task {
+            StampedTask::Writing(_, code) => (0, Op::Write(code)),
+            StampedTask::Reading => (1, Op::Read),
+        };
+        Ask { part: 0, who, op }
     }
 
     fn frame(&self, task: StampedTask) -> Frame {
@@ -195,5 +168,5 @@ impl Construction for StampedRules {
 
     ghost alike = { λ a b h. stamped_table_alike a.values b.values a.last b.last h };
 
-    ghost same_task = { decides_like ⟦<StampedTask as PartialEq>⟧.eq stamped_task_eq (elim [ Writing _ _ ↦ elim [ Writing _ _ ↦ refl | Reading ↦ refl ] | Reading ↦ elim [ Writing _ _ ↦ refl | Reading ↦ refl ] ]) stamped_task_decides };
+    ghost same_task = { stamped_task_decides };
 }

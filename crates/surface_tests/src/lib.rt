@@ -5,36 +5,10 @@
 #![tactic(auto)]
 
 #[cfg(test)]
-mod books;
-#[cfg(test)]
-mod charts;
-#[cfg(test)]
-mod configurations;
-#[cfg(test)]
-mod crews;
-#[cfg(test)]
-mod desks;
-#[cfg(test)]
-mod each_layer;
-#[cfg(test)]
-mod files;
-#[cfg(test)]
-mod forests;
-#[cfg(test)]
-mod given;
-#[cfg(test)]
-mod jobs;
-#[cfg(test)]
-mod laws;
-#[cfg(test)]
-mod pages;
+mod branches;
 #[cfg(test)]
 mod programs;
 #[cfg(test)]
-mod serving;
+mod registers;
 #[cfg(test)]
-mod stores;
-#[cfg(test)]
-mod switch;
-#[cfg(test)]
-mod turns;
+mod threads;

@@ -6,13 +6,13 @@ ghost use Rattle.std.specs.Prelude.{◌≤◌, IfOk};
 ghost use Rattle.frames.specs.SafeBit.{safe_behaviour};
 ghost use Rattle.schedule_trie.specs.Cut.{AreLimits};
 
+use crate::desks::name;
 use checkpoints::run::Run;
 use cutoff::chart::Chart;
 use cutoff::plan;
 use frames::safe::Safe;
 use frames::types::Step;
 use schedule_trie::limits::Limits;
-use schedule_trie::name::Name;
 use schedule_trie::refusal::Refusal;
 use schedule_trie::trie::SegKey;
 use std::alloc::{AllocError, Global};
@@ -132,30 +132,14 @@ fn chart_of_read(alloc: Global) -> Result<Chart<Safe>, Refusal> {
     Chart::new(alloc, Safe, 0, few(), &[READ])
 }
 
-/// Forks a branch from the beginning of `main`.
-fn fork_at_first(
-    alloc: Global,
-    chart: &mut Chart<Safe>,
-    main: &Name,
-    fresh: Name,
-) -> Result<(), Refusal> {
-    chart.fork(alloc, main, 0, fresh)
+/// Forks `a` from the beginning of `main`.
+fn fork_a(rt: &impl Abort, alloc: Global, chart: &mut Chart<Safe>) -> Result<(), Refusal> {
+    chart.fork(alloc, &name(rt, b"main"), 0, name(rt, b"a"))
 }
 
-/// Gives a branch a write as its first step.
-fn insert_write(alloc: Global, chart: &mut Chart<Safe>, branch: &Name) -> Result<(), Refusal> {
-    chart.insert(alloc, branch, 0, WRITE)
-}
-
-/// Forks a branch from the beginning of `main`, and gives it a write.
-fn fork_and_write(
-    alloc: Global,
-    chart: &mut Chart<Safe>,
-    main: &Name,
-    fresh: Name,
-) -> Result<(), Refusal> {
-    fork_at_first(alloc, chart, main, fresh)?;
-    insert_write(alloc, chart, &fresh)
+/// Gives `a` a write as its first step.
+fn write_on_a(rt: &impl Abort, alloc: Global, chart: &mut Chart<Safe>) -> Result<(), Refusal> {
+    chart.insert(alloc, &name(rt, b"a"), 0, WRITE)
 }
 
 /// Forks `a` with a write, and plans the chart.
@@ -164,10 +148,9 @@ fn plan_of_fork(
     alloc: Global,
     chart: &mut Chart<Safe>,
 ) -> Result<Vec<plan::Job<Safe>>, Refusal> {
-    let main = Name::new(b"main").expect(rt, "a short name");
-    let a = Name::new(b"a").expect(rt, "a short name");
-    fork_and_write(alloc, chart, &main, a)?;
-    chart.plan(alloc, &main)
+    fork_a(rt, alloc, chart)?;
+    write_on_a(rt, alloc, chart)?;
+    chart.plan(alloc, &name(rt, b"main"))
 }
 
 /// The plan of a chart on a safe bit, with a read on `main` and a write on `a`. It has a job for

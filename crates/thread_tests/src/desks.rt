@@ -22,6 +22,7 @@ mod side_by_side;
 mod threads;
 
 use self::openings::limits;
+use self::side_by_side::Work;
 use desk::{Answer, Chair, Desk, Receipt};
 use frames::safe::Safe;
 use frames::types::Step;
@@ -34,6 +35,7 @@ use sessions::reply::Reply;
 use std::alloc::Global;
 use std::process::Abort;
 use std::sync::Wait;
+use std::thread::Threads;
 use views::lens::Lens;
 use views::page::{Page, page_text};
 use views::query::Query;
@@ -51,7 +53,7 @@ fn halves(desk: &Desk<Safe>, mut chair: Chair<Safe>) -> (Chair<Safe>, Chair<Safe
     (chair, other)
 }
 
-fn name(rt: &impl Abort, text: &[u8]) -> Name {
+pub(crate) fn name(rt: &impl Abort, text: &[u8]) -> Name {
     Name::new(text).expect(rt, "a short name")
 }
 
@@ -206,8 +208,45 @@ fn book_of(alloc: Global, steps: &[Step]) -> Result<Book<Safe>, Refusal>
 /// Gives a book the calls of a log, and returns whether each reply is the logged one.
 fn replies_to(alloc: Global, book: &mut Book<Safe>, log: &Log) -> bool {
     let mut all = true;
-    for entry in log.entries() {
+    for entry in log.as_slice() {
         all &= replies_so(alloc, book, entry);
     }
     all
+}
+
+/// A log and a text, unless something went wrong.
+fn both(
+    fine: bool,
+    log: Option<Log>,
+    text: Result<(u64, Vec<u8>), Refusal>,
+) -> Result<Option<(Log, Vec<u8>)>, Refusal> {
+    let (_, text) = text?;
+    match log {
+        Some(log) if fine => Ok(Some((log, text))),
+        _ => Ok(None),
+    }
+}
+
+/// Splits a desk's only chair into halves, the first of which makes these edits. Then the two do
+/// their work at the same time, a look is made, and the desk is closed. Returns the log and the
+/// text of the look's page; `None` if something went wrong.
+fn log_and_text<R: Abort + Threads + Wait + Sync>(
+    rt: &R,
+    alloc: Global,
+    opened: (Desk<Safe>, Chair<Safe>),
+    edits: &[Command],
+    works: (Work, Work),
+    query: &Query,
+) -> Result<Option<(Log, Vec<u8>)>, Refusal>
+    requires chair { IsChairOf (λ _. safe_behaviour) opened.0 opened.1 }
+    requires every { (view opened.1).shares ≡ every_share }
+{
+    let (desk, chair) = opened;
+    let (mut first, second) = halves(&desk, chair);
+    let room = Room::new(rt, alloc, &desk);
+    let edited = room.bring_all(&mut first, edits);
+    let (mut chair, fine) = room.side_by_side((first, works.0), (second, works.1));
+    let text = room.text_at(&mut chair, query);
+    let log = closed(desk, chair);
+    both(edited && fine, log, text)
 }

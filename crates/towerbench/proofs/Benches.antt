@@ -1,8 +1,10 @@
 -- Limbs that fit a tower fit its register, and the other way round.
 use Rattle.std.proofs.Common.{◌≡◌, ◌∙◌, ◌<◌, ◌≤◌, ◌&&◌, ◌^◌, ℕ, Bool, true, false, nat_lt, List, [], ◌∷◌, length, arith, refl, sym, ap₂}
 use Rattle.std.specs.List.{All, list_all, slice_index_or}
+use Rattle.std.proofs.lemmas.Bool.{and_parts}
 use Rattle.std.proofs.lemmas.Bool.Decides.{nat_tests}
 use Rattle.std.proofs.lemmas.List.Sums.{AllPass-from_list_all, list_all-from_AllPass}
+use Rattle.std.proofs.lemmas.Bool.{and_parts}
 use Rattle.frames.specs.declared.types.Step.{Step}
 use Rattle.frames.specs.Behaviour.{Behaviour}
 use Rattle.frames.specs.Configuration.{fits_step}
@@ -22,16 +24,12 @@ is_below a n h = by (nat_lt a n) refl
     by true e = e
     by false e = absurd (grind (arith, nat_tests))
 
-both_true : (a b : Bool) → (a && b) ≡ true → (a ≡ true) × (b ≡ true)
-both_true true b e = (refl, e)
-both_true false b e = absurd (cc)
-
 module _ {P : Type 0} (t : TowerSpec) (b : Behaviour P) (alike : (s : Step) → fits t s ≡ fits_step b s) where
   -- limbs of a file fit the register
   pub limbs_fit : (ls : List Limb) → list_all (has_fit t) ls ≡ true → All (λ (l : Limb). AllFit b l.steps) ls
   limbs_fit ls all i d within k e in_limb =
       let l = slice_index_or ls i d in
-      let fit : list_all (fits t) l.steps ≡ true = (both_true _ _ (AllPass-from_list_all (has_fit t) ls all i d within)).1 in
+      let fit : list_all (fits t) l.steps ≡ true = (and_parts _ _ (AllPass-from_list_all (has_fit t) ls all i d within)).1 in
       sym (alike (slice_index_or l.steps k e)) ∙ AllPass-from_list_all (fits t) l.steps fit k e in_limb
 
   -- a file may have limbs that fit the register and whose numbers are within the limits
@@ -62,19 +60,19 @@ lawful_bench t ls tower some lawful fit = rw (tower, is_one ls some, lawful, fit
 -- what is lawful in a lawful bench file
 module _ (t : TowerSpec) (ls : List Limb) (h : IsLawfulBench (bench_of t ls)) where
   front : (is_lawful_tower t && is_some ls) ≡ true
-  front = (both_true (is_lawful_tower t && is_some ls) (are_lawful t ls) h).0
+  front = (and_parts (is_lawful_tower t && is_some ls) (are_lawful t ls) h).0
 
   back : are_lawful t ls ≡ true
-  back = (both_true (is_lawful_tower t && is_some ls) (are_lawful t ls) h).1
+  back = (and_parts (is_lawful_tower t && is_some ls) (are_lawful t ls) h).1
 
   pub tower_is : is_lawful_tower t ≡ true
-  tower_is = (both_true (is_lawful_tower t) (is_some ls) front).0
+  tower_is = (and_parts (is_lawful_tower t) (is_some ls) front).0
 
   pub some_limb : 0 < length ls
-  some_limb = has_one ls (both_true (is_lawful_tower t) (is_some ls) front).1
+  some_limb = has_one ls (and_parts (is_lawful_tower t) (is_some ls) front).1
 
   pub limbs_lawful : AreLawfulLimbs ls
-  limbs_lawful = (both_true (are_lawful_after [] ls) (list_all (has_fit t) ls) back).0
+  limbs_lawful = (and_parts (are_lawful_after [] ls) (list_all (has_fit t) ls) back).0
 
   pub limbs_fit_tower : list_all (has_fit t) ls ≡ true
-  limbs_fit_tower = (both_true (are_lawful_after [] ls) (list_all (has_fit t) ls) back).1
+  limbs_fit_tower = (and_parts (are_lawful_after [] ls) (list_all (has_fit t) ls) back).1

@@ -1,5 +1,5 @@
 -- What a script's desk is opened with, and how a run of the program at that desk ends.
-use Rattle.std.specs.Prelude.{◌≡◌, ◌<◌, ℕ, Bool, true, false, List, Result}
+use Rattle.std.specs.Prelude.{◌≡◌, ◌<◌, ◌≤◌, ℕ, Bool, true, false, List, Result}
 use Rattle.std.specs.declared.alloc.Global.{Global}
 use Rattle.std.specs.declared.vec.Vec.{Vec}
 use Rattle.frames.specs.declared.types.Step.{Step}
@@ -7,11 +7,12 @@ use Rattle.frames.specs.Behaviour.{Behaviour}
 use Rattle.frames.specs.Configuration.{fits_step}
 use Rattle.schedule_trie.specs.declared.limb.Limb.{Limb}
 use Rattle.schedule_trie.specs.declared.limits.Limits.{Limits}
+use Rattle.schedule_trie.specs.declared.limits.TheConstants.{MOST_CELLS_MADE}
 use Rattle.sessions.specs.World.{World}
 use Rattle.conversation.specs.Moments.{Streams}
 use Rattle.tower_file.specs.declared.tower.TowerSpec.{TowerSpec}
 use Rattle.tower_file.specs.Said.{as_bench}
-use Rattle.tower_file.specs.Towers.{fits}
+use Rattle.tower_file.specs.Towers.{fits, is_lawful_tower}
 use Rattle.command_line.specs.Ranges.{AreOptionsInRange, limits_of}
 use Rattle.towerbench.specs.declared.fault.Fault.{Fault}
 use Rattle.towerbench.specs.declared.opening.Opening.{Opening}
@@ -32,6 +33,14 @@ pub record CanOpen {R P : Type 0} (is : R → Behaviour P) (o : Opening R) : Typ
   pub value : o.value < (is o.register).values
   pub limits : AreOptionsInRange o.setup.options
   pub builds : Builds is o.register o.value o.setup.bench.spec
+
+-- A world of a register that is this tower's: the tower is lawful, the same steps fit both, and the
+-- limits are within those of the options.
+pub record IsOnTower {P : Type 0} (t : TowerSpec) (w : World P) : Type 0 where
+  pub lawful : is_lawful_tower t ≡ true
+  pub alike : (s : Step) → fits t s ≡ fits_step w.tower s
+  pub cells : w.limits.cells ≤ MOST_CELLS_MADE
+  pub branches : w.limits.branches ≤ 1024
 
 -- the world that the first line of the script finds: the one that this opening describes
 abbrev pub opening_world : {R P : Type 0} → (R → Behaviour P) → Opening R → World P

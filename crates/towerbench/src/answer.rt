@@ -1,11 +1,13 @@
 //! Answering the lines of a script at a desk.
 
-ghost use Rattle.std.specs.Prelude.{◌≡◌, ◌⊎◌, ◌++◌, Bool, Ok, Err, OnOk, IfOk, IfErr};
+ghost use Rattle.std.specs.Prelude.{◌≡◌, ◌⊎◌, ◌++◌, Bool, OnOk};
 ghost use Rattle.schedule_trie.specs.Forest.{index_of};
 ghost use Rattle.sessions.specs.Looks.{looked_in};
 ghost use Rattle.script.specs.Answers.{shown_text};
 ghost use Rattle.script.specs.Answers as spec;
+ghost use Rattle.script.specs.Texts.{answer_text};
 ghost use Rattle.conversation.specs.Scripts.{IsLineAnswer};
+ghost use Rattle.pages.specs.Pages.{page_text};
 ghost use Rattle.towerbench.specs.Seats.{AddsAnswer, IsAlone, world_at};
 
 use crate::seat::Seat;
@@ -20,7 +22,7 @@ use sessions::reply::Reply;
 use std::alloc::{AllocError, Global};
 use std::sync::Wait;
 use std::thread::Threads;
-use views::page::page_text;
+use views::page::{Page, page_text};
 use views::query::Query;
 
 impl<R: Register, W: Wait> Answers for Seat<'_, R, W> {
@@ -109,33 +111,20 @@ fn answer_look<R: Register, W: Wait>(
         ≡ world_at R.behaviour seat.old }
     ensures alone { IsAlone seat.old → IsAlone seat.new }
 {
-    match page_in(alloc, seat, session, query) {
-        Ok(page) => out.extend_from_slice(&page),
+    match seat.look(alloc, query) {
+        Ok(page) => push_page(alloc, session, &page, out),
         Err(refusal) => push_reply(out, session, &Reply::No(refusal)),
     }
 }
 
-/// The text of the page that a look shows.
-fn page_in<R: Register, W: Wait>(
-    alloc: Global,
-    seat: &mut Seat<'_, R, W>,
-    session: u32,
-    query: Query,
-) -> Result<Vec<u8>, Refusal>
-    ensures text { IsAlone seat.old → IfOk result (λ text. text.items
-        ≡ shown_text session query (world_at R.behaviour seat.old)) }
-    ensures found { let w = world_at R.behaviour seat.old in
-        IsAlone seat.old → OnOk result (looked_in w query ≡ Ok w.forest) }
-    ensures err { IsAlone seat.old → IfErr result (λ r.
-        (looked_in (world_at R.behaviour seat.old) query ≡ Err r) ⊎ (r ≡ Refusal.Memory)) }
-    ensures kept { IsAlone seat.old → world_at R.behaviour seat.new
-        ≡ world_at R.behaviour seat.old }
-    ensures alone { IsAlone seat.old → IsAlone seat.new }
+/// Adds the text of a page, or the refusal Memory if there was no memory to make the text.
+fn push_page(alloc: Global, session: u32, page: &Page, out: &mut Vec<u8>) -> Result<(), AllocError>
+    ensures { OnOk result ((out.new.items ≡ out.old.items ++ page_text session page.now)
+        ⊎ (out.new.items ≡ out.old.items ++ answer_text session (Reply.No Refusal.Memory))) }
 {
-    let page = seat.look(alloc, query)?;
-    match page_text(alloc, session, &page) {
-        Ok(text) => Ok(text),
-        Err(AllocError) => Err(Refusal::Memory),
+    match page_text(alloc, session, page) {
+        Ok(text) => out.extend_from_slice(&text),
+        Err(AllocError) => push_reply(out, session, &Reply::No(Refusal::Memory)),
     }
 }
 

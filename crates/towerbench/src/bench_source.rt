@@ -4,14 +4,12 @@
 ghost use Rattle.std.specs.Prelude.{◌≡◌, Some, Ok, IfOk, IfErr, true};
 ghost use Rattle.std.specs.Option.{option_map};
 ghost use Rattle.std.specs.List.{list_all};
-ghost use Rattle.tower_file.specs.Benches.{IsLawfulBench, bench_of};
 ghost use Rattle.tower_file.specs.Said.{as_bench};
 ghost use Rattle.tower_file.specs.Towers as towers;
 ghost use Rattle.towerbench.specs.Opening.{opened_bench, IsFileFault, IsUnopened};
 ghost use Rattle.towerbench.specs.Opening as spec;
 
 use crate::fault::Fault;
-use schedule_trie::Limbs;
 use schedule_trie::limb::{Limb, Steps};
 use schedule_trie::name::Name;
 use schedule_trie::refusal::Refusal;
@@ -34,7 +32,10 @@ pub(crate) fn open_file(alloc: Global, file: Option<&[u8]>) -> Result<BenchFile,
             Err(AllocError) => Err(Fault::Refused(Refusal::Memory)),
         };
     };
-    Ok(read_bench(alloc, bytes)?)
+    match read_bench(alloc, bytes) {
+        Ok(bench) => Ok(bench),
+        Err(fault) => Err(Fault::File(fault)),
+    }
 }
 
 /// The tower and the branches that a file's bytes spell.
@@ -63,20 +64,7 @@ fn one_branch(alloc: Global, tower: TowerSpec, steps: Steps) -> Result<BenchFile
         shared: 0,
         steps,
     })?;
-    Ok(of_lawful(tower, limbs))
-}
-
-/// The bench file with this tower and these limbs. The tower must be lawful. There must be at least
-/// one limb. Each limb must have a new name and satisfy `may_share`, given the limbs before it; its
-/// `from` and `shared` must be below 10^9, and its steps must fit the tower.
-pub(crate) fn of_lawful(spec: TowerSpec, limbs: Vec<Limb>) -> BenchFile
-    requires lawful { IsLawfulBench (bench_of spec limbs.items) }
-    ensures { as_bench result ≡ bench_of spec limbs.items }
-{
-    BenchFile {
-        spec,
-        limbs: Limbs::new(limbs),
-    }
+    Ok(BenchFile::of_lawful(tower, limbs))
 }
 
 /// The tower of a bench file. This tower is lawful.

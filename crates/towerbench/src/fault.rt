@@ -1,5 +1,8 @@
 //! The faults with which the program, or a run of it, can end.
 
+ghost use Rattle.std.specs.Prelude.{◌≡◌};
+ghost use Rattle.towerbench.specs.Streams.{of_stream};
+
 use crate::tower_source::SourceFault;
 use conversation::fault::StreamFault;
 use schedule_trie::refusal::Refusal;
@@ -56,62 +59,14 @@ pub enum ProgramFault {
     Memory,
 }
 
-impl From<Refusal> for Fault {
-    ghost use Rattle.std.specs.Prelude.{◌≡◌};
-    ghost use Rattle.towerbench.specs.declared.fault.Fault.TheVariants.{Refused};
-
-    ghost from_gives = { λ refusal fault. fault ≡ Refused refusal };
-
-    fn from(refusal: Refusal) -> Fault {
-        Fault::Refused(refusal)
-    }
-}
-
-impl From<FileFault> for Fault {
-    ghost use Rattle.std.specs.Prelude.{◌≡◌};
-    ghost use Rattle.towerbench.specs.declared.fault.Fault.TheVariants.{File};
-
-    ghost from_gives = { λ file fault. fault ≡ File file };
-
-    fn from(fault: FileFault) -> Fault {
-        Fault::File(fault)
-    }
-}
-
-impl From<StreamFault> for Fault {
-    ghost use Rattle.std.specs.Prelude.{◌≡◌};
-    ghost use Rattle.towerbench.specs.Streams.{of_stream};
-
-    ghost from_gives = { λ stream fault. fault ≡ of_stream stream };
-
-    fn from(fault: StreamFault) -> Fault {
-        match fault {
-            StreamFault::Read => Fault::Read,
-            StreamFault::Write => Fault::Write,
-            StreamFault::TooLong => Fault::TooLong,
-            StreamFault::Memory => Fault::Memory,
-        }
-    }
-}
-
-impl From<SourceFault> for ProgramFault {
-    ghost use Rattle.std.specs.Prelude.{◌≡◌};
-    ghost use Rattle.towerbench.specs.declared.fault.ProgramFault.TheVariants.{Source};
-
-    ghost from_gives = { λ source fault. fault ≡ Source source };
-
-    fn from(fault: SourceFault) -> ProgramFault {
-        ProgramFault::Source(fault)
-    }
-}
-
-impl From<Fault> for ProgramFault {
-    ghost use Rattle.std.specs.Prelude.{◌≡◌};
-    ghost use Rattle.towerbench.specs.declared.fault.ProgramFault.TheVariants.{Run};
-
-    ghost from_gives = { λ run fault. fault ≡ Run run };
-
-    fn from(fault: Fault) -> ProgramFault {
-        ProgramFault::Run(fault)
+/// The fault of a run whose script's streams ended with this fault.
+pub(crate) fn of_stream(fault: StreamFault) -> Fault
+    ensures { result ≡ of_stream fault }
+{
+    match fault {
+        StreamFault::Read => Fault::Read,
+        StreamFault::Write => Fault::Write,
+        StreamFault::TooLong => Fault::TooLong,
+        StreamFault::Memory => Fault::Memory,
     }
 }

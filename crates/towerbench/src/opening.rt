@@ -1,7 +1,5 @@
 //! What a script's desk (its branches, sessions and log, inside a lock) is opened with.
 
-ghost use Rattle.std.specs.Prelude.{◌≡◌};
-
 use command_line::Options;
 use tower_file::BenchFile;
 
@@ -34,53 +32,10 @@ pub(crate) struct Setup {
     pub fate: Fate,
 }
 
-impl Setup {
-    /// The setup of a run of the program after which the process goes on, so that the seat is
-    /// dropped.
-    pub(crate) fn new(bench: BenchFile, options: Options) -> Setup
-        ensures bench { result.bench ≡ bench }
-        ensures options { result.options ≡ options }
-    {
-        Setup {
-            bench,
-            options,
-            fate: Fate::Dropped,
-        }
-    }
-
-    /// The setup of a run of the program after which the process ends, so that the seat isn't
-    /// dropped.
-    pub(crate) fn last(bench: BenchFile, options: Options) -> Setup
-        ensures bench { result.bench ≡ bench }
-        ensures options { result.options ≡ options }
-    {
-        Setup {
-            bench,
-            options,
-            fate: Fate::Forgotten,
-        }
-    }
-}
-
 /// What a desk is opened with: the register of a tower, that register's initial value, and a setup.
 #[derive(Drop)]
 pub(crate) struct Opening<R> {
     pub register: R,
     pub value: u32,
     pub setup: Setup,
-}
-
-impl<R> Opening<R> {
-    /// The opening with this register, initial value and setup.
-    pub(crate) fn new(register: R, value: u32, setup: Setup) -> Opening<R>
-        ensures register { result.register ≡ register }
-        ensures value { result.value ≡ value }
-        ensures setup { result.setup ≡ setup }
-    {
-        Opening {
-            register,
-            value,
-            setup,
-        }
-    }
 }

@@ -14,8 +14,8 @@ ghost use Rattle.towerbench.specs.Endings.{IsLacking, IsPrinted, IsRead, Program
 use crate::bench_source::open_file;
 use crate::ending::Ending;
 use crate::fault::{Fault, ProgramFault};
-use crate::opening::Setup;
-use crate::running::{run_bench, run_leaving};
+use crate::opening::{Fate, Reporting, Setup};
+use crate::running::run_setup;
 use crate::saving::save_at;
 use crate::tower_source::read_file;
 use command_line::{Invocation, Options, parse_words};
@@ -120,14 +120,25 @@ fn work<F: Files + AllocGlobal + Threads + Wait + Sync, R: Read, W: Write>(
         (streams (R.remaining reader.old) (W.contents writer.old))
         (streams (R.remaining reader.new) (W.contents writer.new)) result }
 {
-    let setup = match bench_at(files, file) {
-        Ok(bench) => Setup::last(bench, options),
+    let bench = match bench_at(files, file) {
+        Ok(bench) => bench,
         Err(fault) => return Ending::Faulted(fault),
     };
-    let Some(path) = save else {
-        return ending_of(run_bench(files, files.alloc(), setup, reader, writer));
+    let setup = Setup {
+        bench,
+        options,
+        fate: Fate::Forgotten,
     };
-    match run_leaving(files, files.alloc(), setup, reader, writer) {
+    let Some(path) = save else {
+        let none = Reporting::Nothing;
+        match run_setup(files, files.alloc(), setup, none, reader, writer) {
+            Ok(_) => {}
+            Err(fault) => return ending_of(Err(fault)),
+        }
+        return Ending::Done;
+    };
+    let branches = Reporting::Branches;
+    match run_setup(files, files.alloc(), setup, branches, reader, writer) {
         Ok(bytes) => ending_of(save_at(files, path, &bytes)),
         Err(fault) => ending_of(Err(fault)),
     }
@@ -144,10 +155,19 @@ fn bench_at<F: Files + AllocGlobal>(
     ensures err { IfErr result (IsLacking (is_some file.entry)) }
 {
     let Some(path) = file else {
-        return Ok(open_file(files.alloc(), None)?);
+        return match open_file(files.alloc(), None) {
+            Ok(bench) => Ok(bench),
+            Err(fault) => Err(ProgramFault::Run(fault)),
+        };
     };
-    let bytes = read_file(files, path)?;
-    Ok(open_file(files.alloc(), Some(&bytes))?)
+    let bytes = match read_file(files, path) {
+        Ok(bytes) => bytes,
+        Err(fault) => return Err(ProgramFault::Source(fault)),
+    };
+    match open_file(files.alloc(), Some(&bytes)) {
+        Ok(bench) => Ok(bench),
+        Err(fault) => Err(ProgramFault::Run(fault)),
+    }
 }
 
 /// How the program ends, given the result of its run.

@@ -1,36 +1,30 @@
 //! A run of the program: it reads a script from a reader, and writes the answers to a writer.
 
-ghost use Rattle.std.specs.Prelude.{◌≡◌, ◌<◌, ◌≤◌, true, false, OnOk, OnErr, IfOk, IfErr};
+ghost use Rattle.std.specs.Prelude.{◌≡◌, ◌<◌, true, false, OnOk, OnErr, IfOk, IfErr};
 ghost use Rattle.std.specs.Option.{option_map};
-ghost use Rattle.frames.specs.declared.types.Step.{Step};
-ghost use Rattle.frames.specs.Configuration.{fits_step};
-ghost use Rattle.schedule_trie.specs.declared.limits.TheConstants.{MOST_CELLS_MADE};
 ghost use Rattle.schedule_trie.specs.Limbs.{limbs};
-ghost use Rattle.tower_file.specs.Benches.{Bench, bench_of};
-ghost use Rattle.tower_file.specs.BenchSpelling.{SpellsBench};
-ghost use Rattle.tower_file.specs.Said.{as_bench};
-ghost use Rattle.tower_file.specs.Towers as towers;
+ghost use Rattle.tower_file.specs.Benches.{bench_of};
 ghost use Rattle.conversation.specs.Moments.{streams};
 ghost use Rattle.command_line.specs.Ranges.{AreOptionsInRange, limits_of};
-ghost use Rattle.towerbench.specs.Opening.{FailsOver, IsDone, IsLeftBench, IsReported, Ran, RanInto};
-ghost use Rattle.towerbench.specs.Openings.{Builds, EndsFrom, is_reported};
+ghost use Rattle.towerbench.specs.Opening.{IsReported, Ran, RanInto};
+ghost use Rattle.towerbench.specs.Openings.{Builds, EndsFrom, IsOnTower, is_reported};
 ghost use Rattle.towerbench.specs.Seats.{IsAlone, world_at};
 
-use crate::bench_source::{of_lawful, open_file, tower_of};
-use crate::fault::Fault;
+use crate::bench_source::{open_file, tower_of};
+use crate::fault::{Fault, of_stream};
 use crate::opening::{Fate, Opening, Reporting, Setup};
 use crate::seat::Seat;
 use crate::serving::serve_at;
 use command_line::Options;
-use frames::register::{Behaves, Register};
+use frames::register::Register;
 use frames::safe::Safe;
 use std::alloc::{AllocError, Global};
 use std::io::{Read, Write};
 use std::mem::forget;
 use std::sync::Wait;
 use std::thread::Threads;
-use tower_file::{TowerSpec, print_bench};
-use towers::{MatrixTower, StampedTower, copies, matrix, regular, stamped, unary};
+use tower_file::{BenchFile, TowerSpec, print_bench};
+use towers::{copies, matrix, regular, stamped, unary};
 
 /// Answers a script on the tower and the branches that the bytes of `file` spell, or, if `file` is
 /// `None`, on a safe bit at 0 and one branch without steps. Each option must be in its range. All
@@ -39,9 +33,10 @@ use towers::{MatrixTower, StampedTower, copies, matrix, regular, stamped, unary}
 /// written.
 ///
 /// After File (the file has a fault) or Refused (the branches can't be loaded), nothing has been
-/// read or written. After Read or TooLong, the answers to all whole lines that were read have been
-/// written; after Memory, the answers to the first `count` of these lines, for some `count`; after
-/// Write, a prefix of the answers to the lines that were read, which may end within an answer.
+/// read or written. After the stream fault Read or TooLong, the answers to all whole lines that
+/// were read have been written; after Memory, the answers to the first `count` of these lines, for
+/// some `count`; after Write, a prefix of the answers to the lines that were read, which may end
+/// within an answer.
 pub fn run<H: Threads + Wait + Sync, R: Read, W: Write>(
     rt: &H,
     alloc: Global,
@@ -59,54 +54,26 @@ pub fn run<H: Threads + Wait + Sync, R: Read, W: Write>(
         (streams (R.remaining reader.old) (W.contents writer.old))
         (streams (R.remaining reader.new) (W.contents writer.new))) }
 {
-    let setup = Setup::new(open_file(alloc, file)?, options);
-    run_bench(rt, alloc, setup, reader, writer)
-}
-
-/// Answers a script on the tower and the branches of `setup`. The limbs that spell these branches
-/// are dropped before anything is read.
-pub(crate) fn run_bench<H: Threads + Wait + Sync, R: Read, W: Write>(
-    rt: &H,
-    alloc: Global,
-    setup: Setup,
-    reader: &mut R,
-    writer: &mut W,
-) -> Result<(), Fault>
-    requires limits { AreOptionsInRange setup.options }
-    ensures done { OnOk result (IsDone (limits_of setup.options) (as_bench setup.bench)
-        (streams (R.remaining reader.old) (W.contents writer.old))
-        (streams (R.remaining reader.new) (W.contents writer.new))) }
-    ensures fault { IfErr result (FailsOver false (limits_of setup.options) (as_bench setup.bench)
-        (streams (R.remaining reader.old) (W.contents writer.old))
-        (streams (R.remaining reader.new) (W.contents writer.new))) }
-{
-    run_setup(rt, alloc, setup, Reporting::Nothing, reader, writer)?;
+    let bench = match open_file(alloc, file) {
+        Ok(bench) => bench,
+        Err(fault) => return Err(fault),
+    };
+    let setup = Setup {
+        bench,
+        options,
+        fate: Fate::Dropped,
+    };
+    match run_setup(rt, alloc, setup, Reporting::Nothing, reader, writer) {
+        Ok(_) => {}
+        Err(fault) => return Err(fault),
+    }
     Ok(())
 }
 
-/// Answers a script on the tower and the branches of `setup`. Returns the bytes of a bench file
-/// with this tower and the branches that the script left.
-pub(crate) fn run_leaving<H: Threads + Wait + Sync, R: Read, W: Write>(
-    rt: &H,
-    alloc: Global,
-    setup: Setup,
-    reader: &mut R,
-    writer: &mut W,
-) -> Result<Vec<u8>, Fault>
-    requires limits { AreOptionsInRange setup.options }
-    ensures done { IfOk result (λ bytes. (left : Bench)
-        × IsLeftBench (limits_of setup.options) (as_bench setup.bench) left
-        (streams (R.remaining reader.old) (W.contents writer.old))
-        (streams (R.remaining reader.new) (W.contents writer.new)) × SpellsBench bytes.items left) }
-    ensures fault { IfErr result (FailsOver true (limits_of setup.options) (as_bench setup.bench)
-        (streams (R.remaining reader.old) (W.contents writer.old))
-        (streams (R.remaining reader.new) (W.contents writer.new))) }
-{
-    run_setup(rt, alloc, setup, Reporting::Branches, reader, writer)
-}
-
-/// Answers a script on a tower and its branches. Returns the bytes that `reporting` asks for.
-fn run_setup<H: Threads + Wait + Sync, R: Read, W: Write>(
+/// Answers a script on the tower and the branches of `setup`. Returns the bytes that `reporting`
+/// asks for about the branches that the script left. The limbs that spell the branches of `setup`
+/// are dropped before anything is read.
+pub(crate) fn run_setup<H: Threads + Wait + Sync, R: Read, W: Write>(
     rt: &H,
     alloc: Global,
     setup: Setup,
@@ -119,85 +86,33 @@ fn run_setup<H: Threads + Wait + Sync, R: Read, W: Write>(
         (streams (R.remaining reader.old) (W.contents writer.old))
         (streams (R.remaining reader.new) (W.contents writer.new)) result }
 {
+    macro_rules! begin_on {
+        ($register:expr, $value:expr) => {{
+            let opening = Opening {
+                register: $register,
+                value: $value,
+                setup,
+            };
+            begin(rt, alloc, opening, reporting, reader, writer)
+        }};
+    }
     match tower_of(&setup.bench) {
-        TowerSpec::Safe { init } => {
-            let opening = Opening::new(Safe, init, setup);
-            begin(rt, alloc, opening, reporting, reader, writer)
-        }
-        TowerSpec::Copies { readers, init } => {
-            let opening = Opening::new(copies(readers), init, setup);
-            begin(rt, alloc, opening, reporting, reader, writer)
-        }
-        TowerSpec::Regular { readers, init } => {
-            let opening = Opening::new(regular(readers), init, setup);
-            begin(rt, alloc, opening, reporting, reader, writer)
-        }
+        TowerSpec::Safe { init } => begin_on!(Safe, init),
+        TowerSpec::Copies { readers, init } => begin_on!(copies(readers), init),
+        TowerSpec::Regular { readers, init } => begin_on!(regular(readers), init),
         TowerSpec::Unary {
             values,
             readers,
             init,
-        } => {
-            let opening = Opening::new(unary(values, readers), init, setup);
-            begin(rt, alloc, opening, reporting, reader, writer)
-        }
-        TowerSpec::Stamped { values, last } => {
-            let opening = Opening::new(stamped(values, last), 0, setup);
-            begin_stamped(rt, alloc, opening, reporting, reader, writer)
-        }
+        } => begin_on!(unary(values, readers), init),
+        TowerSpec::Stamped { values, last } => begin_on!(stamped(values, last), 0),
         TowerSpec::Matrix {
             processes,
             values,
             last_tag,
             last_stamp,
-        } => {
-            let register = matrix(processes, values, last_tag, last_stamp);
-            let opening = Opening::new(register, 0, setup);
-            begin_matrix(rt, alloc, opening, reporting, reader, writer)
-        }
+        } => begin_on!(matrix(processes, values, last_tag, last_stamp), 0),
     }
-}
-
-/// Answers a script on a stamped register. Stamped registers and matrices have functions of their
-/// own, so that the proofs about their types run in parallel.
-fn begin_stamped<H: Threads + Wait + Sync, R: Read, W: Write>(
-    rt: &H,
-    alloc: Global,
-    opening: Opening<StampedTower>,
-    reporting: Reporting,
-    reader: &mut R,
-    writer: &mut W,
-) -> Result<Vec<u8>, Fault>
-    requires value { opening.value
-        < (⟦<StampedTower as Behaves>⟧.behaviour opening.register).values }
-    requires limits { AreOptionsInRange opening.setup.options }
-    requires builds { Builds ⟦<StampedTower as Behaves>⟧.behaviour opening.register opening.value
-        opening.setup.bench.spec }
-    ensures { EndsFrom opening.setup reporting
-        (streams (R.remaining reader.old) (W.contents writer.old))
-        (streams (R.remaining reader.new) (W.contents writer.new)) result }
-{
-    begin(rt, alloc, opening, reporting, reader, writer)
-}
-
-/// Answers a script on a matrix.
-fn begin_matrix<H: Threads + Wait + Sync, R: Read, W: Write>(
-    rt: &H,
-    alloc: Global,
-    opening: Opening<MatrixTower>,
-    reporting: Reporting,
-    reader: &mut R,
-    writer: &mut W,
-) -> Result<Vec<u8>, Fault>
-    requires value { opening.value
-        < (⟦<MatrixTower as Behaves>⟧.behaviour opening.register).values }
-    requires limits { AreOptionsInRange opening.setup.options }
-    requires builds { Builds ⟦<MatrixTower as Behaves>⟧.behaviour opening.register opening.value
-        opening.setup.bench.spec }
-    ensures { EndsFrom opening.setup reporting
-        (streams (R.remaining reader.old) (W.contents writer.old))
-        (streams (R.remaining reader.new) (W.contents writer.new)) result }
-{
-    begin(rt, alloc, opening, reporting, reader, writer)
 }
 
 /// Opens a desk, and answers a script at it. The opening's limbs are dropped before anything is
@@ -221,8 +136,14 @@ where
 {
     let fate = opening.setup.fate;
     let tower = opening.setup.bench.spec;
-    let mut seat = Seat::open(rt, alloc, opening)?;
-    serve_at(alloc, &mut seat, reader, writer)?;
+    let mut seat = match Seat::open(rt, alloc, opening) {
+        Ok(seat) => seat,
+        Err(refusal) => return Err(Fault::Refused(refusal)),
+    };
+    match serve_at(alloc, &mut seat, reader, writer) {
+        Ok(()) => {}
+        Err(fault) => return Err(of_stream(fault)),
+    }
     match reported_bytes(alloc, &mut seat, tower, reporting) {
         Ok(reported) => {
             leave(seat, fate);
@@ -249,11 +170,7 @@ fn reported_bytes<B: Register, H: Wait>(
     reporting: Reporting,
 ) -> Result<Vec<u8>, AllocError>
     requires alone { IsAlone seat.old }
-    requires lawful { towers.is_lawful_tower tower ≡ true }
-    requires alike { (s : Step)
-        → towers.fits tower s ≡ fits_step (world_at B.behaviour seat.old).tower s }
-    requires cells { (world_at B.behaviour seat.old).limits.cells ≤ MOST_CELLS_MADE }
-    requires branches { (world_at B.behaviour seat.old).limits.branches ≤ 1024 }
+    requires ground { IsOnTower tower (world_at B.behaviour seat.old) }
     ensures reported { IfOk result (λ bytes. IsReported (is_reported reporting)
         (bench_of tower (limbs (world_at B.behaviour seat.old).forest)) bytes.items) }
     ensures fault { OnErr result (is_reported reporting ≡ true) }
@@ -262,7 +179,7 @@ fn reported_bytes<B: Register, H: Wait>(
         Reporting::Nothing => Ok(Vec::new(alloc)),
         Reporting::Branches => {
             let limbs = seat.limbs(alloc)?;
-            let left = of_lawful(tower, limbs);
+            let left = BenchFile::of_lawful(tower, limbs);
             print_bench(alloc, &left)
         }
     }

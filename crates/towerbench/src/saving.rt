@@ -10,8 +10,8 @@ ghost use Rattle.towerbench.specs.Opening.{RanSaving, SavesInto};
 
 use crate::bench_source::open_file;
 use crate::fault::Fault;
-use crate::opening::Setup;
-use crate::running::run_leaving;
+use crate::opening::{Fate, Reporting, Setup};
+use crate::running::run_setup;
 use command_line::Options;
 use conversation::streams::write_whole;
 use std::alloc::Global;
@@ -51,9 +51,19 @@ pub fn run_saving<H: Threads + Wait + Sync, R: Read, W: Write, S: Write>(
         (streams (R.remaining reader.new) (W.contents writer.new))
         (S.contents saver.old) (S.contents saver.new)) }
 {
-    let setup = Setup::new(open_file(alloc, file)?, options);
-    let bytes = run_leaving(rt, alloc, setup, reader, writer)?;
-    save(saver, &bytes)
+    let bench = match open_file(alloc, file) {
+        Ok(bench) => bench,
+        Err(fault) => return Err(fault),
+    };
+    let setup = Setup {
+        bench,
+        options,
+        fate: Fate::Dropped,
+    };
+    match run_setup(rt, alloc, setup, Reporting::Branches, reader, writer) {
+        Ok(bytes) => save(saver, &bytes),
+        Err(fault) => Err(fault),
+    }
 }
 
 /// Creates the file at a path, or empties it if it exists, and writes `bytes` to it. The fault is

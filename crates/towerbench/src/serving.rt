@@ -12,7 +12,7 @@ ghost use Rattle.towerbench.specs.Streams.{EndsWithStreamFault, IsOfStreams};
 ghost use Rattle.towerbench.specs.Seats.{IsAlone, seated, world_at};
 
 use crate::answer::{LineAnswer, answer};
-use crate::fault::Fault;
+use crate::fault::{Fault, of_stream};
 use crate::seat::Seat;
 use conversation::converse::converse;
 use conversation::fault::StreamFault;
@@ -60,8 +60,10 @@ where
     ensures of_streams { IfErr result IsOfStreams }
 {
     let mut seat = Seat::new(rt, desk, chair, thieves);
-    serve_at(alloc, &mut seat, reader, writer)?;
-    Ok(())
+    match serve_at(alloc, &mut seat, reader, writer) {
+        Ok(()) => Ok(()),
+        Err(fault) => Err(of_stream(fault)),
+    }
 }
 
 /// Answers a script at a seat. If the seat's chair holds every share, and the script ends well, the

@@ -2,6 +2,7 @@
 -- fits on the layer below, and equal unary numbers behave alike.
 use Rattle.std.specs.Prelude.{◌≡◌, ℕ, Bool, true, List, Option}
 use Rattle.std.proofs.Common.{refl, nat_eq}
+use Rattle.std.proofs.lemmas.Bool.{and_parts}
 use mathlib.Core.Bool.{◌&&◌}
 use Rattle.frames.specs.Behaviour.{Behaviour}
 use Rattle.frames.specs.declared.types.Frame.{Frame}
@@ -9,7 +10,7 @@ use Rattle.frames.specs.SafeBit.{safe_behaviour, safe_point}
 use Rattle.frames.specs.laws.Safe.{safe_lawful}
 use Rattle.layers.specs.Flat.{layered_point}
 use Rattle.layers.specs.Nested.{layered}
-use Rattle.layers.specs.laws.Equality.{both_true, layered_alike}
+use Rattle.layers.specs.laws.Equality.{layered_alike}
 use Rattle.layers.specs.laws.Flat.{points_alike}
 use Rattle.layers.specs.laws.Layered.{layer_lawful}
 use Rattle.layers.specs.laws.Over.{LayerOver, over}
@@ -70,9 +71,9 @@ same_layers safe r s h =
     let v = s.layers in
     let b = u.below in
     let d = v.below in
-    let over_regular = both_true _ (nat_eq u.layer.values v.layer.values && nat_eq u.layer.processes v.layer.processes) h in
-    let over_copies = both_true _ (nat_eq b.layer.processes d.layer.processes) over_regular.0 in
-    let over_bits = both_true safe (copies.copies_layer_eq b.below.layer.readers d.below.layer.readers b.below.layer.values d.below.layer.values) over_copies.0 in
+    let over_regular = and_parts _ (nat_eq u.layer.values v.layer.values && nat_eq u.layer.processes v.layer.processes) h in
+    let over_copies = and_parts _ (nat_eq b.layer.processes d.layer.processes) over_regular.0 in
+    let over_bits = and_parts safe (copies.copies_layer_eq b.below.layer.readers d.below.layer.readers b.below.layer.values d.below.layer.values) over_copies.0 in
     let same_unary = unary.unary_table_alike u.layer.values v.layer.values u.layer.processes v.layer.processes over_regular.1 in
     let same_regular = regular.regular_table_alike b.layer.processes d.layer.processes over_copies.1 in
     let same_copies = copies.layers_alike b.below.layer.readers d.below.layer.readers b.below.layer.values d.below.layer.values over_bits.1 in (

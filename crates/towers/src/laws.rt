@@ -5,7 +5,7 @@
 ghost use Rattle.frames.specs.correctness.Regularity.{NeverStray};
 ghost use Rattle.frames.specs.correctness.Regularity.{IsAtomic, IsRegular, IsSafe};
 ghost use Rattle.unary_number.specs.Scans.{AlwaysFinds};
-ghost use Rattle.views.specs.Strays.{NeverShowsStray};
+ghost use Rattle.views.specs.Looks.{NeverShowsStray};
 
 use crate::{CopiesTower, RegularTower, StampedTower, UnaryTower};
 use frames::laws::{never_stray, safe};

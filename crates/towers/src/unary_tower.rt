@@ -4,14 +4,11 @@
 use crate::RegularTower;
 use frames::flat::FlatStack;
 use frames::register::{Behaves, Register};
-use frames::safe::{Safe, SafePoint};
+use frames::safe::Safe;
 use frames::types::{Action, Next, Op, Outcome, Progress, Stack, Turned};
-use reader_copies::task::CopiesTask;
-use regular_bit::task::RegularTask;
 use safe_bit::{Place, Store};
 use std::alloc::Global;
 use unary_number::Unary;
-use unary_number::task::UnaryTask;
 
 /// The unary number as a nested type, which names each of its layers.
 type UnaryLayers = Unary<RegularTower>;
@@ -30,23 +27,18 @@ impl Behaves for UnaryTower {
 }
 
 impl Register for UnaryTower {
-    ghost use Rattle.std.specs.Prelude.{refl};
     ghost use Rattle.frames.specs.SafeBit.{safe_point};
     ghost use Rattle.frames.specs.laws.Safe.{safe_frames_give_point, point_decides};
-    ghost use Rattle.frames.specs.declared.safe.SafePoint.TheVariants.{WriteStart, WriteEnd, ReadStart, ReadEnd};
     ghost use Rattle.layers.specs.Flat.{layered_point};
     ghost use Rattle.layers.specs.laws.Flat.{layered_frames_give_point};
     ghost use Rattle.towers.specs.UnaryLayers as layers;
     ghost use Rattle.layers.specs.laws.Layered.{layer_lawful};
-    ghost use Rattle.layers.specs.laws.Equality.{nested_decides, decides_like};
+    ghost use Rattle.layers.specs.laws.Equality.{nested_decides};
     ghost use Rattle.reader_copies.specs.Program.{copies_table};
     ghost use Rattle.reader_copies.specs.Sound as copies;
-    ghost use Rattle.reader_copies.specs.declared.task.CopiesTask.TheVariants as copies_task;
     ghost use Rattle.regular_bit.specs.Program.{regular_table};
     ghost use Rattle.regular_bit.specs.Sound as regular;
-    ghost use Rattle.regular_bit.specs.declared.task.RegularTask.TheVariants as regular_task;
     ghost use Rattle.unary_number.specs.Sound as unary;
-    ghost use Rattle.unary_number.specs.declared.task.UnaryTask.TheVariants as unary_task;
 
     ghost Holds = { λ r. ⟦<UnaryLayers as Register>⟧.Holds r.layers };
 
@@ -102,23 +94,8 @@ impl Register for UnaryTower {
     }
 
     #[inline(always)]
-    fn pending(&self, stack: &Stack, first: usize, who: u32) -> Option<Self::Pending> {
-        self.layers.pending(stack, first, who)
-    }
-
-    #[inline(always)]
-    fn pending_on(
-        &self,
-        alloc: Global,
-        stack: &FlatStack,
-        first: usize,
-        who: u32,
-    ) -> Option<Self::Pending> {
-        self.layers.pending_on(alloc, stack, first, who)
-    }
-
-    fn lay(&self, alloc: Global, pending: &Self::Pending, stack: &mut FlatStack) {
-        self.layers.lay(alloc, pending, stack);
+    fn pending_on(&self, stack: &FlatStack, first: usize, who: u32) -> Option<Self::Pending> {
+        self.layers.pending_on(stack, first, who)
     }
 
     #[inline(always)]
@@ -158,11 +135,6 @@ impl Register for UnaryTower {
 
     ghost finds_alike = { λ a b h. (layers.same_layers (⟦<Safe as PartialEq>⟧.eq a.layers.below.below.below b.layers.below.below.below) a b h).1 };
 
-    ghost same_pending = { nested_decides _ _
-        (decides_like ⟦<UnaryTask as PartialEq>⟧.eq unary.unary_task_eq (elim [ unary_task.Setting _ ↦ elim [ unary_task.Setting _ ↦ refl | unary_task.Clearing _ _ ↦ refl | unary_task.Looking _ _ _ ↦ refl ] | unary_task.Clearing _ _ ↦ elim [ unary_task.Setting _ ↦ refl | unary_task.Clearing _ _ ↦ refl | unary_task.Looking _ _ _ ↦ refl ] | unary_task.Looking _ _ _ ↦ elim [ unary_task.Setting _ ↦ refl | unary_task.Clearing _ _ ↦ refl | unary_task.Looking _ _ _ ↦ refl ] ]) unary.unary_task_decides)
-        (nested_decides _ _
-        (decides_like ⟦<RegularTask as PartialEq>⟧.eq regular.regular_task_eq (elim [ regular_task.Writing _ ↦ elim [ regular_task.Writing _ ↦ refl | regular_task.Reading _ ↦ refl ] | regular_task.Reading _ ↦ elim [ regular_task.Writing _ ↦ refl | regular_task.Reading _ ↦ refl ] ]) regular.regular_task_decides)
-        (nested_decides _ _
-        (decides_like ⟦<CopiesTask as PartialEq>⟧.eq copies.copies_task_eq (elim [ copies_task.Writing _ _ ↦ elim [ copies_task.Writing _ _ ↦ refl | copies_task.Reading _ ↦ refl ] | copies_task.Reading _ ↦ elim [ copies_task.Writing _ _ ↦ refl | copies_task.Reading _ ↦ refl ] ]) copies.copies_task_decides)
-        (point_decides ⟦<SafePoint as PartialEq>⟧.eq (elim [ WriteStart _ ↦ elim [ WriteStart _ ↦ refl | WriteEnd _ ↦ refl | ReadStart ↦ refl | ReadEnd ↦ refl ] | WriteEnd _ ↦ elim [ WriteStart _ ↦ refl | WriteEnd _ ↦ refl | ReadStart ↦ refl | ReadEnd ↦ refl ] | ReadStart ↦ elim [ WriteStart _ ↦ refl | WriteEnd _ ↦ refl | ReadStart ↦ refl | ReadEnd ↦ refl ] | ReadEnd ↦ elim [ WriteStart _ ↦ refl | WriteEnd _ ↦ refl | ReadStart ↦ refl | ReadEnd ↦ refl ] ])))) };
+    ghost same_pending = { nested_decides _ _ unary.unary_task_decides
+        (nested_decides _ _ regular.regular_task_decides (nested_decides _ _ copies.copies_task_decides point_decides)) };
 }

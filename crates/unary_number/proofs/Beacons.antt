@@ -6,7 +6,7 @@ use Rattle.std.proofs.lemmas.Bool.{eqb-true, cases_lt, cases_eq}
 use Rattle.frames.specs.declared.types.Op.TheVariants.{Read, Write}
 use Rattle.frames.specs.declared.types.Event.TheVariants.{Invoke, Wrote}
 use Rattle.frames.specs.correctness.Regularity.{in_progress}
-use Rattle.frames.proofs.Seen.{Seen, Returned, among, sees, now_last, IsNotStray}
+use Rattle.frames.proofs.Seen.{Seen, Returned, among, sees, now_last, IsNotStray, among_more, among_here}
 use Rattle.frames.proofs.Judged.{not_stray_is}
 use Rattle.frames.proofs.Pointwise.{put, put_same, put_other, put_all}
 
@@ -147,12 +147,6 @@ MayGive r u y = (y ≡ u.fresh r) ⊎ IsTrue (among y (u.overlaps r))
 
 abbrev pub MayGiveNow : Seen → ℕ → Type 0
 MayGiveNow u y = (y ≡ u.last) ⊎ (u.writing ≡ Some y)
-
-pub among_more : (x v : ℕ) (vs : List ℕ) → IsTrue (among x vs) → IsTrue (among x (v ∷ vs))
-among_more x v vs h = elim (v == x) as (λ c. IsTrue (c || among x vs)) [ true ↦ refl | false ↦ h ]
-
-pub among_here : (x : ℕ) (vs : List ℕ) → IsTrue (among x (x ∷ vs))
-among_here x vs = ap (λ c. c || among x vs) (eq-eqb x x refl)
 
 -- a property of bit i stays the same if bit d changes but keeps this property
 same_at : {X : Type 0} (of : Seen → X) (i d : ℕ) (s : Seen) (parts : ℕ → Seen) → of s ≡ of (parts d) → of (put d s parts i) ≡ of (parts i)

@@ -10,7 +10,7 @@ use Rattle.frames.specs.declared.types.Event.{Event}
 use Rattle.frames.specs.declared.types.Event.TheVariants.{Invoke, Got, Wrote}
 use Rattle.frames.specs.declared.verdict.Verdict.TheVariants.{Fresh, Overlap, Stray}
 use Rattle.frames.specs.correctness.Regularity.{in_progress}
-use Rattle.frames.proofs.Seen.{Seen, among, opening, sees, got, IsNotStray, ended}
+use Rattle.frames.proofs.Seen.{Seen, among, opening, sees, got, IsNotStray, ended, among_here}
 use Rattle.layers.proofs.Law.{Standing, View, Watch, Runs, IsKept, IsUser}
 use Rattle.unary_number.specs.declared.task.UnaryTask.{UnaryTask}
 use Rattle.unary_number.specs.declared.task.UnaryTask.TheVariants.{Setting, Clearing, Looking}
@@ -29,7 +29,7 @@ use Rattle.layers.specs.Sound.{IsNotSpent, IsSoundTable, FitsBelow}
 use Rattle.layers.specs.laws.Over.{over}
 use Rattle.layers.proofs.LayerLaw.{Told, told_begun, told_gone, told_void, told_stop, layer_promises}
 use Rattle.unary_number.specs.Program.{unary_table_with, unary_program, unary_rest, clears_below, looks_above, after_look, UnaryMayBeAt}
-use Rattle.unary_number.proofs.Beacons.{Beacon, raised, lowered, written, MayGive, MayGiveNow, among_here, Looks, beacon_more, beacon_read, looking_other, looking_mine, looked_one, looked_zero}
+use Rattle.unary_number.proofs.Beacons.{Beacon, raised, lowered, written, MayGive, MayGiveNow, Looks, beacon_more, beacon_read, looking_other, looking_mine, looked_one, looked_zero}
 use Rattle.unary_number.proofs.Phases.{lights_for, lights_put, Idle, Rising, Cleared, Falling, WriterAt, WriterSays, ReaderAt, ReaderSays, Lights, reader_map, lights_begin, lights_raised, lights_lower, lights_lowered, lights_end, idle_end, rising_begin, rising_end, falling_begin, falling_end}
 
 pub record UnaryInv (top : ℕ) (u : Seen) (j : View UnaryTask) : Type 0 where
@@ -388,9 +388,7 @@ module _ (none : Outcome) (values processes : ℕ) (two : 2 ≤ values) where
   unary_user p (Write x) (Setting y) s = sym s.0
   unary_user p (Write x) (Clearing y i) s = sym s.0
   unary_user p Read (Looking q i left) s = s.0
-  unary_user p (Write x) (Looking q i left) s = absurd s
-  unary_user p Read (Setting y) s = absurd s
-  unary_user p Read (Clearing y i) s = absurd s
+  unary_user p _ _ s = absurd s
 
 -- a unary number over a regular bit is regular, whatever the answer of a scan that finds no 1
 pub unary_over_regular : {P : Type 0} (b : Behaviour P) (Holds : Memory → Type 0) (Reaches : ℕ → Op → P → Type 0) (none : Outcome) (values processes : ℕ) (left : UnaryTask → ℕ) → 2 ≤ values → IsLawful b Holds Reaches

@@ -4,12 +4,12 @@ use Rattle.std.specs.Prelude.{◌⊎◌}
 use Rattle.std.proofs.lemmas.Bool.{cases_eq}
 use Rattle.frames.specs.declared.types.Op.TheVariants.{Write}
 use Rattle.frames.specs.declared.types.Event.TheVariants.{Invoke, Wrote}
-use Rattle.frames.proofs.Seen.{Seen, among, sees, now_last}
+use Rattle.frames.proofs.Seen.{Seen, among, sees, now_last, among_here}
 use Rattle.frames.proofs.Pointwise.{put, put_same, put_other, put_all}
 use Rattle.layers.proofs.Law.{Standing}
 use Rattle.unary_number.specs.declared.task.UnaryTask.{UnaryTask}
 use Rattle.unary_number.specs.declared.task.UnaryTask.TheVariants.{Setting, Clearing, Looking}
-use Rattle.unary_number.proofs.Beacons.{MayShow, Beacon, raised, lowered, written, MayGive, MayGiveNow, among_here, Looks, beacon_raise, beacon_raised, beacon_lower, beacon_jump, beacon_lowered, beacon_more, looking_begin, looking_written, looking_lower}
+use Rattle.unary_number.proofs.Beacons.{MayShow, Beacon, raised, lowered, written, MayGive, MayGiveNow, Looks, beacon_raise, beacon_raised, beacon_lower, beacon_jump, beacon_lowered, beacon_more, looking_begin, looking_written, looking_lower}
 
 -- no write is in progress, and the bits are as the last write left them
 

@@ -4,7 +4,7 @@
 use Rattle.std.proofs.Common.{◌≡◌, ◌≢◌, ℕ, zero, suc, ◌+◌, ◌-◌, ◌≤◌, ◌==◌, Bool, true, false, List, [], ◌∷◌, ◌++◌, Option, Some, None, refl, sym, ap, subst, arith, append_assoc}
 use Rattle.std.specs.Prelude.{⊤, ◌||◌, if◌then◌else◌, MatchOption}
 use Rattle.std.specs.List.{AllByRecursion, list_any}
-use Rattle.std.proofs.lemmas.Bool.{eqb-true}
+use Rattle.std.proofs.lemmas.Bool.{eqb-true, or_parts}
 use Rattle.std.proofs.lemmas.List.Elements.{All-nil, All-cons, All-append, All-head, All-tail, All-from_recursion}
 use Rattle.safe_bit.specs.Memory.{Memory}
 use Rattle.frames.specs.declared.types.Op.{Op}
@@ -42,10 +42,8 @@ use Rattle.unary_number.proofs.Kept.{unary_over_regular}
 
 -- an operation isn't refused
 abbrev Goes : {N : Type 0} → Next N → Type 0
-Goes (Pending p) = ⊤
-Goes (Done (Value v)) = ⊤
-Goes (Done Written) = ⊤
 Goes (Done (Spent layer)) = ⊥
+Goes _ = ⊤
 
 -- an event, if there is one, isn't a refusal; and neither of a step's two events is a refusal
 abbrev IsQuiet : Option Event → Type 0
@@ -57,15 +55,9 @@ AreQuiet e = IsQuiet e.first × IsQuiet e.second
 true_isnt : {A : Type 0} → true ≡ false → A
 true_isnt e = absurd (cc)
 
-both_false : (a b : Bool) → (a || b) ≡ false → (a ≡ false) × (b ≡ false)
-both_false true b h = true_isnt h
-both_false false b h = (refl, h)
-
 end_goes : {N : Type 0} (who : ℕ) (next : Next N) → IsQuiet (return_of who next) → Goes next
-end_goes who (Pending p) h = tt
-end_goes who (Done (Value v)) h = tt
-end_goes who (Done Written) h = tt
 end_goes who (Done (Spent layer)) h = true_isnt h
+end_goes who _ h = tt
 
 step_goes : {N : Type 0} (who : ℕ) (event : Option Event) (next : Next N) → AreQuiet (in_order event (return_of who next)) → Goes next
 step_goes who None next h = end_goes who next h.0
@@ -76,7 +68,7 @@ step_goes who (Some e) next h = end_goes who next h.1
 quiet_first : (index : ℕ) (e : Option Event) (later : List (ℕ × Event)) → list_any (λ e. is_refusal e.1) (at_index index e ++ later) ≡ false
     → IsQuiet e × (list_any (λ e. is_refusal e.1) later ≡ false)
 quiet_first index None later h = (tt, h)
-quiet_first index (Some e) later h = both_false (is_refusal e) (list_any (λ e. is_refusal e.1) later) h
+quiet_first index (Some e) later h = or_parts (is_refusal e) (list_any (λ e. is_refusal e.1) later) h
 
 quiet_step : (index : ℕ) (e : StepEvents) (later : List StepEvents) → list_any (λ e. is_refusal e.1) (indexed index (e ∷ later)) ≡ false
     → AreQuiet e × (list_any (λ e. is_refusal e.1) (indexed (index + 1) later) ≡ false)
@@ -167,9 +159,7 @@ module _ {P : Type 0} (b : Behaviour P) (values processes : ℕ) (layer : Layer)
   goes_on who (op.Write w) (Setting x) next m stands goes = behind_write (Setting x) (clears_below x x) next m (λ o. tt) (λ n. clears x x n)
   goes_on who (op.Write w) (Clearing x i) next m stands goes = behind_write (Clearing x i) (clears_below x i) next m (λ o. tt) (λ n. clears x i n)
   goes_on who op.Read (Looking q i left) next m stands goes = behind_look_at q i left next m stands.3 (λ n. looks left q i n stands.3) goes
-  goes_on who (op.Write w) (Looking q i left) next m stands goes = absurd stands
-  goes_on who op.Read (Setting x) next m stands goes = absurd stands
-  goes_on who op.Read (Clearing x i) next m stands goes = absurd stands
+  goes_on who _ _ next m stands goes = absurd stands
 
   abbrev N : Type 0
   N = Nested UnaryTask P
@@ -190,10 +180,6 @@ module _ {P : Type 0} (b : Behaviour P) (values processes : ℕ) (layer : Layer)
 
     acts : (s : Step) (halted : Bool) (running : Option (Running N)) (m : Memory) → StandsAt (process_of s) running → AreQuiet (acting_unless halted R s running m).events → AlikeIn halted s running m
     acts s true running m stands quiet = (refl, tt)
-    acts (step.Stop p) false running m stands quiet = (refl, tt)
-    acts (step.Write p v) false (Some x) m stands quiet = (refl, tt)
-    acts (step.Read p) false (Some x) m stands quiet = (refl, tt)
-    acts (step.Go p c) false None m stands quiet = (refl, tt)
     acts (step.Write p v) false None m stands quiet =
         let o : Op = op.Write v in
         let same = begins p o m (step_goes p (Some (Invoke p o)) (advance r b (unary_program (Spent layer) values p o) m).next quiet) in
@@ -205,6 +191,7 @@ module _ {P : Type 0} (b : Behaviour P) (values processes : ℕ) (layer : Layer)
         let moved : Moved P = pushed b (unary_asks x.point.task).part x.point.below (c == 1) m in
         let same = goes_on p x.op x.point.task moved.next moved.memory stands.may_be_at (step_goes p (chosen_of p moved.chosen) (resume r b x.point (c == 1) m).next quiet) in
         (ap (λ (y : Begun N). acted p x.op (chosen_of p moved.chosen) y.next y.memory) same.0, same.1)
+    acts _ false _ m stands quiet = (refl, tt)
 
     module _ (Holds : Memory → Type 0) (left : UnaryTask → ℕ) (lawful : IsLawful b Holds Reaches) (sound : IsSoundTable r (UnaryMayBeAt values processes) left) (fit : FitsBelow r b) where
       abbrev Well : Alone N → Type 0

@@ -103,9 +103,7 @@ abbrev pub UnaryMayBeAt : ℕ → ℕ → ℕ → Op → UnaryTask → Type 0
 UnaryMayBeAt values processes who (op.Write w) (Setting x) = (who ≡ 0) × (x ≡ w) × (w < values)
 UnaryMayBeAt values processes who (op.Write w) (Clearing x i) = (who ≡ 0) × (x ≡ w) × (i < w) × (w < values)
 UnaryMayBeAt values processes who op.Read (Looking reader i left) = (reader ≡ who) × (1 ≤ who) × (who < processes) × (i + left + 1 ≡ values)
-UnaryMayBeAt values processes who (op.Write w) (Looking reader i left) = ⊥
-UnaryMayBeAt values processes who op.Read (Setting x) = ⊥
-UnaryMayBeAt values processes who op.Read (Clearing x i) = ⊥
+UnaryMayBeAt values processes who _ _ = ⊥
 
 -- why a unary number of `values` values, which may be 2 to 512, can't be built on registers like b;
 -- `None` if it can

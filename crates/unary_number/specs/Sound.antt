@@ -15,6 +15,7 @@ use Rattle.frames.specs.declared.limits.TheConstants.{LEAST_VALUES}
 use Rattle.layers.specs.Sound.{IsSound, IsSoundTable, IsNotSpent, Falls, FitsPart}
 use Rattle.layers.specs.OneWriter.{one_writer}
 use Rattle.layers.specs.laws.OneWriter as writer
+use Rattle.unary_number.specs.contracts.task.UnaryTaskPartialEq.TheImpl as tasks
 use Rattle.unary_number.specs.declared.task.UnaryTask.{UnaryTask}
 use Rattle.unary_number.specs.declared.task.UnaryTask.TheVariants.{Setting, Clearing, Looking}
 use Rattle.unary_number.specs.Program.{clears_below, after_look, looks_above, unary_program, unary_rest, unary_asks, unary_frame, unary_find, unary_table_with, unary_table, UnaryMayBeAt}
@@ -86,9 +87,7 @@ module _ (none : Outcome) (values processes : ℕ) (two : LEAST_VALUES ≤ value
   asks_fit who (op.Write w) (Setting x) stands = (omega (arith, stands.1, stands.2), (refl, omega arith))
   asks_fit who (op.Write w) (Clearing x i) stands = (omega (arith, stands.1, stands.2, stands.3), (refl, omega arith))
   asks_fit who op.Read (Looking reader i left) stands = (omega (arith, stands.3), (omega (arith, stands.0, stands.1), omega (arith, stands.0, stands.2)))
-  asks_fit who (op.Write w) (Looking reader i left) stands = absurd stands
-  asks_fit who op.Read (Setting x) stands = absurd stands
-  asks_fit who op.Read (Clearing x i) stands = absurd stands
+  asks_fit who _ _ stands = absurd stands
 
   rest_sound : (who : ℕ) (o : Op) (task : UnaryTask) (outcome : Outcome) → UnaryMayBeAt values processes who o task → Answers 2 (unary_asks task).op outcome → IsNotSpent outcome
       → IsSound (unary_table_with none values processes) (UnaryMayBeAt values processes who o) (Answers values o) (unary_rest none task outcome)
@@ -98,9 +97,7 @@ module _ (none : Outcome) (values processes : ℕ) (two : LEAST_VALUES ≤ value
       looked_sound who reader i left bit _ stands.0 stands.1 stands.2 stands.3 (omega (arith, stands.3))
   rest_sound who op.Read (Looking reader i left) Written stands answers on = absurd answers
   rest_sound who op.Read (Looking reader i left) (Spent layer) stands answers on = absurd on
-  rest_sound who (op.Write w) (Looking reader i left) outcome stands answers on = absurd stands
-  rest_sound who op.Read (Setting x) outcome stands answers on = absurd stands
-  rest_sound who op.Read (Clearing x i) outcome stands answers on = absurd stands
+  rest_sound who _ _ outcome stands answers on = absurd stands
 
   rest_falls : (who : ℕ) (o : Op) (task : UnaryTask) (outcome : Outcome) → UnaryMayBeAt values processes who o task → Answers 2 (unary_asks task).op outcome → IsNotSpent outcome
       → Falls unary_left (unary_left task) (unary_rest none task outcome)
@@ -114,9 +111,7 @@ module _ (none : Outcome) (values processes : ℕ) (two : LEAST_VALUES ≤ value
   may_be_at_suits who (op.Write w) (Setting x) stands = writer.writer_suits values processes who w stands.0 some stands.2
   may_be_at_suits who (op.Write w) (Clearing x i) stands = writer.writer_suits values processes who w stands.0 some stands.3
   may_be_at_suits who op.Read (Looking reader i left) stands = writer.others_read values processes who stands.1 stands.2
-  may_be_at_suits who (op.Write w) (Looking reader i left) stands = absurd stands
-  may_be_at_suits who op.Read (Setting x) stands = absurd stands
-  may_be_at_suits who op.Read (Clearing x i) stands = absurd stands
+  may_be_at_suits who _ _ stands = absurd stands
 
   frame_gives_task : (who : ℕ) (o : Op) (task : UnaryTask) → UnaryMayBeAt values processes who o task → (unary_find values who (unary_frame task) ≡ task) × ((unary_frame task).op ≡ o)
   frame_gives_task who (op.Write w) (Setting x) stands = (ap (λ same. if same then Setting x else Clearing x x) (same_bit x), ap op.Write stands.1)
@@ -142,32 +137,15 @@ unary_sound values processes two some =
     let greatest : Answers values op.Read (Value (values - 1)) = omega arith in
     table_sound (Value (values - 1)) values processes two some greatest
 
--- whether two tasks are equal: both set, both clear or both read a bit, and their numbers are equal
-abbrev pub unary_task_eq : UnaryTask → UnaryTask → Bool
-unary_task_eq (Setting x) (Setting y) = nat_eq x y
-unary_task_eq (Clearing x i) (Clearing y j) = nat_eq x y && nat_eq i j
-unary_task_eq (Looking p i m) (Looking q j n) = nat_eq p q && (nat_eq i j && nat_eq m n)
-unary_task_eq (Setting x) (Clearing y j) = false
-unary_task_eq (Setting x) (Looking q j n) = false
-unary_task_eq (Clearing x i) (Setting y) = false
-unary_task_eq (Clearing x i) (Looking q j n) = false
-unary_task_eq (Looking p i m) (Setting y) = false
-unary_task_eq (Looking p i m) (Clearing y j) = false
-
--- `unary_task_eq` is true exactly if the two tasks are equal
-pub unary_task_decides : (a b : UnaryTask) → Decides (unary_task_eq a b) (a ≡ b)
+-- the derived `==` of tasks is true exactly if the two tasks are equal
+pub unary_task_decides : (a b : UnaryTask) → Decides (tasks.eq-value.it a b) (a ≡ b)
 unary_task_decides (Setting x) (Setting y) = Decides-like (nat_eq x y) (λ p. ap Setting p) (λ p. cc) (Decides-eqb x y)
 unary_task_decides (Clearing x i) (Clearing y j) =
     Decides-like (nat_eq x y && nat_eq i j) (λ e. λ k. Clearing (e.0 k) (e.1 k)) (λ e. (cc, cc)) (Decides-and (nat_eq x y) (nat_eq i j) (Decides-eqb x y) (Decides-eqb i j))
 unary_task_decides (Looking p i m) (Looking q j n) =
     Decides-like (nat_eq p q && (nat_eq i j && nat_eq m n)) (λ e. λ k. Looking (e.0 k) (e.1.0 k) (e.1.1 k)) (λ e. (cc, (cc, cc)))
     (Decides-and (nat_eq p q) (nat_eq i j && nat_eq m n) (Decides-eqb p q) (Decides-and (nat_eq i j) (nat_eq m n) (Decides-eqb i j) (Decides-eqb m n)))
-unary_task_decides (Setting x) (Clearing y j) = (λ h. cc, λ h. cc)
-unary_task_decides (Setting x) (Looking q j n) = (λ h. cc, λ h. cc)
-unary_task_decides (Clearing x i) (Setting y) = (λ h. cc, λ h. cc)
-unary_task_decides (Clearing x i) (Looking q j n) = (λ h. cc, λ h. cc)
-unary_task_decides (Looking p i m) (Setting y) = (λ h. cc, λ h. cc)
-unary_task_decides (Looking p i m) (Clearing y j) = (λ h. cc, λ h. cc)
+unary_task_decides _ _ = (λ h. cc, λ h. cc)
 
 -- unary numbers with the same numbers of values and processes have the same rules
 pub unary_table_alike : (m n p q : ℕ) → nat_eq m n && nat_eq p q ≡ true → unary_table m p ≡ unary_table n q

@@ -5,18 +5,12 @@ ghost use Rattle.safe_bit.specs.Memory.{Memory};
 ghost use Rattle.frames.specs.declared.types.Outcome.TheVariants.{Value};
 ghost use Rattle.frames.specs.declared.limits.TheConstants.{LEAST_VALUES, MOST_VALUES};
 ghost use Rattle.layers.specs.Settled.{settled};
-ghost use Rattle.unary_number.specs.Program.{clears_below, looks_above, unary_table, unary_refusal};
+ghost use Rattle.unary_number.specs.Program.{clears_below, looks_above, unary_table, unary_refusal, UnaryMayBeAt};
+ghost use Rattle.unary_number.specs.Sound.{unary_left, unary_sound, unary_task_decides, unary_table_alike};
 ghost use Rattle.layers.specs.Nested.{layered};
 
 use crate::task::UnaryTask;
-use frames::limits::{LEAST_VALUES, MOST_VALUES};
-use frames::register::{Behaves, Register};
-use frames::types::{Frame, FrameLayer, Op, Outcome};
-use layers::construction::{Construction, Rules, Shape, one_writer};
-use layers::fit::LayerError;
-use layers::layered::Layered;
-use layers::nested::{Ask, Continuation};
-use safe_bit::Store;
+use layers::prelude::*;
 
 /// A register of 2 to 512 values. For each value it has a bit, which is a register of two values. A
 /// write of x sets bit x to 1, and then clears the bits below bit x to 0, from bit x - 1 down to
@@ -25,7 +19,7 @@ use safe_bit::Store;
 pub type Unary<S> = Layered<UnaryRules, S>;
 
 /// A unary number's own numbers, within their limits. They determine its rules.
-#[derive(Debug, PartialEq, Eq)]
+#[derive(Clone, Copy, Debug, PartialEq, Eq)]
 pub struct UnaryRules {
     /// The number of values, which is also the number of bits.
     pub values: u32,
@@ -35,14 +29,6 @@ pub struct UnaryRules {
     ghost few: { values ≤ MOST_VALUES },
     ghost some: { 0 < processes },
 }
-
-impl Clone for UnaryRules {
-    fn clone(&self) -> Result<Self, std::alloc::AllocError> {
-        Ok(*self)
-    }
-}
-
-impl Copy for UnaryRules {}
 
 /// The trait that declares `Unary::new`. Import it to call `Unary::new`.
 pub trait NewUnary<S: Register>: Sized {
@@ -111,12 +97,6 @@ impl Rules for UnaryRules {
 }
 
 impl Construction for UnaryRules {
-    ghost use Rattle.std.specs.Prelude.{refl};
-    ghost use Rattle.unary_number.specs.Program.{unary_table, UnaryMayBeAt};
-    ghost use Rattle.unary_number.specs.Sound.{unary_left, unary_sound, unary_task_eq, unary_task_decides, unary_table_alike};
-    ghost use Rattle.unary_number.specs.declared.task.UnaryTask.TheVariants.{Setting, Clearing, Looking};
-    ghost use Rattle.layers.specs.laws.Equality.{decides_like};
-
     ghost MayBeAt = { λ l. UnaryMayBeAt l.values l.processes };
 
     ghost left = { λ _. unary_left };
@@ -181,23 +161,12 @@ impl Construction for UnaryRules {
     }
 
     fn asks(&self, task: UnaryTask) -> Ask {
-        match task {
-            UnaryTask::Setting(x) => Ask {
-                part: x,
-                who: 0,
-                op: Op::Write(1),
-            },
-            UnaryTask::Clearing { x: _, i } => Ask {
-                part: i,
-                who: 0,
-                op: Op::Write(0),
-            },
-            UnaryTask::Looking { who, i, left: _ } => Ask {
-                part: i,
-                who,
-                op: Op::Read,
-            },
-        }
+        let (part, who, op) = match task {
+            UnaryTask::Setting(x) => (x, 0, Op::Write(1)),
+            UnaryTask::Clearing { i, .. } => (i, 0, Op::Write(0)),
+            UnaryTask::Looking { who, i, .. } => (i, who, Op::Read),
+        };
+        Ask { part, who, op }
     }
 
     fn frame(&self, task: UnaryTask) -> Frame {
@@ -257,5 +226,5 @@ impl Construction for UnaryRules {
 
     ghost alike = { λ a b h. unary_table_alike a.values b.values a.processes b.processes h };
 
-    ghost same_task = { decides_like ⟦<UnaryTask as PartialEq>⟧.eq unary_task_eq (elim [ Setting _ ↦ elim [ Setting _ ↦ refl | Clearing _ _ ↦ refl | Looking _ _ _ ↦ refl ] | Clearing _ _ ↦ elim [ Setting _ ↦ refl | Clearing _ _ ↦ refl | Looking _ _ _ ↦ refl ] | Looking _ _ _ ↦ elim [ Setting _ ↦ refl | Clearing _ _ ↦ refl | Looking _ _ _ ↦ refl ] ]) unary_task_decides };
+    ghost same_task = { unary_task_decides };
 }

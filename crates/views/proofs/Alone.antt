@@ -8,10 +8,10 @@ use Rattle.frames.specs.Configuration.{Configuration, events_of, stepped, replay
 use Rattle.frames.specs.Equality.{SameConfiguration}
 use Rattle.cutoff.specs.Links.{without_register}
 use Rattle.cutoff.proofs.Fits.{alone_same}
-use Rattle.views.specs.declared.query.PlaceKind.{PlaceKind}
-use Rattle.views.specs.declared.query.PlaceKind.TheVariants.{State, Process, Bits, Pending, History, Verdict}
-use Rattle.views.specs.declared.page.head.Head.{Head}
-use Rattle.views.specs.Pages.{page_at}
+use Rattle.pages.specs.declared.query.PlaceKind.{PlaceKind}
+use Rattle.pages.specs.declared.query.PlaceKind.TheVariants.{State, Process, Bits, Pending, History, Verdict}
+use Rattle.pages.specs.declared.page.head.Head.{Head}
+use Rattle.pages.specs.Pages.{page_at}
 
 module _ {R P : Type 0} (b : Behaviour P) where
   pub replayed_alone : (c : Configuration R P) (steps : List Step) → without_register (replayed b c steps) ≡ replayed b (without_register c) steps

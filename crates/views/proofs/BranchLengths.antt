@@ -2,8 +2,8 @@
 use Rattle.std.proofs.Common.{◌≡◌, ℕ, zero, suc, ◌+◌, List, [], ◌∷◌, ◌++◌, length, take, map, slice_get, Some, refl, sym, ap, subst, ◌∙◌, arith}
 use Rattle.std.specs.Option.{option_map, IfSome}
 use Rattle.schedule_trie.specs.Forest.{Branch, slots_in, name_in, index_of, AreNamedApart}
-use Rattle.views.specs.declared.page.branches.BranchLength.{BranchLength}
-use Rattle.views.specs.page.Branches.{length_of}
+use Rattle.pages.specs.declared.page.branches.BranchLength.{BranchLength}
+use Rattle.pages.specs.page.Branches.{length_of}
 
 -- the branch at an index, by its name and its length
 record IsBranchAt (branches : List Branch) (i : ℕ) (name : List ℕ) (len : ℕ) : Type 0 where

@@ -14,10 +14,10 @@ use Rattle.cutoff.proofs.Fits.{register_kept, alone_same}
 use Rattle.checkpoints.specs.Segment.{SegmentRun}
 use Rattle.lru.specs.LruCache.{LruCache, lru_cache, promoted, put_entries}
 use Rattle.lru.proofs.CallerLemmas.{Contains-lookup, Contains-promoted, Contains-put_entries}
-use Rattle.views.specs.declared.query.PlaceKind.{PlaceKind}
-use Rattle.views.specs.declared.page.head.Head.{Head}
+use Rattle.pages.specs.declared.query.PlaceKind.{PlaceKind}
+use Rattle.pages.specs.declared.page.head.Head.{Head}
 use Rattle.views.specs.Lenses.{MatchTheirKeys}
-use Rattle.views.specs.Pages.{page_at}
+use Rattle.pages.specs.Pages.{page_at}
 use Rattle.views.specs.Spots.{IsAlike, part_end}
 use Rattle.views.specs.laws.PlaceLaws.{SamePlace, same_place, place_decides}
 use Rattle.views.proofs.Alone.{replayed_alone, replayed-append, page_alone}

@@ -11,13 +11,13 @@ use Rattle.frames.specs.Configuration.{Configuration}
 use Rattle.frames.specs.Recorded.{indexed, shown}
 use Rattle.cutoff.specs.Fitting.{RunPart, part_of}
 use Rattle.cutoff.specs.Settles.{last_part}
-use Rattle.views.specs.declared.query.PlaceKind.{PlaceKind}
-use Rattle.views.specs.declared.query.PlaceKind.TheVariants.{State, Process, Bits, Pending, History, Verdict}
-use Rattle.views.specs.declared.page.head.Head.{Head}
+use Rattle.pages.specs.declared.query.PlaceKind.{PlaceKind}
+use Rattle.pages.specs.declared.query.PlaceKind.TheVariants.{State, Process, Bits, Pending, History, Verdict}
+use Rattle.pages.specs.declared.page.head.Head.{Head}
 use Rattle.views.specs.declared.slip.content.Found.TheVariants.{Runs}
 use Rattle.views.specs.Spots.{part_end, parts_end, parts_events, IsSpotOf}
-use Rattle.views.specs.Pages.{page_at}
-use Rattle.views.specs.RunPages.{run_page, shows_events, found_last, Shows}
+use Rattle.pages.specs.Pages.{page_at, shows_events}
+use Rattle.views.specs.RunPages.{run_page, found_last, Shows}
 use Rattle.views.specs.Looks.{place_page}
 use Rattle.views.proofs.Alone.{page_alone}
 

@@ -20,16 +20,16 @@ use Rattle.frames.proofs.NeverStray.{regular_never_stray, atomic_never_stray}
 use Rattle.schedule_trie.specs.Forest.{Forest, index_of, path_by}
 use Rattle.cutoff.specs.Fitting.{RunPart}
 use Rattle.cutoff.specs.Charts.{StepsFit}
-use Rattle.views.specs.declared.query.PlaceKind.{PlaceKind}
-use Rattle.views.specs.declared.query.PlaceKind.TheVariants as kind
-use Rattle.views.specs.declared.query.Query.TheVariants as query
-use Rattle.views.specs.declared.page.Page.{Page}
-use Rattle.views.specs.declared.page.Page.TheVariants as page
+use Rattle.pages.specs.declared.query.PlaceKind.{PlaceKind}
+use Rattle.pages.specs.declared.query.PlaceKind.TheVariants as kind
+use Rattle.pages.specs.declared.query.Query.TheVariants as query
+use Rattle.pages.specs.declared.page.Page.{Page}
+use Rattle.pages.specs.declared.page.Page.TheVariants as page
 use Rattle.views.specs.Spots.{IsSpotOf}
 use Rattle.views.specs.RunPages.{run_page}
-use Rattle.views.specs.Looks.{steps_in, place_page, judged_from}
+use Rattle.views.specs.Looks.{steps_in, place_page, judged_from, NeverShowsStray}
 use Rattle.views.specs.Slips.{Slipped}
-use Rattle.views.specs.Strays.{OnVerdicts, AreVerdictsOn, Judges, JudgesIts, ShowsNoStray, IsRegularOrAtomic, NeverShowsStray, JudgesFrom}
+use Rattle.pages.specs.Strays.{OnVerdicts, AreVerdictsOn, Judges, JudgesIts, ShowsNoStray, IsRegularOrAtomic, JudgesFrom}
 use Rattle.views.proofs.Slips.{slip_told}
 
 NoneStray : List ReadVerdict → Type 0

@@ -5,10 +5,10 @@ use Rattle.schedule_trie.specs.Forest.{Forest}
 use Rattle.schedule_trie.specs.Cut.{forest}
 use Rattle.cutoff.specs.Fitting.{RunPart}
 use Rattle.cutoff.specs.Charts.{Charted}
-use Rattle.views.specs.declared.query.PlaceKind.{PlaceKind}
-use Rattle.views.specs.declared.query.Query.{Query}
-use Rattle.views.specs.declared.page.Page.{Page}
-use Rattle.views.specs.declared.page.Page.TheVariants.{Steps}
+use Rattle.pages.specs.declared.query.PlaceKind.{PlaceKind}
+use Rattle.pages.specs.declared.query.Query.{Query}
+use Rattle.pages.specs.declared.page.Page.{Page}
+use Rattle.pages.specs.declared.page.Page.TheVariants.{Steps}
 use Rattle.views.specs.Spots.{IsSpotOf}
 use Rattle.views.specs.Looks.{steps_in, place_page, page_of}
 

@@ -1,8 +1,4 @@
-pub mod Numbered
-pub mod Breaks
 pub mod Digests
-pub mod page
-pub mod Pages
 pub mod Spots
 pub mod Places
 pub mod Lenses
@@ -11,6 +7,3 @@ pub mod RunPages
 pub mod Slips
 pub mod Looks
 pub mod ChartLooks
-pub mod VerdictWords
-pub mod Strays
-pub mod LawWords

@@ -1,5 +1,5 @@
 -- Looks at the branches of a forest: why a look is refused, and the page that it shows.
-use Rattle.std.specs.Prelude.{ℕ, ◌≡◌, Bool, true, false, List, [], Option, Some, None, Result, Ok, take, length, if◌then◌else◌}
+use Rattle.std.specs.Prelude.{ℕ, ◌≡◌, ◌<◌, Bool, true, false, List, [], Option, Some, None, IfSome, Result, Ok, take, length, if◌then◌else◌}
 use Rattle.std.specs.Option.{unwrap_or}
 use Rattle.frames.specs.declared.types.Op.TheVariants as op
 use Rattle.frames.specs.declared.types.Step.{Step}
@@ -7,15 +7,16 @@ use Rattle.frames.specs.Behaviour.{Behaviour}
 use Rattle.schedule_trie.specs.declared.refusal.Refusal.{Refusal}
 use Rattle.schedule_trie.specs.Forest.{Forest, path_of}
 use Rattle.schedule_trie.specs.Cut.{forest}
-use Rattle.cutoff.specs.Charts.{Charted, look}
-use Rattle.views.specs.declared.query.PlaceKind.{PlaceKind}
-use Rattle.views.specs.declared.query.PlaceKind.TheVariants as kind
-use Rattle.views.specs.declared.query.Query.{Query}
-use Rattle.views.specs.declared.query.Query.TheVariants.{State, Process, Bits, Pending, History, Verdict, Branches, Cursor, Steps}
-use Rattle.views.specs.declared.page.Page.{Page}
-use Rattle.views.specs.declared.page.Page.TheVariants as page
+use Rattle.cutoff.specs.Charts.{Charted, StepsFit, look}
+use Rattle.pages.specs.declared.query.PlaceKind.{PlaceKind}
+use Rattle.pages.specs.declared.query.PlaceKind.TheVariants as kind
+use Rattle.pages.specs.declared.query.Query.{Query}
+use Rattle.pages.specs.declared.query.Query.TheVariants.{State, Process, Bits, Pending, History, Verdict, Branches, Cursor, Steps}
+use Rattle.pages.specs.declared.page.Page.{Page}
+use Rattle.pages.specs.declared.page.Page.TheVariants as page
 use Rattle.frames.specs.Recorded.{shown, recorded}
-use Rattle.views.specs.Pages.{page_at}
+use Rattle.pages.specs.Pages.{page_at}
+use Rattle.pages.specs.Strays.{ShowsNoStray}
 
 -- The result of a look is the forest, which it leaves unchanged, or an error: NoBranch if there is
 -- no such branch, NoPlace if the branch has fewer than `place` steps. A look at a branch's steps is
@@ -58,6 +59,11 @@ page_of b value f (Verdict branch place) = Some (place_page b value (kind.Verdic
 page_of b value f (Steps branch) = Some (page.Steps (record { branch = branch; steps = steps_in f branch }))
 page_of b value f Branches = None
 page_of b value f (Cursor who) = None
+
+-- if each step of each branch fits the register, then from any initial value, no look at a branch
+-- shows a stray read: one that gives neither the fresh value nor that of an overlapping write
+abbrev pub NeverShowsStray : {P : Type 0} → Behaviour P → Type 0
+NeverShowsStray b = (value : ℕ) (f : Forest) (query : Query) → value < b.values → StepsFit b f → IfSome (page_of b value f query) ShowsNoStray
 
 -- whether a query looks at one branch, and not at the list of branches or a session's cursor
 abbrev pub is_at_branch : Query → Bool

@@ -1,42 +1,19 @@
 -- Pages that are made from runs, which are replayed segments.
-use Rattle.std.specs.Prelude.{ℕ, ⊤, ◌≡◌, Bool, true, false, List, [], Option, Some, None}
+use Rattle.std.specs.Prelude.{ℕ, ⊤, ◌≡◌, false, List, Option, Some, None}
 use Rattle.std.specs.declared.alloc.Global.{Global}
 use Rattle.std.specs.declared.sync.Arc.{Arc}
 use Rattle.checkpoints.specs.Segment.{SegmentRun}
-use Rattle.frames.specs.declared.types.Event.{Event}
 use Rattle.frames.specs.Behaviour.{Behaviour}
 use Rattle.frames.specs.Configuration.{Configuration}
 use Rattle.frames.specs.Recorded.{indexed}
 use Rattle.cutoff.specs.Fitting.{RunPart, part_of}
-use Rattle.views.specs.declared.query.PlaceKind.{PlaceKind}
-use Rattle.views.specs.declared.query.PlaceKind.TheVariants.{State, Process, Bits, Pending, History, Verdict}
-use Rattle.views.specs.declared.page.head.Head.{Head}
-use Rattle.views.specs.declared.page.Page.{Page}
-use Rattle.views.specs.declared.page.Page.TheVariants as page
+use Rattle.pages.specs.declared.query.PlaceKind.{PlaceKind}
+use Rattle.pages.specs.declared.page.head.Head.{Head}
+use Rattle.pages.specs.declared.page.Page.{Page}
 use Rattle.views.specs.declared.slip.content.Found.{Found}
 use Rattle.views.specs.declared.slip.content.Found.TheVariants.{Initial, Last, Runs}
-use Rattle.views.specs.page.Verdict.{verdict_page}
-use Rattle.views.specs.Pages.{page_at}
+use Rattle.pages.specs.Pages.{page_at, shows_events, config_page, events_page}
 use Rattle.views.specs.Spots.{part_end, parts_end, parts_events}
-
--- whether a page of this kind is made from events: a page of history or of verdicts
-abbrev pub shows_events : PlaceKind → Bool
-shows_events State = false
-shows_events (Process p) = false
-shows_events Bits = false
-shows_events Pending = false
-shows_events History = true
-shows_events (Verdict value) = true
-
--- the page that shows a configuration, for a kind of page that shows no events
-abbrev pub config_page : {R P : Type 0} → Behaviour P → PlaceKind → Head → Configuration R P → Page
-config_page b kind head c = page_at b kind head c []
-
--- the page that shows events: for the kind Verdict the verdicts on the reads among them, and for
--- any other kind the events themselves
-abbrev pub events_page : PlaceKind → Head → List (ℕ × Event) → Page
-events_page (Verdict value) head events = page.Verdict (verdict_page head value events)
-events_page kind head events = page.History (record { head = head; events = events })
 
 module _ {R P : Type 0} (is : R → Behaviour P) where
   -- the page, of a given kind, that shows the configuration which the last of these parts of runs

@@ -1,6 +1,6 @@
 -- Slips, the results of looks, as contracts see them.
 use Rattle.std.specs.Prelude.{Option}
-use Rattle.views.specs.declared.page.Page.{Page}
+use Rattle.pages.specs.declared.page.Page.{Page}
 use Rattle.views.specs.declared.slip.content.Content.{Content}
 use Rattle.views.specs.declared.slip.content.Content.TheVariants as content
 

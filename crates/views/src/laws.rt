@@ -1,6 +1,7 @@
 //! A law of pages: no page of a regular or an atomic register shows a stray read.
 
-ghost use Rattle.views.specs.Strays.{IsRegularOrAtomic, NeverShowsStray};
+ghost use Rattle.pages.specs.Strays.{IsRegularOrAtomic};
+ghost use Rattle.views.specs.Looks.{NeverShowsStray};
 
 use frames::register::Register;
 

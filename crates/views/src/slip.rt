@@ -8,22 +8,22 @@ ghost use Rattle.cutoff.specs.Charts.{look};
 ghost use Rattle.views.specs.Looks as spec;
 ghost use Rattle.views.specs.Looks.{looked, steps_in, IsChartKept};
 ghost use Rattle.views.specs.ChartLooks.{shown_by, page_in, steps_page, IsSpotIn};
-ghost use Rattle.views.specs.RunPages as pages;
-ghost use Rattle.views.specs.RunPages.{Shows};
+ghost use Rattle.pages.specs.Pages as spec_pages;
+ghost use Rattle.views.specs.RunPages.{Shows, found_last};
 ghost use Rattle.frames.specs.Recorded.{AllFit};
-ghost use Rattle.views.specs.Strays.{IsRegularOrAtomic, Judges, JudgesIts, JudgesFrom, ShowsNoStray};
+ghost use Rattle.pages.specs.Strays.{IsRegularOrAtomic, Judges, JudgesIts, JudgesFrom, ShowsNoStray};
 
 use crate::lens::Lens;
-use crate::listed::Listed;
-use crate::page::Page;
-use crate::page::head::Head;
-use crate::page::steps::StepsPage;
-use crate::query::{PlaceKind, Query};
 use checkpoints::run::Run;
 use cutoff::chart::Chart;
 use frames::config::Config;
 use frames::register::Register;
 use frames::types::Op;
+use pages::listed::Listed;
+use pages::page::Page;
+use pages::page::head::Head;
+use pages::page::steps::StepsPage;
+use pages::query::{PlaceKind, Query};
 use schedule_trie::name::Name;
 use schedule_trie::refusal::Refusal;
 use std::alloc::{AllocError, Global};
@@ -47,7 +47,7 @@ pub struct Slip<R: Register> {
 
 impl<R: Register> Model for Slip<R> {
     ghost use Rattle.views.specs.Slips.{Slipped, content_page};
-    ghost use Rattle.views.specs.Strays.{JudgesIts};
+    ghost use Rattle.pages.specs.Strays.{JudgesIts};
 
     ghost Value = { Slipped R };
 
@@ -224,7 +224,7 @@ fn settled<R: Register>(
 
 /// Whether a page of this kind is made from events: a page of history or of verdicts.
 fn shows_events(kind: PlaceKind) -> bool
-    ensures { result ≡ pages.shows_events kind }
+    ensures { result ≡ spec_pages.shows_events kind }
 {
     match kind {
         PlaceKind::History | PlaceKind::Verdict(_) => true,
@@ -239,7 +239,7 @@ fn found_last<R: Register>(
     first: &Config<R>,
     last: Option<(Arc<Run<R>>, u32)>,
 ) -> Result<Found<R>, AllocError>
-    ensures { IfOk result (λ found. found ≡ pages.found_last first.now last) }
+    ensures { IfOk result (λ found. found ≡ found_last first.now last) }
 {
     match last {
         None => Ok(Found::Initial(first.copy(alloc)?)),

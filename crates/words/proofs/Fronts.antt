@@ -1,5 +1,5 @@
 -- Numbers at the front of a text.
-use Rattle.std.proofs.Common.{◌≡◌, ℕ, ◌+◌, ◌-◌, ◌*◌, ◌/◌, ◌%◌, ◌<◌, ◌^◌, true, false, List, [], ◌∷◌, ◌++◌, length, get_or, Option, Some, None, refl, sym, ap, ◌∙◌, append_assoc, inl, inr, arith, lit<}
+use Rattle.std.proofs.Common.{◌≡◌, ℕ, ◌+◌, ◌-◌, ◌*◌, ◌/◌, ◌%◌, ◌<◌, ◌^◌, true, false, List, [], ◌∷◌, ◌++◌, length, get_or, Option, Some, None, refl, sym, ap, ◌∙◌, append_assoc, ◌⊎◌, inl, inr, arith, lit<}
 use Rattle.std.specs.Char.{is_ascii_digit}
 use Rattle.std.specs.Fmt.{decimal}
 use Rattle.std.proofs.lemmas.Fmt.{decimal_digit, decimal_step}
@@ -125,12 +125,14 @@ first_behind (step.Read p) rest = (10, rest, refl, refl)
 first_behind (step.Go p c) rest = (32, decimal c ++ 10 ∷ rest, refl, refl)
 first_behind (step.Stop p) rest = (10, rest, refl, refl)
 
-two_numbers_behind : (word : ℕ) (s : Step) (rest : List ℕ) → word ≡ letter s → (word ≡ 114 → ⊥) → (word ≡ 120 → ⊥) → HasShortNumbers s
+two_numbers_behind : (word : ℕ) (s : Step) (rest : List ℕ) → word ≡ letter s → (word ≡ 119) ⊎ (word ≡ 103) → HasShortNumbers s
     → (n : ℕ) × (n < 10 ^ 9) × (behind_first s rest ≡ 32 ∷ (decimal n ++ rest))
-two_numbers_behind word (step.Write p v) rest e nr nx h = (v, h.1, refl)
-two_numbers_behind word (step.Read p) rest e nr nx h = absurd (nr e)
-two_numbers_behind word (step.Go p c) rest e nr nx h = (c, h.1, refl)
-two_numbers_behind word (step.Stop p) rest e nr nx h = absurd (nx e)
+two_numbers_behind word (step.Write p v) rest e two h = (v, h.1, refl)
+two_numbers_behind word (step.Read p) rest e (inl w) h = absurd (omega (arith, e, w))
+two_numbers_behind word (step.Read p) rest e (inr g) h = absurd (omega (arith, e, g))
+two_numbers_behind word (step.Go p c) rest e two h = (c, h.1, refl)
+two_numbers_behind word (step.Stop p) rest e (inl w) h = absurd (omega (arith, e, w))
+two_numbers_behind word (step.Stop p) rest e (inr g) h = absurd (omega (arith, e, g))
 
 one_number_behind : (word : ℕ) (s : Step) (rest : List ℕ) → word ≡ letter s → (word ≡ 119 → ⊥) → (word ≡ 103 → ⊥) → behind_first s rest ≡ rest
 one_number_behind word (step.Write p v) rest e nw ng = absurd (nw e)
@@ -160,18 +162,18 @@ module _ (text numbers : List ℕ) (word : ℕ) (is : text ≡ word ∷ numbers)
         let same : decimal p ++ left ≡ decimal (process_of s) ++ a.0 ∷ a.1 = (let t : decimal p ++ left ≡ decimal (process_of s) ++ behind_first s (10 ∷ rest) = cc in t ∙ ap (λ (xs : List ℕ). decimal (process_of s) ++ xs) a.3) in
         left_of_number p (process_of s) left a.0 a.1 short_p (short_process s short) a.2 whole same ∙ sym a.3
 
-    pub no_second : (word ≡ 114 → ⊥) → (word ≡ 120 → ⊥) → HasNoNumber left → HasNoStep text
-    no_second nr nx none s rest short e =
-        let a = two_numbers_behind word s (10 ∷ rest) (letter_is s rest e).0 nr nx short in
+    pub no_second : (word ≡ 119) ⊎ (word ≡ 103) → HasNoNumber left → HasNoStep text
+    no_second two none s rest short e =
+        let a = two_numbers_behind word s (10 ∷ rest) (letter_is s rest e).0 two short in
         no_number left a.0 (10 ∷ rest) a.1 none (left_is s rest short e ∙ a.2)
 
     pub no_end : (word ≡ 119 → ⊥) → (word ≡ 103 → ⊥) → HasNoEnd left → HasNoStep text
     no_end nw ng none s rest short e =
         none rest (left_is s rest short e ∙ one_number_behind word s (10 ∷ rest) (letter_is s rest e).0 nw ng)
 
-    pub no_second_end : (word ≡ 114 → ⊥) → (word ≡ 120 → ⊥) → (v : ℕ) (last : List ℕ) → v < 10 ^ 9 → left ≡ 32 ∷ (decimal v ++ last) → IsWholeNumber v last → HasNoEnd last → HasNoStep text
-    no_second_end nr nx v last short_v front_v whole_v none s rest short e =
-        let a = two_numbers_behind word s (10 ∷ rest) (letter_is s rest e).0 nr nx short in
+    pub no_second_end : (word ≡ 119) ⊎ (word ≡ 103) → (v : ℕ) (last : List ℕ) → v < 10 ^ 9 → left ≡ 32 ∷ (decimal v ++ last) → IsWholeNumber v last → HasNoEnd last → HasNoStep text
+    no_second_end two v last short_v front_v whole_v none s rest short e =
+        let a = two_numbers_behind word s (10 ∷ rest) (letter_is s rest e).0 two short in
         let both : 32 ∷ (decimal v ++ last) ≡ 32 ∷ (decimal a.0 ++ 10 ∷ rest) = sym front_v ∙ left_is s rest short e ∙ a.2 in
         let same : decimal v ++ last ≡ decimal a.0 ++ 10 ∷ rest = cc in
         none rest (left_of_number v a.0 last 10 rest short_v a.1 refl whole_v same)

@@ -63,18 +63,10 @@ first_there p (x ∷ xs) (suc k) within here none =
     omega (arith, step, later)
 
 not_below : (n : ℕ) → nat_lt n n ≡ false
-not_below n = by (nat_lt n n) refl
-  where
-    by : (c : Bool) → nat_lt n n ≡ c → nat_lt n n ≡ false
-    by false e = e
-    by true e = absurd (grind (arith, nat_tests))
+not_below n = grind (arith, nat_tests)
 
 below : (k n : ℕ) → k < n → nat_lt k n ≡ true
-below k n h = by (nat_lt k n) refl
-  where
-    by : (c : Bool) → nat_lt k n ≡ c → nat_lt k n ≡ true
-    by true e = e
-    by false e = absurd (grind (arith, nat_tests))
+below k n h = grind (arith, nat_tests)
 
 abbrev place_in : List ℕ → ℕ → Option ℕ
 place_in xs n = cond (nat_lt n (length xs)) (Some n) None

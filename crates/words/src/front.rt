@@ -1,6 +1,6 @@
 //! Steps at the front of a text of lines, read in a single pass.
 
-ghost use Rattle.std.specs.Prelude.{◌≡◌, ◌<◌, ◌^◌, ℕ, List, ◌∷◌, ◌++◌, true, IfSome, IfNone, decimal};
+ghost use Rattle.std.specs.Prelude.{◌≡◌, ◌<◌, ◌^◌, ℕ, List, ◌∷◌, ◌++◌, true, false, ◌⊎◌, IfSome, IfNone, decimal};
 ghost use Rattle.std.specs.Char.{is_ascii_digit};
 ghost use Rattle.frames.specs.declared.types.Step.{Step};
 ghost use Rattle.words.specs.Steps.{step_text, HasShortNumbers};
@@ -21,19 +21,30 @@ pub(crate) fn front_step(text: &[u8]) -> Option<(Step, &[u8])>
 {
     let (word, numbers) = text.split_first()?;
     let (p, left) = front_number(numbers)?;
+    if has_two_numbers(*word) {
+        let (second, left) = front_number(left)?;
+        let left = after_line_end(left)?;
+        let step = if *word == b'w' {
+            Step::Write { p, v: second }
+        } else {
+            Step::Go { p, c: second }
+        };
+        return Some((step, left));
+    }
+    let left = after_line_end(left)?;
     match *word {
-        b'w' => {
-            let (v, left) = front_number(left)?;
-            Some((Step::Write { p, v }, after_line_end(left)?))
-        }
-        b'r' => Some((Step::Read { p }, after_line_end(left)?)),
-        b'g' => {
-            let (c, left) = front_number(left)?;
-            Some((Step::Go { p, c }, after_line_end(left)?))
-        }
-        b'x' => Some((Step::Stop { p }, after_line_end(left)?)),
+        b'r' => Some((Step::Read { p }, left)),
+        b'x' => Some((Step::Stop { p }, left)),
         _ => None,
     }
+}
+
+/// Whether a step that begins with this letter has two numbers.
+fn has_two_numbers(letter: u8) -> bool
+    ensures two { result ≡ true → (letter ≡ 119) ⊎ (letter ≡ 103) }
+    ensures one { result ≡ false → (letter ≡ 119 → ⊥) × (letter ≡ 103 → ⊥) }
+{
+    letter == b'w' || letter == b'g'
 }
 
 /// The number that follows a space at the front of `text`, and the text after the number; `None` if

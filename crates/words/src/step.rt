@@ -16,24 +16,13 @@ use std::io::Write;
 pub fn step_of(words: &mut Parts<'_>) -> Option<Step>
     ensures { result ≡ spec.step_of_words words.old }
 {
-    let word = words.next();
-    if is(word, "w") {
-        let (p, v) = two_numbers(words)?;
-        return Some(Step::Write { p, v });
+    match words.next() {
+        b"w" => two_numbers(words).map(|(p, v)| Step::Write { p, v }),
+        b"r" => one_number(words).map(|p| Step::Read { p }),
+        b"g" => two_numbers(words).map(|(p, c)| Step::Go { p, c }),
+        b"x" => one_number(words).map(|p| Step::Stop { p }),
+        _ => None,
     }
-    if is(word, "r") {
-        let p = one_number(words)?;
-        return Some(Step::Read { p });
-    }
-    if is(word, "g") {
-        let (p, c) = two_numbers(words)?;
-        return Some(Step::Go { p, c });
-    }
-    if is(word, "x") {
-        let p = one_number(words)?;
-        return Some(Step::Stop { p });
-    }
-    None
 }
 
 /// Adds to the end of `out` the text that spells a step.

@@ -1,5 +1,6 @@
 //! A safe bit that counts the calls that make steps.
 
+use frames::flat::FlatStack;
 use frames::register::{Behaves, Register};
 use frames::safe::{Safe, SafePoint};
 use frames::types::{Action, Next, Op, Stack, Turned};
@@ -60,7 +61,6 @@ impl Register for Counting<'_> {
     ghost use Rattle.safe_bit.specs.Parts.{HasSize};
     ghost use Rattle.frames.specs.SafeBit.{safe_behaviour, SafeReaches, safe_point};
     ghost use Rattle.frames.specs.laws.Safe.{safe_lawful, safe_frames_give_point, point_decides};
-    ghost use Rattle.frames.specs.declared.safe.SafePoint.TheVariants.{WriteStart, WriteEnd, ReadStart, ReadEnd};
 
     ghost Holds = { λ _. HasSize safe_behaviour.size };
 
@@ -116,8 +116,8 @@ impl Register for Counting<'_> {
         Safe.action(pending, at)
     }
 
-    fn pending(&self, stack: &Stack, first: usize, who: u32) -> Option<SafePoint> {
-        Safe.pending(stack, first, who)
+    fn pending_on(&self, stack: &FlatStack, first: usize, who: u32) -> Option<SafePoint> {
+        Safe.pending_on(stack, first, who)
     }
 
     ghost reports = { λ _. safe_frames_give_point };
@@ -128,5 +128,5 @@ impl Register for Counting<'_> {
 
     ghost finds_alike = { λ _ _ _. refl };
 
-    ghost same_pending = { point_decides ⟦<SafePoint as PartialEq>⟧.eq (elim [ WriteStart _ ↦ elim [ WriteStart _ ↦ refl | WriteEnd _ ↦ refl | ReadStart ↦ refl | ReadEnd ↦ refl ] | WriteEnd _ ↦ elim [ WriteStart _ ↦ refl | WriteEnd _ ↦ refl | ReadStart ↦ refl | ReadEnd ↦ refl ] | ReadStart ↦ elim [ WriteStart _ ↦ refl | WriteEnd _ ↦ refl | ReadStart ↦ refl | ReadEnd ↦ refl ] | ReadEnd ↦ elim [ WriteStart _ ↦ refl | WriteEnd _ ↦ refl | ReadStart ↦ refl | ReadEnd ↦ refl ] ]) };
+    ghost same_pending = { point_decides };
 }

@@ -2,38 +2,13 @@
 //! result that it would have had with enough memory, except that it doesn't replay runs that were
 //! stored before memory ran out.
 
-ghost use Rattle.frames.specs.SafeBit.{safe_behaviour};
-ghost use Rattle.frames.specs.Recorded.{AllFit};
-
-use super::rows::{Ask, Kind, LATE, Row, Wanted, bench_of, step_of, writes};
+use super::rows::{Ask, Kind, LATE, Row, Wanted, first_wrong_if, step_of, writes};
 use crate::given::{Branch, none_wrong};
-use frames::types::Step;
-use schedule_trie::refusal::Refusal;
 use std::alloc::Global;
 use std::process::Abort;
-use std::sync::atomic::AtomicU64;
 
 /// The most times that a call is made. The allocator refuses fewer times in a row.
 const TRIES: u32 = 10;
-
-/// The index of the first row that goes wrong in a chart of these steps; `None` if none does, or if
-/// there is no memory for the chart.
-fn tried(
-    rt: &impl Abort,
-    alloc: Global,
-    steps: &[Step],
-    wanted: Wanted,
-    rows: &[Row],
-) -> Result<Option<usize>, Refusal>
-    requires { AllFit safe_behaviour steps.now }
-{
-    let calls = AtomicU64::new(0);
-    match bench_of(alloc, &calls, steps, wanted, TRIES) {
-        Ok(mut bench) => bench.first_wrong(rt, rows),
-        Err(Refusal::Memory) => Ok(None),
-        Err(refusal) => Err(refusal),
-    }
-}
 
 #[test]
 fn late_run_out_of_memory(rt: HostRuntime) {
@@ -41,7 +16,8 @@ fn late_run_out_of_memory(rt: HostRuntime) {
     // the settle may have stored the run before memory ran out
     rows[2] = (Branch::Main, Ask::Settle(1, 0, 1));
     let steps = [step_of(Kind::Read)];
-    none_wrong(&rt, tried(&rt, rt.alloc(), &steps, Wanted::All, &rows));
+    let wrong = first_wrong_if(&rt, rt.alloc(), &steps, Wanted::All, TRIES, &rows);
+    none_wrong(&rt, wrong);
 }
 
 /// A settle; an edit, a plan and a second settle; and a third settle, which replays nothing. The
@@ -59,7 +35,10 @@ fn settles_again(rt: &impl Abort, alloc: Global, wanted: Wanted) {
     let Ok(steps) = writes(alloc) else {
         return;
     };
-    none_wrong(rt, tried(rt, alloc, &steps, wanted, &SETTLES));
+    none_wrong(
+        rt,
+        first_wrong_if(rt, alloc, &steps, wanted, TRIES, &SETTLES),
+    );
 }
 
 #[test]

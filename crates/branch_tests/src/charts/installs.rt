@@ -5,9 +5,7 @@ ghost use Rattle.frames.specs.Configuration.{fits_step};
 ghost use Rattle.frames.specs.SafeBit.{safe_behaviour};
 
 use super::rows::{Kind, limits, step_of};
-use super::single::{
-    Kept, drop_branch, first_run, fork_with, install, jobs_of, keep, replace, settle, state_text,
-};
+use super::single::{Kept, edit, first_run, fork_with, install, jobs_of, keep, settle, state_text};
 use crate::given::{Branch, name_of, none_wrong};
 use checkpoints::run::Run;
 use cutoff::chart::Chart;
@@ -15,6 +13,7 @@ use cutoff::install::Installation;
 use cutoff::plan::Job;
 use frames::safe::Safe;
 use frames::types::Step;
+use schedule_trie::edit::Edit;
 use schedule_trie::name::Name;
 use schedule_trie::refusal::Refusal;
 use schedule_trie::trie::SegKey;
@@ -229,14 +228,16 @@ fn shows(rt: &impl Abort, alloc: Global, shelf: &mut Shelf, is_a: bool) -> Resul
 
 /// Drops `a` or `b`.
 fn drops(rt: &impl Abort, alloc: Global, shelf: &mut Shelf, is_a: bool) -> Result<(), Refusal> {
-    drop_branch(&mut shelf.chart, &branch_of(rt, alloc, is_a))?;
+    let branch = branch_of(rt, alloc, is_a);
+    edit(alloc, &mut shelf.chart, &Edit::Drop(&branch))?;
     put(&mut shelf.pieces, is_a, None);
     Ok(())
 }
 
 /// Replaces the read by itself.
-fn unsettles(shelf: &mut Shelf, main: &Name) -> Result<(), Refusal> {
-    replace(&mut shelf.chart, main, 0, step_of(Kind::Read))?;
+fn unsettles(alloc: Global, shelf: &mut Shelf, main: &Name) -> Result<(), Refusal> {
+    let read = Edit::Replace(main, 0, step_of(Kind::Read));
+    edit(alloc, &mut shelf.chart, &read)?;
     shelf.pieces.is_settled = false;
     Ok(())
 }
@@ -255,7 +256,7 @@ fn goes(rt: &impl Abort, alloc: Global, shelf: &mut Shelf, ask: Ask) -> Result<b
         Ask::Forks(is_a, is_one) => return forks(rt, alloc, shelf, is_a, is_one),
         Ask::Shows(is_a) => return shows(rt, alloc, shelf, is_a),
         Ask::Drops(is_a) => drops(rt, alloc, shelf, is_a)?,
-        Ask::Unsettles => unsettles(shelf, &main)?,
+        Ask::Unsettles => unsettles(alloc, shelf, &main)?,
         Ask::Settles => settles(alloc, shelf, &main)?,
     }
     Ok(true)

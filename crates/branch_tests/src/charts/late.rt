@@ -3,11 +3,12 @@
 
 use super::rows::{Kind, limits, step_of};
 use super::single::{
-    Kept, drop_branch, fork_with, installs_first, jobs_of, keeps_only, settle, state_text,
+    Kept, edit, fork_with, installs_first, jobs_of, keeps_only, settle, state_text,
 };
 use crate::given::{name, none_wrong};
 use cutoff::chart::Chart;
 use frames::safe::Safe;
+use schedule_trie::edit::Edit;
 use schedule_trie::name::Name;
 use schedule_trie::refusal::Refusal;
 use std::alloc::Global;
@@ -45,7 +46,7 @@ fn keeps_old_run(
     fork_with(alloc, chart, &main, a, step_of(Kind::Write1))?;
     settle(alloc, chart, &main, 1)?;
     let is_kept = keeps_run(alloc, chart, &a, runs)?;
-    drop_branch(chart, &a)?;
+    edit(alloc, chart, &Edit::Drop(&a))?;
     fork_with(alloc, chart, &main, b, step_of(Kind::Write0))?;
     Ok(is_kept)
 }

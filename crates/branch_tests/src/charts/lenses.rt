@@ -6,9 +6,10 @@ ghost use Rattle.views.specs.Looks.{is_at_branch};
 
 use super::counting::Counting;
 use super::rows::{Kind, chart_of, step_of, writes};
-use super::single::{new_lens, replace, slip_of, text_of, text_once_through, text_through};
+use super::single::{edit, new_lens, slip_of, text_of, text_once_through, text_through};
 use crate::given::{name, none_wrong};
 use cutoff::chart::Chart;
+use schedule_trie::edit::Edit;
 use schedule_trie::name::Name;
 use schedule_trie::refusal::Refusal;
 use std::alloc::Global;
@@ -17,6 +18,9 @@ use std::sync::atomic::{AtomicU64, Ordering};
 use views::lens::Lens;
 use views::query::Query;
 use views::slip::Slip;
+
+/// A lens for charts that count their calls.
+type Used<'a> = Lens<Counting<'a>>;
 
 /// Whether a slip's page through a new lens has this text.
 fn is_own(alloc: Global, slip: &Slip<Counting<'_>>, text: &[u8]) -> Result<bool, Refusal> {
@@ -27,7 +31,7 @@ fn is_own(alloc: Global, slip: &Slip<Counting<'_>>, text: &[u8]) -> Result<bool,
 fn is_same<'a>(
     alloc: Global,
     slip: &Slip<Counting<'a>>,
-    lens: &mut Lens<Counting<'a>>,
+    lens: &mut Used<'a>,
 ) -> Result<bool, Refusal> {
     let text = text_through(alloc, slip, lens)?;
     is_own(alloc, slip, &text)
@@ -39,7 +43,7 @@ fn steps_for<'a>(
     alloc: Global,
     calls: &AtomicU64,
     slip: &Slip<Counting<'a>>,
-    lens: &mut Lens<Counting<'a>>,
+    lens: &mut Used<'a>,
 ) -> Result<Option<u64>, Refusal> {
     let before = calls.load(Ordering::SeqCst);
     let text = text_through(alloc, slip, lens)?;
@@ -51,7 +55,7 @@ fn steps_for<'a>(
 fn is_same_once<'a>(
     alloc: Global,
     slip: Slip<Counting<'a>>,
-    lens: &mut Lens<Counting<'a>>,
+    lens: &mut Used<'a>,
 ) -> Result<bool, Refusal> {
     is_same(alloc, &slip, lens)
 }
@@ -61,7 +65,7 @@ fn steps_once<'a>(
     alloc: Global,
     calls: &AtomicU64,
     slip: Slip<Counting<'a>>,
-    lens: &mut Lens<Counting<'a>>,
+    lens: &mut Used<'a>,
 ) -> Result<Option<u64>, Refusal> {
     steps_for(alloc, calls, &slip, lens)
 }
@@ -107,11 +111,7 @@ impl<'a> Counted<'a> {
 
     /// How many steps were made for the page of the state at a place; `None` if the page differs
     /// from the page through a new lens.
-    fn steps_at(
-        &mut self,
-        lens: &mut Lens<Counting<'a>>,
-        place: u32,
-    ) -> Result<Option<u64>, Refusal> {
+    fn steps_at(&mut self, lens: &mut Used<'a>, place: u32) -> Result<Option<u64>, Refusal> {
         let query = self.state_at(place);
         let slip = slip_of(self.alloc, &mut self.chart, query)?;
         steps_once(self.alloc, self.calls, slip, lens)
@@ -119,7 +119,7 @@ impl<'a> Counted<'a> {
 
     /// Whether the page of the state at a place is as through a new lens, and takes at most one
     /// step.
-    fn is_cheap_at(&mut self, lens: &mut Lens<Counting<'a>>, place: u32) -> Result<bool, Refusal> {
+    fn is_cheap_at(&mut self, lens: &mut Used<'a>, place: u32) -> Result<bool, Refusal> {
         match self.steps_at(lens, place)? {
             Some(made) => Ok(made <= 1),
             None => Ok(false),
@@ -130,7 +130,7 @@ impl<'a> Counted<'a> {
     /// from the page through a new lens, or takes more than one step.
     fn first_wrong_up(
         &mut self,
-        lens: &mut Lens<Counting<'a>>,
+        lens: &mut Used<'a>,
         places: u32,
     ) -> Result<Option<usize>, Refusal> {
         for place in 0..places {
@@ -146,7 +146,7 @@ impl<'a> Counted<'a> {
     /// average.
     fn first_wrong_down(
         &mut self,
-        lens: &mut Lens<Counting<'a>>,
+        lens: &mut Used<'a>,
         places: u32,
     ) -> Result<Option<usize>, Refusal> {
         let mut steps = 0u64;
@@ -168,7 +168,7 @@ impl<'a> Counted<'a> {
     /// wrong.
     fn first_wrong_place(
         &mut self,
-        lens: &mut Lens<Counting<'a>>,
+        lens: &mut Used<'a>,
         places: u32,
     ) -> Result<Option<usize>, Refusal> {
         match self.first_wrong_up(lens, places)? {
@@ -203,8 +203,8 @@ fn three_hundred_places_up_and_down(rt: HostRuntime) {
 struct Turns<'a> {
     zero: Counted<'a>,
     one: Counted<'a>,
-    shared: Lens<Counting<'a>>,
-    own: Lens<Counting<'a>>,
+    shared: Used<'a>,
+    own: Used<'a>,
 }
 
 impl<'a> Turns<'a> {
@@ -260,38 +260,20 @@ const KINDS: u32 = 6;
 fn query_of(kind: u32, branch: Name, place: u32) -> Query
     ensures { is_at_branch result ≡ true }
 {
+    let (b, k) = (branch, place);
     match kind {
-        0 => Query::State {
-            b: branch,
-            k: place,
-        },
-        1 => Query::Process {
-            b: branch,
-            k: place,
-            p: 0,
-        },
-        2 => Query::Bits {
-            b: branch,
-            k: place,
-        },
-        3 => Query::Pending {
-            b: branch,
-            k: place,
-        },
-        4 => Query::History {
-            b: branch,
-            k: place,
-        },
-        _ => Query::Verdict {
-            b: branch,
-            k: place,
-        },
+        0 => Query::State { b, k },
+        1 => Query::Process { b, k, p: 0 },
+        2 => Query::Bits { b, k },
+        3 => Query::Pending { b, k },
+        4 => Query::History { b, k },
+        _ => Query::Verdict { b, k },
     }
 }
 
 impl<'a> Counted<'a> {
     /// Whether each kind of page of a place is the same through `lens` as through a new lens.
-    fn are_all_own(&mut self, lens: &mut Lens<Counting<'a>>, place: u32) -> Result<bool, Refusal> {
+    fn are_all_own(&mut self, lens: &mut Used<'a>, place: u32) -> Result<bool, Refusal> {
         for kind in 0..KINDS {
             let query = query_of(kind, self.main, place);
             if !self.is_page_own(lens, query)? {
@@ -302,7 +284,7 @@ impl<'a> Counted<'a> {
     }
 
     /// Whether a page is the same through `lens` as through a new lens.
-    fn is_page_own(&mut self, lens: &mut Lens<Counting<'a>>, query: Query) -> Result<bool, Refusal>
+    fn is_page_own(&mut self, lens: &mut Used<'a>, query: Query) -> Result<bool, Refusal>
         requires { is_at_branch query ≡ true }
     {
         let slip = slip_of(self.alloc, &mut self.chart, query)?;
@@ -311,10 +293,7 @@ impl<'a> Counted<'a> {
 
     /// Goes up through 40 places and down again. Returns how many places were passed before a page
     /// of some kind differed from the page through a new lens.
-    fn first_wrong_of_all_kinds(
-        &mut self,
-        lens: &mut Lens<Counting<'a>>,
-    ) -> Result<Option<usize>, Refusal> {
+    fn first_wrong_of_all_kinds(&mut self, lens: &mut Used<'a>) -> Result<Option<usize>, Refusal> {
         for passed in 0..80u32 {
             let place = if passed < 40 { passed } else { 79 - passed };
             if !self.are_all_own(lens, place)? {
@@ -325,11 +304,7 @@ impl<'a> Counted<'a> {
     }
 
     /// The text of the page of the state at a place.
-    fn state_text(
-        &mut self,
-        lens: &mut Lens<Counting<'a>>,
-        place: u32,
-    ) -> Result<Vec<u8>, Refusal> {
+    fn state_text(&mut self, lens: &mut Used<'a>, place: u32) -> Result<Vec<u8>, Refusal> {
         let query = self.state_at(place);
         let slip = slip_of(self.alloc, &mut self.chart, query)?;
         text_once_through(self.alloc, slip, lens)
@@ -355,7 +330,7 @@ const LAST_STATE: &[u8] =
 
 impl<'a> Counted<'a> {
     /// Whether the page of the state after all 1,000 steps has the text `LAST_STATE`.
-    fn shows_the_last_state(&mut self, lens: &mut Lens<Counting<'a>>) -> Result<bool, Refusal> {
+    fn shows_the_last_state(&mut self, lens: &mut Used<'a>) -> Result<bool, Refusal> {
         Ok(self.state_text(lens, 1000)?.as_slice() == LAST_STATE)
     }
 
@@ -364,14 +339,15 @@ impl<'a> Counted<'a> {
     /// the first wrong page.
     fn first_wrong_after_an_edit(
         &mut self,
-        lens: &mut Lens<Counting<'a>>,
-        new: &mut Lens<Counting<'a>>,
+        lens: &mut Used<'a>,
+        new: &mut Used<'a>,
     ) -> Result<Option<usize>, Refusal> {
         if !self.shows_the_last_state(lens)? {
             return Ok(Some(0));
         }
         let branch = self.main;
-        replace(&mut self.chart, &branch, 10, step_of(Kind::Go1))?;
+        let choice = Edit::Replace(&branch, 10, step_of(Kind::Go1));
+        edit(self.alloc, &mut self.chart, &choice)?;
         if !self.shows_the_last_state(lens)? {
             return Ok(Some(1));
         }

@@ -8,14 +8,12 @@ ghost use Rattle.frames.specs.Recorded.{AllFit};
 ghost use Rattle.schedule_trie.specs.Cut.{AreLimits};
 
 use super::counting::Counting;
-use super::single::{
-    Kept, drop_branch, fork, insert, installs_first, is_of, jobs_of, keeps_only, replace, settle,
-    settle_last,
-};
+use super::single::{Kept, edit, fork, installs_first, is_of, jobs_of, keeps_only, settle};
 use crate::given::{Branch, name, name_of, none_wrong};
 use cutoff::chart::Chart;
 use cutoff::plan::Job;
 use frames::types::Step;
+use schedule_trie::edit::Edit;
 use schedule_trie::limits::Limits;
 use schedule_trie::name::Name;
 use schedule_trie::refusal::Refusal;
@@ -145,10 +143,14 @@ fn edited(
     ask: Ask,
 ) -> Result<(), Refusal> {
     match ask {
-        Ask::Replace(place, kind) => replace(chart, branch, place, step_of(kind)),
-        Ask::Insert(place, kind) => insert(alloc, chart, branch, place, step_of(kind)),
+        Ask::Replace(place, kind) => {
+            edit(alloc, chart, &Edit::Replace(branch, place, step_of(kind)))
+        }
+        Ask::Insert(place, kind) => {
+            edit(alloc, chart, &Edit::Insert(branch, place, step_of(kind)))
+        }
         Ask::Fork => fork(alloc, chart, &name(rt, b"main"), *branch),
-        Ask::Drop => drop_branch(chart, branch),
+        Ask::Drop => edit(alloc, chart, &Edit::Drop(branch)),
         _ => Ok(()),
     }
 }
@@ -161,7 +163,7 @@ impl Bench<'_> {
     fn replayed(&mut self, branch: &Name, place: u32) -> Result<u32, Refusal> {
         match self.wanted {
             Wanted::All => settle(self.alloc, &mut self.chart, branch, place),
-            Wanted::Last => settle_last(self.alloc, &mut self.chart, branch, place),
+            Wanted::Last => Ok(self.chart.settle_last(self.alloc, branch, place)?.replayed),
         }
     }
 
@@ -260,8 +262,9 @@ pub(super) fn chart_of<'a>(
     Chart::new(alloc, Counting::new(calls), value, limits(), steps)
 }
 
-/// A bench for these steps, on a register that counts its calls in `calls`.
-pub(super) fn bench_of<'a>(
+/// A bench for these steps, on a register that counts its calls in `calls`; Memory if there is no
+/// chart after `tries` tries.
+fn bench_of<'a>(
     alloc: Global,
     calls: &'a AtomicU64,
     steps: &[Step],
@@ -270,28 +273,36 @@ pub(super) fn bench_of<'a>(
 ) -> Result<Bench<'a>, Refusal>
     requires { AllFit safe_behaviour steps.now }
 {
-    Ok(Bench {
-        alloc,
-        calls,
-        wanted,
-        tries,
-        chart: chart_of(alloc, calls, 0, steps)?,
-        runs: Vec::new(alloc),
-    })
+    for _ in 0..tries {
+        if let Ok(chart) = chart_of(alloc, calls, 0, steps) {
+            let runs = Vec::new(alloc);
+            return Ok(Bench {
+                alloc,
+                calls,
+                wanted,
+                tries,
+                chart,
+                runs,
+            });
+        }
+    }
+    Err(Refusal::Memory)
 }
 
-/// The index of the first row that goes wrong in a chart of these steps. Each call is made once.
-fn first_wrong_if(
+/// The index of the first row that goes wrong in a chart of these steps. Each call is made at most
+/// `tries` times.
+pub(super) fn first_wrong_if(
     rt: &impl Abort,
     alloc: Global,
     steps: &[Step],
     wanted: Wanted,
+    tries: u32,
     rows: &[Row],
 ) -> Result<Option<usize>, Refusal>
     requires { AllFit safe_behaviour steps.now }
 {
     let calls = AtomicU64::new(0);
-    let mut bench = bench_of(alloc, &calls, steps, wanted, 1)?;
+    let mut bench = bench_of(alloc, &calls, steps, wanted, tries)?;
     bench.first_wrong(rt, rows)
 }
 
@@ -305,9 +316,9 @@ fn first_wrong(
 ) -> Result<Option<usize>, Refusal>
     requires { AllFit safe_behaviour steps.now }
 {
-    match first_wrong_if(rt, alloc, steps, Wanted::All, rows)? {
+    match first_wrong_if(rt, alloc, steps, Wanted::All, 1, rows)? {
         Some(index) => Ok(Some(index)),
-        None => first_wrong_if(rt, alloc, steps, Wanted::Last, rows),
+        None => first_wrong_if(rt, alloc, steps, Wanted::Last, 1, rows),
     }
 }
 

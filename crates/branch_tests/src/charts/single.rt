@@ -4,6 +4,8 @@
 ghost use Rattle.std.specs.Prelude.{◌≡◌, true};
 ghost use Rattle.frames.specs.Configuration.{fits_step};
 ghost use Rattle.frames.specs.SafeBit.{safe_behaviour};
+ghost use Rattle.schedule_trie.specs.Edits.{edit_in};
+ghost use Rattle.cutoff.specs.Edits.{FitsEdit};
 ghost use Rattle.views.specs.Looks.{is_at_branch};
 
 use checkpoints::run::{Run, run_segment};
@@ -13,6 +15,7 @@ use cutoff::plan::Job;
 use frames::register::Register;
 use frames::safe::Safe;
 use frames::types::Step;
+use schedule_trie::edit::Edit;
 use schedule_trie::name::Name;
 use schedule_trie::refusal::Refusal;
 use schedule_trie::trie::SegKey;
@@ -125,37 +128,15 @@ pub(super) fn settle<R: Register>(
     Ok(chart.settle(alloc, branch, place)?.replayed)
 }
 
-/// The number of steps that a settle of the last run reports as replayed.
-pub(super) fn settle_last<R: Register>(
+/// Makes an edit whose step, if it has one, fits.
+pub(super) fn edit<R: Register>(
     alloc: Global,
     chart: &mut Chart<R>,
-    branch: &Name,
-    place: u32,
-) -> Result<u32, Refusal> {
-    Ok(chart.settle_last(alloc, branch, place)?.replayed)
-}
-
-pub(super) fn insert<R: Register>(
-    alloc: Global,
-    chart: &mut Chart<R>,
-    branch: &Name,
-    place: u32,
-    step: Step,
+    edit: &Edit<'_>,
 ) -> Result<(), Refusal>
-    requires { fits_step (R.behaviour chart.old.start.register) step ≡ true }
+    requires { FitsEdit (R.behaviour chart.old.start.register) (edit_in edit.now) }
 {
-    chart.insert(alloc, branch, place, step)
-}
-
-pub(super) fn replace<R: Register>(
-    chart: &mut Chart<R>,
-    branch: &Name,
-    place: u32,
-    step: Step,
-) -> Result<(), Refusal>
-    requires { fits_step (R.behaviour chart.old.start.register) step ≡ true }
-{
-    chart.replace(branch, place, step)
+    chart.edit(alloc, edit)
 }
 
 /// Forks a branch after the first cell of `main`.
@@ -166,10 +147,6 @@ pub(super) fn fork<R: Register>(
     branch: Name,
 ) -> Result<(), Refusal> {
     chart.fork(alloc, main, 1, branch)
-}
-
-pub(super) fn drop_branch<R: Register>(chart: &mut Chart<R>, branch: &Name) -> Result<(), Refusal> {
-    chart.drop_branch(branch)
 }
 
 /// Forks a branch after the first cell of `main`, and gives it a step.
@@ -183,7 +160,7 @@ pub(super) fn fork_with(
     requires { fits_step safe_behaviour step ≡ true }
 {
     fork(alloc, chart, main, branch)?;
-    insert(alloc, chart, &branch, 1, step)
+    edit(alloc, chart, &Edit::Insert(&branch, 1, step))
 }
 
 /// The slip of a look at a branch.

@@ -49,6 +49,7 @@ impl<R: Register> Chart<R> {
     ///
     /// NoBranch; NoPlace if the branch is shorter than `place`; Full if the number of cells made is
     /// at its limit; Memory. On an error nothing changes.
+    #[tactic(auto, using(crate::proofs::Edited::chart_edited))]
     pub fn insert(
         &mut self,
         alloc: Global,
@@ -70,6 +71,7 @@ impl<R: Register> Chart<R> {
     /// # Errors
     ///
     /// NoBranch; NoPlace if the branch has no cell there. On an error nothing changes.
+    #[tactic(auto, using(crate::proofs::Edited::chart_edited))]
     pub fn remove(&mut self, branch: &Name, place: u32) -> Result<(), Refusal>
         ensures { Edits self.old self.new (Remove branch.now place) result }
     {
@@ -85,6 +87,7 @@ impl<R: Register> Chart<R> {
     /// # Errors
     ///
     /// NoBranch; NoPlace if the branch has no cell there. On an error nothing changes.
+    #[tactic(auto, using(crate::proofs::Edited::chart_edited))]
     pub fn replace(&mut self, branch: &Name, place: u32, step: Step) -> Result<(), Refusal>
         requires { fits_step (R.behaviour self.old.start.register) step ≡ true }
         ensures { Edits self.old self.new (Replace branch.now place step) result }
@@ -103,6 +106,7 @@ impl<R: Register> Chart<R> {
     /// NoBranch; NameTaken; BadName if the name isn't a lower-case letter, followed by lower-case
     /// letters or digits; NoPlace if the branch is shorter than `place`; TooManyBranches; Memory.
     /// On an error nothing changes.
+    #[tactic(auto, using(crate::proofs::Edited::chart_edited))]
     pub fn fork(
         &mut self,
         alloc: Global,
@@ -124,6 +128,7 @@ impl<R: Register> Chart<R> {
     ///
     /// NoBranch; Full if the number of cells made would exceed its limit; Memory. On an error
     /// nothing changes.
+    #[tactic(auto, using(crate::proofs::Edited::chart_edited))]
     pub fn detach(&mut self, alloc: Global, branch: &Name) -> Result<(), Refusal>
         ensures { Edits self.old self.new (Detach branch.now) result }
     {
@@ -138,6 +143,7 @@ impl<R: Register> Chart<R> {
     /// # Errors
     ///
     /// NoBranch; LastBranch if it is the only one. On an error nothing changes.
+    #[tactic(auto, using(crate::proofs::Edited::chart_edited))]
     pub fn drop_branch(&mut self, branch: &Name) -> Result<(), Refusal>
         ensures { Edits self.old self.new (Drop branch.now) result }
     {

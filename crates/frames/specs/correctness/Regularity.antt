@@ -3,7 +3,7 @@
 use Rattle.std.specs.Prelude.{◌≡◌, ◌≢◌, ℕ, ◌<◌, ◌≤◌, ⊤, Bool, true, false, List, [], ◌∷◌, ◌++◌, Option, Some, None, length, drop, slice_index_or}
 use Rattle.std.specs.List.{list_any}
 use Rattle.frames.specs.declared.types.Event.{Event}
-use Rattle.frames.specs.declared.types.Event.TheVariants.{Invoke, Got, Wrote, Refused, Void, Stop, Chosen}
+use Rattle.frames.specs.declared.types.Event.TheVariants.{Got, Refused}
 use Rattle.frames.specs.declared.types.Step.{Step}
 use Rattle.frames.specs.declared.verdict.Verdict.TheVariants.{Fresh, Stray}
 use Rattle.frames.specs.Behaviour.{Behaviour}
@@ -14,12 +14,7 @@ use Rattle.frames.specs.correctness.Verdicts.{Known, accepted, initially, after,
 -- whether an event is the refusal of an operation
 abbrev pub is_refusal : Event → Bool
 is_refusal (Refused p layer) = true
-is_refusal (Invoke p o) = false
-is_refusal (Got p v) = false
-is_refusal (Wrote p) = false
-is_refusal (Void p reason) = false
-is_refusal (Stop p) = false
-is_refusal (Chosen p bit v) = false
+is_refusal _ = false
 
 -- no event of the list is a refusal
 abbrev pub NoneRefused : List (ℕ × Event) → Type 0
@@ -40,12 +35,7 @@ overlapped p k = drop (reading p k).since k.returned ++ in_progress k.writing
 -- read returns, the read's process, and the read's value.
 abbrev pub OnReturn : (Known → ℕ → ℕ → Type 0) → Known → Event → Type 0
 OnReturn Says k (Got p v) = Says k p v
-OnReturn Says k (Invoke p o) = ⊤
-OnReturn Says k (Wrote p) = ⊤
-OnReturn Says k (Refused p layer) = ⊤
-OnReturn Says k (Void p reason) = ⊤
-OnReturn Says k (Stop p) = ⊤
-OnReturn Says k (Chosen p bit v) = ⊤
+OnReturn Says k _ = ⊤
 
 -- `Says` holds of each read that returns in these events; k is what is known before them
 abbrev pub EachRead : (Known → ℕ → ℕ → Type 0) → Known → List (ℕ × Event) → Type 0

@@ -1,6 +1,6 @@
 -- Laws of stacks of frames: a stack determines which operation is pending and at which point, and a
 -- test decides whether two stacks are the same.
-use Rattle.std.proofs.Common.{◌≡◌, ℕ, zero, suc, ◌+◌, Bool, nat_eq, List, [], ◌∷◌, length, set, take, replicate, Option, Some, None, option_map, refl, sym, ap, ◌∙◌, arith}
+use Rattle.std.proofs.Common.{◌≡◌, ℕ, zero, suc, ◌+◌, Bool, List, [], ◌∷◌, length, set, take, replicate, Option, Some, None, option_map, refl, ap, ◌∙◌, arith}
 use Rattle.std.specs.Bool.{Decides}
 use mathlib.Core.Bool.{◌&&◌, beq}
 use Rattle.std.specs.Cmp.{IsPartialEquivalence, booleans_Decides}
@@ -8,6 +8,8 @@ use Rattle.std.specs.Cmp.Lexicographic.{pointwise}
 use Rattle.std.proofs.lemmas.Bool.Decides.{Decides-and, Decides-eqb, Decides-like}
 use Rattle.std.proofs.lemmas.Slice.Eq.{slice_eq-Decides}
 use Rattle.safe_bit.specs.laws.Equality.{per_from_decides}
+use Rattle.frames.specs.contracts.types.FramePartialEq.TheImpl as frames
+use Rattle.frames.specs.contracts.types.FrameLayerPartialEq.TheImpl as layers
 use Rattle.frames.specs.declared.types.Op.{Op}
 use Rattle.frames.specs.declared.types.Frame.{Frame}
 use Rattle.frames.specs.declared.types.FrameLayer.{FrameLayer}
@@ -15,56 +17,31 @@ use Rattle.frames.specs.declared.types.FrameLayer.TheVariants as layer
 use Rattle.frames.specs.declared.running.Running.{Running}
 use Rattle.frames.specs.declared.config.Parked.{Parked}
 use Rattle.frames.specs.Behaviour.{Behaviour}
-use Rattle.frames.specs.Equality.{op_eq, op_decides}
+use Rattle.frames.specs.Equality.{op_decides}
 use Rattle.frames.specs.Flat.{outermost, FramesGivePoint, IsReached, running_of, running_from, stack_of}
 
--- the number of a layer; layers are numbered in the order of their declaration
-abbrev pub layer_number : FrameLayer → ℕ
-layer_number layer.Safe = 0
-layer_number layer.Copies = 1
-layer_number layer.Regular = 2
-layer_number layer.Unary = 3
-layer_number layer.Stamped = 4
-layer_number layer.MatrixRead = 5
-layer_number layer.MatrixWrite = 6
+-- the derived `==` of frames' layers is true exactly if the two layers are the same
+layer_decides : (a b : FrameLayer) → Decides (layers.eq-value.it a b) (a ≡ b)
+layer_decides = elim [
+  | layer.Safe ↦ elim [ layer.Safe ↦ (λ h. refl, λ h. refl) | _ ↦ (λ h. cc, λ h. cc) ]
+  | layer.Copies ↦ elim [ layer.Copies ↦ (λ h. refl, λ h. refl) | _ ↦ (λ h. cc, λ h. cc) ]
+  | layer.Regular ↦ elim [ layer.Regular ↦ (λ h. refl, λ h. refl) | _ ↦ (λ h. cc, λ h. cc) ]
+  | layer.Unary ↦ elim [ layer.Unary ↦ (λ h. refl, λ h. refl) | _ ↦ (λ h. cc, λ h. cc) ]
+  | layer.Stamped ↦ elim [ layer.Stamped ↦ (λ h. refl, λ h. refl) | _ ↦ (λ h. cc, λ h. cc) ]
+  | layer.MatrixRead ↦ elim [ layer.MatrixRead ↦ (λ h. refl, λ h. refl) | _ ↦ (λ h. cc, λ h. cc) ]
+  | layer.MatrixWrite ↦ elim [ layer.MatrixWrite ↦ (λ h. refl, λ h. refl) | _ ↦ (λ h. cc, λ h. cc) ]
+]
 
-abbrev layer_of : ℕ → FrameLayer
-layer_of zero = layer.Safe
-layer_of (suc zero) = layer.Copies
-layer_of (suc (suc zero)) = layer.Regular
-layer_of (suc (suc (suc zero))) = layer.Unary
-layer_of (suc (suc (suc (suc zero)))) = layer.Stamped
-layer_of (suc (suc (suc (suc (suc zero))))) = layer.MatrixRead
-layer_of (suc (suc (suc (suc (suc (suc n)))))) = layer.MatrixWrite
-
-numbered : (l : FrameLayer) → layer_of (layer_number l) ≡ l
-numbered layer.Safe = refl
-numbered layer.Copies = refl
-numbered layer.Regular = refl
-numbered layer.Unary = refl
-numbered layer.Stamped = refl
-numbered layer.MatrixRead = refl
-numbered layer.MatrixWrite = refl
-
-abbrev pub layer_eq : FrameLayer → FrameLayer → Bool
-layer_eq a b = nat_eq (layer_number a) (layer_number b)
-
-layer_decides : (a b : FrameLayer) → Decides (layer_eq a b) (a ≡ b)
-layer_decides a b = Decides-like (layer_eq a b) (λ p. sym (numbered a) ∙ ap layer_of p ∙ numbered b) (λ p. ap layer_number p) (Decides-eqb (layer_number a) (layer_number b))
-
--- whether two frames are equal in every field
-abbrev pub frame_eq : Frame → Frame → Bool
-frame_eq a b = layer_eq a.layer b.layer && (op_eq a.op b.op && (nat_eq a.i b.i && nat_eq a.x b.x))
-
-pub frame_decides : (a b : Frame) → Decides (frame_eq a b) (a ≡ b)
+-- the derived `==` of frames is true exactly if the two frames are the same
+pub frame_decides : (a b : Frame) → Decides (frames.eq-value.it a b) (a ≡ b)
 frame_decides a b =
-    Decides-like (frame_eq a b) (λ p. λ i. record { layer = p.0 i; op = p.1.0 i; i = p.1.1.0 i; x = p.1.1.1 i })
+    Decides-like (frames.eq-value.it a b) (λ p. λ i. record { layer = p.0 i; op = p.1.0 i; i = p.1.1.0 i; x = p.1.1.1 i })
     (λ p. (ap (λ f. f.layer) p, (ap (λ f. f.op) p, (ap (λ f. f.i) p, ap (λ f. f.x) p))))
     (Decides-and _ _ (layer_decides a.layer b.layer) (Decides-and _ _ (op_decides a.op b.op) (Decides-and _ _ (Decides-eqb a.i b.i) (Decides-eqb a.x b.x))))
 
 -- whether two stacks have equal frames in the same order
 abbrev pub stack_eq : List Frame → List Frame → Bool
-stack_eq = pointwise frame_eq
+stack_eq = pointwise frames.eq-value.it
 
 pub stack_decides : (xs ys : List Frame) → Decides (stack_eq xs ys) (xs ≡ ys)
 stack_decides xs ys = slice_eq-Decides frame_decides xs ys _ refl
@@ -83,12 +60,6 @@ parked_decides a b =
 
 pub parked_per : IsPartialEquivalence parked_eq
 parked_per = per_from_decides parked_eq parked_decides
-
--- if test L agrees with `layer_eq` and test O with `op_eq`, the test that compares two stacks frame
--- by frame, by means of L and O, agrees with `stack_eq`
-pub agrees : (L : FrameLayer → FrameLayer → Bool) (O : Op → Op → Bool) → ((a b : FrameLayer) → L a b ≡ layer_eq a b) → ((a b : Op) → O a b ≡ op_eq a b)
-    → (xs ys : List Frame) → pointwise (λ a b. L a.layer b.layer && (O a.op b.op && (nat_eq a.i b.i && nat_eq a.x b.x))) xs ys ≡ stack_eq xs ys
-agrees L O layers ops xs ys = λ i. pointwise (λ a b. layers a.layer b.layer i && (ops a.op b.op i && (nat_eq a.i b.i && nat_eq a.x b.x))) xs ys
 
 pub set_at : (index count : ℕ) (frames : List Frame) (frame : Frame) → take count (set frames index frame) ≡ set (take count frames) index frame
 set_at index zero frames frame = refl

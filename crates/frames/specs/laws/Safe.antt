@@ -1,7 +1,7 @@
 -- The register of one safe bit obeys the laws of every register.
 use Rattle.std.proofs.Common.{◌≡◌, ℕ, zero, suc, ◌+◌, ◌<◌, Bool, true, false, List, [], ◌∷◌, ◌++◌, length, set, take, drop, add-zero, ◌∙◌, Some, None, refl, sym, ap, subst, arith, append-nil, length-drop, length-set, take_all}
 use Rattle.std.proofs.lemmas.List.{take_more_set}
-use Rattle.std.proofs.lemmas.Bool.Decides.{nat_tests, Decides-at, Decides-like}
+use Rattle.std.proofs.lemmas.Bool.Decides.{nat_tests, Decides-like}
 use Rattle.std.specs.Bool.{Decides, if◌then◌else◌, ⊤}
 use Rattle.std.specs.Option.{MatchOption}
 use Rattle.std.specs.Cmp.{booleans_Decides}
@@ -16,6 +16,7 @@ use Rattle.safe_bit.specs.declared.Place.{Place}
 use Rattle.std.proofs.lemmas.List.{nil_from_length}
 use Rattle.frames.specs.declared.types.Op.{Op}
 use Rattle.frames.specs.declared.types.Op.TheVariants as op
+use Rattle.frames.specs.contracts.safe.SafePointPartialEq.TheImpl as points
 use Rattle.frames.specs.declared.safe.SafePoint.{SafePoint}
 use Rattle.frames.specs.declared.safe.SafePoint.TheVariants as at
 use Rattle.frames.specs.declared.types.Outcome.{Outcome}
@@ -52,32 +53,22 @@ goes who op.Read at.ReadEnd choice m z r = record {
   holds = HasSize-on_cell _ 0 end_read m z;
   may_be_at = value_below (read_gives choice (cell_at 0 m));
 }
-goes who (op.Write v) at.ReadStart choice m z r = absurd r
-goes who (op.Write v) at.ReadEnd choice m z r = absurd r
-goes who op.Read (at.WriteStart b) choice m z r = absurd r
-goes who op.Read (at.WriteEnd b) choice m z r = absurd r
+goes who _ _ choice m z r = absurd r
 
 chooses : (p : SafePoint) (choice : Bool) (m : Memory) → MatchOption (safe_goes p choice m).chosen ⊤ (λ bit. bit.0 < 1)
-chooses (at.WriteStart b) choice m = tt
-chooses (at.WriteEnd b) choice m = tt
-chooses at.ReadStart choice m = tt
 chooses at.ReadEnd choice m = hit_bit (cell_at 0 m).hit (read_gives choice (cell_at 0 m))
+chooses _ choice m = tt
 
 suited : (who : ℕ) (o : Op) (p : SafePoint) → SafeReaches who o p → safe_suits who o ≡ true
 suited who (op.Write v) (at.WriteStart b) r = let zero = r.0 in let low = r.1 in grind (arith, nat_tests)
 suited who (op.Write v) (at.WriteEnd b) r = let zero = r.0 in let low = r.1 in grind (arith, nat_tests)
 suited who op.Read at.ReadStart r = grind (arith, nat_tests)
 suited who op.Read at.ReadEnd r = grind (arith, nat_tests)
-suited who (op.Write v) at.ReadStart r = absurd r
-suited who (op.Write v) at.ReadEnd r = absurd r
-suited who op.Read (at.WriteStart b) r = absurd r
-suited who op.Read (at.WriteEnd b) r = absurd r
+suited who _ _ r = absurd r
 
 acts : (p : SafePoint) → (safe_acts p).cell < 1
 acts (at.WriteStart b) = omega arith
-acts (at.WriteEnd b) = omega arith
-acts at.ReadStart = omega arith
-acts at.ReadEnd = omega arith
+acts _ = omega arith
 
 set_single : {A : Type 0} (x : A) (xs : List A) → length xs ≡ 1 → set xs 0 x ≡ x ∷ []
 set_single x [] e = absurd (omega arith)
@@ -99,34 +90,13 @@ with_own_cell at v m h =
     (set_single (idle_cell v) (part at safe_size m).cells (HasSize-part at safe_size m h).cells)
     (nil_from_length (part at safe_size m).words (HasSize-part at safe_size m h).words))
 
-abbrev pub point_eq : SafePoint → SafePoint → Bool
-point_eq (at.WriteStart b) (at.WriteStart c) = beq b c
-point_eq (at.WriteEnd b) (at.WriteEnd c) = beq b c
-point_eq at.ReadStart at.ReadStart = true
-point_eq at.ReadEnd at.ReadEnd = true
-point_eq _ _ = false
-
--- a test that agrees with `point_eq` decides whether two points are equal
-pub point_decides : (E : SafePoint → SafePoint → Bool) → ((x y : SafePoint) → E x y ≡ point_eq x y) → (x y : SafePoint) → Decides (E x y) (x ≡ y)
-point_decides E e x y = Decides-at _ _ (e x y) (decided x y)
-  where
-    decided : (x y : SafePoint) → Decides (point_eq x y) (x ≡ y)
-    decided (at.WriteStart b) (at.WriteStart c) = Decides-like (beq b c) (λ p. ap at.WriteStart p) (λ p. cc) (booleans_Decides b c)
-    decided (at.WriteEnd b) (at.WriteEnd c) = Decides-like (beq b c) (λ p. ap at.WriteEnd p) (λ p. cc) (booleans_Decides b c)
-    decided at.ReadStart at.ReadStart = (λ h. refl, λ h. refl)
-    decided at.ReadEnd at.ReadEnd = (λ h. refl, λ h. refl)
-    decided (at.WriteStart b) (at.WriteEnd c) = (λ h. cc, λ h. cc)
-    decided (at.WriteStart b) at.ReadStart = (λ h. cc, λ h. cc)
-    decided (at.WriteStart b) at.ReadEnd = (λ h. cc, λ h. cc)
-    decided (at.WriteEnd b) (at.WriteStart c) = (λ h. cc, λ h. cc)
-    decided (at.WriteEnd b) at.ReadStart = (λ h. cc, λ h. cc)
-    decided (at.WriteEnd b) at.ReadEnd = (λ h. cc, λ h. cc)
-    decided at.ReadStart (at.WriteStart c) = (λ h. cc, λ h. cc)
-    decided at.ReadStart (at.WriteEnd c) = (λ h. cc, λ h. cc)
-    decided at.ReadStart at.ReadEnd = (λ h. cc, λ h. cc)
-    decided at.ReadEnd (at.WriteStart c) = (λ h. cc, λ h. cc)
-    decided at.ReadEnd (at.WriteEnd c) = (λ h. cc, λ h. cc)
-    decided at.ReadEnd at.ReadStart = (λ h. cc, λ h. cc)
+-- the derived `==` of points is true exactly if the two points are equal
+pub point_decides : (x y : SafePoint) → Decides (points.eq-value.it x y) (x ≡ y)
+point_decides (at.WriteStart b) (at.WriteStart c) = Decides-like (beq b c) (λ p. ap at.WriteStart p) (λ p. cc) (booleans_Decides b c)
+point_decides (at.WriteEnd b) (at.WriteEnd c) = Decides-like (beq b c) (λ p. ap at.WriteEnd p) (λ p. cc) (booleans_Decides b c)
+point_decides at.ReadStart at.ReadStart = (λ h. refl, λ h. refl)
+point_decides at.ReadEnd at.ReadEnd = (λ h. refl, λ h. refl)
+point_decides _ _ = (λ h. cc, λ h. cc)
 
 pub safe_lawful : IsLawful safe_behaviour (HasSize safe_behaviour.size) SafeReaches
 safe_lawful = record {
@@ -166,7 +136,7 @@ point_of_its_frame at.ReadStart = refl
 point_of_its_frame at.ReadEnd = refl
 
 -- the value of the bit of v is v, if v is 0 or 1
-value_of_its_bit : (v : ℕ) → v < 2 → value_of (bit_of v) ≡ v
+pub value_of_its_bit : (v : ℕ) → v < 2 → value_of (bit_of v) ≡ v
 value_of_its_bit zero lt = refl
 value_of_its_bit (suc zero) lt = refl
 value_of_its_bit (suc (suc v)) lt = absurd (omega (arith, lt))
@@ -177,10 +147,7 @@ op_of_the_frames who (op.Write v) (at.WriteStart b) r = ap (λ x. Some (op.Write
 op_of_the_frames who (op.Write v) (at.WriteEnd b) r = ap (λ x. Some (op.Write x)) (ap value_of r.2 ∙ value_of_its_bit v r.1)
 op_of_the_frames who op.Read at.ReadStart r = refl
 op_of_the_frames who op.Read at.ReadEnd r = refl
-op_of_the_frames who (op.Write v) at.ReadStart r = absurd r
-op_of_the_frames who (op.Write v) at.ReadEnd r = absurd r
-op_of_the_frames who op.Read (at.WriteStart b) r = absurd r
-op_of_the_frames who op.Read (at.WriteEnd b) r = absurd r
+op_of_the_frames who _ _ r = absurd r
 
 pub safe_frames_give_point : FramesGivePoint safe_behaviour SafeReaches safe_point
 safe_frames_give_point = record { point = λ who o p r. ap Some (point_of_its_frame p); op = op_of_the_frames; none = λ who. refl }

@@ -5,7 +5,7 @@
 use Rattle.std.proofs.Common.{◌≡◌, Bool, true, false, ap}
 use mathlib.Core.Bool.{◌&&◌}
 use Rattle.std.specs.Bool.{Decides}
-use Rattle.std.proofs.lemmas.Bool.Decides.{Decides-and, Decides-at, Decides-like}
+use Rattle.std.proofs.lemmas.Bool.Decides.{Decides-and, Decides-like}
 use Rattle.layers.specs.declared.nested.Nested.{Nested}
 use Rattle.frames.specs.Behaviour.{Behaviour}
 use Rattle.layers.specs.Nested.{Table, layered}
@@ -16,16 +16,5 @@ nested_decides E F d e a b =
     Decides-like (E a.task b.task && F a.below b.below) (λ p. λ i. record { task = p.0 i; below = p.1 i }) (λ p. (ap (λ n. n.task) p, ap (λ n. n.below) p))
     (Decides-and (E a.task b.task) (F a.below b.below) (d a.task b.task) (e a.below b.below))
 
--- if `a && b` is true, both a and b are true
-pub both_true : (a b : Bool) → (a && b) ≡ true → (a ≡ true) × (b ≡ true)
-both_true true true h = (h, h)
-both_true true false h = (cc, h)
-both_true false b h = (h, cc)
-
 pub layered_alike : {Task P : Type 0} (t u : Table Task) (a b : Behaviour P) → t ≡ u → a ≡ b → layered t a ≡ layered u b
 layered_alike t u a b p q = λ i. layered (p i) (q i)
-
--- if test F of two values decides whether they are equal, and test E always agrees with F, then E
--- decides it too
-pub decides_like : {A : Type 0} (E F : A → A → Bool) → ((x y : A) → E x y ≡ F x y) → ((x y : A) → Decides (F x y) (x ≡ y)) → (x y : A) → Decides (E x y) (x ≡ y)
-decides_like E F same d x y = Decides-at (E x y) (F x y) (same x y) (d x y)

@@ -161,67 +161,65 @@ fn answers_within(alloc: Global, count: usize) -> Result<Vec<u8>, AllocError> {
     Ok(answers)
 }
 
+/// A reader that gives at most `read` bytes at each read, and a writer that takes all bytes.
+fn reading(read: usize, after: After) -> Way {
+    Way {
+        read,
+        after,
+        write: ALL,
+        room: ALL,
+    }
+}
+
+/// Asserts that the program ends with this fault if its reader gives the first `count` bytes of the
+/// script, or all. The whole lines before that are answered, and the line that is cut isn't.
+fn check<H: Abort + AllocGlobal + Threads + Wait + Sync>(
+    rt: &H,
+    script: &[u8],
+    count: usize,
+    way: Way,
+    fault: Fault,
+) -> Result<(), Fail> {
+    let answers = answers_within(rt.alloc(), count)?;
+    let front = &script[..count.min(script.len())];
+    let (found, taken) = ended(rt, rt.alloc(), front, way);
+    assert_eq!(rt; found, Some(fault), "{count}");
+    assert!(rt; taken == answers, "{count}");
+    Ok(())
+}
+
 /// A read fails after any byte of the script, which is read byte by byte, in pieces, or at once.
-/// The whole lines before that are answered, and the line that is cut isn't.
 #[test]
 fn a_read_fails_after_each_byte(rt: HostRuntime) -> Result<(), Fail> {
     let script = script(rt.alloc())?;
     for read in [1, 5, ALL] {
-        let way = Way {
-            read,
-            after: After::Fails,
-            write: ALL,
-            room: ALL,
-        };
+        let way = reading(read, After::Fails);
         for count in 0..=script.len() {
-            let (found, taken) = ended(&rt, rt.alloc(), &script[..count], way);
-            let answers = answers_within(rt.alloc(), count)?;
-            assert_eq!(rt; found, Some(Fault::Read), "{count}");
-            assert!(rt; taken == answers, "{count}");
+            check(&rt, &script, count, way, Fault::Read)?;
         }
     }
     Ok(())
 }
 
-/// After any byte of the script, the reader goes on without end. Then the script is too long; its
-/// whole lines are answered, and the line that is cut isn't.
+/// After any byte of the script, the reader goes on without end. Then the script is too long.
 #[test]
 fn a_reader_never_ends_after_each_byte(rt: HostRuntime) -> Result<(), Fail> {
     let script = script(rt.alloc())?;
-    let way = Way {
-        read: MORE.len(),
-        after: After::NeverEnds,
-        write: ALL,
-        room: ALL,
-    };
+    let way = reading(MORE.len(), After::NeverEnds);
     for count in 0..=script.len() {
-        let (found, taken) = ended(&rt, rt.alloc(), &script[..count], way);
-        let answers = answers_within(rt.alloc(), count)?;
-        assert_eq!(rt; found, Some(Fault::TooLong), "{count}");
-        assert!(rt; taken == answers, "{count}");
+        check(&rt, &script, count, way, Fault::TooLong)?;
     }
     Ok(())
 }
 
 /// Asserts that the script is too long if its reader is only interrupted after `count` bytes of it.
-/// The whole lines before that are answered, and the line that is cut isn't.
 fn check_interrupted<H: Abort + AllocGlobal + Threads + Wait + Sync>(
     rt: &H,
     count: usize,
 ) -> Result<(), Fail> {
     let script = script(rt.alloc())?;
-    let way = Way {
-        read: ALL,
-        after: After::Interrupted,
-        write: ALL,
-        room: ALL,
-    };
-    let front = &script[..count.min(script.len())];
-    let (found, taken) = ended(rt, rt.alloc(), front, way);
-    let answers = answers_within(rt.alloc(), count)?;
-    assert_eq!(rt; found, Some(Fault::TooLong), "{count}");
-    assert!(rt; taken == answers, "{count}");
-    Ok(())
+    let way = reading(ALL, After::Interrupted);
+    check(rt, &script, count, way, Fault::TooLong)
 }
 
 #[test]

@@ -3,7 +3,7 @@
 ghost use Rattle.command_line.specs.Ranges.{AreOptionsInRange};
 
 use super::cut::{ALL, Narrow};
-use super::{Sink, Way, options};
+use super::{Sink, Way, limited, options};
 use command_line::Options;
 use schedule_trie::refusal::Refusal;
 use std::process::Abort;
@@ -114,16 +114,6 @@ fn check_refused<H: Abort + AllocGlobal + Threads + Wait + Sync>(
 
 #[test]
 fn refused_branches(rt: HostRuntime) {
-    let fewer_cells = Options {
-        workers: 0,
-        cells: 3,
-        branches: 4,
-    };
-    check_refused(&rt, fewer_cells, Refusal::Full);
-    let fewer_branches = Options {
-        workers: 0,
-        cells: 64,
-        branches: 2,
-    };
-    check_refused(&rt, fewer_branches, Refusal::TooManyBranches);
+    check_refused(&rt, limited(3, 4), Refusal::Full);
+    check_refused(&rt, limited(64, 2), Refusal::TooManyBranches);
 }

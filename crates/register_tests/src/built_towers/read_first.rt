@@ -2,10 +2,7 @@
 //! read is refused as spent. In a matrix of such registers, each process itself reads the part of
 //! its row on the diagonal; the other parts of the row are read only by other processes.
 
-use frames::types::{Frame, FrameLayer, Layer, Op, Outcome};
-use layers::construction::{Construction, Rules, Shape, one_writer};
-use layers::nested::{Ask, Continuation};
-use safe_bit::Store;
+use layers::prelude::*;
 
 /// The rules of such a register: the word is 1 once the register has been read.
 #[derive(Clone, Copy, Debug, PartialEq, Eq)]
@@ -32,9 +29,7 @@ impl Rules for ReadFirst {
 impl Construction for ReadFirst {
     ghost use Rattle.std.specs.Prelude.{refl};
     ghost use Rattle.register_tests.specs.ReadFirst.{ReadFirstMayBeAt, read_first_sound};
-    ghost use Rattle.frames.specs.declared.types.Op.TheVariants.{Write, Read};
-    ghost use Rattle.frames.specs.Equality.{op_eq, op_decides};
-    ghost use Rattle.layers.specs.laws.Equality.{decides_like};
+    ghost use Rattle.frames.specs.Equality.{op_decides};
 
     ghost MayBeAt = { λ _. ReadFirstMayBeAt };
 
@@ -112,5 +107,5 @@ impl Construction for ReadFirst {
 
     ghost alike = { λ _ _ _. refl };
 
-    ghost same_task = { decides_like ⟦<Op as PartialEq>⟧.eq op_eq (elim [ Write _ ↦ elim [ Write _ ↦ refl | Read ↦ refl ] | Read ↦ elim [ Write _ ↦ refl | Read ↦ refl ] ]) op_decides };
+    ghost same_task = { op_decides };
 }

@@ -74,7 +74,7 @@ impl<T: Drop> Trie<T> {
         }
     }
 
-    /// Inserts a new cell before the cell at an offset of a segment.
+    /// Inserts a new cell before the cell at an offset of a segment. A full segment is cut in two.
     fn put_before(
         &mut self,
         alloc: Global,
@@ -90,7 +90,20 @@ impl<T: Drop> Trie<T> {
         if self.slots_at(key).len() < MOST_SLOTS {
             return self.put_in(key, offset, step);
         }
-        self.put_divided(alloc, key, offset, step)
+        let slot = Slot {
+            cell: self.made,
+            step,
+        };
+        let (above, below) = parts_with(alloc, self.slots_at(key), offset, slot)?;
+        let above = Segment {
+            slots: above,
+            note: None,
+        };
+        self.segments.divide(key, above)?;
+        self.segments.item_mut(key).set_slots(below);
+        forget_lengths(&mut self.branches);
+        self.made += 1;
+        Ok(())
     }
 
     /// Inserts a new cell before the cell at an offset of a segment that isn't full.
@@ -106,36 +119,6 @@ impl<T: Drop> Trie<T> {
             step,
         };
         self.segments.item_mut(key).insert(offset, slot)?;
-        forget_lengths(&mut self.branches);
-        self.made += 1;
-        Ok(())
-    }
-
-    /// Inserts a new cell before the cell at an offset of a full segment, which is cut in two.
-    fn put_divided(
-        &mut self,
-        alloc: Global,
-        key: SegKey,
-        offset: usize,
-        step: Step,
-    ) -> Result<(), AllocError>
-        requires offset { offset < length (slots_of (piece_at self.old.pieces key)) }
-        requires full { 128 ≤ length (slots_of (piece_at self.old.pieces key)) }
-        requires room { self.old.made < self.old.limits.cells }
-        ensures ok { OnOk result (IsPutBefore self.old self.new key offset step) }
-        ensures err { OnErr result (self.new ≡ self.old) }
-    {
-        let slot = Slot {
-            cell: self.made,
-            step,
-        };
-        let (above, below) = parts_with(alloc, self.slots_at(key), offset, slot)?;
-        let above = Segment {
-            slots: above,
-            note: None,
-        };
-        self.segments.divide(key, above)?;
-        self.segments.item_mut(key).set_slots(below);
         forget_lengths(&mut self.branches);
         self.made += 1;
         Ok(())

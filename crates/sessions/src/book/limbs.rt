@@ -71,6 +71,6 @@ impl<R: Register> Book<R> {
     pub fn limbs(&self, alloc: Global) -> Result<Vec<Limb>, AllocError>
         ensures { IfOk result (λ limbs. IsSaved (world_of R.behaviour self.now.now) limbs.items) }
     {
-        self.stage.limbs(alloc)
+        self.workspace.chart.limbs(alloc)
     }
 }

@@ -202,20 +202,14 @@ fn cross<R: Abort + Threads + Wait + Sync>(
 }
 
 /// Fills and looks by one of two chairs of a new desk.
-fn cross_at<R: Abort + Threads + Wait + Sync>(
-    rt: &R,
-    alloc: Global,
-    desk: &Desk<Safe>,
-    chair: Chair<Safe>,
-)
-    requires chair { IsChairOf (λ _. safe_behaviour) desk.now chair }
+fn cross_at<R: Abort + Threads + Wait + Sync>(room: &Room<'_, R>, chair: Chair<Safe>)
+    requires chair { IsChairOf (λ _. safe_behaviour) room.now.desk.now chair }
     requires every { (view chair).shares ≡ every_share }
 {
-    let (mut first, second) = halves(desk, chair);
-    let room = Room::new(rt, alloc, desk);
-    cross(&room, &mut first, second);
-    let (at, _) = room.text_again(&mut first, &state_at(rt, 0));
-    assert!(rt; at <= 1);
+    let (mut first, second) = halves(room.desk, chair);
+    cross(room, &mut first, second);
+    let (at, _) = room.text_again(&mut first, &state_at(room.rt, 0));
+    assert!(room.rt; at <= 1);
 }
 
 /// If memory runs out, the other chair's edit may be refused, and a run may be missing. The desk
@@ -223,6 +217,6 @@ fn cross_at<R: Abort + Threads + Wait + Sync>(
 #[test]
 fn crossing_out_of_memory(rt: HostRuntime) {
     if let Ok((desk, chair)) = of_one_read(rt.alloc()) {
-        cross_at(&rt, rt.alloc(), &desk, chair);
+        cross_at(&Room::new(&rt, rt.alloc(), &desk), chair);
     }
 }

@@ -8,8 +8,8 @@ ghost use Rattle.schedule_trie.specs.Cut.{AreLimits};
 ghost use Rattle.desk.specs.Chairs.{IsChairOf};
 
 use super::openings::{thousand, writes, written};
-use super::side_by_side::{Work, log_and_text};
-use super::{Room, book_of, halves, is_text, name, replies_to, text_of};
+use super::side_by_side::Work;
+use super::{Room, book_of, is_text, log_and_text, name, replies_to, text_of};
 use desk::{Chair, Report};
 use frames::safe::Safe;
 use frames::types::Step;
@@ -283,31 +283,20 @@ fn fork_in_the_middle(rt: &impl Abort) -> Command {
     }
 }
 
-/// A filler and an editor work at a new desk of the thousand steps. Returns the log and the text of
-/// a look's page; `None` if something went wrong.
-fn filled_and_edited<R: Abort + Threads + Wait + Sync>(
-    rt: &R,
-    alloc: Global,
-    query: &Query,
-) -> Result<Option<(Log, Vec<u8>)>, Refusal> {
-    let (desk, chair) = thousand(alloc, 1024)?;
-    let (mut editor, filler) = halves(&desk, chair);
-    let fork = fork_in_the_middle(rt);
-    Room::new(rt, alloc, &desk).bring(&mut editor, (0, None, &fork));
-    let editor = (editor, Work::InsertsAndDrop(INSERTS));
-    log_and_text(rt, alloc, desk, editor, (filler, Work::Fills), query)
-}
-
-/// Compares the log and the text of one pair with a book's.
+/// An editor and a filler work at a new desk of the thousand steps. Compares the log and the text of
+/// a look's page with a book's.
 fn fill_and_edit<R: Abort + Threads + Wait + Sync>(
     rt: &R,
     alloc: Global,
     query: &Query,
 ) -> Result<(), Refusal> {
-    let Some((log, text)) = filled_and_edited(rt, alloc, query)? else {
+    let fork = [fork_in_the_middle(rt)];
+    let works = (Work::InsertsAndDrop(INSERTS), Work::Fills);
+    let desk = thousand(alloc, 1024)?;
+    let Some((log, text)) = log_and_text(rt, alloc, desk, &fork, works, query)? else {
         panic!(rt; "reports, accepted edits and a log")
     };
-    assert_eq!(rt; log.entries().len(), 2 + INSERTS as usize);
+    assert_eq!(rt; log.as_slice().len(), 2 + INSERTS as usize);
     assert!(rt; is_replayed_on_thousand(rt, alloc, &log, query, &text)?);
     Ok(())
 }

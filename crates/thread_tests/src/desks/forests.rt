@@ -277,7 +277,7 @@ impl<W: Wait> Gate<W> for OffersByRound {
 
 impl<R: Abort + Threads + Wait + Sync> Room<'_, R> {
     /// Gives the desk edits, and returns whether each was accepted.
-    fn bring_all(&self, chair: &mut Chair<Safe>, commands: &[Command]) -> bool
+    pub(super) fn bring_all(&self, chair: &mut Chair<Safe>, commands: &[Command]) -> bool
         requires { IsChairOf (λ _. safe_behaviour) self.now.desk.now chair.old }
         ensures { IsChairOf (λ _. safe_behaviour) self.now.desk.now chair.new }
     {
@@ -359,17 +359,6 @@ fn is_filled_by<R: Abort + Threads + Wait + Sync, G: Gate<R> + Tally + Sync>(
     is_filled_at(&room, &mut chair, commands, counts, thieves, offers)
 }
 
-/// Whether a forest is filled as in the model without thieves.
-fn is_filled_alone<R: Abort + Threads + Wait + Sync>(
-    rt: &R,
-    alloc: Global,
-    commands: &[Command],
-    counts: &[u64],
-) -> Result<bool, Refusal> {
-    let offers = OffersByRound::new(alloc)?;
-    is_filled_by(rt, alloc, commands, counts, 0, &offers)
-}
-
 /// Whether a forest is filled as in the model, without thieves and with two.
 fn is_filled_twice<R: Abort + Threads + Wait + Sync>(
     rt: &R,
@@ -377,10 +366,9 @@ fn is_filled_twice<R: Abort + Threads + Wait + Sync>(
     commands: &[Command],
     counts: &[u64],
 ) -> Result<bool, Refusal> {
-    Ok(
-        is_filled_alone(rt, alloc, commands, counts)?
-            && is_filled_by(rt, alloc, commands, counts, 2, &Offers::new())?,
-    )
+    let by_round = OffersByRound::new(alloc)?;
+    let alone = is_filled_by(rt, alloc, commands, counts, 0, &by_round)?;
+    Ok(alone && is_filled_by(rt, alloc, commands, counts, 2, &Offers::new())?)
 }
 
 /// Whether the forest from a seed is filled as in the model, without thieves and with two.

@@ -10,9 +10,9 @@ ghost use Rattle.turn.specs.Chairs.{view};
 ghost use Rattle.desk.specs.Chairs.{IsChairOf};
 
 use super::openings::{opened, thousand};
-use super::rows::{STATE, state_after_one};
+use super::rows::{STATE, insert_by_both, state_after_one};
 use super::{Room, asked, halves, insert_at, is_text, name};
-use desk::{Chair, Desk, Receipt};
+use desk::{Chair, Receipt};
 use frames::safe::Safe;
 use schedule_trie::refusal::Refusal;
 use sessions::command::Command;
@@ -65,21 +65,20 @@ fn insert_once_each<R: Abort + Wait>(
 }
 
 /// Two chairs of a new desk each make an insert; then the first asks for news and looks.
-fn insert_and_look<R: Abort + Wait>(rt: &R, alloc: Global, desk: &Desk<Safe>, chair: Chair<Safe>)
-    requires chair { IsChairOf (λ _. safe_behaviour) desk.now chair }
+fn insert_and_look<R: Abort + Wait>(room: &Room<'_, R>, chair: Chair<Safe>)
+    requires chair { IsChairOf (λ _. safe_behaviour) room.now.desk.now chair }
     requires every { (view chair).shares ≡ every_share }
 {
-    let (mut first, mut second) = halves(desk, chair);
-    let room = Room::new(rt, alloc, desk);
-    let at = insert_once_each(&room, &mut first, &mut second);
-    assert_eq!(rt; asked(desk, &mut first), at);
-    look_once(&room, &mut first);
+    let (mut first, mut second) = halves(room.desk, chair);
+    let at = insert_once_each(room, &mut first, &mut second);
+    assert_eq!(room.rt; asked(room.desk, &mut first), at);
+    look_once(room, &mut first);
 }
 
 #[test]
 fn two_chairs_out_of_memory(rt: HostRuntime) {
     match opened(rt.alloc(), 16) {
-        Ok((desk, chair)) => insert_and_look(&rt, rt.alloc(), &desk, chair),
+        Ok((desk, chair)) => insert_and_look(&Room::new(&rt, rt.alloc(), &desk), chair),
         Err(refusal) => assert!(rt; refusal == Refusal::Memory),
     }
 }
@@ -88,13 +87,19 @@ fn two_chairs_out_of_memory(rt: HostRuntime) {
 const TRIES: u32 = 10;
 
 impl<R: Abort + Wait> Room<'_, R> {
-    /// Gives the desk a command guarded by edit count 0, again and again until it isn't refused as
-    /// Memory.
-    fn bring_again(&self, chair: &mut Chair<Safe>, who: u32, command: &Command) -> Receipt
+    /// Gives the desk a command guarded by edit count 0, at most `tries` times, until it isn't
+    /// refused as Memory.
+    pub(super) fn bring_again(
+        &self,
+        chair: &mut Chair<Safe>,
+        who: u32,
+        command: &Command,
+        tries: u32,
+    ) -> Receipt
         requires { IsChairOf (λ _. safe_behaviour) self.now.desk.now chair.old }
         ensures { IsChairOf (λ _. safe_behaviour) self.now.desk.now chair.new }
     {
-        for _ in 0..TRIES {
+        for _ in 0..tries {
             let receipt = self.bring(chair, (who, Some(0), command));
             if receipt.reply != Reply::No(Refusal::Memory) {
                 return receipt;
@@ -119,23 +124,6 @@ impl<R: Abort + Wait> Room<'_, R> {
     }
 }
 
-/// Two chairs each insert a read at the beginning, again and again until there is memory.
-fn insert_again_each<R: Abort + Wait>(
-    room: &Room<'_, R>,
-    first: &mut Chair<Safe>,
-    second: &mut Chair<Safe>,
-)
-    requires { IsChairOf (λ _. safe_behaviour) room.now.desk.now first.old
-        × IsChairOf (λ _. safe_behaviour) room.now.desk.now second.old }
-    ensures { IsChairOf (λ _. safe_behaviour) room.now.desk.now first.new }
-{
-    let insert = insert_at(room.rt, 0);
-    let done = room.bring_again(first, 0, &insert);
-    assert!(room.rt; done.at == 1 && done.reply == Reply::Edited(1));
-    let late = room.bring_again(second, 1, &insert);
-    assert!(room.rt; late.at == 2 && late.reply == Reply::No(Refusal::Newer(1)));
-}
-
 /// Looks again and again until there is memory, and compares the length of the history and the
 /// text of the page.
 fn look_again<R: Abort + Wait>(
@@ -152,25 +140,19 @@ fn look_again<R: Abort + Wait>(
 
 /// Two chairs of a new desk each make an insert, and then the first looks. All calls are made again
 /// and again until there is memory.
-fn insert_and_look_again<R: Abort + Wait>(
-    rt: &R,
-    alloc: Global,
-    desk: &Desk<Safe>,
-    chair: Chair<Safe>,
-)
-    requires chair { IsChairOf (λ _. safe_behaviour) desk.now chair }
+fn insert_and_look_again<R: Abort + Wait>(room: &Room<'_, R>, chair: Chair<Safe>)
+    requires chair { IsChairOf (λ _. safe_behaviour) room.now.desk.now chair }
     requires every { (view chair).shares ≡ every_share }
 {
-    let (mut first, mut second) = halves(desk, chair);
-    let room = Room::new(rt, alloc, desk);
-    insert_again_each(&room, &mut first, &mut second);
-    look_again(&room, &mut first, &state_after_one(rt), (2, STATE));
+    let (mut first, mut second) = halves(room.desk, chair);
+    insert_by_both(room, &mut first, &mut second, TRIES);
+    look_again(room, &mut first, &state_after_one(room.rt), (2, STATE));
 }
 
 #[test]
 fn two_chairs_asking_again(rt: HostRuntime) {
     if let Ok((desk, chair)) = opened(rt.alloc(), 16) {
-        insert_and_look_again(&rt, rt.alloc(), &desk, chair);
+        insert_and_look_again(&Room::new(&rt, rt.alloc(), &desk), chair);
     }
 }
 
@@ -208,21 +190,8 @@ impl<R: Abort + Threads + Wait + Sync> Room<'_, R> {
 const FILLED: &[u8] =
     b"0: state main 1000 of 1000\n  p0 write 0 next ws 0\n  p1 idle\n  bits 1\n  words -\n";
 
-/// Fills a desk of the thousand steps, and counts the installed runs.
-fn fill_thousand<R: Abort + Threads + Wait + Sync>(
-    room: &Room<'_, R>,
-    chair: &mut Chair<Safe>,
-    thieves: u32,
-)
-    requires at { IsChairOf (λ _. safe_behaviour) room.now.desk.now chair.old }
-    requires thieves { thieves ≤ 4 }
-    ensures { IsChairOf (λ _. safe_behaviour) room.now.desk.now chair.new }
-{
-    let (installed, all) = room.fill_again(chair, thieves);
-    assert!(room.rt; installed == 8 || (installed < 8 && !all));
-}
-
-/// Fills a thousand steps with `thieves` thieves, and looks at the state at their end.
+/// Fills a desk of the thousand steps, counts the installed runs, and looks at the state at the end
+/// of the steps.
 fn fill_and_look<R: Abort + Threads + Wait + Sync>(
     room: &Room<'_, R>,
     chair: &mut Chair<Safe>,
@@ -231,7 +200,8 @@ fn fill_and_look<R: Abort + Threads + Wait + Sync>(
     requires at { IsChairOf (λ _. safe_behaviour) room.now.desk.now chair.old }
     requires thieves { thieves ≤ 4 }
 {
-    fill_thousand(room, chair, thieves);
+    let (installed, all) = room.fill_again(chair, thieves);
+    assert!(room.rt; installed == 8 || (installed < 8 && !all));
     let state = Query::State {
         b: name(room.rt, b"main"),
         k: 1000,

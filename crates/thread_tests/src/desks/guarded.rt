@@ -6,8 +6,8 @@ ghost use Rattle.desk.specs.Chairs.{IsChairOf};
 
 use super::fills::is_replayed;
 use super::openings::opened;
-use super::side_by_side::{Work, log_and_text};
-use super::{READ, Room, halves, name};
+use super::side_by_side::Work;
+use super::{READ, Room, log_and_text, name};
 use desk::{Chair, Receipt};
 use frames::safe::Safe;
 use frames::types::Step;
@@ -80,39 +80,22 @@ fn is_edit_of(entry: &Entry, chair: u32) -> bool {
 /// How many edits a chair made.
 fn edits_of(log: &Log, chair: u32) -> usize {
     let edits = log
-        .entries()
+        .as_slice()
         .iter()
         .filter(|entry| is_edit_of(entry, chair));
     edits.count()
 }
 
-/// Two chairs make their guarded edits at a new desk. Returns the log and the text of a look's
-/// page; `None` if something went wrong.
-fn guarded_by_two<R: Abort + Threads + Wait + Sync>(
-    rt: &R,
-    alloc: Global,
-    query: &Query,
-) -> Result<Option<(Log, Vec<u8>)>, Refusal> {
-    let (desk, chair) = opened(alloc, 1024)?;
-    let (first, second) = halves(&desk, chair);
-    let first = (first, Work::GuardedInserts(0));
-    log_and_text(
-        rt,
-        alloc,
-        desk,
-        first,
-        (second, Work::GuardedInserts(1)),
-        query,
-    )
-}
-
-/// Counts the edits of each chair, and compares the text of a look's page with a book's.
+/// Two chairs make their guarded edits at a new desk. Counts the edits of each, and compares the
+/// text of a look's page with a book's.
 fn guard_edits<R: Abort + Threads + Wait + Sync>(
     rt: &R,
     alloc: Global,
     query: &Query,
 ) -> Result<(), Refusal> {
-    let Some((log, text)) = guarded_by_two(rt, alloc, query)? else {
+    let works = (Work::GuardedInserts(0), Work::GuardedInserts(1));
+    let desk = opened(alloc, 1024)?;
+    let Some((log, text)) = log_and_text(rt, alloc, desk, &[], works, query)? else {
         panic!(rt; "guarded edits that are made or newer, and a log")
     };
     assert!(rt; edits_of(&log, 0) == 50 && edits_of(&log, 1) == 50);

@@ -8,8 +8,8 @@ ghost use Rattle.schedule_trie.specs.Limbs.{AreLawfulLimbs};
 ghost use Rattle.cutoff.specs.Charts.{LimbsFit};
 ghost use Rattle.desk.specs.Chairs.{IsChairOf};
 
-use super::READ;
 use super::openings::limits;
+use super::{READ, Room};
 use cutoff::chart::Chart;
 use desk::{Chair, Desk, Saved};
 use frames::safe::Safe;
@@ -88,20 +88,6 @@ fn loaded_chart(alloc: Global, limbs: &[Limb]) -> Result<Chart<Safe>, Refusal>
     Chart::load(alloc, Safe, 0, limits(1), limbs)
 }
 
-/// Whether a chart has these limbs.
-fn chart_has(alloc: Global, chart: &Chart<Safe>, limbs: &[Limb]) -> Result<bool, Refusal> {
-    Ok(are_same(&chart.limbs(alloc)?, limbs))
-}
-
-/// Whether a chart that is loaded from limbs has the same limbs.
-fn chart_keeps(alloc: Global, limbs: &[Limb]) -> Result<bool, Refusal>
-    requires { AreLawfulLimbs limbs.now × (0 < length limbs.now)
-        × LimbsFit safe_behaviour limbs.now }
-{
-    let chart = loaded_chart(alloc, limbs)?;
-    chart_has(alloc, &chart, limbs)
-}
-
 /// A book that is loaded from limbs. Unlike the book's, this contract promises nothing about it.
 fn loaded_book(alloc: Global, limbs: &[Limb]) -> Result<Book<Safe>, Refusal>
     requires { AreLawfulLimbs limbs.now × (0 < length limbs.now)
@@ -110,18 +96,31 @@ fn loaded_book(alloc: Global, limbs: &[Limb]) -> Result<Book<Safe>, Refusal>
     Book::load(alloc, Safe, 0, limits(1), limbs)
 }
 
-/// Whether a book has these limbs.
-fn book_has(alloc: Global, book: &Book<Safe>, limbs: &[Limb]) -> Result<bool, Refusal> {
-    Ok(are_same(&book.limbs(alloc)?, limbs))
+/// A chart or a book, which has limbs.
+trait Branching {
+    fn limbs_now(&self, alloc: Global) -> Result<Vec<Limb>, AllocError>;
 }
 
-/// Whether a book that is loaded from limbs has the same limbs.
-fn book_keeps(alloc: Global, limbs: &[Limb]) -> Result<bool, Refusal>
-    requires { AreLawfulLimbs limbs.now × (0 < length limbs.now)
-        × LimbsFit safe_behaviour limbs.now }
-{
-    let book = loaded_book(alloc, limbs)?;
-    book_has(alloc, &book, limbs)
+impl Branching for Chart<Safe> {
+    fn limbs_now(&self, alloc: Global) -> Result<Vec<Limb>, AllocError> {
+        self.limbs(alloc)
+    }
+}
+
+impl Branching for Book<Safe> {
+    fn limbs_now(&self, alloc: Global) -> Result<Vec<Limb>, AllocError> {
+        self.limbs(alloc)
+    }
+}
+
+/// Whether what was loaded from limbs has the same limbs.
+fn keeps<T: Branching + Drop>(
+    alloc: Global,
+    loaded: Result<T, Refusal>,
+    limbs: &[Limb],
+) -> Result<bool, Refusal> {
+    let loaded = loaded?;
+    Ok(are_same(&loaded.limbs_now(alloc)?, limbs))
 }
 
 /// A desk that is opened from limbs, and its first chair.
@@ -133,37 +132,28 @@ fn loaded_desk(alloc: Global, limbs: &[Limb]) -> Result<(Desk<Safe>, Chair<Safe>
     Desk::open_limbs(alloc, Safe, 0, limits(1), limbs)
 }
 
-/// Saves a desk. Unlike the desk's, this contract promises nothing about the limbs.
-fn saved_by<R: Wait>(
-    rt: &R,
-    alloc: Global,
-    desk: &Desk<Safe>,
-    chair: &mut Chair<Safe>,
-) -> Result<Saved, Refusal>
-    requires { IsChairOf (λ _. safe_behaviour) desk.now chair.old }
-    ensures { IsChairOf (λ _. safe_behaviour) desk.now chair.new }
-{
-    desk.limbs(rt, alloc, chair)
-}
-
 /// Whether a save was made before the first call, and has these limbs.
 fn is_first_with(saved: &Saved, limbs: &[Limb]) -> bool {
     saved.at == 0 && are_same(saved.limbs.as_slice(), limbs)
 }
 
-/// Whether a desk has these limbs before its first call.
-fn desk_has<R: Wait>(
-    rt: &R,
-    alloc: Global,
-    desk: &Desk<Safe>,
-    chair: &mut Chair<Safe>,
-    limbs: &[Limb],
-) -> Result<bool, Refusal>
-    requires { IsChairOf (λ _. safe_behaviour) desk.now chair.old }
-    ensures { IsChairOf (λ _. safe_behaviour) desk.now chair.new }
-{
-    let saved = saved_by(rt, alloc, desk, chair)?;
-    Ok(is_first_with(&saved, limbs))
+impl<R: Wait> Room<'_, R> {
+    /// Saves the desk. Unlike the desk's, this contract promises nothing about the limbs.
+    fn saved(&self, chair: &mut Chair<Safe>) -> Result<Saved, Refusal>
+        requires { IsChairOf (λ _. safe_behaviour) self.now.desk.now chair.old }
+        ensures { IsChairOf (λ _. safe_behaviour) self.now.desk.now chair.new }
+    {
+        self.desk.limbs(self.rt, self.alloc, chair)
+    }
+
+    /// Whether the desk has these limbs before its first call.
+    fn has_limbs(&self, chair: &mut Chair<Safe>, limbs: &[Limb]) -> Result<bool, Refusal>
+        requires { IsChairOf (λ _. safe_behaviour) self.now.desk.now chair.old }
+        ensures { IsChairOf (λ _. safe_behaviour) self.now.desk.now chair.new }
+    {
+        let saved = self.saved(chair)?;
+        Ok(is_first_with(&saved, limbs))
+    }
 }
 
 /// Whether a desk that is opened from limbs has the same limbs before its first call.
@@ -172,7 +162,7 @@ fn desk_keeps<R: Wait>(rt: &R, alloc: Global, limbs: &[Limb]) -> Result<bool, Re
         × LimbsFit safe_behaviour limbs.now }
 {
     let (desk, mut chair) = loaded_desk(alloc, limbs)?;
-    desk_has(rt, alloc, &desk, &mut chair, limbs)
+    Room::new(rt, alloc, &desk).has_limbs(&mut chair, limbs)
 }
 
 /// Whether a chart, a book and a desk that are loaded from limbs have the same limbs.
@@ -180,8 +170,9 @@ fn are_kept<R: Wait>(rt: &R, alloc: Global, limbs: &[Limb]) -> Result<bool, Refu
     requires { AreLawfulLimbs limbs.now × (0 < length limbs.now)
         × LimbsFit safe_behaviour limbs.now }
 {
-    let reported = chart_keeps(alloc, limbs)? && book_keeps(alloc, limbs)?;
-    Ok(reported && desk_keeps(rt, alloc, limbs)?)
+    let by_chart = keeps(alloc, loaded_chart(alloc, limbs), limbs)?;
+    let by_book = keeps(alloc, loaded_book(alloc, limbs), limbs)?;
+    Ok(by_chart && by_book && desk_keeps(rt, alloc, limbs)?)
 }
 
 /// Whether a chart, a book and a desk that are loaded from three branches have the same limbs.

@@ -37,12 +37,13 @@ fn receipt(at: u64, reply: Reply) -> Receipt {
     Receipt { at, reply }
 }
 
-/// Two chairs each insert a read at the beginning. Both inserts are guarded by edit count 0, so the
-/// second is refused.
-fn insert_by_both<R: Abort + Wait>(
+/// Two chairs each insert a read at the beginning, and try this at most `tries` times while there is
+/// no memory. Both inserts are guarded by edit count 0, so the second is refused.
+pub(super) fn insert_by_both<R: Abort + Wait>(
     room: &Room<'_, R>,
     first: &mut Chair<Safe>,
     second: &mut Chair<Safe>,
+    tries: u32,
 )
     requires { IsChairOf (λ _. safe_behaviour) room.now.desk.now first.old
         × IsChairOf (λ _. safe_behaviour) room.now.desk.now second.old }
@@ -50,10 +51,10 @@ fn insert_by_both<R: Abort + Wait>(
         × IsChairOf (λ _. safe_behaviour) room.now.desk.now second.new }
 {
     let insert = insert_at(room.rt, 0);
-    let done = receipt(1, Reply::Edited(1));
-    assert!(room.rt; room.gets(first, (0, Some(0), &insert), done));
-    let late = receipt(2, Reply::No(Refusal::Newer(1)));
-    assert!(room.rt; room.gets(second, (1, Some(0), &insert), late));
+    let done = room.bring_again(first, 0, &insert, tries);
+    assert!(room.rt; done == receipt(1, Reply::Edited(1)));
+    let late = room.bring_again(second, 1, &insert, tries);
+    assert!(room.rt; late == receipt(2, Reply::No(Refusal::Newer(1))));
 }
 
 /// A desk and two chairs of it, after the inserts of `insert_by_both`.
@@ -66,7 +67,7 @@ fn two_inserts<R: Abort + Wait>(
 {
     let (desk, first) = opened(alloc, 16)?;
     let (mut first, mut second) = halves(&desk, first);
-    insert_by_both(&Room::new(rt, alloc, &desk), &mut first, &mut second);
+    insert_by_both(&Room::new(rt, alloc, &desk), &mut first, &mut second, 1);
     Ok((desk, first, second))
 }
 
@@ -124,7 +125,7 @@ fn closed_by_both(
 
 /// Whether a log has one call of each of two chairs, in order.
 fn is_by_both(log: &Log) -> bool {
-    let chairs = log.entries().iter().map(|entry| entry.chair);
+    let chairs = log.as_slice().iter().map(|entry| entry.chair);
     chairs.eq([0, 1])
 }
 

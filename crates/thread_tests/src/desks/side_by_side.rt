@@ -4,17 +4,13 @@ ghost use denote.Param.Send.{IsSync};
 ghost use Rattle.frames.specs.SafeBit.{safe_behaviour};
 ghost use Rattle.desk.specs.Chairs.{IsChairOf};
 
-use super::{Room, closed, take_in};
-use desk::{Chair, Desk};
+use super::{Room, take_in};
+use desk::Chair;
 use frames::safe::Safe;
-use schedule_trie::refusal::Refusal;
-use sessions::log::Log;
-use std::alloc::Global;
 use std::process::Abort;
 use std::sync::Wait;
 use std::thread;
 use std::thread::Threads;
-use views::query::Query;
 
 /// What a thread does with its chair.
 #[derive(Clone, Copy)]
@@ -76,37 +72,4 @@ impl<R: Abort + Threads + Wait + Sync> Room<'_, R> {
         take_in(desk, &mut first, second);
         (first, one && other)
     }
-}
-
-/// A log and a text, unless something went wrong.
-fn both(
-    fine: bool,
-    log: Option<Log>,
-    text: Result<(u64, Vec<u8>), Refusal>,
-) -> Result<Option<(Log, Vec<u8>)>, Refusal> {
-    let (_, text) = text?;
-    match log {
-        Some(log) if fine => Ok(Some((log, text))),
-        _ => Ok(None),
-    }
-}
-
-/// Two chairs do their work at the same time; then a look is made, and the desk is closed. Returns
-/// the log and the text of the look's page; `None` if something went wrong.
-pub(super) fn log_and_text<R: Abort + Threads + Wait + Sync>(
-    rt: &R,
-    alloc: Global,
-    desk: Desk<Safe>,
-    first: (Chair<Safe>, Work),
-    second: (Chair<Safe>, Work),
-    query: &Query,
-) -> Result<Option<(Log, Vec<u8>)>, Refusal>
-    requires { IsChairOf (λ _. safe_behaviour) desk first.0
-        × IsChairOf (λ _. safe_behaviour) desk second.0 }
-{
-    let room = Room::new(rt, alloc, &desk);
-    let (mut chair, fine) = room.side_by_side(first, second);
-    let text = room.text_at(&mut chair, query);
-    let log = closed(desk, chair);
-    both(fine, log, text)
 }

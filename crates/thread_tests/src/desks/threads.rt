@@ -71,7 +71,7 @@ fn place_of(entry: &Entry) -> Option<u32> {
 
 /// Whether a chair's calls are `count` inserts, at place 0, at place 1, and so on.
 fn has_inserts(log: &Log, chair: u32, count: u32) -> bool {
-    let made = log.entries().iter().filter(|entry| entry.chair == chair);
+    let made = log.as_slice().iter().filter(|entry| entry.chair == chair);
     made.map(place_of).eq((0..count).map(Some))
 }
 
@@ -90,7 +90,7 @@ fn insert_by_two<R: Abort + Threads + Wait + Sync>(rt: &R, alloc: Global) -> Res
     let Some(log) = log_of_two(rt, alloc)? else {
         panic!(rt; "accepted inserts")
     };
-    assert_eq!(rt; log.entries().len(), 200);
+    assert_eq!(rt; log.as_slice().len(), 200);
     assert!(rt; has_inserts(&log, 0, 100) && has_inserts(&log, 1, 100));
     Ok(())
 }
@@ -295,7 +295,7 @@ fn four_threads(rt: HostRuntime) -> Result<(), Fail> {
     let Some(log) = log_of_four(&rt, rt.alloc())? else {
         panic!(rt; "rounds without fault")
     };
-    assert_eq!(rt; log.entries().len(), 4 * 2 * ROUNDS as usize);
+    assert_eq!(rt; log.as_slice().len(), 4 * 2 * ROUNDS as usize);
     assert!(rt; is_legal(rt.alloc(), &log)?);
     Ok(())
 }

@@ -2,28 +2,18 @@
 
 ghost use Rattle.std.specs.Prelude.{◌≡◌, IfOk, false};
 ghost use Rattle.cutoff.specs.Fitting.{part_of};
-ghost use Rattle.frames.specs.Recorded.{indexed};
+ghost use Rattle.pages.specs.Pages.{shows_events};
 ghost use Rattle.views.specs.RunPages as spec;
-ghost use Rattle.views.specs.Spots.{parts_events};
-ghost use Rattle.views.specs.declared.page.Page.TheVariants as spec_page;
 
 use crate::lens::Lens;
-use crate::listed::Listed;
-use crate::page::Page;
-use crate::page::bits::bits_page;
-use crate::page::head::Head;
-use crate::page::history::HistoryPage;
-use crate::page::pending::{PendingPage, pending};
-use crate::page::process::process_page;
-use crate::page::state::state_page;
-use crate::page::verdict::verdict_page;
-use crate::query::PlaceKind;
 use crate::spot::{exit_at, history_of};
 use checkpoints::run::Run;
 use cutoff::runs::Runs;
 use frames::config::Config;
 use frames::register::Register;
-use frames::types::Event;
+use pages::page::head::Head;
+use pages::page::{Page, config_page, events_page};
+use pages::query::PlaceKind;
 use std::alloc::{AllocError, Global};
 use std::marker::Model;
 use std::sync::Arc;
@@ -44,7 +34,7 @@ pub(super) struct PlaceSlip<R: Register> {
 }
 
 impl<R: Register> Model for PlaceSlip<R> {
-    ghost use Rattle.views.specs.declared.page.Page.{Page};
+    ghost use Rattle.pages.specs.declared.page.Page.{Page};
     ghost use Rattle.views.specs.RunPages.{found_page, IsFor};
 
     ghost Value = { Page };
@@ -76,7 +66,10 @@ impl<R: Register> PlaceSlip<R> {
         match &self.found {
             Found::Initial(config) => config_page(alloc, self.kind, &self.head, config),
             Found::Last(run, count) => part_page(alloc, lens, self.kind, &self.head, run, *count),
-            Found::Runs(runs) => events_page(alloc, self.kind, &self.head, runs),
+            Found::Runs(runs) => {
+                let events = history_of(alloc, runs.as_slice())?;
+                events_page(alloc, self.kind, &self.head, events)
+            }
         }
     }
 }
@@ -92,7 +85,7 @@ fn part_page<R: Register>(
     run: &Arc<Run<R>>,
     count: u32,
 ) -> Result<Page, AllocError>
-    requires { spec.shows_events kind ≡ false }
+    requires { shows_events kind ≡ false }
     ensures { IfOk result
         (λ page. page ≡ spec.part_page R.behaviour kind head.now (part_of (run.now, count))) }
 {
@@ -101,61 +94,4 @@ fn part_page<R: Register>(
     }
     let config = lens.config_in(alloc, run, count)?;
     config_page(alloc, kind, head, &config)
-}
-
-/// The page of the events that successive runs record or, if `kind` is `Verdict`, of the verdicts
-/// on the returned reads among these events. Each run in `runs` comes with a number, which says how
-/// many of the run's first steps are used.
-fn events_page<R: Register>(
-    alloc: Global,
-    kind: PlaceKind,
-    head: &Head,
-    runs: &Runs<R>,
-) -> Result<Page, AllocError>
-    ensures { IfOk result (λ page. page
-        ≡ spec.events_page kind head.now (indexed 0 (parts_events R.behaviour runs.now))) }
-{
-    let events = history_of(alloc, runs.as_slice())?;
-    match kind {
-        PlaceKind::Verdict(value) => {
-            Ok(Page::Verdict(verdict_page(alloc, head, value, &events)?))
-        }
-        PlaceKind::State
-        | PlaceKind::Process(_)
-        | PlaceKind::Bits
-        | PlaceKind::Pending
-        | PlaceKind::History => Ok(history_page(head, events)),
-    }
-}
-
-/// The page of these events.
-fn history_page(head: &Head, events: Vec<(usize, Event)>) -> Page
-    ensures { result ≡ spec_page.History (record { head = head.now; events = events.items }) }
-{
-    let head = *head;
-    let events = Listed::new(events);
-    Page::History(HistoryPage { head, events })
-}
-
-/// The page of a configuration, for the kinds of pages that show no events.
-fn config_page<R: Register>(
-    alloc: Global,
-    kind: PlaceKind,
-    head: &Head,
-    config: &Config<R>,
-) -> Result<Page, AllocError>
-    requires { spec.shows_events kind ≡ false }
-    ensures { IfOk result (λ page. page
-        ≡ spec.config_page (R.behaviour config.now.register) kind head.now config.now) }
-{
-    match kind {
-        PlaceKind::State => Ok(Page::State(state_page(alloc, head, config)?)),
-        PlaceKind::Process(p) => Ok(Page::Process(process_page(head, p, config))),
-        PlaceKind::Bits => Ok(Page::Bits(bits_page(alloc, head, config)?)),
-        PlaceKind::Pending => Ok(Page::Pending(PendingPage {
-            head: *head,
-            processes: pending(alloc, config)?,
-        })),
-        PlaceKind::History | PlaceKind::Verdict(_) => unreachable!(),
-    }
 }

@@ -1,4 +1,4 @@
-use Rattle.std.proofs.Common.{◌+◌, ◌-◌, ◌≤◌, ◌≡◌, length, take, arith}
+use Rattle.std.proofs.Common.{ℕ, List, ◌+◌, ◌-◌, ◌≤◌, ◌≡◌, length, take, arith}
 use Rattle.std.specs.Prelude.{⊤, OnOk, Result, Ok, Err}
 use Rattle.std.specs.Result.{IsErrAnd}
 use Rattle.std.proofs.lemmas.List.{length-take-le}
@@ -16,23 +16,27 @@ loop-init g c = record {
   reached = λ alone. (alone, reached_start g.A.Answers.define _ _ _ _ c.new-conversation.ensures.lines c.new-conversation.ensures.line);
 }
 
+-- the bytes that a read took, of a script of which at most `room` bytes are left to take
+taken : (count room : ℕ) (buffer : List ℕ) → count ≤ length buffer → count ≤ room → room ≤ MOST_SCRIPT_BYTES
+    → (length (take count buffer) ≡ count) × (MOST_SCRIPT_BYTES - room + length (take count buffer) ≤ MOST_SCRIPT_BYTES)
+taken count room buffer inside few within =
+    let size : length (take count buffer) ≡ count = length-take-le count buffer inside in
+    (size, omega (arith, size, few, within))
+
 pub loop-preserved : goal.loop-preserved
 loop-preserved g c =
-    let count = c.in-Some.count in
-    let buffer = c.read_piece.new.buffer in
     let bound = rw c.in-Some.is at c.in-Ok.ensures.bound in
-    let size : length (take count buffer) ≡ count = length-take-le count buffer (omega (arith, bound)) in
-    let so_far : MOST_SCRIPT_BYTES - c.loop.room + length (take count buffer) ≤ MOST_SCRIPT_BYTES = omega (arith, size, bound, c.loop.invariant.within) in
+    let read = taken c.in-Some.count c.loop.room c.read_piece.new.buffer (omega (arith, bound)) (omega (arith, bound)) c.loop.invariant.within in
     record {
       some = omega (arith, c.if-room-eq0.false);
-      few = omega (arith, size, bound, c.loop.invariant.few, c.turn.ensures.lines);
+      few = omega (arith, read.0, bound, c.loop.invariant.few, c.turn.ensures.lines);
       sent = c.in_ok-turn.ensures.out;
       within = omega (arith, c.loop.invariant.within);
       reached = λ alone.
           let r = c.loop.invariant.reached alone in
-          let on = c.in_ok-turn.ensures.turned r.0 _ _ _ _ (MOST_SCRIPT_BYTES - c.loop.room) (rw c.in-Some.is at c.in-Ok.ensures.bytes) so_far r.1 in (
+          let on = c.in_ok-turn.ensures.turned r.0 _ _ _ _ (MOST_SCRIPT_BYTES - c.loop.room) (rw c.in-Some.is at c.in-Ok.ensures.bytes) read.1 r.1 in (
             c.in_ok-turn.ensures.alone r.0,
-            reached_at g.A.Answers.define _ _ _ _ _ _ _ on _ (omega (arith, size, bound, c.loop.invariant.within)),
+            reached_at g.A.Answers.define _ _ _ _ _ _ _ on _ (omega (arith, read.0, bound, c.loop.invariant.within)),
           );
     }
 
@@ -45,18 +49,15 @@ returns g c = record {
 
 pub returns-then-room-eq0 : goal.returns-then-room-eq0
 returns-then-room-eq0 g c =
-    let count = c.in-Some.count in
-    let buffer = c.read_piece.new.buffer in
     let bound = rw c.in-Some.is at c.in-Ok.ensures.bound in
-    let size : length (take count buffer) ≡ count = length-take-le count buffer (omega (arith, bound)) in
-    let so_far : MOST_SCRIPT_BYTES - c.loop.room + length (take count buffer) ≤ MOST_SCRIPT_BYTES = omega (arith, size, bound, c.loop.invariant.within) in
+    let read = taken c.in-Some.count c.loop.room c.read_piece.new.buffer (omega (arith, bound)) (omega (arith, bound)) c.loop.invariant.within in
     record {
       done = λ alone. tt;
       alone = λ alone. tt;
       fault = λ alone.
           let r = c.loop.invariant.reached alone in
-          let on = c.in_ok-turn.ensures.turned r.0 _ _ _ _ (MOST_SCRIPT_BYTES - c.loop.room) (rw c.in-Some.is at c.in-Ok.ensures.bytes) so_far r.1 in
-          fault_long g.A.Answers.define _ _ _ _ _ _ _ on so_far;
+          let on = c.in_ok-turn.ensures.turned r.0 _ _ _ _ (MOST_SCRIPT_BYTES - c.loop.room) (rw c.in-Some.is at c.in-Ok.ensures.bytes) read.1 r.1 in
+          fault_long g.A.Answers.define _ _ _ _ _ _ _ on read.1;
     }
 
 pub returns-in_default : goal.returns-in_default
@@ -89,19 +90,16 @@ handed (Err e) Is P h = tt
 
 pub returns-in_err-turn : goal.returns-in_err-turn
 returns-in_err-turn g c =
-    let count = c.in-Some.count in
-    let buffer = c.read_piece.new.buffer in
     let bound = rw c.in-Some.is at c.in-Ok.ensures.bound in
-    let size : length (take count buffer) ≡ count = length-take-le count buffer (omega (arith, bound)) in
-    let so_far : MOST_SCRIPT_BYTES - c.loop.room + length (take count buffer) ≤ MOST_SCRIPT_BYTES = omega (arith, size, bound, c.loop.invariant.within) in
+    let read = taken c.in-Some.count c.loop.room c.read_piece.new.buffer (omega (arith, bound)) (omega (arith, bound)) c.loop.invariant.within in
     record {
       done = λ alone.
           let r = c.loop.invariant.reached alone in
           (ends_with_fault g.A.Answers.define _ _ _ (g.A.Answers.world c.turn.new.answers) c.from_residual.result _ _ c.from_residual.ensures.0 c.from_residual.ensures.1 (λ x h. h)
-          (c.in_err-turn.ensures.turned r.0 _ _ _ _ (MOST_SCRIPT_BYTES - c.loop.room) (rw c.in-Some.is at c.in-Ok.ensures.bytes) so_far r.1)).done;
+          (c.in_err-turn.ensures.turned r.0 _ _ _ _ (MOST_SCRIPT_BYTES - c.loop.room) (rw c.in-Some.is at c.in-Ok.ensures.bytes) read.1 r.1)).done;
       alone = λ alone. handed c.from_residual.result _ _ c.from_residual.ensures.1;
       fault = λ alone.
           let r = c.loop.invariant.reached alone in
           (ends_with_fault g.A.Answers.define _ _ _ (g.A.Answers.world c.turn.new.answers) c.from_residual.result _ _ c.from_residual.ensures.0 c.from_residual.ensures.1 (λ x h. h)
-          (c.in_err-turn.ensures.turned r.0 _ _ _ _ (MOST_SCRIPT_BYTES - c.loop.room) (rw c.in-Some.is at c.in-Ok.ensures.bytes) so_far r.1)).fault;
+          (c.in_err-turn.ensures.turned r.0 _ _ _ _ (MOST_SCRIPT_BYTES - c.loop.room) (rw c.in-Some.is at c.in-Ok.ensures.bytes) read.1 r.1)).fault;
     }

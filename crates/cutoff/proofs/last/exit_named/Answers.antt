@@ -9,7 +9,8 @@ returns-in-Some-note-clause-own g c =
     let s = c.in-Some-note.stored.now in
     let own = exit_own E g.met.R.PartialEq.laws (g.R.Behaves.behaviour s.run.entry.register) c.args.trie.now c.args.start.now.register c.in-Some.key s (sym c.in-Some-note.ensures)
     c.exit.ensures.kept c.requires.linked.0 (without_register c.args.start.now) c.requires.linked.1 in
-    subst (λ d. E d.register c.args.start.now.register ≡ true) (sym c.exit.ensures.exit) own
+    let exit : c.exit.result.now ≡ s.run.exit = c.exit.ensures.exit in
+    subst (λ d. E d.register c.args.start.now.register ≡ true) (sym exit) own
 
 pub returns-in-Some-note-clause-moved : goal.returns-in-Some-note-clause-moved
 returns-in-Some-note-clause-moved g c = λ next linked.

@@ -12,9 +12,9 @@ loop-segment-init g c = record {
       let trie = c.args.trie.now in
       let start = c.args.start.now in
       let on = going_starts g.R.PartialEq.eq g.met.R.Eq.laws g.met.R.PartialEq.laws g.R.Behaves.behaviour g.met.R.Register.alike
-      trie start c.args.next.now c.args.rest.now.front (c.args.rest.now.keys.items ++ left.hanging.below) c.args.key count place i c.requires.cut c.requires.linked left.rest in (
+      trie start c.args.rest.now.front (c.args.rest.now.keys.items ++ left.hanging.below) c.args.key count place i c.requires.cut left.rest in (
         on.0,
-        subst (λ l. IsGoing g.R.PartialEq.eq g.R.Behaves.behaviour trie trie start c.args.next.now c.args.key count (keys_in trie.strands i) (l ++ left.hanging.below) on.0 place 0 c.args.rest.now.front)
+        subst (λ l. IsGoing g.R.PartialEq.eq g.R.Behaves.behaviour trie trie start c.args.key count (keys_in trie.strands i) (l ++ left.hanging.below) on.0 place 0 c.args.rest.now.front)
             (sym c.deref-segment-items.ensures.value) on.1,
       );
   kept = λ none. refl;
@@ -43,7 +43,7 @@ overflow_add-replayed g c =
     let r = c.requires.left in
     let on = c.loop-segment.invariant.going r.0 r.1 r.2 r.3 in
     let next = going_next g.R.PartialEq.eq g.met.R.Eq.laws g.met.R.PartialEq.laws g.R.Behaves.behaviour g.met.R.Register.alike c.deref-segment-items.result.now c.loop-segment.segment-index
-    r.3.hanging.below on.1 c.loop-segment-test.true c.in_ok-last.ensures.settled c.settle_after.ensures.linked in
+    r.3.hanging.below on.1 c.loop-segment-test.true c.in_ok-last.ensures.settled in
     let short = next.walk.short in
     let few = r.4 in
     omega (arith, short, few)
@@ -55,21 +55,21 @@ loop-segment-preserved g c =
           let on = c.loop-segment.invariant.going i count place left in (
             on.0,
             going_next g.R.PartialEq.eq g.met.R.Eq.laws g.met.R.PartialEq.laws g.R.Behaves.behaviour g.met.R.Register.alike c.deref-segment-items.result.now c.loop-segment.segment-index
-                left.hanging.below on.1 c.loop-segment-test.true c.in_ok-last.ensures.settled c.settle_after.ensures.linked,
+                left.hanging.below on.1 c.loop-segment-test.true c.in_ok-last.ensures.settled,
           );
       kept = kept_next g.R.PartialEq.eq g.met.R.Eq.laws g.met.R.PartialEq.laws g.R.Behaves.behaviour g.met.R.Register.alike c.deref-segment-items.result.now c.loop-segment.segment-index
-          r.3.hanging.below (c.loop-segment.invariant.going r.0 r.1 r.2 r.3).1 c.loop-segment-test.true c.in_ok-last.ensures.settled c.settle_after.ensures.linked c.requires.cut;
+          r.3.hanging.below (c.loop-segment.invariant.going r.0 r.1 r.2 r.3).1 c.loop-segment-test.true c.in_ok-last.ensures.settled c.requires.cut;
       linked = c.settle_after.ensures.linked;
     }
 
 pub returns-then-last-eq0-clause-settles : goal.returns-then-last-eq0-clause-settles
 returns-then-last-eq0-clause-settles g c = λ i count place left.
     let on = c.loop-segment.invariant.going i count place left in
-    kept_settles g.R.PartialEq.eq g.met.R.Eq.laws g.met.R.PartialEq.laws g.R.Behaves.behaviour g.met.R.Register.alike c.args.trie.now c.loop-segment.trie c.args.start.now c.loop-segment.next c.args.key
+    kept_settles g.R.PartialEq.eq g.met.R.Eq.laws g.met.R.PartialEq.laws g.R.Behaves.behaviour g.met.R.Register.alike c.args.trie.now c.loop-segment.trie c.args.start.now c.args.key
     count i place c.loop-segment.replayed on.0 c.args.rest.now.hung c.loop-segment.above left.hanging
     (going_past g.R.PartialEq.eq g.met.R.Eq.laws g.met.R.PartialEq.laws g.R.Behaves.behaviour g.met.R.Register.alike c.deref-segment-items.result.now c.loop-segment.segment-index left.hanging.below on.1
     c.loop-segment-test.false)
-    (c.loop-segment.invariant.kept c.if-last-eq0.true) c.loop-segment.invariant.linked
+    (c.loop-segment.invariant.kept c.if-last-eq0.true)
 
 pub returns-then-last-eq0-clause-keeps : goal.returns-then-last-eq0-clause-keeps
 returns-then-last-eq0-clause-keeps g c = λ i count place left. (c.loop-segment.invariant.going i count place left).1.walk.keeps
@@ -97,7 +97,7 @@ loop-below-init g c =
           let same = again_left E is trie c.loop-segment.trie c.args.rest.now.hung c.args.key i c.in_ok-hanging.field-0-0 c.in_ok-hanging.hanging.items on.1.walk.keeps.strands left.hanging
           left.rest.lies.there c.in_ok-hanging.ensures.following c.in_ok-hanging.ensures.stops in (
             on.0,
-            subst (λ l. IsGoing E is trie c.loop-segment.trie start c.loop-segment.next c.args.key count (keys_in trie.strands i) l on.0 place c.loop-segment.replayed c.loop-segment.above)
+            subst (λ l. IsGoing E is trie c.loop-segment.trie start c.args.key count (keys_in trie.strands i) l on.0 place c.loop-segment.replayed c.loop-segment.above)
                 (same ∙ sym c.deref-below-items.ensures.value ∙ sym (append-nil c.deref-below-items.result.now)) past,
           );
       hangs = λ i count place left.
@@ -130,7 +130,7 @@ overflow_add-replayed-in-loop-below g c =
     let r = c.requires.left in
     let on = c.loop-below.invariant.going r.0 r.1 r.2 r.3 in
     let next = going_next g.R.PartialEq.eq g.met.R.Eq.laws g.met.R.PartialEq.laws g.R.Behaves.behaviour g.met.R.Register.alike c.deref-below-items.result.now c.loop-below.below-index
-    [] on.1 c.loop-below-test.true c.in_ok-here.ensures.settled c.settle_after-in-loop-below.ensures.linked in
+    [] on.1 c.loop-below-test.true c.in_ok-here.ensures.settled in
     let short = next.walk.short in
     let few = r.4 in
     omega (arith, short, few)
@@ -144,22 +144,20 @@ returns-then-here-eq0-clause-settles g c = λ i count place left.
     let trie = c.args.trie.now in
     let on = c.loop-below.invariant.going i count place left in
     let new = c.settle_after-in-loop-below.new.trie in
-    let after = c.settle_after-in-loop-below.new.next in
     let settled = c.in_ok-here.ensures.settled in
-    let linked = c.settle_after-in-loop-below.ensures.linked in
-    let next = going_next E g.met.R.Eq.laws g.met.R.PartialEq.laws is g.met.R.Register.alike keys index [] on.1 c.loop-below-test.true settled linked in
-    let kept = kept_next E g.met.R.Eq.laws g.met.R.PartialEq.laws is g.met.R.Register.alike keys index [] on.1 c.loop-below-test.true settled linked c.requires.cut
+    let next = going_next E g.met.R.Eq.laws g.met.R.PartialEq.laws is g.met.R.Register.alike keys index [] on.1 c.loop-below-test.true settled in
+    let kept = kept_next E g.met.R.Eq.laws g.met.R.PartialEq.laws is g.met.R.Register.alike keys index [] on.1 c.loop-below-test.true settled c.requires.cut
     c.if-here-eq0.true in
     let hangs = c.loop-below.invariant.hangs i count place left in
     let below = hangs_next E is trie hangs.0 keys index c.loop-below-test.true hangs.1 in
-    early_settles E g.met.R.Eq.laws g.met.R.PartialEq.laws is g.met.R.Register.alike trie new c.args.start.now after c.args.key count i place _ on.0 (get_or keys index 0) hangs.0
-    (drop (index + 1) keys) below.0 below.1 next kept linked
+    early_settles E g.met.R.Eq.laws g.met.R.PartialEq.laws is g.met.R.Register.alike trie new c.args.start.now c.args.key count i place _ on.0 (get_or keys index 0) hangs.0
+    (drop (index + 1) keys) below.0 below.1 next kept
 
 pub returns-then-here-eq0-clause-keeps : goal.returns-then-here-eq0-clause-keeps
 returns-then-here-eq0-clause-keeps g c = λ i count place left.
     let on = c.loop-below.invariant.going i count place left in
     let next = going_next g.R.PartialEq.eq g.met.R.Eq.laws g.met.R.PartialEq.laws g.R.Behaves.behaviour g.met.R.Register.alike c.deref-below-items.result.now c.loop-below.below-index
-    [] on.1 c.loop-below-test.true c.in_ok-here.ensures.settled c.settle_after-in-loop-below.ensures.linked in
+    [] on.1 c.loop-below-test.true c.in_ok-here.ensures.settled in
     next.walk.keeps
 
 pub loop-below-preserved : goal.loop-below-preserved
@@ -168,7 +166,7 @@ loop-below-preserved g c = record {
       let on = c.loop-below.invariant.going i count place left in (
         on.0,
         going_next g.R.PartialEq.eq g.met.R.Eq.laws g.met.R.PartialEq.laws g.R.Behaves.behaviour g.met.R.Register.alike c.deref-below-items.result.now c.loop-below.below-index
-            [] on.1 c.loop-below-test.true c.in_ok-here.ensures.settled c.settle_after-in-loop-below.ensures.linked,
+            [] on.1 c.loop-below-test.true c.in_ok-here.ensures.settled,
       );
   hangs = λ i count place left.
       let hangs = c.loop-below.invariant.hangs i count place left in
@@ -180,7 +178,7 @@ loop-below-preserved g c = record {
 pub returns-clause-settles : goal.returns-clause-settles
 returns-clause-settles g c = λ i count place left.
     let on = c.loop-below.invariant.going i count place left in
-    going_settles g.R.PartialEq.eq g.R.Behaves.behaviour c.args.trie.now c.loop-below.trie c.args.start.now c.loop-below.next c.args.key count i place c.loop-below.replayed on.0
+    going_settles g.R.PartialEq.eq g.R.Behaves.behaviour c.args.trie.now c.loop-below.trie c.args.start.now c.args.key count i place c.loop-below.replayed on.0
     c.loop-below.above
     (going_past g.R.PartialEq.eq g.met.R.Eq.laws g.met.R.PartialEq.laws g.R.Behaves.behaviour g.met.R.Register.alike c.deref-below-items.result.now c.loop-below.below-index [] on.1
     c.loop-below-test.false)

@@ -1,7 +1,7 @@
 use Rattle.std.proofs.Common.{◌≡◌, ◌++◌, [], ℕ, List, None, drop}
 use Rattle.schedule_trie.specs.Cut.{keys_in}
 use Rattle.frames.specs.Configuration.{Configuration}
-use Rattle.cutoff.specs.Links.{IsLinked, without_register}
+use Rattle.cutoff.specs.Links.{IsLinkedAt}
 use Rattle.cutoff.specs.Prefixes.{Hangs, IsLeft, run_named}
 use Rattle.cutoff.proofs.Rests.{IsGoing}
 use Rattle.cutoff.proofs.last.settle_rest.Given as goal
@@ -12,9 +12,9 @@ invariant-loop-segment g l =
     let is = g.R.Behaves.behaviour in
     record {
       going : (i count place : ℕ) (left : IsLeft E is l.fn.trie l.start l.rest.front l.rest.keys.items l.rest.hung l.key count place i)
-          → (back : List ℕ) × IsGoing E is l.fn.trie l.trie l.start l.next l.key count (keys_in l.fn.trie.strands i) (drop l.segment-index l.segment-items ++ left.hanging.below) back place l.replayed l.above;
+          → (back : List ℕ) × IsGoing E is l.fn.trie l.trie l.start l.key count (keys_in l.fn.trie.strands i) (drop l.segment-index l.segment-items ++ left.hanging.below) back place l.replayed l.above;
       kept : l.last ≡ 0 → run_named l.trie l.above ≡ run_named l.fn.trie l.above;
-      linked : IsLinked E l.start.register l.next None (without_register l.start) l.trie;
+      linked : IsLinkedAt E l.start l.next None l.trie;
     }
 
 abbrev pub invariant-loop-below : goal.invariant-loop-below
@@ -23,8 +23,8 @@ invariant-loop-below g l =
     let is = g.R.Behaves.behaviour in
     record {
       going : (i count place : ℕ) → IsLeft E is l.fn.trie l.start l.rest.front l.rest.keys.items l.rest.hung l.key count place i
-          → (back : List ℕ) × IsGoing E is l.fn.trie l.trie l.start l.next l.key count (keys_in l.fn.trie.strands i) (drop l.below-index l.below-items ++ []) back place l.replayed l.above;
+          → (back : List ℕ) × IsGoing E is l.fn.trie l.trie l.start l.key count (keys_in l.fn.trie.strands i) (drop l.below-index l.below-items ++ []) back place l.replayed l.above;
       hangs : (i count place : ℕ) → IsLeft E is l.fn.trie l.start l.rest.front l.rest.keys.items l.rest.hung l.key count place i
           → (c : Configuration _ _) × Hangs E is l.fn.trie c (drop l.below-index l.below-items);
-      linked : IsLinked E l.start.register l.next None (without_register l.start) l.trie;
+      linked : IsLinkedAt E l.start l.next None l.trie;
     }

@@ -6,8 +6,8 @@ use Rattle.cutoff.proofs.plan.look_below.Goals as goal
 
 pub job_at-requires : goal.job_at-requires
 job_at-requires g c =
-    let home = g.met.R.Register.alike c.exit_named-number.result.0.now.register c.args.start.now.register c.exit_named-number.ensures.own in
-    subst (λ b. AllFit b (steps_at c.args.trie.now c.args.key)) (sym home) c.requires.fits
+    let home = g.met.R.Register.alike c.exit_named-number.result.0.now.register c.args.base.now.start.now.register c.exit_named-number.ensures.own in
+    subst (λ b. AllFit b (steps_at c.args.base.now.trie.now c.args.key)) (sym home) c.requires.fits
 
 pub returns-in-Some : goal.returns-in-Some
 returns-in-Some g c =
@@ -16,7 +16,7 @@ returns-in-Some g c =
         stored = s;
         noted = c.in-Some.ensures.0;
         true_run = c.exit-exit.ensures.kept;
-        fits = subst (λ d. RunFits g.R.PartialEq.eq d (steps_at c.args.trie.now c.args.key) s.run) c.exit_named-number.ensures.exit c.in-Some.ensures.1;
+        fits = subst (λ d. RunFits g.R.PartialEq.eq d (steps_at c.args.base.now.trie.now c.args.key) s.run) c.exit_named-number.ensures.exit c.in-Some.ensures.1;
       },
       refl,
     )
@@ -24,7 +24,7 @@ returns-in-Some g c =
 pub returns : goal.returns
 returns g c =
     let at = c.exit_named-number.ensures.exit in (
-      λ f. c.in_default.ensures (subst (λ d. Fits g.R.PartialEq.eq c.args.trie.now d c.args.key) (sym at) f),
+      λ f. c.in_default.ensures (subst (λ d. Fits g.R.PartialEq.eq c.args.base.now.trie.now d c.args.key) (sym at) f),
       c.in_ok-push.ensures.items
-          ∙ ap (λ j. c.args.jobs.now.items ++ j ∷ []) (job_is c.args.trie.now c.args.key c.exit_named-number.result.0.now c.in_ok-job.job c.in_ok-job.ensures ∙ ap (job c.args.trie.now c.args.key) at),
+          ∙ ap (λ j. c.args.jobs.now.items ++ j ∷ []) (job_is c.args.base.now.trie.now c.args.key c.exit_named-number.result.0.now c.in_ok-job.job c.in_ok-job.ensures ∙ ap (job c.args.base.now.trie.now c.args.key) at),
     )

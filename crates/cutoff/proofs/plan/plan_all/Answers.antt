@@ -8,30 +8,30 @@ use Rattle.cutoff.proofs.plan.plan_all.Goals as goal
 
 pub plan_branch-requires-clause-seen : goal.plan_branch-requires-clause-seen
 plan_branch-requires-clause-seen g c =
-    none_seen g.R.PartialEq.eq g.R.Behaves.behaviour c.args.trie.now c.args.start.now _ _ c.in_ok-with_capacity.ensures.items c.new.ensures.items
+    none_seen g.R.PartialEq.eq g.R.Behaves.behaviour c.args.base.now.trie.now c.args.base.now.start.now _ _ c.in_ok-with_capacity.ensures.items c.new.ensures.items
 
 pub loop-other-init : goal.loop-other-init
 loop-other-init g c = record {
   jobs = λ all p.
-      plan_adds g.R.PartialEq.eq (g.R.Behaves.behaviour c.args.start.now.register) c.args.trie.now c.args.start.now _ _ _ all (keys_in c.args.trie.now.strands c.args.index) (map keys_of c.args.trie.now.strands)
+      plan_adds g.R.PartialEq.eq (g.R.Behaves.behaviour c.args.base.now.start.now.register) c.args.base.now.trie.now c.args.base.now.start.now _ _ _ all (keys_in c.args.base.now.trie.now.strands c.args.index) (map keys_of c.args.base.now.trie.now.strands)
       c.new.ensures.items c.in_ok-plan_branch.ensures.adds p;
   seen = c.in_ok-plan_branch.ensures.seen;
 }
 
 pub loop-other-preserved : goal.loop-other-preserved
 loop-other-preserved g c =
-    let count : c.branches-other-end.result ≡ length c.args.trie.now.strands = c.branches-other-end.ensures.count ∙ length-map c.args.trie.now.strands (branch_on (piece_at c.args.trie.now.pieces)) in
-    let inside : c.loop-other.other < length c.args.trie.now.strands = omega arith in
+    let count : c.branches-other-end.result ≡ length c.args.base.now.trie.now.strands = c.branches-other-end.ensures.count ∙ length-map c.args.base.now.trie.now.strands (branch_on (piece_at c.args.base.now.trie.now.pieces)) in
+    let inside : c.loop-other.other < length c.args.base.now.trie.now.strands = omega arith in
     record {
       jobs = λ all p.
           c.loop-other.invariant.jobs all
-          (plan_on g.R.PartialEq.eq (g.R.Behaves.behaviour c.args.start.now.register) c.args.trie.now c.args.start.now _ _ all c.loop-other.other _ inside refl c.in_ok-plan_branch-2.ensures.adds p);
+          (plan_on g.R.PartialEq.eq (g.R.Behaves.behaviour c.args.base.now.start.now.register) c.args.base.now.trie.now c.args.base.now.start.now _ _ all c.loop-other.other _ inside refl c.in_ok-plan_branch-2.ensures.adds p);
       seen = c.in_ok-plan_branch-2.ensures.seen;
     }
 
 pub returns : goal.returns
 returns g c =
-    let count : c.branches-other-end.result ≡ length c.args.trie.now.strands = c.branches-other-end.ensures.count ∙ length-map c.args.trie.now.strands (branch_on (piece_at c.args.trie.now.pieces)) in
-    let past : length c.args.trie.now.strands ≤ c.loop-other.other = omega arith in
+    let count : c.branches-other-end.result ≡ length c.args.base.now.trie.now.strands = c.branches-other-end.ensures.count ∙ length-map c.args.base.now.trie.now.strands (branch_on (piece_at c.args.base.now.trie.now.pieces)) in
+    let past : length c.args.base.now.trie.now.strands ≤ c.loop-other.other = omega arith in
     c.loop-other.invariant.jobs c.loop-other.planning.jobs.items
-    (plan_ends g.R.PartialEq.eq (g.R.Behaves.behaviour c.args.start.now.register) c.args.trie.now c.args.start.now c.loop-other.planning.jobs.items c.loop-other.other past)
+    (plan_ends g.R.PartialEq.eq (g.R.Behaves.behaviour c.args.base.now.start.now.register) c.args.base.now.trie.now c.args.base.now.start.now c.loop-other.planning.jobs.items c.loop-other.other past)

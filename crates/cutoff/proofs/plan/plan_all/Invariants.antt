@@ -7,9 +7,9 @@ use Rattle.cutoff.proofs.plan.plan_all.Given as goal
 abbrev pub invariant-loop-other : goal.invariant-loop-other
 invariant-loop-other g l =
     let E = g.R.PartialEq.eq in
-    let b = g.R.Behaves.behaviour l.start.register in
+    let b = g.R.Behaves.behaviour l.base.start.now.register in
     record {
-      jobs : (all : List (Planned g.row.R.Denot g.row.R-Pending.Denot)) → Plans E b l.trie l.start l.planning.jobs.items (map keys_of (drop l.other l.trie.strands)) all
-          → Plans E b l.trie l.start [] (keys_in l.trie.strands l.fn.index ∷ map keys_of l.trie.strands) all;
-      seen : AreSeen E g.R.Behaves.behaviour l.trie l.start l.planning.seen.items l.planning.jobs.items;
+      jobs : (all : List (Planned g.row.R.Denot g.row.R-Pending.Denot)) → Plans E b l.base.trie.now l.base.start.now l.planning.jobs.items (map keys_of (drop l.other l.base.trie.now.strands)) all
+          → Plans E b l.base.trie.now l.base.start.now [] (keys_in l.base.trie.now.strands l.fn.index ∷ map keys_of l.base.trie.now.strands) all;
+      seen : AreSeen E g.R.Behaves.behaviour l.base.trie.now l.base.start.now l.planning.seen.items l.planning.jobs.items;
     }

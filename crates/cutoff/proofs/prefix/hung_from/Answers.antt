@@ -37,7 +37,7 @@ loop-preserved g c =
     let before = c.is_linked_from.ensures.0 c.if-not-is_linked_from.false in
     let told = c.requires.linked in
     let hung : (i : ℕ) → has c.args.key (keys_in trie.strands i) ≡ true → IsHung E is trie c.in-Some-at.key c.args.key i =
-    λ i h. hung_more E is trie g.met.R.PartialEq.laws c.loop.hung c.in-Some-at.key c.args.key i told.1 before.0 told.0 c.loop.at c.loop.lower.now.link s told.2 was.stored noted c.entry-entry-in-loop.ensures.kept
+    λ i h. hung_more E is trie g.met.R.PartialEq.laws c.loop.hung c.in-Some-at.key c.args.key i told.1.0 before.0 told.0 c.loop.at c.loop.lower.now.link s told.1.1 was.stored noted c.entry-entry-in-loop.ensures.kept
     before.1 before.2 c.in-Some-at.is (was.up i h) (was.hung i h) in
     record {
       up = λ i h. step_up (keys_in trie.strands i) c.in-Some-at.key c.step_up_from-above-in-loop.result.1 (path_once trie c.requires.cut i) (hung i h).there

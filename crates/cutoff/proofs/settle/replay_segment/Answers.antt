@@ -5,34 +5,34 @@ use Rattle.schedule_trie.specs.Forest.{step_of}
 use Rattle.schedule_trie.specs.Cut.{piece_at, slots_of}
 use Rattle.schedule_trie.proofs.PushSteps.{on_err}
 use Rattle.cutoff.specs.Fitting.{steps_at}
+use Rattle.cutoff.specs.Links.{without_register}
+use Rattle.cutoff.proofs.Links.{linked_none}
 use Rattle.cutoff.proofs.Segments.{segment_replayed, replayed_linked}
 use Rattle.cutoff.proofs.settle.replay_segment.Goals as goal
 
 pub returns-clause-settled : goal.returns-clause-settled
-returns-clause-settled g c =
-    let kept : c.new-2.result.run ≡ arc_value c.in_ok-run.run' = c.new-2.ensures.run ∙ c.in_ok-kept.ensures in
-    let steps : (arc_value c.in_ok-run.run').steps ≡ steps_at c.args.trie.now c.args.key =
-    ap (λ r. r.steps) c.in_ok-run.ensures.ok ∙ c.in_ok-run_of.ensures.steps ∙ ap (map step_of) c.segment_cells-cells.ensures in
-    segment_replayed g.R.PartialEq.eq c.args.trie.now c.set_note.new.self (arc_value c.args.config.now) c.args.key _ c.new-2.result c.set_note.ensures kept g.met.R.Eq.laws
-    steps (ap (λ r. r.entry) c.in_ok-run.ensures.ok ∙ c.in_ok-run_of.ensures.entry) c.requires.misses (length c.segment_cells-cells.result.now) (ap length c.segment_cells-cells.ensures ∙ sym (length-map (slots_of (piece_at c.args.trie.now.pieces c.args.key)) step_of))
+returns-clause-settled g c = (
+  c.in_ok-made.made,
+  segment_replayed g.R.PartialEq.eq c.args.trie.now c.set_note.new.self (arc_value c.args.config.now) c.args.key _ c.new-2.result c.set_note.ensures (c.new-2.ensures.run ∙ c.in_ok-run.ensures.ok)
+      g.met.R.Eq.laws (c.in_ok-made.ensures.steps ∙ ap (map step_of) c.segment_cells-cells.ensures) c.in_ok-made.ensures.entry c.requires.misses (length c.segment_cells-cells.result.now)
+      (ap length c.segment_cells-cells.ensures ∙ sym (length-map (slots_of (piece_at c.args.trie.now.pieces c.args.key)) step_of)),
+  c.steps-steps.ensures.kept,
+)
 
 pub returns-clause-linked : goal.returns-clause-linked
 returns-clause-linked g c =
-    let kept : c.new-2.result.run ≡ arc_value c.in_ok-run.run' = c.new-2.ensures.run ∙ c.in_ok-kept.ensures in
-    let steps : (arc_value c.in_ok-run.run').steps ≡ steps_at c.args.trie.now c.args.key =
-    ap (λ r. r.steps) c.in_ok-run.ensures.ok ∙ c.in_ok-run_of.ensures.steps ∙ ap (map step_of) c.segment_cells-cells.ensures in
-    replayed_linked g.R.PartialEq.eq c.args.trie.now c.set_note.new.self (arc_value c.args.config.now) c.args.key _ c.new-2.result c.set_note.ensures kept
+    let config = arc_value c.args.config.now in
+    let cells : map step_of c.segment_cells-cells.result.now ≡ steps_at c.args.trie.now c.args.key = ap (map step_of) c.segment_cells-cells.ensures in
+    linked_none g.R.PartialEq.eq config.register c.take_number-id.new.next _ _ (without_register config) c.set_note.new.self
+    (replayed_linked g.R.PartialEq.eq c.args.trie.now c.set_note.new.self config c.args.key c.in_ok-made.made c.new-2.result c.set_note.ensures (c.new-2.ensures.run ∙ c.in_ok-run.ensures.ok)
     c.args.next.now c.take_number-id.new.next c.args.above c.take_number-id.result g.met.R.Eq.laws c.requires.linked
-    steps (ap (λ r. r.entry) c.in_ok-run.ensures.ok ∙ c.in_ok-run_of.ensures.entry) c.new-2.ensures.link c.new-2.ensures.id c.take_number-id.ensures
+    (c.in_ok-made.ensures.steps ∙ cells) c.in_ok-made.ensures.entry c.new-2.ensures.link c.new-2.ensures.id c.take_number-id.ensures)
 
-pub returns-in_err-run_of-clause-unchanged : goal.returns-in_err-run_of-clause-unchanged
-returns-in_err-run_of-clause-unchanged g c = on_err c.from_residual.result _ (refl, refl)
+pub returns-in_err-made-clause-unchanged : goal.returns-in_err-made-clause-unchanged
+returns-in_err-made-clause-unchanged g c = on_err c.from_residual.result _ (refl, refl)
 
 pub returns-in_err-run-clause-unchanged : goal.returns-in_err-run-clause-unchanged
 returns-in_err-run-clause-unchanged g c = on_err c.from_residual-in_err-run.result _ (refl, refl)
-
-pub returns-in_err-kept-clause-unchanged : goal.returns-in_err-kept-clause-unchanged
-returns-in_err-kept-clause-unchanged g c = on_err c.from_residual-in_err-kept.result _ (refl, refl)
 
 few_fit : (n m : ℕ) → n ≡ m → m ≤ 128 → n < 4294967296
 few_fit n m same few = omega arith

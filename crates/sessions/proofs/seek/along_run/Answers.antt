@@ -3,7 +3,7 @@ use Rattle.std.proofs.lemmas.List.{length-take}
 use Rattle.std.proofs.lemmas.List.Elements.{All-take}
 use Rattle.frames.specs.Configuration.{fits_step, history, replayed}
 use Rattle.frames.specs.Recorded.{AllFit}
-use Rattle.views.specs.Breaks.{is_met}
+use Rattle.pages.specs.Breaks.{is_met}
 use Rattle.sessions.specs.Seeks.{next_place, no_events, places_with}
 use Rattle.sessions.specs.Walks.{records_any}
 use Rattle.sessions.proofs.Runs.{events_tell, events_count, steps_tell, steps_count}

@@ -1,6 +1,6 @@
 use Rattle.std.proofs.Common.{◌≡◌, ◌+◌, ℕ, Bool, map, take}
 use Rattle.cutoff.specs.Fitting.{counted, part_of}
-use Rattle.views.specs.Breaks.{is_met}
+use Rattle.pages.specs.Breaks.{is_met}
 use Rattle.sessions.specs.Seeks.{next_place, no_events, places_with}
 use Rattle.sessions.specs.Walks.{ReportsParts}
 use Rattle.sessions.proofs.seek.along_runs.Given as goal

@@ -3,7 +3,7 @@ use Rattle.std.proofs.lemmas.List.{get_or_default}
 use Rattle.frames.specs.declared.types.Step.TheVariants.{Write}
 use Rattle.frames.specs.Configuration.{events_of, fits_step, replayed, stepped}
 use Rattle.cutoff.proofs.Fits.{register_kept}
-use Rattle.views.specs.Breaks.{is_met}
+use Rattle.pages.specs.Breaks.{is_met}
 use Rattle.sessions.specs.Seeks.{next_place, places_with}
 use Rattle.sessions.proofs.Runs.{made_next, recorded_next}
 use Rattle.sessions.proofs.seek.along_steps.Goals as goal

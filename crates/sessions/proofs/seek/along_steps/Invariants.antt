@@ -1,6 +1,6 @@
 use Rattle.std.proofs.Common.{◌≡◌, ◌<◌, ◌+◌, ℕ, Bool, length, take, slice_index_or}
 use Rattle.frames.specs.Configuration.{history, replayed}
-use Rattle.views.specs.Breaks.{is_met}
+use Rattle.pages.specs.Breaks.{is_met}
 use Rattle.sessions.specs.Seeks.{next_place, no_events, places_with}
 use Rattle.sessions.proofs.seek.along_steps.Given as goal
 

@@ -1,6 +1,6 @@
 use Rattle.std.proofs.Common.{◌∙◌, sym, ap}
 use Rattle.std.specs.List.{list_any}
-use Rattle.views.specs.Breaks.{is_in}
+use Rattle.pages.specs.Breaks.{is_in}
 use Rattle.sessions.proofs.Searches.{none_in}
 use Rattle.sessions.proofs.seek.is_in_any.Goals as goal
 

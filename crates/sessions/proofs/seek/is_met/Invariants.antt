@@ -1,5 +1,5 @@
 use Rattle.std.proofs.Common.{◌≡◌, drop}
-use Rattle.views.specs.Breaks.{is_met}
+use Rattle.pages.specs.Breaks.{is_met}
 use Rattle.sessions.proofs.seek.is_met.Given as goal
 
 abbrev pub invariant-loop-one : goal.invariant-loop-one

@@ -2,7 +2,7 @@ use Rattle.std.proofs.Common.{◌≡◌, ◌∙◌, ◌+◌, ℕ, Bool, sym, ap,
 use Rattle.std.proofs.lemmas.Result.{IfOk-weaker}
 use Rattle.schedule_trie.specs.Cut.{forest}
 use Rattle.cutoff.specs.Fitting.{counted, part_of}
-use Rattle.views.specs.Breaks.{is_met}
+use Rattle.pages.specs.Breaks.{is_met}
 use Rattle.views.specs.Looks.{steps_in}
 use Rattle.sessions.specs.Seeks.{next_place, no_events, places_with, is_hit}
 use Rattle.sessions.specs.Bounds.{IsPlace}

@@ -1,8 +1,8 @@
-use Rattle.std.proofs.Common.{ap}
+use Rattle.std.proofs.Common.{ap, inl, inr, true, false, Err}
 use Rattle.std.specs.Option.{is_some}
 use Rattle.tower_file.specs.Said.{as_bench}
 use Rattle.command_line.specs.Ranges.{limits_of}
-use Rattle.towerbench.proofs.Endings.{lacking, worked_over, done_over, failed_over, saved}
+use Rattle.towerbench.proofs.Endings.{lacking, worked, saved}
 use Rattle.towerbench.proofs.program.work.Goals as goal
 
 pub returns-in-Err : goal.returns-in-Err
@@ -11,23 +11,24 @@ returns-in-Err g c =
 
 pub returns-in_default : goal.returns-in_default
 returns-in_default g c =
-    let read = c.in-Ok.ensures.ok in
-    let setup = c.last-setup.ensures in
-    worked_over _ _ c.in-Ok.bench c.last-setup.result.bench c.args.options c.last-setup.result.options setup.bench setup.options
-    c.args.save (is_some c.args.file) read.0 c.run_bench.result c.ending_of.result c.in_default.is read.1 read.2 c.ending_of.ensures c.run_bench.ensures.done c.run_bench.ensures.fault
+    let read = c.in-Ok.ensures.ok in (read.0, read.1, (as_bench c.in-Ok.bench, (read.2, c.in-Ok-run_setup.ensures.1.done)))
 
-pub returns-in-Ok-run_leaving : goal.returns-in-Ok-run_leaving
-returns-in-Ok-run_leaving g c =
+pub returns-in-Err-run_setup : goal.returns-in-Err-run_setup
+returns-in-Err-run_setup g c =
     let read = c.in-Ok.ensures.ok in
-    let setup = c.last-setup.ensures in
-    let done = done_over _ _ c.in-Ok.bench c.last-setup.result.bench c.args.options c.last-setup.result.options setup.bench setup.options c.in-Ok-run_leaving.ensures.done.1.done in
+    let fault = c.in-Err-run_setup in
+    rw c.in_default.is (worked _ _ false read.0 (limits_of c.args.options) (as_bench c.in-Ok.bench) read.2 (is_some c.args.file) read.1 (Err fault.fault) c.ending_of.result
+    c.ending_of.ensures tt (inl (inr (as_bench c.in-Ok.bench, (read.2, fault.ensures)))))
+
+pub returns-in-Ok-run_setup-2 : goal.returns-in-Ok-run_setup-2
+returns-in-Ok-run_setup-2 g c =
+    let read = c.in-Ok.ensures.ok in
     saved _ _ (is_some c.args.save) read.0 (limits_of c.args.options) (as_bench c.in-Ok.bench) read.2 (is_some c.args.file) read.1
-    c.save_at.result c.ending_of-in-Ok-run_leaving.result c.ending_of-in-Ok-run_leaving.ensures (ap is_some c.in-Some.is) done c.save_at.ensures
+    c.save_at.result c.ending_of-in-Ok-run_setup-2.result c.ending_of-in-Ok-run_setup-2.ensures (ap is_some c.in-Some.is) c.in-Ok-run_setup-2.ensures.1.done c.save_at.ensures
 
-pub returns-in-Err-run_leaving : goal.returns-in-Err-run_leaving
-returns-in-Err-run_leaving g c =
+pub returns-in-Err-run_setup-2 : goal.returns-in-Err-run_setup-2
+returns-in-Err-run_setup-2 g c =
     let read = c.in-Ok.ensures.ok in
-    let setup = c.last-setup.ensures in
-    failed_over _ _ c.in-Ok.bench c.last-setup.result.bench c.args.options c.last-setup.result.options setup.bench setup.options
-    (is_some c.args.save) (is_some c.args.file) read.0 c.in-Err-run_leaving.fault c.ending_of-in-Err-run_leaving.result (ap is_some c.in-Some.is) read.1 read.2
-    c.ending_of-in-Err-run_leaving.ensures c.in-Err-run_leaving.ensures.fault
+    let fault = c.in-Err-run_setup-2 in
+    rw c.in-Some.is (worked _ _ true read.0 (limits_of c.args.options) (as_bench c.in-Ok.bench) read.2 (is_some c.args.file) read.1 (Err fault.fault) c.ending_of-in-Err-run_setup-2.result
+    c.ending_of-in-Err-run_setup-2.ensures tt (inl (inr (as_bench c.in-Ok.bench, (read.2, fault.ensures)))))

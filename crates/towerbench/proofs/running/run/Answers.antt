@@ -1,13 +1,12 @@
-use Rattle.std.proofs.Common.{false}
-use Rattle.command_line.specs.Ranges.{limits_of}
-use Rattle.towerbench.proofs.Opened.{ran_over, unopened}
+use Rattle.std.proofs.Common.{inl, inr, refl}
+use Rattle.tower_file.specs.Said.{as_bench}
 use Rattle.towerbench.proofs.running.run.Goals as goal
 
-pub returns-in_err-open_file-clause-fault : goal.returns-in_err-open_file-clause-fault
-returns-in_err-open_file-clause-fault g c =
-    unopened false _ (limits_of c.args.options) _ c.from_residual.result _ c.in_err-open_file.field-0.0 c.from_residual.ensures.1 (λ x h. h) c.in_err-open_file.ensures.err
+pub returns-in-Err-clause-fault : goal.returns-in-Err-clause-fault
+returns-in-Err-clause-fault g c = inl (c.in-Err.ensures.err, refl)
 
-pub returns-clause-fault : goal.returns-clause-fault
-returns-clause-fault g c =
-    let setup = c.new-setup.ensures in
-    ran_over _ c.new-setup.result.bench c.args.options c.new-setup.result.options setup.bench setup.options _ _ _ c.in_ok-open_file.ensures.ok c.run_bench.result c.run_bench.ensures.fault
+pub returns-clause-done : goal.returns-clause-done
+returns-clause-done g c = (as_bench c.in-Ok.bench, (c.in-Ok.ensures.ok, c.in-Ok-run_setup.ensures.1.done))
+
+pub returns-in-Err-run_setup-clause-fault : goal.returns-in-Err-run_setup-clause-fault
+returns-in-Err-run_setup-clause-fault g c = inr (as_bench c.in-Ok.bench, (c.in-Ok.ensures.ok, c.in-Err-run_setup.ensures))

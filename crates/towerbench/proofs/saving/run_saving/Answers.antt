@@ -1,13 +1,21 @@
-use Rattle.command_line.specs.Ranges.{limits_of}
-use Rattle.towerbench.proofs.Opened.{unsaved, unsaved_over}
+use Rattle.std.proofs.Common.{inl, inr, refl}
+use Rattle.std.proofs.lemmas.Result.{on_ok_weaker}
+use Rattle.tower_file.specs.Said.{as_bench}
+use Rattle.towerbench.proofs.Endings.{leaving_by, saved_into}
 use Rattle.towerbench.proofs.saving.run_saving.Goals as goal
 
-pub returns-in_err-open_file-clause-fault : goal.returns-in_err-open_file-clause-fault
-returns-in_err-open_file-clause-fault g c =
-    unsaved _ (limits_of c.args.options) _ _ c.from_residual.result _ c.in_err-open_file.field-0.0 c.from_residual.ensures.1 (λ x h. h) c.in_err-open_file.ensures.err
+pub returns-in-Err-clause-fault : goal.returns-in-Err-clause-fault
+returns-in-Err-clause-fault g c = inl (inl (c.in-Err.ensures.err, refl), refl)
 
-pub returns-in_err-bytes-clause-fault : goal.returns-in_err-bytes-clause-fault
-returns-in_err-bytes-clause-fault g c =
-    let setup = c.new-setup.ensures in
-    unsaved_over _ c.new-setup.result.bench c.args.options c.new-setup.result.options setup.bench setup.options _ _ _ _ c.in_ok-open_file.ensures.ok
-    c.from_residual-in_err-bytes.result _ c.in_err-bytes.field-0.0 c.from_residual-in_err-bytes.ensures.1 (λ x h. h) c.in_err-bytes.ensures.fault
+pub returns-in-Ok-run_setup-clause-done : goal.returns-in-Ok-run_setup-clause-done
+returns-in-Ok-run_setup-clause-done g c =
+    let leaving = leaving_by _ _ (as_bench c.in-Ok.bench) c.in-Ok-run_setup.bytes _ _ c.in-Ok.ensures.ok c.in-Ok-run_setup.ensures in
+    on_ok_weaker c.save.result (λ wrote. (c.in-Ok-run_setup.bytes.items, leaving, wrote)) (rw c.deref.ensures.value at c.save.ensures.written)
+
+pub returns-in-Ok-run_setup-clause-fault : goal.returns-in-Ok-run_setup-clause-fault
+returns-in-Ok-run_setup-clause-fault g c =
+    let leaving = leaving_by _ _ (as_bench c.in-Ok.bench) c.in-Ok-run_setup.bytes _ _ c.in-Ok.ensures.ok c.in-Ok-run_setup.ensures in
+    saved_into c.save.result _ _ _ _ _ _ c.in-Ok-run_setup.bytes.items leaving (rw c.deref.ensures.value at c.save.ensures.front) c.save.ensures.fault
+
+pub returns-in-Err-run_setup-clause-fault : goal.returns-in-Err-run_setup-clause-fault
+returns-in-Err-run_setup-clause-fault g c = inl (inr (as_bench c.in-Ok.bench, (c.in-Ok.ensures.ok, c.in-Err-run_setup.ensures)), refl)

@@ -1,7 +1,7 @@
 use Rattle.std.proofs.Common.{◌∙◌, sym, subst}
 use Rattle.schedule_trie.specs.Cut.{forest}
 use Rattle.views.specs.Looks.{steps_in}
-use Rattle.views.specs.Strays.{Judges}
+use Rattle.pages.specs.Strays.{Judges}
 use Rattle.views.proofs.Slips.{slip_told}
 use Rattle.views.proofs.Strays.{judges_its, slip_judges}
 use Rattle.views.proofs.slip.place_slip.Goals as goal

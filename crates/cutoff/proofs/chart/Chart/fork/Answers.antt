@@ -1,5 +1,3 @@
-use Rattle.schedule_trie.specs.Edits.{Fork}
-use Rattle.cutoff.proofs.Edited.{chart_edited}
 use Rattle.cutoff.proofs.Marks.{forked_charted}
 use Rattle.cutoff.proofs.chart.Chart.fork.Goals as goal
 
@@ -8,6 +6,3 @@ invariant_of-self g c =
     rw c.none-self-inside.ensures
     (forked_charted g.R.PartialEq.eq g.R.Behaves.behaviour c.self.inside.next c.self.inside.fresh c.self.inside.mark c.mark_after_fork-self-inside.result _ c.fork.new.self c.args.branch.now c.args.place c.args.name c.fork.result
     c.self.invariant c.mark_after_fork-self-inside.ensures c.fork.ensures.ok c.fork.ensures.end c.fork.ensures.err)
-
-pub returns : goal.returns
-returns g c = chart_edited _ _ c.fork.new.self (Fork c.args.branch.now c.args.place c.args.name) c.fork.result c.self.view_is c.fork.ensures.ok c.fork.ensures.err

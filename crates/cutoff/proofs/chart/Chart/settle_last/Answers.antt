@@ -1,10 +1,10 @@
-use Rattle.std.proofs.Common.{◌≡◌, ◌+◌, Some, None, Ok, IsOk, length, inr, refl, sym, ap, subst, ◌∙◌, arith}
+use Rattle.std.proofs.Common.{◌≡◌, ◌+◌, Some, None, Ok, length, sym, ap, subst, ◌∙◌, arith}
 use Rattle.schedule_trie.specs.Forest.{IsRefused, len_of}
 use Rattle.schedule_trie.specs.Cut.{line, piece_at, keys_in, forest}
 use Rattle.cutoff.specs.Fitting.{part_of}
 use Rattle.cutoff.specs.Charts.{look}
 use Rattle.cutoff.specs.Settles.{IsSettledLast}
-use Rattle.cutoff.proofs.Kept.{charted_kept, charted_marked, len_there, look_there, passed_up, seen_begins, all_kept}
+use Rattle.cutoff.proofs.Kept.{charted_kept, charted_marked, len_there, look_there, refused_still, out_of_memory, seen_begins, all_kept}
 use Rattle.cutoff.proofs.Lasts.{place_found, found_fits, none_settled, last_settled, keeps_named}
 use Rattle.cutoff.proofs.chart.Chart.settle_last.Goals as goal
 
@@ -62,16 +62,13 @@ returns-clause-keeps g c =
 
 pub returns-in_err-index-clause-err : goal.returns-in_err-index-clause-err
 returns-in_err-index-clause-err g c =
-    let why = subst (λ v. IsRefused (look (forest v.cut) c.args.branch.now c.args.place) c.in_err-index.field-0.0) c.self.view_is c.in_err-index.ensures.err in
-    passed_up c.from_residual.result (IsRefused (look (forest c.args.self.now.cut) c.args.branch.now c.args.place))
-    (λ e h. subst (IsRefused (look (forest c.args.self.now.cut) c.args.branch.now c.args.place)) (sym h) why) c.from_residual.ensures.1
+    refused_still c.from_residual.result (subst (λ v. IsRefused (look (forest v.cut) c.args.branch.now c.args.place) c.in_err-index.field-0.0) c.self.view_is c.in_err-index.ensures.err) c.from_residual.ensures.1
 
 pub returns-in_err-run-clause-err : goal.returns-in_err-run-clause-err
 returns-in_err-run-clause-err g c =
     let found = c.in_ok-index.ensures in
     let there = look_there (g.R.Behaves.behaviour c.self.inside.start.register) c.self.inside.trie c.args.branch.now c.in_ok-index.index c.in_ok-index.len found.index found.long c.args.place found.within in
-    passed_up c.from_residual-in_err-run.result (IsRefused (look (forest c.args.self.now.cut) c.args.branch.now c.args.place))
-    (λ e h. inr (h, subst (λ v. IsOk (look (forest v.cut) c.args.branch.now c.args.place)) c.self.view_is (subst IsOk (sym there) refl))) c.from_residual-in_err-run.ensures.1
+    out_of_memory c.from_residual-in_err-run.result (ap (λ v. look (forest v.cut) c.args.branch.now c.args.place) (sym c.self.view_is) ∙ there) c.from_residual-in_err-run.ensures.1
 
 pub returns-clause-begins : goal.returns-clause-begins
 returns-clause-begins g c = seen_begins c.self.view_is g.R.PartialEq.eq g.R.Behaves.behaviour c.self.inside.next c.self.inside.fresh c.self.inside.mark c.self.invariant

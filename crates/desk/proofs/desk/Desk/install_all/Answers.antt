@@ -1,6 +1,5 @@
-use Rattle.std.proofs.Common.{length, ap, sym, subst, ◌∙◌, arith, rules}
+use Rattle.std.proofs.Common.{length, ap, ◌∙◌, arith, rules}
 use Rattle.turn.specs.Chairs.{view}
-use Rattle.desk.specs.Reports.{IsSum}
 use Rattle.desk.proofs.Fillings.{sum_none, sum_more, planned_more}
 use Rattle.desk.proofs.Holdings.{stays_here, stays_on}
 use Rattle.desk.proofs.desk.Desk.install_all.Goals as goal
@@ -23,7 +22,7 @@ loop-done-preserved g c =
       at = c.install-answer.ensures.chair;
       stays = stays_on (view c.args.chair.now) (view c.loop-done.chair) (view c.install-answer.new.chair) was.stays c.install-answer.ensures.stays;
       owns = c.install-answer.ensures.owns;
-      sum = subst IsSum (sym c.count.ensures) (sum_more answer c.loop-done.report was.sum);
+      sum = rw c.count.ensures (sum_more answer c.loop-done.report was.sum);
       count = let all = was.count in let gone = steps.1 in let one = ap (λ r. r.planned) c.count.ensures ∙ planned_more answer c.loop-done.report in omega arith;
       len = let len = was.len in let gone = steps.1 in let short = ap length steps.0 in omega arith;
     }

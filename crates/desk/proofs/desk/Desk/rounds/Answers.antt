@@ -18,24 +18,23 @@ returns-in-Err-NoBranch-clause-stays g c =
     stays_read g.R.Behaves.behaviour c.args.self.now.first.value (view c.args.chair.now) (view c.loop.chair) (view c.planned.new.chair) (λ n world. NeedsBranch c.args.filling.now.branch.now world c.planned.result)
     c.loop.invariant.stays c.planned.ensures.reads
 
-pub returns-in_err-round-2-clause-stays : goal.returns-in_err-round-2-clause-stays
-returns-in_err-round-2-clause-stays g c =
-    stays_on (view c.args.chair.now) (view c.planned.new.chair) (view c.round-in-loop.new.chair)
-    (stays_read g.R.Behaves.behaviour c.args.self.now.first.value (view c.args.chair.now) (view c.loop.chair) (view c.planned.new.chair) (λ n world. NeedsBranch c.args.filling.now.branch.now world c.planned.result)
-    c.loop.invariant.stays c.planned.ensures.reads) c.round-in-loop.ensures.stays
+pub returns-in_err-outcomes-2-clause-stays : goal.returns-in_err-outcomes-2-clause-stays
+returns-in_err-outcomes-2-clause-stays g c =
+    stays_read g.R.Behaves.behaviour c.args.self.now.first.value (view c.args.chair.now) (view c.loop.chair) (view c.planned.new.chair) (λ n world. NeedsBranch c.args.filling.now.branch.now world c.planned.result)
+    c.loop.invariant.stays c.planned.ensures.reads
 
 pub returns-in_default-clause-stays : goal.returns-in_default-clause-stays
 returns-in_default-clause-stays g c =
-    stays_on (view c.args.chair.now) (view c.planned.new.chair) (view c.round-in-loop.new.chair)
+    stays_on (view c.args.chair.now) (view c.planned.new.chair) (view c.install_all-round-in-loop.new.chair)
     (stays_read g.R.Behaves.behaviour c.args.self.now.first.value (view c.args.chair.now) (view c.loop.chair) (view c.planned.new.chair) (λ n world. NeedsBranch c.args.filling.now.branch.now world c.planned.result)
-    c.loop.invariant.stays c.planned.ensures.reads) c.round-in-loop.ensures.stays
+    c.loop.invariant.stays c.planned.ensures.reads) c.install_all-round-in-loop.ensures.stays
 
 pub loop-preserved : goal.loop-preserved
 loop-preserved g c = record {
-  at = c.round-in-loop.ensures.chair;
-  stays = stays_on (view c.args.chair.now) (view c.planned.new.chair) (view c.round-in-loop.new.chair)
+  at = c.install_all-round-in-loop.ensures.chair;
+  stays = stays_on (view c.args.chair.now) (view c.planned.new.chair) (view c.install_all-round-in-loop.new.chair)
       (stays_read g.R.Behaves.behaviour c.args.self.now.first.value (view c.args.chair.now) (view c.loop.chair) (view c.planned.new.chair) (λ n world. NeedsBranch c.args.filling.now.branch.now world c.planned.result)
-      c.loop.invariant.stays c.planned.ensures.reads) c.round-in-loop.ensures.stays;
-  owns = c.round-in-loop.ensures.owns;
-  sums = (c.in_ok-round-2.ensures.sum, sum_both c.loop.report c.in_ok-round-2.round c.in-Some.sum c.loop.invariant.sums.1 c.in_ok-round-2.ensures.sum c.in-Some.ensures);
+      c.loop.invariant.stays c.planned.ensures.reads) c.install_all-round-in-loop.ensures.stays;
+  owns = c.install_all-round-in-loop.ensures.owns;
+  sums = (c.install_all-round-in-loop.ensures.sum, sum_both c.loop.report c.install_all-round-in-loop.result c.in-Some.sum c.loop.invariant.sums.1 c.install_all-round-in-loop.ensures.sum c.in-Some.ensures);
 }

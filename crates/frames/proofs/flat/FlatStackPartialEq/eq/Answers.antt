@@ -1,13 +1,7 @@
 use Rattle.std.proofs.Common.{◌∙◌}
 use Rattle.std.specs.Cmp.Lexicographic.{pointwise}
 use Rattle.frames.specs.contracts.types.FramePartialEq.TheImpl as frames
-use Rattle.frames.specs.contracts.types.FrameLayerPartialEq.TheImpl as layers
-use Rattle.frames.specs.contracts.types.OpPartialEq.TheImpl as ops
-use Rattle.frames.specs.laws.Flat.{agrees}
-use Rattle.frames.proofs.Derived.{same_layers, same_ops}
 use Rattle.frames.proofs.flat.FlatStackPartialEq.eq.Goals as goal
 
 pub returns : goal.returns
-returns c =
-    c.eq.ensures ∙ (λ i. pointwise frames.eq-value.it (c.as_slice.ensures.items i) (c.as_slice-2.ensures.items i))
-    ∙ agrees layers.eq-value.it ops.eq-value.it same_layers same_ops c.args.self.now c.args.other.now
+returns c = c.eq.ensures ∙ (λ i. pointwise frames.eq-value.it (c.as_slice.ensures.items i) (c.as_slice-2.ensures.items i))

@@ -1,5 +1,4 @@
 use Rattle.layers.specs.Nested.{layered}
-use Rattle.layers.specs.Sound.{LayerHolds, LayerReaches}
 use Rattle.layers.specs.laws.Layered.{layer_lawful}
 use Rattle.layers.specs.laws.Over.{over}
 use Rattle.layers.proofs.ByValue.{began_at, none_fits}
@@ -15,13 +14,13 @@ pub reached_next-requires : goal.reached_next-requires
 reached_next-requires g c =
     let r = c.args.self.now in
     let l = over (g.met.S.Register.lawful r.below) (g.met.L.Construction.sound r.layer) r.fit in
-    let stands = began_at (layered l.table l.below) (LayerHolds l.table l.below l.Holds) (LayerReaches l.table l.MayBeAt l.Reaches) (layer_lawful l) c.args.at c.args.store.now
-    c.requires.holds c.args.who c.args.op c.begin_on-end.result c.begin_on-end.new.stack c.begin_on-end.new.store c.new-stack.result c.new-stack.ensures c.requires.fits c.begin_on-end.ensures in
-    record { may_be_at = (c.args.op, (_, stands)) }
+    let began = began_at l c.args.at c.args.store.now c.requires.holds c.args.who c.args.op c.begin_on-end.result c.begin_on-end.new.stack c.begin_on-end.new.store
+    c.new-stack.result c.new-stack.ensures c.requires.fits c.begin_on-end.ensures in
+    record { may_be_at = (c.args.op, (_, began)) }
 
 pub returns-clause-next : goal.returns-clause-next
 returns-clause-next g c =
     let r = c.args.self.now in
     let l = over (g.met.S.Register.lawful r.below) (g.met.L.Construction.sound r.layer) r.fit in
-    c.reached_next.ensures c.args.op _ (began_at (layered l.table l.below) (LayerHolds l.table l.below l.Holds) (LayerReaches l.table l.MayBeAt l.Reaches) (layer_lawful l) c.args.at c.args.store.now
-    c.requires.holds c.args.who c.args.op c.begin_on-end.result c.begin_on-end.new.stack c.begin_on-end.new.store c.new-stack.result c.new-stack.ensures c.requires.fits c.begin_on-end.ensures)
+    c.reached_next.ensures c.args.op _ (began_at l c.args.at c.args.store.now c.requires.holds c.args.who c.args.op c.begin_on-end.result c.begin_on-end.new.stack c.begin_on-end.new.store
+    c.new-stack.result c.new-stack.ensures c.requires.fits c.begin_on-end.ensures)

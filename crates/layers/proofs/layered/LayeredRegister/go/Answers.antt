@@ -1,6 +1,5 @@
 use Rattle.layers.specs.Nested.{layered}
-use Rattle.layers.specs.Sound.{LayerHolds, LayerReaches}
-use Rattle.layers.specs.laws.Layered.{layer_lawful}
+use Rattle.layers.specs.Sound.{LayerReaches}
 use Rattle.layers.specs.laws.Over.{over}
 use Rattle.layers.proofs.ByValue.{went_at, alone_on}
 use Rattle.layers.proofs.layered.LayeredRegister.go.Goals as goal
@@ -9,31 +8,22 @@ pub go_on-progress-requires-clause-may_be_at : goal.go_on-progress-requires-clau
 go_on-progress-requires-clause-may_be_at g c =
     let r = c.args.self.now in
     let l = over (g.met.S.Register.lawful r.below) (g.met.L.Construction.sound r.layer) r.fit in
-    let o = c.process-who.ensures.0 in
-    let reached = c.process-who.ensures.1 in
-    (o, (c.args.pending, alone_on (layered l.table l.below).frames (LayerReaches l.table l.MayBeAt l.Reaches) c.process-who.result c.lay.new.stack c.new-stack.result o c.args.pending reached c.new-stack.ensures c.lay.ensures))
+    let o = c.process-who.ensures in
+    (o.0, (c.args.pending, alone_on (layered l.table l.below).frames (LayerReaches l.table l.MayBeAt l.Reaches) c.process-who.result c.lay.new.stack c.new-stack.result o.0 c.args.pending o.1 c.new-stack.ensures c.lay.ensures))
 
 pub reached_next-requires : goal.reached_next-requires
 reached_next-requires g c =
     let r = c.args.self.now in
     let l = over (g.met.S.Register.lawful r.below) (g.met.L.Construction.sound r.layer) r.fit in
-    let b = layered l.table l.below in
-    let o = c.process-who.ensures.0 in
-    let reached = c.process-who.ensures.1 in
-    let on = alone_on b.frames (LayerReaches l.table l.MayBeAt l.Reaches) c.process-who.result c.lay.new.stack c.new-stack.result o c.args.pending reached c.new-stack.ensures c.lay.ensures in
-    let went = went_at b (LayerHolds l.table l.below l.Holds) (LayerReaches l.table l.MayBeAt l.Reaches) (layer_lawful l) c.args.at c.args.store.now
-    c.requires.holds c.process-who.result o c.go_on-progress.result.end c.go_on-progress.new.stack c.go_on-progress.new.store c.args.pending c.args.choice c.lay.new.stack reached
-    (c.go_on-progress.ensures.lands o c.args.pending on) in
-    record { may_be_at = (o, (_, went)) }
+    let o = c.process-who.ensures in
+    let went = went_at l c.args.at c.args.store.now c.requires.holds c.process-who.result o.0 c.go_on-progress.result.end c.go_on-progress.new.stack c.go_on-progress.new.store
+    c.new-stack.result c.new-stack.ensures c.args.pending c.args.choice c.lay.new.stack o.1 c.lay.ensures (c.go_on-progress.ensures.lands o.0 c.args.pending) in
+    record { may_be_at = (o.0, (_, went)) }
 
 pub returns-clause-next : goal.returns-clause-next
 returns-clause-next g c =
     let r = c.args.self.now in
     let l = over (g.met.S.Register.lawful r.below) (g.met.L.Construction.sound r.layer) r.fit in
-    let b = layered l.table l.below in
-    let o = c.process-who.ensures.0 in
-    let reached = c.process-who.ensures.1 in
-    let on = alone_on b.frames (LayerReaches l.table l.MayBeAt l.Reaches) c.process-who.result c.lay.new.stack c.new-stack.result o c.args.pending reached c.new-stack.ensures c.lay.ensures in
-    c.reached_next.ensures o _ (went_at b (LayerHolds l.table l.below l.Holds) (LayerReaches l.table l.MayBeAt l.Reaches) (layer_lawful l) c.args.at c.args.store.now
-    c.requires.holds c.process-who.result o c.go_on-progress.result.end c.go_on-progress.new.stack c.go_on-progress.new.store c.args.pending c.args.choice c.lay.new.stack reached
-    (c.go_on-progress.ensures.lands o c.args.pending on))
+    let o = c.process-who.ensures in
+    c.reached_next.ensures o.0 _ (went_at l c.args.at c.args.store.now c.requires.holds c.process-who.result o.0 c.go_on-progress.result.end c.go_on-progress.new.stack c.go_on-progress.new.store
+    c.new-stack.result c.new-stack.ensures c.args.pending c.args.choice c.lay.new.stack o.1 c.lay.ensures (c.go_on-progress.ensures.lands o.0 c.args.pending))

@@ -1,10 +1,8 @@
 use Rattle.std.proofs.Common.{refl, ◌+◌, sym, ◌∙◌, ap, subst, arith}
 use Rattle.std.specs.Prelude.{is_some, IsSome}
 use Rattle.std.specs.List.{count_by}
-use Rattle.lineage.specs.Family.{item_at}
 use Rattle.lineage.specs.Lineages.{IsSoundFamily, node_at, node_over, node_under}
-use Rattle.lineage.proofs.Forks.{some_node}
-use Rattle.lineage.proofs.Walks.{item_is}
+use Rattle.lineage.proofs.Forks.{node_there}
 use Rattle.lineage.proofs.Divisions.{IsDivided, divided_all}
 use Rattle.lineage.proofs.lineage.Lineage.divide.Goals as goal
 use Rattle.lineage.proofs.lineage.Lineage.divide.Given.{Over}
@@ -15,16 +13,14 @@ invariant_of-self g c = subst (λ s. IsSoundFamily s c.self.inside.tips.items) (
 pub put_above-requires-clause-there : goal.put_above-requires-clause-there
 put_above-requires-clause-there g c =
     let a = c.self.inside in
-    let some : IsSome (item_at c.args.self.now c.args.key) = c.requires in
-    let n = some_node (node_at a.nodes.slots c.args.key) (subst IsSome (ap (λ f. item_at f c.args.key) (sym c.self.view_is) ∙ item_is a.nodes.slots a.tips.items c.args.key) some) in
+    let n = node_there a.nodes.slots a.tips.items c.args.self.now c.args.key c.self.view_is c.requires in
     subst IsSome (sym (ap (λ s. node_at s c.args.key) c.in_ok-reserve_node.ensures.slots ∙ n.1)) refl
 
 divided : (g : Over) (c : goal.After-put_above g)
     → IsDivided c.self.inside.nodes.slots c.put_above.new.nodes.slots c.self.inside.tips.items c.args.key c.put_above.result c.args.item
 divided g c =
     let a = c.self.inside in
-    let some : IsSome (item_at c.args.self.now c.args.key) = c.requires in
-    let n = some_node (node_at a.nodes.slots c.args.key) (subst IsSome (ap (λ f. item_at f c.args.key) (sym c.self.view_is) ∙ item_is a.nodes.slots a.tips.items c.args.key) some) in
+    let n = node_there a.nodes.slots a.tips.items c.args.self.now c.args.key c.self.view_is c.requires in
     let same = c.in_ok-reserve_node.ensures.slots in
     let here = c.put_above.ensures in
     let few = c.in_ok-reserve_node.ensures.few in
@@ -45,8 +41,4 @@ pub returns-clause-paths : goal.returns-clause-paths
 returns-clause-paths g c = rw (← c.self.view_is) (divided g c).paths
 
 pub reserve_node-requires : goal.reserve_node-requires
-reserve_node-requires g c =
-    let a = c.self.inside in
-    let few = a.tips.ok.1 in
-    let small = a.tips.small in
-    omega (arith, few, small, c.len.ensures)
+reserve_node-requires g c = let tips = c.self.inside.tips in omega (arith, tips.ok.1, tips.small, c.len.ensures)

@@ -2,10 +2,8 @@ use Rattle.std.proofs.Common.{◌≡◌, ◌+◌, ◌<◌, ◌^◌, [], ◌∷�
 use Rattle.std.specs.Prelude.{is_some, IsSome}
 use Rattle.std.specs.List.{count_by}
 use Rattle.lineage.specs.declared.node.Node.{Node}
-use Rattle.lineage.specs.Family.{item_at}
-use Rattle.lineage.specs.Lineages.{node_at, item_in, node_over, node_under}
-use Rattle.lineage.proofs.Forks.{some_node}
-use Rattle.lineage.proofs.Walks.{item_is}
+use Rattle.lineage.specs.Lineages.{node_at, node_over, node_under}
+use Rattle.lineage.proofs.Forks.{node_there}
 use Rattle.lineage.proofs.ForksAbove.{above_sound, forked_above}
 use Rattle.lineage.proofs.lineage.Lineage.fork_above.Goals as goal
 use Rattle.lineage.proofs.lineage.Lineage.fork_above.Given.{Over}
@@ -13,8 +11,7 @@ use Rattle.lineage.proofs.lineage.Lineage.fork_above.Given.{Over}
 there : (g : Over) (c : goal.After-push_reserved g) → (n : Node g.row.X.Denot) × (node_at c.self.inside.nodes.slots c.args.key ≡ Some n)
 there g c =
     let a = c.self.inside in
-    let some : IsSome (item_at c.args.self.now c.args.key) = c.requires in
-    some_node (node_at a.nodes.slots c.args.key) (subst IsSome (ap (λ f. item_at f c.args.key) (sym c.self.view_is) ∙ item_is a.nodes.slots a.tips.items c.args.key) some)
+    node_there a.nodes.slots a.tips.items c.args.self.now c.args.key c.self.view_is c.requires
 
 room : (g : Over) (c : goal.After-push_reserved g) → length c.self.inside.tips.items + 1 + (count_by is_some c.self.inside.nodes.slots + 1) < 2 ^ 64
 room g c = c.in_ok-reserve_path.ensures.few
@@ -48,8 +45,5 @@ returns-clause-ok g c =
 pub put_above-fresh-requires-clause-there : goal.put_above-fresh-requires-clause-there
 put_above-fresh-requires-clause-there g c =
     let a = c.self.inside in
-    let some : IsSome (item_at c.args.self.now c.args.key) = c.requires in
-    let here : IsSome (item_in (node_at a.nodes.slots c.args.key)) =
-    subst IsSome (ap (λ f. item_at f c.args.key) (sym c.self.view_is) ∙ item_is a.nodes.slots a.tips.items c.args.key) some in
-    let n = some_node (node_at a.nodes.slots c.args.key) here in
+    let n = node_there a.nodes.slots a.tips.items c.args.self.now c.args.key c.self.view_is c.requires in
     subst IsSome (sym (ap (λ s. node_at s c.args.key) c.in_ok-reserve_path.ensures.slots ∙ n.1)) refl

@@ -42,8 +42,4 @@ pub returns-clause-item : goal.returns-clause-item
 returns-clause-item g c = rw (← c.self.view_is) (pushed g c).added
 
 pub reserve_node-requires : goal.reserve_node-requires
-reserve_node-requires g c =
-    let a = c.self.inside in
-    let few = a.tips.ok.1 in
-    let small = a.tips.small in
-    omega (arith, few, small, c.len.ensures)
+reserve_node-requires g c = let tips = c.self.inside.tips in omega (arith, tips.ok.1, tips.small, c.len.ensures)

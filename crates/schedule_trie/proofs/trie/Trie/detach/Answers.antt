@@ -1,9 +1,9 @@
 use Rattle.std.proofs.Common.{◌+◌, ◌≤◌, Ok, Err, length, cond, sym, ap, subst, ◌∙◌, arith}
+use Rattle.std.proofs.lemmas.Bool.{le-ltb}
 use Rattle.schedule_trie.specs.declared.refusal.Refusal.TheVariants.{Full}
 use Rattle.schedule_trie.specs.Copies.{IsDetached}
 use Rattle.schedule_trie.specs.Cut.{forest}
 use Rattle.schedule_trie.specs.Forest.{detach_at, on_found, slots_in}
-use Rattle.schedule_trie.proofs.ForkAnswers.{nat_lt_false}
 use Rattle.schedule_trie.proofs.trie.Trie.detach.Goals as goal
 
 pub returns-clause-ok : goal.returns-clause-ok
@@ -15,7 +15,7 @@ returns-clause-ok g c =
     omega (arith, ap (λ z. z.limits.cells) view, ap (λ z. z.made) view, c.if-learn_len-self.false, c.learn_len.ensures.len, c.learn_len.ensures.whole.within.cells) in
     record {
       forest = ap (λ o. on_found o (detach_at now.limits (forest now))) (sym c.in-Some.ensures.index)
-          ∙ (λ i. cond (nat_lt_false now.limits.cells (now.made + length (slots_in (forest now).branches c.in-Some.index)) fits i) (Err Full)
+          ∙ (λ i. cond (le-ltb now.limits.cells (now.made + length (slots_in (forest now).branches c.in-Some.index)) fits i) (Err Full)
           (Ok (record { branches = sym told.branches i; made = sym told.made i })));
       notes = told.notes;
       cut = told.cut;

@@ -6,7 +6,7 @@ use Rattle.schedule_trie.specs.Copies.{AreCopies}
 use Rattle.schedule_trie.proofs.Detaches.{detach_held, detach_told}
 use Rattle.schedule_trie.proofs.Lines.{path_within}
 use Rattle.schedule_trie.proofs.LengthSteps.{detached_lengths}
-use Rattle.schedule_trie.proofs.PushSteps.{on_err, roomed_seen, roomed_held}
+use Rattle.schedule_trie.proofs.PushSteps.{roomed_held, roomed_err}
 use Rattle.schedule_trie.proofs.trie.Trie.detach_at.Goals as goal
 
 pub replace_path-requires : goal.replace_path-requires
@@ -20,9 +20,8 @@ invariant_of-self g c =
 
 pub returns-in_err-replace_path-clause-err : goal.returns-in_err-replace_path-clause-err
 returns-in_err-replace_path-clause-err g c =
-    on_err c.from_residual-in_err-replace_path.result _
-    (roomed_seen c.self.inside (record c.self.inside { segments = c.replace_path.new.self })
-    refl c.in_err-replace_path.ensures.err refl refl ∙ c.self.view_is)
+    roomed_err c.self.inside (record c.self.inside { segments = c.replace_path.new.self })
+    refl c.in_err-replace_path.ensures.err refl refl c.from_residual-in_err-replace_path.result c.self.view_is
 
 pub invariant_of-self-2 : goal.invariant_of-self-2
 invariant_of-self-2 g c =

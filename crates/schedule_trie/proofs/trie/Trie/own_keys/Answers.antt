@@ -4,14 +4,14 @@ use Rattle.schedule_trie.specs.Climbs.{keys_to, HasClimbedTo}
 use Rattle.schedule_trie.specs.Marks.{IsMarkOf}
 use Rattle.schedule_trie.proofs.Climbs.{shorter_up}
 use Rattle.schedule_trie.proofs.ClimbSteps.{path_last, path_up}
-use Rattle.schedule_trie.proofs.OwnParts.{climbing_first, climbing_up, own_part}
+use Rattle.schedule_trie.proofs.OwnParts.{climbing_first, climbing_up, own_part, IsUnmarked}
 use Rattle.schedule_trie.proofs.trie.Trie.own_keys.Goals as goal
 
 pub loop-at-init : goal.loop-at-init
 loop-at-init g c =
     let l = path_last c.self.inside c.args.self.now c.self.view_is c.self.invariant.held c.args.index c.last-at.result c.last-at.ensures in
     let keys = keys_in c.args.self.now.strands c.args.index in
-    rw c.new-own.ensures.items (record { climbing = climbing_first c.args.marks.now keys c.last-at.result l })
+    rw c.new-own.ensures.items (record { climbing = climbing_first (IsUnmarked c.args.marks.now) keys c.last-at.result l })
 
 pub returns-in-Some-marks-clause-own : goal.returns-in-Some-marks-clause-own
 returns-in-Some-marks-clause-own g c =
@@ -38,7 +38,7 @@ loop-at-preserved g c =
     let s = path_up c.self.inside c.args.self.now c.self.view_is c.self.invariant.held c.args.index c.in-Some.key c.above-at.result
     (subst (HasClimbedTo keys) c.in-Some.is at.reached) c.above-at.ensures.each in
     let read : slice_index_or marks c.in-Some.key None ≡ None = c.in_default-marks.is in
-    record { climbing = climbing_up marks keys c.loop-at.at c.in-Some.key c.above-at.result c.loop-at.own.items c.push.new.self.items c.in-Some.is c.in_ok-push.ensures.items at s read }
+    record { climbing = climbing_up (IsUnmarked marks) keys c.loop-at.at c.in-Some.key c.above-at.result c.loop-at.own.items c.push.new.self.items c.in-Some.is c.in_ok-push.ensures.items at s read }
 
 pub returns-clause-own : goal.returns-clause-own
 returns-clause-own g c =

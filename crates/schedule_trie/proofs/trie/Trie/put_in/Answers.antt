@@ -1,5 +1,5 @@
 use Rattle.lineage.specs.Family.{with_item}
-use Rattle.schedule_trie.specs.Cut.{piece_at, slots_of, IsPutBefore}
+use Rattle.schedule_trie.specs.Cut.{IsPutBefore}
 use Rattle.schedule_trie.specs.Tries.{cut_of}
 use Rattle.std.proofs.Common.{sym, subst, refl, ◌∙◌, ◌+◌, ◌<◌, length, arith}
 use Rattle.schedule_trie.proofs.PushSteps.{on_err, kept_held, cut_written}
@@ -10,9 +10,7 @@ use Rattle.schedule_trie.proofs.LengthSteps.{none_held}
 use Rattle.schedule_trie.proofs.trie.Trie.put_in.Goals as goal
 
 pub item_mut-requires : goal.item_mut-requires
-item_mut-requires g c =
-    held_there c.self.inside c.args.key c.args.offset
-    (subst (λ z. c.args.offset < length (slots_of (piece_at z.pieces c.args.key))) (sym c.self.view_is) c.requires.offset)
+item_mut-requires g c = held_there c.self.inside c.args.key c.args.offset c.args.self.now c.self.view_is c.requires.offset
 
 pub insert-requires : goal.insert-requires
 insert-requires g c =

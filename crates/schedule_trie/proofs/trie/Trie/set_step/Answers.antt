@@ -7,9 +7,7 @@ use Rattle.schedule_trie.proofs.LengthSteps.{set_lengths}
 use Rattle.schedule_trie.proofs.trie.Trie.set_step.Goals as goal
 
 pub item_mut-requires : goal.item_mut-requires
-item_mut-requires g c =
-    held_there c.self.inside c.args.key c.args.offset
-    (subst (λ z. c.args.offset < length (slots_of (piece_at z.pieces c.args.key))) (sym c.self.view_is) c.requires)
+item_mut-requires g c = held_there c.self.inside c.args.key c.args.offset c.args.self.now c.self.view_is c.requires
 
 pub set_step-requires : goal.set_step-requires
 set_step-requires g c =

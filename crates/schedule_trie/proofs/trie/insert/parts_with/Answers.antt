@@ -1,9 +1,10 @@
-use Rattle.std.proofs.Common.{◌++◌, ◌-◌, ◌∙◌, length, take, drop, ap, arith}
+use Rattle.std.proofs.Common.{◌++◌, ◌-◌, ◌∙◌, length, take, drop, ap, arith, ◌≡◌, ◌<◌, ◌≤◌, ℕ, List}
 use Rattle.std.specs.List.{insert}
-use Rattle.std.proofs.lemmas.List.{length-take, length-drop, take_all}
+use Rattle.std.proofs.lemmas.List.{length-take, length-drop, take_all, length-take-le}
 use Rattle.std.proofs.lemmas.List.Edits.{length-insert}
 use Rattle.schedule_trie.proofs.InsertSteps.{insert-front, insert-back}
 use Rattle.schedule_trie.proofs.trie.insert.parts_with.Goals as goal
+use Rattle.schedule_trie.specs.declared.slot.Slot.{Slot}
 
 pub slice_bounds-front-end : goal.slice_bounds-front-end
 slice_bounds-front-end c = omega (arith, length-take 64 c.args.slots.now, c.requires.full)
@@ -19,21 +20,19 @@ returns-then-offset-lt-UPPER_SLOTS-clause-parts c =
     ∙ ap (λ l. insert (take 64 slots) c.args.offset c.args.slot ++ l) back
     ∙ insert-front slots 64 c.args.offset c.args.slot (omega (arith, c.if-offset-lt-UPPER_SLOTS.true))
 
+-- the first part, if it gets the new cell
+first_len : (slots above : List Slot) (offset : ℕ) (slot : Slot) → 128 ≤ length slots → offset < 64 → above ≡ insert (take 64 slots) offset slot → length above ≡ 65
+first_len slots above offset slot full less is =
+    let front = length-take-le 64 slots (omega (arith, full)) in
+    ap length is ∙ length-insert (take 64 slots) offset slot (omega (arith, front, less)) ∙ omega (arith, front)
+
 pub returns-then-offset-lt-UPPER_SLOTS-clause-least : goal.returns-then-offset-lt-UPPER_SLOTS-clause-least
 returns-then-offset-lt-UPPER_SLOTS-clause-least c =
-    let slots = c.args.slots.now in
-    let front = length-take 64 slots in
-    let grown = length-insert (take 64 slots) c.args.offset c.args.slot (omega (arith, front, c.requires.full, c.if-offset-lt-UPPER_SLOTS.true)) in
-    let above = ap length c.in_ok-above.ensures in
-    omega (arith, front, grown, above, c.requires.full)
+    omega (arith, first_len c.args.slots.now _ c.args.offset c.args.slot c.requires.full c.if-offset-lt-UPPER_SLOTS.true c.in_ok-above.ensures)
 
 pub returns-then-offset-lt-UPPER_SLOTS-clause-most : goal.returns-then-offset-lt-UPPER_SLOTS-clause-most
 returns-then-offset-lt-UPPER_SLOTS-clause-most c =
-    let slots = c.args.slots.now in
-    let front = length-take 64 slots in
-    let grown = length-insert (take 64 slots) c.args.offset c.args.slot (omega (arith, front, c.requires.full, c.if-offset-lt-UPPER_SLOTS.true)) in
-    let above = ap length c.in_ok-above.ensures in
-    omega (arith, front, grown, above, c.requires.full)
+    omega (arith, first_len c.args.slots.now _ c.args.offset c.args.slot c.requires.full c.if-offset-lt-UPPER_SLOTS.true c.in_ok-above.ensures)
 
 pub returns-clause-parts : goal.returns-clause-parts
 returns-clause-parts c =
@@ -44,13 +43,7 @@ returns-clause-parts c =
     ∙ insert-back slots 64 c.args.offset c.args.slot (omega (arith, c.requires.full)) (omega (arith, c.if-offset-lt-UPPER_SLOTS.false))
 
 pub returns-clause-least : goal.returns-clause-least
-returns-clause-least c =
-    let front = length-take 64 c.args.slots.now in
-    let above = ap length c.in_ok-above-2.ensures.items in
-    omega (arith, front, above, c.requires.full)
+returns-clause-least c = omega (arith, length-take 64 c.args.slots.now, ap length c.in_ok-above-2.ensures.items, c.requires.full)
 
 pub returns-clause-most : goal.returns-clause-most
-returns-clause-most c =
-    let front = length-take 64 c.args.slots.now in
-    let above = ap length c.in_ok-above-2.ensures.items in
-    omega (arith, front, above, c.requires.full)
+returns-clause-most c = omega (arith, length-take 64 c.args.slots.now, ap length c.in_ok-above-2.ensures.items, c.requires.full)

@@ -1,6 +1,6 @@
 use Rattle.std.proofs.Common.{rules}
 use Rattle.std.specs.Prelude.{IfOk}
-use Rattle.views.specs.Strays.{JudgesIts}
+use Rattle.pages.specs.Strays.{JudgesIts}
 use Rattle.views.proofs.Strays.{ok_its_shows_no_stray}
 use Rattle.views.proofs.slip.Slip.page.Goals as goal
 

@@ -1,8 +1,8 @@
 use Rattle.std.proofs.Common.{◌≡◌, ◌∙◌, []}
 use Rattle.std.specs.Arc.{arc_value}
 use Rattle.std.proofs.lemmas.Result.{IfOk-weaker}
+use Rattle.pages.specs.Pages.{config_page}
 use Rattle.views.specs.Spots.{part_end}
-use Rattle.views.specs.RunPages.{config_page}
 use Rattle.views.proofs.Lenses.{like_page}
 use Rattle.views.proofs.slip.content.part_page.Goals as goal
 

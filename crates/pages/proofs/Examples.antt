@@ -1,0 +1,323 @@
+-- Worked examples of definitions which state that something exists: for each, one that holds, and
+-- one that nearly does.
+use Rattle.std.proofs.Common.{ℕ, ◌≡◌, ◌++◌, ◌<◌, Bool, true, false, true≢false, List, [], ◌∷◌, inr, ⊎_elim, drop, slice_index_or, ap, refl, sym, ◌∙◌, subst, arith}
+use Rattle.std.proofs.Common.{nat_lt, ltb-true}
+use mathlib.Core.Bool.{◌&&◌}
+use Rattle.std.specs.List.{list_any}
+use Rattle.std.proofs.lemmas.List.Elements.{All-nil, All-cons, All-head}
+use Rattle.frames.specs.declared.types.Op.{Op}
+use Rattle.frames.specs.declared.types.Op.TheVariants.{Write, Read}
+use Rattle.frames.specs.declared.types.Layer.{Layer}
+use Rattle.frames.specs.declared.types.Layer.TheVariants.{Stamped}
+use Rattle.frames.specs.declared.types.Event.{Event}
+use Rattle.frames.specs.declared.types.Event.TheVariants.{Invoke, Got, Wrote, Refused, Stop}
+use Rattle.frames.specs.declared.types.Step.{Step}
+use Rattle.frames.specs.declared.types.Step.TheVariants as step
+use Rattle.frames.specs.declared.verdict.ReadVerdict.{ReadVerdict}
+use Rattle.frames.specs.declared.verdict.Verdict.{Verdict}
+use Rattle.frames.specs.declared.verdict.Verdict.TheVariants.{Fresh, Stray}
+use Rattle.frames.specs.declared.safe.SafePoint.{SafePoint}
+use Rattle.frames.specs.SafeBit.{safe_behaviour}
+use Rattle.frames.specs.Behaviour.{Behaviour}
+use Rattle.frames.specs.Configuration.{fits_step}
+use Rattle.frames.specs.Recorded.{AllFit, recorded}
+use Rattle.frames.specs.correctness.Verdicts.{verdicts}
+use Rattle.pages.specs.VerdictWords.{begins_or_ends, IsQuiet, InProgress, Follows, ReturnedRead, IsLastWritten, IsVerdictOn, EndsBy, IsOverlapping, IsJudged}
+use Rattle.pages.specs.LawWords.{IsWrite, AreNumbered}
+use Rattle.pages.specs.Strays.{AreVerdictsOn}
+
+abbrev Events : Type 0
+Events = List (ℕ × Event)
+
+-- the event at a place of a list
+abbrev event_at : ℕ → Events → Event
+event_at k events = (slice_index_or events k (0, Stop 9)).1
+
+-- the value of the write that an event invokes, and the process whose write it returns; 7 for any
+-- other event
+abbrev value_of : Event → ℕ
+value_of (Invoke p (Write v)) = v
+value_of e = 7
+
+abbrev writer_of : Event → ℕ
+writer_of (Wrote p) = p
+writer_of e = 7
+
+nothing : (front back : Events) (e : ℕ × Event) → [] ≡ front ++ e ∷ back → ⊥
+nothing [] back e is = cc
+nothing (x ∷ front) back e is = cc
+
+wrote_invoked : (p q : ℕ) (o : Op) → Wrote p ≡ Invoke q o → ⊥
+wrote_invoked p q o e = cc
+
+read_written : (v : ℕ) → Read ≡ Write v → ⊥
+read_written v e = cc
+
+abbrev op_of : Event → Op
+op_of (Invoke p o) = o
+op_of e = Read
+
+-- process 0 begins to write 1
+abbrev writes : ℕ × Event
+writes = (0, Invoke 0 (Write 1))
+
+-- process 1 begins to read, whether or not the write has returned
+abbrev reads : ℕ × Event
+reads = (2, Invoke 1 Read)
+
+-- process 0 is writing 1 as process 1 reads
+InProgress-holds : InProgress 0 (Write 1) (writes ∷ reads ∷ [])
+InProgress-holds = record { earlier = []; step = 0; since = reads ∷ []; split = refl; quiet = refl }
+
+-- the write of process 0 has returned
+InProgress-fails : InProgress 0 (Write 1) (writes ∷ (1, Wrote 0) ∷ []) → ⊥
+InProgress-fails h = by h.earlier h.step h.since h.split h.quiet
+  where
+    by : (earlier : Events) (k : ℕ) (since : Events) → writes ∷ (1, Wrote 0) ∷ [] ≡ earlier ++ (k, Invoke 0 (Write 1)) ∷ since → IsQuiet 0 since → ⊥
+    by [] k since e quiet = true≢false (ap (λ events. list_any (λ e. begins_or_ends 0 e.1) events) (ap (drop 1) e) ∙ quiet)
+    by (x ∷ []) k since e quiet = wrote_invoked 0 0 (Write 1) (ap (event_at 1) e)
+    by (x ∷ y ∷ earlier) k since e quiet = nothing earlier since _ (ap (drop 2) e)
+
+-- no write is in progress after a read alone, or after the write of another value
+no_write : (v : ℕ) → InProgress 0 (Write v) (reads ∷ []) → ⊥
+no_write v h = by h.earlier h.step h.since h.split
+  where
+    by : (earlier : Events) (k : ℕ) (since : Events) → reads ∷ [] ≡ earlier ++ (k, Invoke 0 (Write v)) ∷ since → ⊥
+    by [] k since e = read_written v (ap op_of (ap (event_at 0) e))
+    by (x ∷ earlier) k since e = nothing earlier since _ (ap (drop 1) e)
+
+no_other_write : InProgress 0 (Write 0) (writes ∷ []) → ⊥
+no_other_write h = by h.earlier h.step h.since h.split
+  where
+    by : (earlier : Events) (k : ℕ) (since : Events) → writes ∷ [] ≡ earlier ++ (k, Invoke 0 (Write 0)) ∷ since → ⊥
+    by [] k since e = let same : 1 ≡ 0 = ap value_of (ap (event_at 0) e) in omega (arith, same)
+    by (x ∷ earlier) k since e = nothing earlier since _ (ap (drop 1) e)
+
+-- a write can return after its invocation
+Follows-holds : Follows (writes ∷ []) (Wrote 0)
+Follows-holds = (1, record { earlier = []; step = 0; since = []; split = refl; quiet = refl })
+
+-- but not after the invocation of a read
+Follows-fails : Follows (reads ∷ []) (Wrote 0) → ⊥
+Follows-fails h = no_write h.0 h.1
+
+-- process 1 reads 0
+abbrev one_read : Events
+one_read = reads ∷ (3, Got 1 0) ∷ []
+
+abbrev returned : ReturnedRead one_read
+returned = record { process = 1; value = 0; earlier = []; invoked = 2; since = []; returned = 3; later = []; split = refl; quiet = refl }
+
+-- a read that was invoked and returned
+ReturnedRead-holds : ReturnedRead one_read
+ReturnedRead-holds = returned
+
+-- a read that was only invoked
+ReturnedRead-fails : ReturnedRead (reads ∷ []) → ⊥
+ReturnedRead-fails h = by h.earlier h.since h.later h.split
+  where
+    by : (earlier since later : Events) → reads ∷ [] ≡ (earlier ++ (h.invoked, Invoke h.process Read) ∷ since) ++ (h.returned, Got h.process h.value) ∷ later → ⊥
+    by [] since later e = nothing since later _ (ap (drop 1) e)
+    by (x ∷ earlier) since later e = nothing (earlier ++ (h.invoked, Invoke h.process Read) ∷ since) later _ (ap (drop 1) e)
+
+-- the write of 1 is the last that returned
+IsLastWritten-holds : IsLastWritten 1 (writes ∷ (1, Wrote 0) ∷ [])
+IsLastWritten-holds = record { earlier = writes ∷ []; step = 1; since = []; split = refl; write = record { earlier = []; step = 0; since = []; split = refl; quiet = refl }; last = refl }
+
+-- the last write that returned was not one of 0
+IsLastWritten-fails : IsLastWritten 0 (writes ∷ (1, Wrote 0) ∷ []) → ⊥
+IsLastWritten-fails h = by h.earlier h.step h.since h.split h.write
+  where
+    by : (earlier : Events) (k : ℕ) (since : Events) → writes ∷ (1, Wrote 0) ∷ [] ≡ earlier ++ (k, Wrote 0) ∷ since → InProgress 0 (Write 0) earlier → ⊥
+    by [] k since e write = wrote_invoked 0 0 (Write 1) (sym (ap (event_at 0) e))
+    by (x ∷ []) k since e write =
+        no_other_write (subst (λ x. InProgress 0 (Write 0) (x ∷ [])) (sym (ap (λ events. slice_index_or events 0 reads) e)) write)
+    by (x ∷ y ∷ earlier) k since e write = nothing earlier since _ (ap (drop 2) e)
+
+-- the write of process 0 returns while process 1 reads
+EndsBy-holds : EndsBy 0 (Wrote 0) (reads ∷ (3, Wrote 0) ∷ [])
+EndsBy-holds = record { before = reads ∷ []; step = 3; later = []; split = refl; quiet = refl }
+
+-- the write is refused, and another write returns
+EndsBy-fails : EndsBy 0 (Wrote 0) ((1, Refused 0 Stamped) ∷ (3, Wrote 0) ∷ []) → ⊥
+EndsBy-fails h = by h.before h.step h.later h.split h.quiet
+  where
+    refused : Refused 0 Stamped ≡ Wrote 0 → ⊥
+    refused e = cc
+
+    by : (before : Events) (k : ℕ) (later : Events) → (1, Refused 0 Stamped) ∷ (3, Wrote 0) ∷ [] ≡ before ++ (k, Wrote 0) ∷ later → IsQuiet 0 before → ⊥
+    by [] k later e quiet = refused (ap (event_at 0) e)
+    by (x ∷ []) k later e quiet =
+        true≢false (subst (λ x. IsQuiet 0 (x ∷ [])) (sym (ap (λ events. slice_index_or events 0 reads) e)) quiet)
+    by (x ∷ y ∷ before) k later e quiet = nothing before later _ (ap (drop 2) e)
+
+no_end : (event : Event) → EndsBy 0 event [] → ⊥
+no_end event h = nothing h.before h.later _ h.split
+
+-- the write of 1 is in progress as process 1 reads
+IsOverlapping-holds : IsOverlapping 1 (writes ∷ []) (reads ∷ []) []
+IsOverlapping-holds = record { before = []; step = 0; since = reads ∷ []; split = refl; unreturned = unreturned; unrefused = unrefused }
+  where
+    unreturned : (rest : Events) → writes ∷ [] ≡ writes ∷ rest → EndsBy 0 (Wrote 0) rest → ⊥
+    unreturned rest e h = no_end (Wrote 0) (subst (EndsBy 0 (Wrote 0)) (sym (ap (drop 1) e)) h)
+
+    invoked_refused : (layer : Layer) → Invoke 1 Read ≡ Refused 0 layer → ⊥
+    invoked_refused layer e = cc
+
+    unrefused : (layer : Layer) → EndsBy 0 (Refused 0 layer) (reads ∷ []) → ⊥
+    unrefused layer h = by h.before h.step h.later h.split
+      where
+        by : (before : Events) (k : ℕ) (later : Events) → reads ∷ [] ≡ before ++ (k, Refused 0 layer) ∷ later → ⊥
+        by [] k later e = invoked_refused layer (ap (event_at 0) e)
+        by (x ∷ before) k later e = nothing before later _ (ap (drop 1) e)
+
+-- the write of 1 had returned before
+IsOverlapping-fails : IsOverlapping 1 (writes ∷ (1, Wrote 0) ∷ []) (reads ∷ []) ((3, Got 1 1) ∷ []) → ⊥
+IsOverlapping-fails h = by h.before h.step h.since h.split h.unreturned
+  where
+    by : (before : Events) (k : ℕ) (since : Events) → writes ∷ (1, Wrote 0) ∷ reads ∷ [] ≡ before ++ (k, Invoke 0 (Write 1)) ∷ since
+        → ((rest : Events) → writes ∷ (1, Wrote 0) ∷ [] ≡ before ++ (k, Invoke 0 (Write 1)) ∷ rest → EndsBy 0 (Wrote 0) rest → ⊥) → ⊥
+    by [] k since e unreturned =
+        unreturned ((1, Wrote 0) ∷ []) (ap (λ k. (k, Invoke 0 (Write 1)) ∷ (1, Wrote 0) ∷ []) (ap (λ events. (slice_index_or events 0 reads).0) e))
+        (record { before = []; step = 1; later = []; split = refl; quiet = refl })
+    by (x ∷ []) k since e unreturned = wrote_invoked 0 0 (Write 1) (ap (event_at 1) e)
+    by (x ∷ y ∷ []) k since e unreturned = read_written 1 (ap op_of (ap (event_at 2) e))
+    by (x ∷ y ∷ z ∷ before) k since e unreturned = nothing before since _ (ap (drop 3) e)
+
+-- the write of process 0 is refused after process 1 has read
+abbrev refused_late : Events
+refused_late = (3, Got 1 1) ∷ (4, Refused 0 Stamped) ∷ []
+
+-- the first write, of 1, isn't refused
+IsWrite-holds : IsWrite 1 1 (writes ∷ []) []
+IsWrite-holds = record { before = []; step = 0; since = []; split = refl; unrefused = λ layer h. no_end (Refused 0 layer) h; number = refl }
+
+-- the write is refused, although only after the read has returned
+IsWrite-fails : IsWrite 1 1 (writes ∷ reads ∷ []) refused_late → ⊥
+IsWrite-fails h = by h.before h.step h.since h.split (h.unrefused Stamped)
+  where
+    end : EndsBy 0 (Refused 0 Stamped) ((reads ∷ []) ++ refused_late)
+    end = record { before = reads ∷ (3, Got 1 1) ∷ []; step = 4; later = []; split = refl; quiet = refl }
+
+    by : (before : Events) (k : ℕ) (since : Events) → writes ∷ reads ∷ [] ≡ before ++ (k, Invoke 0 (Write 1)) ∷ since → (EndsBy 0 (Refused 0 Stamped) (since ++ refused_late) → ⊥) → ⊥
+    by [] k since e unrefused = unrefused (subst (λ since. EndsBy 0 (Refused 0 Stamped) (since ++ refused_late)) (ap (drop 1) e) end)
+    by (x ∷ []) k since e unrefused = read_written 1 (ap op_of (ap (event_at 1) e))
+    by (x ∷ y ∷ before) k since e unrefused = nothing before since _ (ap (drop 2) e)
+
+-- a history with no read has no number to give
+AreNumbered-holds : AreNumbered 0 (writes ∷ [])
+AreNumbered-holds = record { number = λ i. 0; rises = λ i j le. omega arith; each = λ r. absurd (none r) }
+  where
+    none : ReturnedRead (writes ∷ []) → ⊥
+    none r = at r.earlier r.since r.later r.split
+      where
+        at : (earlier since later : Events) → writes ∷ [] ≡ (earlier ++ (r.invoked, Invoke r.process Read) ∷ since) ++ (r.returned, Got r.process r.value) ∷ later → ⊥
+        at [] since later e = nothing since later _ (ap (drop 1) e)
+        at (x ∷ earlier) since later e = nothing (earlier ++ (r.invoked, Invoke r.process Read) ∷ since) later _ (ap (drop 1) e)
+
+-- the value that is read was never written
+AreNumbered-fails : AreNumbered 1 one_read → ⊥
+AreNumbered-fails h = ⊎_elim initial written (h.each returned).write
+  where
+    initial : (h.number 0 ≡ 0) × (◌≡◌ {A = ℕ} 0 1) → ⊥
+    initial z = let same : ◌≡◌ {A = ℕ} 0 1 = z.1 in omega (arith, same)
+
+    written : IsWrite (h.number 0) 0 (reads ∷ []) ((3, Got 1 0) ∷ []) → ⊥
+    written w = by w.before w.step w.since w.split
+      where
+        by : (before : Events) (k : ℕ) (since : Events) → reads ∷ [] ≡ before ++ (k, Invoke 0 (Write 0)) ∷ since → ⊥
+        by [] k since e = read_written 0 (ap op_of (ap (event_at 0) e))
+        by (x ∷ before) k since e = nothing before since _ (ap (drop 1) e)
+
+-- a read of the initial value, with no write, is fresh, and is the first that is judged
+IsJudged-holds : IsJudged 0 one_read returned
+IsJudged-holds = record { verdict = Fresh; on_it = inr (refl, refl); before = []; following = []; split = refl; place = refl }
+
+-- process 1 writes 1, although only process 0 may write, and process 2 reads the 1
+abbrev strange : Events
+strange = (0, Invoke 1 (Write 1)) ∷ (1, Wrote 1) ∷ (2, Invoke 2 Read) ∷ (3, Got 2 1) ∷ []
+
+abbrev strange_read : ReturnedRead strange
+strange_read = record {
+  process = 2;
+  value = 1;
+  earlier = (0, Invoke 1 (Write 1)) ∷ (1, Wrote 1) ∷ [];
+  invoked = 2;
+  since = [];
+  returned = 3;
+  later = [];
+  split = refl;
+  quiet = refl;
+}
+
+abbrev first_verdict : List ReadVerdict → Verdict
+first_verdict [] = Stray
+first_verdict (read ∷ more) = read.verdict
+
+-- the verdict on that read is fresh, and yet no write of process 0 has returned
+IsJudged-fails : IsJudged 0 strange strange_read → ⊥
+IsJudged-fails h = by h.before h.verdict h.following h.split h.on_it
+  where
+    none : (front back : List ReadVerdict) (r : ReadVerdict) → [] ≡ front ++ r ∷ back → ⊥
+    none [] back r e = cc
+    none (x ∷ front) back r e = cc
+
+    last : IsLastWritten 1 ((0, Invoke 1 (Write 1)) ∷ (1, Wrote 1) ∷ []) → ⊥
+    last w = at w.earlier w.step w.since w.split
+      where
+        at : (earlier : Events) (k : ℕ) (since : Events) → (0, Invoke 1 (Write 1)) ∷ (1, Wrote 1) ∷ [] ≡ earlier ++ (k, Wrote 0) ∷ since → ⊥
+        at [] k since e = wrote_invoked 0 1 (Write 1) (sym (ap (event_at 0) e))
+        at (x ∷ []) k since e = let same : 1 ≡ 0 = ap writer_of (ap (event_at 1) e) in omega (arith, same)
+        at (x ∷ y ∷ earlier) k since e = nothing earlier since _ (ap (drop 2) e)
+
+    fresh : IsVerdictOn 0 strange_read Fresh → ⊥
+    fresh is = ⊎_elim last (λ first. true≢false first.0) is
+
+    by : (before : List ReadVerdict) (verdict : Verdict) (behind : List ReadVerdict)
+        → verdicts 0 strange ≡ before ++ record { step = 3; process = 2; value = 1; verdict = verdict } ∷ behind → IsVerdictOn 0 strange_read verdict → ⊥
+    by [] verdict behind e is =
+        let same : Fresh ≡ verdict = ap first_verdict e in
+        fresh (subst (IsVerdictOn 0 strange_read) (sym same) is)
+    by (x ∷ before) verdict behind e is = none before behind _ (ap (drop 1) e)
+
+abbrev read_verdict : ReadVerdict
+read_verdict = record { step = 2; process = 1; value = 0; verdict = Fresh }
+
+-- process 1 reads a safe bit at 0: one invocation and two bit actions
+AreVerdictsOn-holds : AreVerdictsOn safe_behaviour (read_verdict ∷ [])
+AreVerdictsOn-holds = record { value = 0; steps = step.Read 1 ∷ step.Go 1 0 ∷ step.Go 1 0 ∷ []; within = omega arith; fit = fit; judged = refl }
+  where
+    fits : Step → Type 0
+    fits s = fits_step safe_behaviour s ≡ true
+
+    fit : AllFit safe_behaviour (step.Read 1 ∷ step.Go 1 0 ∷ step.Go 1 0 ∷ [])
+    fit = All-cons fits (step.Read 1) (step.Go 1 0 ∷ step.Go 1 0 ∷ []) refl
+        (All-cons fits (step.Go 1 0) (step.Go 1 0 ∷ []) refl (All-cons fits (step.Go 1 0) [] refl (All-nil fits)))
+
+-- a bit on which no process makes a step
+abbrev unused : Behaviour SafePoint
+unused = record safe_behaviour { processes = 0; suits = λ who o. false }
+
+no_less : (p : ℕ) (b : Bool) → (nat_lt p 0 && b) ≡ true → ⊥
+no_less p b h = by (nat_lt p 0) refl h
+  where
+    by : (c : Bool) → nat_lt p 0 ≡ c → (c && b) ≡ true → ⊥
+    by true e h = let less : p < 0 = ltb-true p 0 e in omega (arith, less)
+    by false e h = true≢false (sym h)
+
+no_step : (s : Step) → fits_step unused s ≡ true → ⊥
+no_step (step.Write p v) e = true≢false (sym e)
+no_step (step.Read p) e = true≢false (sym e)
+no_step (step.Go p c) e = no_less p (nat_lt c 2) e
+no_step (step.Stop p) e = let less : p < 0 = ltb-true p 0 e in omega (arith, less)
+
+-- no read of that bit is judged
+AreVerdictsOn-fails : AreVerdictsOn unused (read_verdict ∷ []) → ⊥
+AreVerdictsOn-fails h = by h.steps h.fit h.judged
+  where
+    none : read_verdict ∷ [] ≡ [] → ⊥
+    none e = cc
+
+    by : (steps : List Step) → AllFit unused steps → read_verdict ∷ [] ≡ verdicts h.value (recorded unused h.value steps) → ⊥
+    by [] fit e = none e
+    by (s ∷ steps) fit e = no_step s (All-head (λ s. fits_step unused s ≡ true) s steps fit)

@@ -1,0 +1,174 @@
+-- A law about what `Known` holds when each read returns is equivalent to Lamport's law.
+use Rattle.std.proofs.Common.{◌≡◌, ◌≢◌, ℕ, ◌<◌, Bool, true, false, ◌||◌, List, [], ◌∷◌, ◌++◌, length, drop, Option, Some, None, ◌⊎◌, inl, inr, refl, sym, ap, subst, ◌∙◌, true≢false, eq-eqb}
+use Rattle.std.specs.Prelude.{◌==◌, ◌↔◌, if◌then◌else◌}
+use Rattle.std.specs.List.{list_any}
+use Rattle.frames.specs.declared.types.Op.TheVariants as op
+use Rattle.frames.specs.declared.types.Event.{Event}
+use Rattle.frames.specs.declared.types.Event.TheVariants.{Invoke, Got, Wrote, Refused, Void, Stop, Chosen}
+use Rattle.frames.specs.declared.verdict.Reading.{Reading}
+use Rattle.frames.specs.declared.verdict.Verdict.{Verdict}
+use Rattle.frames.specs.declared.verdict.Verdict.TheVariants.{Fresh, Overlap, Stray}
+use Rattle.frames.specs.Behaviour.{Behaviour}
+use Rattle.frames.specs.OneWriter.{HasOneWriter}
+use Rattle.frames.specs.Recorded.{AllFit, recorded}
+use Rattle.frames.specs.declared.types.Step.{Step}
+use Rattle.frames.specs.correctness.Verdicts.{Known, is_refused, counts, accepted, initially, invoked_now, reading, is_value, judged}
+use Rattle.frames.specs.correctness.Regularity.{in_progress, overlapped, OnReturn, EachRead, FreshAlone, NotStray, AlwaysReads, IsSafe, IsRegular}
+use Rattle.pages.specs.VerdictWords.{InProgress, IsOneWriterHistory, ReturnedRead, during, afterwards, MatchVerdict, RecordsHistories}
+use Rattle.pages.specs.LawWords.{Overlaps, FreshIfAlone, FreshOrOverlapping, AlwaysInWords, IsSafeInWords, IsRegularInWords}
+use Rattle.pages.proofs.VerdictKnown.{history-left, noting, known, reading_of_progress}
+use Rattle.pages.proofs.VerdictOverlaps.{crossing_of_words, words_of_crossing}
+use Rattle.pages.proofs.VerdictWords.{then_known, read_of, verdict_words, test_of_crossing, crossing_of_test}
+
+module _ (Says : Known → ℕ → ℕ → Type 0) where
+  -- a law that holds with one more event in front, which counts or doesn't, holds without that
+  -- event
+  each_behind : (counted : Bool) (k : Known) (x : ℕ × Event) (xs : List (ℕ × Event)) → EachRead Says k (if counted then x ∷ xs else xs) → EachRead Says (noting counted x.1 k) xs
+  each_behind true k x xs h = h.1
+  each_behind false k x xs h = h
+
+  each_with : (counted : Bool) (k : Known) (x : ℕ × Event) (xs : List (ℕ × Event)) → OnReturn Says k x.1 → EachRead Says (noting counted x.1 k) xs → EachRead Says k (if counted then x ∷ xs else xs)
+  each_with true k x xs h t = (h, t)
+  each_with false k x xs h t = t
+
+  at_return : (k : Known) (xs : List (ℕ × Event)) (i p v : ℕ) (ys : List (ℕ × Event)) → EachRead Says k (accepted (xs ++ (i, Got p v) ∷ ys)) → Says (known k xs ((i, Got p v) ∷ ys)) p v
+  at_return k [] i p v ys h = h.0
+  at_return k (x ∷ xs) i p v ys h =
+      let counted = counts x.1 (is_refused (xs ++ (i, Got p v) ∷ ys)) in
+      at_return (noting counted x.1 k) xs i p v ys (each_behind counted k x (accepted (xs ++ (i, Got p v) ∷ ys)) h)
+
+  at_each_return : (k : Known) (history : List (ℕ × Event))
+      → ((xs : List (ℕ × Event)) (i p v : ℕ) (ys : List (ℕ × Event)) → history ≡ xs ++ (i, Got p v) ∷ ys → Says (known k xs ((i, Got p v) ∷ ys)) p v) → EachRead Says k (accepted history)
+  at_each_return k [] f = tt
+  at_each_return k ((i, e) ∷ es) f =
+      each_with (counts e (is_refused es)) k (i, e) (accepted es) (by e refl)
+      (at_each_return (noting (counts e (is_refused es)) e k) es (λ xs j p v ys s.
+      subst (λ l. Says (known (noting (counts e (is_refused l)) e k) xs ((j, Got p v) ∷ ys)) p v) (sym s) (f ((i, e) ∷ xs) j p v ys (ap (λ l. (i, e) ∷ l) s))))
+    where
+      by : (event : Event) → e ≡ event → OnReturn Says k event
+      by (Got p v) same = f [] i p v es (ap (λ x. (i, x) ∷ es) same)
+      by (Invoke p o) same = tt
+      by (Wrote p) same = tt
+      by (Refused p layer) same = tt
+      by (Void p reason) same = tt
+      by (Stop p) same = tt
+      by (Chosen p bit v) same = tt
+
+-- a law of each return, and the same in words, if the two agree on each read
+module _ (initial : ℕ) (history : List (ℕ × Event)) (h : IsOneWriterHistory history) (Says : Known → ℕ → ℕ → Type 0) (Words : ReturnedRead history → Type 0) where
+  words_of_each : ((r : ReturnedRead history) → Says (then_known initial r) r.process r.value → Words r) → EachRead Says (initially initial) (accepted history) → (r : ReturnedRead history) → Words r
+  words_of_each f each r =
+      f r (at_return Says (initially initial) (r.earlier ++ during r) r.returned r.process r.value r.later (subst (λ l. EachRead Says (initially initial) (accepted l)) r.split each))
+
+  each_of_words : ((r : ReturnedRead history) → Words r → Says (then_known initial r) r.process r.value) → ((r : ReturnedRead history) → Words r) → EachRead Says (initially initial) (accepted history)
+  each_of_words f words = at_each_return Says (initially initial) history (λ xs i p v ys s. at xs i p v ys s (h.follows xs i (Got p v) ys s))
+    where
+      at : (xs : List (ℕ × Event)) (i p v : ℕ) (ys : List (ℕ × Event)) → history ≡ xs ++ (i, Got p v) ∷ ys → InProgress p op.Read xs → Says (known (initially initial) xs ((i, Got p v) ∷ ys)) p v
+      at xs i p v ys s w =
+          let r = read_of history xs i p v ys s w in
+          subst (λ l. Says (known (initially initial) l ((i, Got p v) ∷ ys)) p v) (sym w.split) (f r (words r))
+
+-- a verdict, and what is fresh and what overlaps
+seen_unless_stray : (verdict : Verdict) (A B : Type 0) → MatchVerdict verdict A B → verdict ≢ Stray → A ⊎ B
+seen_unless_stray Fresh A B h n = inl h
+seen_unless_stray Overlap A B h n = inr h.1
+seen_unless_stray Stray A B h n = absurd (n refl)
+
+not_stray_if_seen : (verdict : Verdict) (A B : Type 0) → MatchVerdict verdict A B → A ⊎ B → verdict ≢ Stray
+not_stray_if_seen Fresh A B h s = λ e. cc
+not_stray_if_seen Overlap A B h s = λ e. cc
+not_stray_if_seen Stray A B h (inl a) = absurd (h.0 a)
+not_stray_if_seen Stray A B h (inr b) = absurd (h.1 b)
+
+fresh_if_so : (verdict : Verdict) (A B : Type 0) → MatchVerdict verdict A B → verdict ≡ Fresh → A
+fresh_if_so Fresh A B h e = h
+fresh_if_so Overlap A B h e = absurd cc
+fresh_if_so Stray A B h e = absurd cc
+
+so_if_fresh : (verdict : Verdict) (A B : Type 0) → MatchVerdict verdict A B → A → verdict ≡ Fresh
+so_if_fresh Fresh A B h a = refl
+so_if_fresh Overlap A B h a = absurd (h.0 a)
+so_if_fresh Stray A B h a = absurd (h.0 a)
+
+-- if there are no values, none passes either test
+none_among : (xs : List ℕ) (o : Option ℕ) → xs ++ in_progress o ≡ [] → (v : ℕ) → (list_any (λ u. u == v) xs || is_value v o) ≡ false
+none_among [] None e v = refl
+none_among [] (Some u) e v = absurd cc
+none_among (x ∷ xs) o e v = absurd cc
+
+none_if_none : (xs : List ℕ) (o : Option ℕ) → ((v : ℕ) → (list_any (λ u. u == v) xs || is_value v o) ≢ true) → xs ++ in_progress o ≡ []
+none_if_none [] None n = refl
+none_if_none [] (Some u) n = absurd (n u (eq-eqb u u refl))
+none_if_none (x ∷ xs) o n = absurd (n x (ap (λ b. (b || list_any (λ u. u == x) xs) || is_value x o) (eq-eqb x x refl)))
+
+module _ (initial : ℕ) (history : List (ℕ × Event)) (h : IsOneWriterHistory history) (r : ReturnedRead history) where
+  abbrev all : Known
+  all = then_known initial r
+
+  abbrev upto : Known
+  upto = known (initially initial) r.earlier (during r ++ afterwards r)
+
+  full : IsOneWriterHistory ((r.earlier ++ during r) ++ afterwards r)
+  full = subst IsOneWriterHistory r.split h
+
+  whole : IsOneWriterHistory (r.earlier ++ during r)
+  whole = history-left (r.earlier ++ during r) (afterwards r) full
+
+  invoked : reading r.process all ≡ invoked_now r.process upto
+  invoked = reading_of_progress r.process (initially initial) r.earlier r.since (afterwards r) r.invoked r.quiet
+
+  -- if no value overlaps a read, no write overlaps it
+  alone_in_words : overlapped r.process all ≡ [] → (v : ℕ) → ¬ Overlaps v r
+  alone_in_words e v w =
+      let none : drop (length upto.returned) all.returned ++ in_progress all.writing ≡ [] =
+      subst (λ (x : Reading). drop x.since all.returned ++ in_progress all.writing ≡ []) invoked e in
+      let test = test_of_crossing initial v r.earlier (during r) (afterwards r) whole (crossing_of_words v r.earlier (during r) (afterwards r) full w) in
+      absurd (true≢false (sym test ∙ none_among _ all.writing none v))
+
+  alone_by_words : ((v : ℕ) → ¬ Overlaps v r) → overlapped r.process all ≡ []
+  alone_by_words n =
+      subst (λ (x : Reading). drop x.since all.returned ++ in_progress all.writing ≡ []) (sym invoked)
+      (none_if_none _ all.writing (λ v test. n v (words_of_crossing v r.earlier (during r) (afterwards r) full.roles (crossing_of_test initial v r.earlier (during r) (afterwards r) whole test))))
+
+  safe_words : FreshAlone all r.process r.value → FreshIfAlone initial r
+  safe_words says alone = fresh_if_so (judged all r.process r.value) _ _ (verdict_words initial history h r) (says (alone_by_words alone))
+
+  words_safe : FreshIfAlone initial r → FreshAlone all r.process r.value
+  words_safe says alone = so_if_fresh (judged all r.process r.value) _ _ (verdict_words initial history h r) (says (alone_in_words alone))
+
+  regular_words : NotStray all r.process r.value → FreshOrOverlapping initial r
+  regular_words says = seen_unless_stray (judged all r.process r.value) _ _ (verdict_words initial history h r) says
+
+  words_regular : FreshOrOverlapping initial r → NotStray all r.process r.value
+  words_regular says = not_stray_if_seen (judged all r.process r.value) _ _ (verdict_words initial history h r) says
+
+-- what is said of each read that returns, and in words
+module _ {P : Type 0} (b : Behaviour P) (records : HasOneWriter b → RecordsHistories b) where
+  module _ (Says : Known → ℕ → ℕ → Type 0) (Words : (history : List (ℕ × Event)) → ℕ → ReturnedRead history → Type 0) where
+    always_in_words : ((initial : ℕ) (history : List (ℕ × Event)) → IsOneWriterHistory history → (r : ReturnedRead history) → Says (then_known initial r) r.process r.value → Words history initial r)
+        → AlwaysReads b Says → AlwaysInWords b Words
+    always_in_words to h = record { one_writer = h.one_writer; refuses_none = h.refuses_none; each_read = each }
+      where
+        each : (value : ℕ) (steps : List Step) → value < b.values → AllFit b steps → (r : ReturnedRead (recorded b value steps)) → Words (recorded b value steps) value r
+        each value steps within fit =
+            let history = records h.one_writer value steps within fit in
+            words_of_each value (recorded b value steps) history Says (Words (recorded b value steps) value) (to value (recorded b value steps) history) (h.each_read value steps within fit)
+
+    always_by_words : ((initial : ℕ) (history : List (ℕ × Event)) → IsOneWriterHistory history → (r : ReturnedRead history) → Words history initial r → Says (then_known initial r) r.process r.value)
+        → AlwaysInWords b Words → AlwaysReads b Says
+    always_by_words from h = record { one_writer = h.one_writer; refuses_none = h.refuses_none; each_read = each }
+      where
+        each : (value : ℕ) (steps : List Step) → value < b.values → AllFit b steps → EachRead Says (initially value) (accepted (recorded b value steps))
+        each value steps within fit =
+            let history = records h.one_writer value steps within fit in
+            each_of_words value (recorded b value steps) history Says (Words (recorded b value steps) value) (from value (recorded b value steps) history) (h.each_read value steps within fit)
+
+  pub safe_words_alike : IsSafe b ↔ IsSafeInWords b
+  safe_words_alike =
+      let words = λ (history : List (ℕ × Event)) (initial : ℕ) (r : ReturnedRead history). FreshIfAlone initial r in
+      (always_in_words FreshAlone words safe_words, always_by_words FreshAlone words words_safe)
+
+  pub regular_words_alike : IsRegular b ↔ IsRegularInWords b
+  regular_words_alike =
+      let words = λ (history : List (ℕ × Event)) (initial : ℕ) (r : ReturnedRead history). FreshOrOverlapping initial r in
+      (always_in_words NotStray words regular_words, always_by_words NotStray words words_regular)

@@ -1,0 +1,29 @@
+use Rattle.std.proofs.Common.{◌≡◌, ◌++◌, ◌∙◌, List, ℕ, ap, append_assoc}
+use Rattle.std.specs.Prelude.{codes}
+use Rattle.std.specs.Fmt.{decimal}
+use Rattle.std.proofs.lemmas.Result.{on_ok_weaker}
+use Rattle.pages.specs.page.Head.{line_end}
+use Rattle.pages.proofs.page.branches.push_counts.Goals as goal
+
+-- one more piece after a list and the pieces after it
+more : (out pieces piece text : List ℕ) → text ≡ out ++ pieces → text ++ piece ≡ out ++ (pieces ++ piece)
+more out pieces piece text e = ap (λ x. x ++ piece) e ∙ append_assoc out pieces piece
+
+all : (out a b c d e f g h : List ℕ) → out ++ a ++ b ++ c ++ d ++ e ++ f ++ g ++ h ≡ out ++ (a ++ b ++ c ++ d ++ e ++ f ++ g ++ h)
+all out a b c d e f g h =
+    more out (a ++ b ++ c ++ d ++ e ++ f ++ g) h _
+    (more out (a ++ b ++ c ++ d ++ e ++ f) g _
+    (more out (a ++ b ++ c ++ d ++ e) f _
+    (more out (a ++ b ++ c ++ d) e _ (more out (a ++ b ++ c) d _ (more out (a ++ b) c _ (append_assoc out a b))))))
+
+pub returns : goal.returns
+returns c =
+    let edits = decimal c.args.edits in
+    let made = decimal c.args.made in
+    let count = decimal c.args.count in
+    on_ok_weaker c.push_made.result
+    (λ h. h
+    ∙ ap (λ x. x ++ codes " edits " ++ edits ++ codes " made " ++ made ++ line_end)
+    (c.in_ok-push_labelled.ensures ∙ ap (λ x. x ++ codes ": branches " ++ count) (c.in_ok-push_number.ensures ∙ ap (λ n. c.args.out.now.items ++ decimal n) c.from.ensures))
+    ∙ all c.args.out.now.items (decimal c.args.session) (codes ": branches ") count (codes " edits ") edits (codes " made ") made line_end)
+    c.push_made.ensures

@@ -1,0 +1,19 @@
+use Rattle.pages.proofs.VerdictHistories.{records_histories}
+use Rattle.pages.proofs.LawWords.{safe_words_alike, regular_words_alike}
+use Rattle.pages.proofs.AtomicWords.{atomic_words_alike}
+use Rattle.pages.proofs.verdict.law_in_words.Goals as goal
+
+pub returns-clause-safe : goal.returns-clause-safe
+returns-clause-safe g c =
+    let r = c.args.register.now in
+    safe_words_alike (g.R.Behaves.behaviour r) (λ one. records_histories (g.R.Behaves.behaviour r) one (g.R.Register.Holds r) (g.R.Register.Reaches r) (g.met.R.Register.lawful r))
+
+pub returns-clause-regular : goal.returns-clause-regular
+returns-clause-regular g c =
+    let r = c.args.register.now in
+    regular_words_alike (g.R.Behaves.behaviour r) (λ one. records_histories (g.R.Behaves.behaviour r) one (g.R.Register.Holds r) (g.R.Register.Reaches r) (g.met.R.Register.lawful r))
+
+pub returns-clause-atomic : goal.returns-clause-atomic
+returns-clause-atomic g c =
+    let r = c.args.register.now in
+    atomic_words_alike (g.R.Behaves.behaviour r) (λ one. records_histories (g.R.Behaves.behaviour r) one (g.R.Register.Holds r) (g.R.Register.Reaches r) (g.met.R.Register.lawful r))

@@ -1,0 +1,69 @@
+-- Breaks: the conditions that a seek looks for, on a step's events or on the memory after the step.
+use Rattle.std.specs.Prelude.{ℕ, Bool, true, false, ◌==◌, ◌||◌, ◌&&◌, nat_lt, List, [], ◌∷◌, Option, Some, None, length, if◌then◌else◌}
+use Rattle.safe_bit.specs.Memory.{Memory, cell_at}
+use Rattle.frames.specs.declared.types.Event.{Event}
+use Rattle.frames.specs.declared.types.Event.TheVariants as event
+use Rattle.frames.specs.declared.types.StepEvents.{StepEvents}
+use Rattle.pages.specs.declared.breakpoint.Break.{Break}
+use Rattle.pages.specs.declared.breakpoint.Break.TheVariants.{Returns, Bit, Chosen, Void, Refused}
+
+-- whether an event is the return of an operation of process p
+abbrev pub is_return_of : ℕ → Event → Bool
+is_return_of p (event.Got q v) = p == q
+is_return_of p (event.Wrote q) = p == q
+is_return_of p (event.Invoke q o) = false
+is_return_of p (event.Refused q layer) = false
+is_return_of p (event.Void q reason) = false
+is_return_of p (event.Stop q) = false
+is_return_of p (event.Chosen q bit v) = false
+
+-- whether an event is the end of a hit read of a bit: one that a write of the bit overlapped
+abbrev pub is_choice : Event → Bool
+is_choice (event.Chosen q bit v) = true
+is_choice e = false
+
+-- whether an event records that a step wasn't enabled
+abbrev pub is_void : Event → Bool
+is_void (event.Void q reason) = true
+is_void e = false
+
+-- whether an event is the refusal of an operation
+abbrev pub is_refused_event : Event → Bool
+is_refused_event (event.Refused q layer) = true
+is_refused_event e = false
+
+-- whether an event meets a break; no event meets a break on a bit, which only a memory can meet
+abbrev pub is_met_by : Break → Event → Bool
+is_met_by (Returns p) e = is_return_of p e
+is_met_by (Bit j v) e = false
+is_met_by Chosen e = is_choice e
+is_met_by Void e = is_void e
+is_met_by Refused e = is_refused_event e
+
+-- whether there is an event, and it meets a break
+abbrev pub is_in : Break → Option Event → Bool
+is_in break None = false
+is_in break (Some e) = is_met_by break e
+
+-- whether one of the events that a step recorded meets a break
+abbrev pub is_recorded : Break → StepEvents → Bool
+is_recorded break events = is_in break events.first || is_in break events.second
+
+-- the value of a bit, as 0 or 1
+abbrev pub bit_number : Bool → ℕ
+bit_number v = if v then 1 else 0
+
+-- whether a memory meets a break: the break is on a bit that the memory has, and the bit's value is
+-- the break's
+abbrev pub is_shown : Break → Memory → Bool
+is_shown (Bit j v) m = nat_lt j (length m.cells) && (bit_number (cell_at j m).value == v)
+is_shown (Returns p) m = false
+is_shown Chosen m = false
+is_shown Void m = false
+is_shown Refused m = false
+
+-- whether one of the events that a step recorded, or the memory after the step, meets one of these
+-- breaks
+abbrev pub is_met : List Break → StepEvents → Memory → Bool
+is_met [] events m = false
+is_met (break ∷ breaks) events m = (is_recorded break events || is_shown break m) || is_met breaks events m

@@ -1,0 +1,7 @@
+pub mod Numbered
+pub mod Breaks
+pub mod page
+pub mod Pages
+pub mod Strays
+pub mod VerdictWords
+pub mod LawWords

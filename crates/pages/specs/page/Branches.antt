@@ -1,0 +1,31 @@
+-- The page that lists all branches.
+use Rattle.std.specs.Prelude.{ℕ, List, ◌++◌, codes, length, map}
+use Rattle.std.specs.Fmt.{decimal}
+use Rattle.schedule_trie.specs.Forest.{Forest, Branch}
+use Rattle.pages.specs.declared.page.branches.BranchLength.{BranchLength}
+use Rattle.pages.specs.declared.page.branches.BranchesPage.{BranchesPage}
+use Rattle.pages.specs.Numbered.{numbered_lines}
+use Rattle.pages.specs.page.Head.{line_end}
+
+-- the name and the length of a branch
+abbrev pub length_of : Branch → BranchLength
+length_of b = record { name = b.name; len = length b.slots }
+
+-- the page that lists a forest's branches, in the order they were made; it also shows `edits`, how
+-- many edits were accepted, and how many cells were ever made
+abbrev pub branches_page : ℕ → Forest → BranchesPage
+branches_page edits f = record { edits = edits; made = f.made; branches = map length_of f.branches }
+
+-- the first line of the page: the session's number, how many branches there are, how many edits
+-- were accepted, and how many cells were ever made
+abbrev pub counts_line : ℕ → ℕ → ℕ → ℕ → List ℕ
+counts_line session count edits made =
+    decimal session ++ codes ": branches " ++ decimal count ++ codes " edits " ++ decimal edits ++ codes " made " ++ decimal made ++ line_end
+
+-- the line of a branch: its name and its length
+abbrev pub branch_line : BranchLength → List ℕ
+branch_line b = codes "  " ++ b.name ++ codes " " ++ decimal b.len ++ line_end
+
+-- the text of a page that lists the branches, as the answer to the session with this number
+abbrev pub branches_text : ℕ → BranchesPage → List ℕ
+branches_text session page = counts_line session (length page.branches) page.edits page.made ++ numbered_lines (λ i branch. branch_line branch) 0 page.branches

@@ -1,0 +1,13 @@
+//! Pages as data and as text, the verdicts and the breaks. A page shows a configuration, the events
+//! that steps recorded, or a list; nothing here depends on how these are found.
+#![tactic(auto)]
+
+pub mod breakpoint;
+pub mod page;
+pub mod query;
+pub mod verdict;
+
+pub use breakpoint::Break;
+pub use page::{Page, page_text};
+pub use query::Query;
+pub use schedule_trie::listed::{self, Listed};

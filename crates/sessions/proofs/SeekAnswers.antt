@@ -1,0 +1,51 @@
+-- How a seek is answered.
+use Rattle.std.proofs.Common.{◌≡◌, ◌∙◌, ℕ, true, false, List, Option, Some, None, Result, Ok, Err, is_some, inr, refl, sym, ap}
+use Rattle.std.specs.Prelude.{slice_set}
+use Rattle.std.specs.Result.{IsErrAnd}
+use Rattle.frames.specs.Behaviour.{Behaviour}
+use Rattle.schedule_trie.specs.declared.refusal.Refusal.{Refusal}
+use Rattle.schedule_trie.specs.declared.refusal.Refusal.TheVariants.{Memory}
+use Rattle.sessions.specs.declared.cursor.Cursor.{Cursor}
+use Rattle.sessions.specs.declared.reply.Reply.{Reply}
+use Rattle.sessions.specs.declared.way.Way.{Way}
+use Rattle.sessions.specs.declared.way.Way.TheVariants.{Forth, Back}
+use Rattle.sessions.specs.World.{World}
+use Rattle.sessions.specs.Acts.{first_refusal, hit_of, hit_reply, late_refusals, left, put_cursor, reply_to, with_one_logged}
+use Rattle.sessions.specs.Books.{Does, IsCarriedOut, Staged, seek_command, world_of}
+
+-- what a seek does to a world
+module _ {P : Type 0} (who : ℕ) (w : World P) where
+  never_late : (way : Way) → first_refusal (late_refusals who (seek_command way) w) ≡ None
+  never_late Forth = refl
+  never_late Back = refl
+
+  leaves_so : (way : Way) → left who (seek_command way) w ≡ record (with_one_logged w) { cursors = put_cursor who (hit_of way w who) w.cursors }
+  leaves_so Forth = refl
+  leaves_so Back = refl
+
+  replies_so : (way : Way) → reply_to who (seek_command way) w ≡ hit_reply (hit_of way w who)
+  replies_so Forth = refl
+  replies_so Back = refl
+
+pub put_some : (who : ℕ) (o : Option Cursor) (cursors : List (Option Cursor)) → true ≡ is_some o → put_cursor who o cursors ≡ slice_set cursors who o
+put_some who None cursors h = cc
+put_some who (Some c) cursors h = refl
+
+pub put_none : (who : ℕ) (o : Option Cursor) (cursors : List (Option Cursor)) → false ≡ is_some o → put_cursor who o cursors ≡ cursors
+put_none who None cursors h = refl
+put_none who (Some c) cursors h = cc
+
+module _ {R P : Type 0} (is : R → Behaviour P) (old new : Staged R P) (who : ℕ) (way : Way) (same : world_of is new ≡ world_of is old) where
+  pub sought : (hit : Option Cursor) (cursors : List (Option Cursor)) (reply : Reply) → hit ≡ hit_of way (world_of is old) who → put_cursor who hit new.cursors ≡ cursors → reply ≡ hit_reply hit
+      → IsCarriedOut is who (seek_command way) old (record new { cursors = cursors }) reply
+  sought hit cursors reply found put replied = record {
+    fine = never_late who (world_of is old) way;
+    leaves = leaves_so who (world_of is old) way ∙ (λ i. record (with_one_logged (sym same i)) { cursors = put_cursor who (sym found i) (sym same i).cursors })
+        ∙ λ i. record (with_one_logged (world_of is new)) { cursors = put i };
+    replies = replies_so who (world_of is old) way ∙ ap hit_reply (sym found) ∙ sym replied;
+  }
+
+  -- a seek that finds no memory is refused as Memory
+  pub unsought : (r : Result Reply Refusal) (Is : Refusal → Type 0) → IsErrAnd r Is → ((x : Refusal) → Is x → x ≡ Memory) → Does is who (seek_command way) old new r
+  unsought (Ok reply) Is told one = absurd told
+  unsought (Err x) Is told one = record { why = inr (one x told, never_late who (world_of is old) way); same = same }

@@ -1,0 +1,108 @@
+//! Edits of a workspace's branches. Each accepted edit is counted.
+
+ghost use Rattle.std.specs.Prelude.{◌≡◌, ℕ, true, false, List, Option, Some, Err, OnOk, OnErr};
+ghost use Rattle.cutoff.specs.Edits.{Edits, FitsEdit};
+ghost use Rattle.sessions.specs.Bounds.{AreWithin, CanAct};
+ghost use Rattle.sessions.specs.Cursors as spec;
+ghost use Rattle.sessions.specs.Edits.{edit_of, is_held_up, moved_by};
+ghost use Rattle.sessions.specs.Books.{Does, staged};
+ghost use Rattle.sessions.specs.declared.command.Command.{Command};
+ghost use Rattle.schedule_trie.specs.Cut.{forest};
+ghost use Rattle.schedule_trie.specs.Edits.{Drop, edit_in};
+ghost use Rattle.schedule_trie.specs.Forest.{Forest};
+
+use super::Workspace;
+use crate::cursor::{Cursor, SESSIONS, Shift, any_after, is_occupied, shifted};
+use crate::reply::Reply;
+use cutoff::chart::Chart;
+use frames::register::Register;
+use schedule_trie::edit::Edit;
+use schedule_trie::name::Name;
+use schedule_trie::refusal::Refusal;
+use std::alloc::Global;
+
+impl<R: Register> Workspace<R> {
+    /// Makes an edit, and counts it. An insert or a remove also moves the cursors that are after
+    /// its place, on each branch that it changes.
+    ///
+    /// # Errors
+    ///
+    /// The first reason why the branches or the limits don't allow the edit; Occupied if the edit
+    /// drops a branch that has a cursor on it; otherwise Memory, if memory runs out. In each case
+    /// nothing that commands see is changed.
+    pub(super) fn edit(&mut self, alloc: Global, edit: &Edit<'_>) -> Result<Reply, Refusal>
+        requires can { CanAct self.old }
+        requires fits { FitsEdit (R.behaviour self.old.chart.start.register) (edit_in edit.now) }
+        ensures { (n who : ℕ) (c : Command) → edit_of c ≡ Some (edit_in edit.now)
+            → Does R.behaviour who c (staged self.old n) (staged self.new n) result }
+    {
+        change_and_move(alloc, &mut self.chart, &mut self.cursors, edit)?;
+        self.edits += 1;
+        Ok(Reply::Edited(self.edits))
+    }
+}
+
+/// Makes an edit in a chart. An insert or a remove also moves the cursors that are after its place,
+/// on each branch that it changes. Fails with the edit's errors, or with Occupied if only a cursor
+/// prevents a drop; then nothing is changed.
+fn change_and_move<R: Register>(
+    alloc: Global,
+    chart: &mut Chart<R>,
+    cursors: &mut [Option<Cursor>; SESSIONS],
+    edit: &Edit<'_>,
+) -> Result<(), Refusal>
+    requires fits { FitsEdit (R.behaviour chart.old.start.register) (edit_in edit.now) }
+    requires within { AreWithin cursors.old }
+    ensures held_up { is_held_up (edit_in edit.now) (forest chart.old.cut) cursors.old ≡ true
+        → result ≡ Err Refusal.Occupied }
+    ensures chart { is_held_up (edit_in edit.now) (forest chart.old.cut) cursors.old ≡ false
+        → Edits chart.old chart.new (edit_in edit.now) result }
+    ensures moved { OnOk result
+        (cursors.new ≡ moved_by (edit_in edit.now) (forest chart.old.cut) cursors.old) }
+    ensures kept { OnErr result ((chart.new ≡ chart.old) × (cursors.new ≡ cursors.old)) }
+{
+    match *edit {
+        Edit::Insert(branch, place, _) if any_after(cursors, place) => {
+            change_and_shift(alloc, chart, cursors, edit, (branch, place, Shift::Up))
+        }
+        Edit::Remove(branch, place) if any_after(cursors, place) => {
+            change_and_shift(alloc, chart, cursors, edit, (branch, place, Shift::Down))
+        }
+        Edit::Drop(branch) if holds_up(chart, cursors, branch) => Err(Refusal::Occupied),
+        _ => chart.edit(alloc, edit),
+    }
+}
+
+/// Whether a branch exists and isn't the only one, but has a cursor on it.
+fn holds_up<R: Register>(chart: &Chart<R>, cursors: &[Option<Cursor>], branch: &Name) -> bool
+    ensures { result ≡ is_held_up (Drop branch.now) (forest chart.now.cut) cursors.now }
+{
+    chart.len(branch).is_some() && chart.branches() > 1 && is_occupied(cursors, branch)
+}
+
+/// Makes an insert (Up) or a remove (Down) in a chart, and moves the cursors after its place; `at`
+/// is its branch, its place and its direction. Fails with the edit's errors; then nothing is
+/// changed. It isn't inlined, since each call sets up an array of cursors.
+#[inline(never)]
+fn change_and_shift<R: Register>(
+    alloc: Global,
+    chart: &mut Chart<R>,
+    cursors: &mut [Option<Cursor>; SESSIONS],
+    edit: &Edit<'_>,
+    at: (&Name, u32, Shift),
+) -> Result<(), Refusal>
+    requires fits { FitsEdit (R.behaviour chart.old.start.register) (edit_in edit.now) }
+    requires within { AreWithin cursors.old }
+    requires shift { (f : Forest) (old : List (Option Cursor)) → moved_by (edit_in edit.now) f old
+        ≡ spec.each_cursor (spec.shifted at.2 f at.0.now at.1) old }
+    ensures chart { Edits chart.old chart.new (edit_in edit.now) result }
+    ensures moved { OnOk result
+        (cursors.new ≡ moved_by (edit_in edit.now) (forest chart.old.cut) cursors.old) }
+    ensures kept { OnErr result (cursors.new ≡ cursors.old) }
+{
+    let (branch, place, shift) = at;
+    let moved = shifted(chart, cursors, branch, place, shift);
+    chart.edit(alloc, edit)?;
+    *cursors = moved;
+    Ok(())
+}

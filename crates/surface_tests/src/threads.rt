@@ -1,0 +1,5 @@
+//! Turns, crews and desks.
+
+mod crews;
+pub(crate) mod desks;
+mod turns;

@@ -1,0 +1,229 @@
+//! A desk over `Switch`, at which two chairs work in one thread.
+
+ghost use Rattle.std.specs.Prelude.{◌≡◌, ◌≤◌, IfOk};
+ghost use Rattle.turn.specs.Shares.{every_share};
+ghost use Rattle.turn.specs.Chairs.{view};
+ghost use Rattle.desk.specs.Chairs.{IsChairOf};
+ghost use Rattle.surface_tests.specs.Switch.{switch};
+
+use crate::branches::shown::text_of;
+use crate::branches::{limits, name};
+use crate::registers::switch::Switch;
+use crate::registers::{GO, READ};
+use cutoff::Chart;
+use desk::{Chair, Desk, Receipt, Report};
+use schedule_trie::Refusal;
+use sessions::{Command, Log, Reply};
+use std::alloc::Global;
+use std::process::Abort;
+use std::sync::Wait;
+use std::test::Fail;
+use std::thread::Threads;
+use views::{Lens, Page, Query};
+use workers::NoGate;
+
+/// A desk whose `main` is one read, and its first chair.
+pub(crate) fn opened(alloc: Global) -> Result<(Desk<Switch>, Chair<Switch>), Refusal>
+    ensures { IfOk result (λ r. IsChairOf (λ _. switch) r.0 r.1
+        × ((view r.1).shares ≡ every_share)) }
+{
+    Desk::open(alloc, Switch, 0, limits(), &[READ])
+}
+
+/// An insert of the reader's bit action at the end of `main`.
+fn insert(rt: &impl Abort) -> Command {
+    Command::Insert {
+        b: name(rt, b"main"),
+        k: 1,
+        step: GO,
+    }
+}
+
+/// Splits a chair with half of the shares off a chair that has all of them.
+fn split(desk: &Desk<Switch>, chair: &mut Chair<Switch>) -> Chair<Switch>
+    requires chair { IsChairOf (λ _. switch) desk.now chair.old }
+    requires every { (view chair.old).shares ≡ every_share }
+    ensures { IsChairOf (λ _. switch) desk.now chair.new
+        × IsChairOf (λ _. switch) desk.now result }
+{
+    desk.split(chair, 8)
+}
+
+/// Joins another chair to this one. This contract promises nothing about histories.
+fn joined(desk: &Desk<Switch>, chair: &mut Chair<Switch>, other: Chair<Switch>)
+    requires { IsChairOf (λ _. switch) desk.now chair.old
+        × IsChairOf (λ _. switch) desk.now other }
+    ensures { IsChairOf (λ _. switch) desk.now chair.new }
+{
+    desk.join(chair, other);
+}
+
+/// The length of the history. This contract promises nothing about that length.
+fn news(desk: &Desk<Switch>, chair: &mut Chair<Switch>) -> u64
+    requires { IsChairOf (λ _. switch) desk.now chair.old }
+    ensures { IsChairOf (λ _. switch) desk.now chair.new }
+{
+    desk.news(chair)
+}
+
+/// A desk, with what its calls need. The contracts of its calls promise nothing about histories.
+#[derive(Drop)]
+pub(crate) struct Office<'a, R> {
+    rt: &'a R,
+    alloc: Global,
+    desk: &'a Desk<Switch>,
+}
+
+impl<'a, R> Office<'a, R> {
+    pub(crate) fn new(rt: &'a R, alloc: Global, desk: &'a Desk<Switch>) -> Office<'a, R>
+        ensures { result.desk.now ≡ desk.now }
+    {
+        Office { rt, alloc, desk }
+    }
+}
+
+impl<R: Abort + Wait> Office<'_, R> {
+    /// Makes the insert, guarded by edit count 0.
+    fn acted(&self, chair: &mut Chair<Switch>, who: u32) -> Receipt
+        requires { IsChairOf (λ _. switch) self.now.desk.now chair.old }
+        ensures { IsChairOf (λ _. switch) self.now.desk.now chair.new }
+    {
+        self.desk
+            .act(self.rt, self.alloc, chair, who, Some(0), &insert(self.rt))
+    }
+
+    /// Makes the same insert by each of two chairs, both guarded by edit count 0, and joins the
+    /// chairs. Returns both receipts.
+    pub(crate) fn worked_by_two(&self, chair: &mut Chair<Switch>) -> (Receipt, Receipt)
+        requires at { IsChairOf (λ _. switch) self.now.desk.now chair.old }
+        requires every { (view chair.old).shares ≡ every_share }
+        ensures at { IsChairOf (λ _. switch) self.now.desk.now chair.new }
+    {
+        let mut other = split(self.desk, chair);
+        let first = self.acted(chair, 0);
+        let second = self.acted(&mut other, 1);
+        joined(self.desk, chair, other);
+        (first, second)
+    }
+
+    /// The page of a look.
+    fn page(&self, chair: &mut Chair<Switch>, query: Query) -> Result<Page, Refusal>
+        requires { IsChairOf (λ _. switch) self.now.desk.now chair.old }
+        ensures { IsChairOf (λ _. switch) self.now.desk.now chair.new }
+    {
+        let Ok(mut lens) = Lens::new(self.alloc) else {
+            return Err(Refusal::Memory);
+        };
+        self.desk
+            .look(self.rt, self.alloc, chair, &mut lens, query)
+            .result
+    }
+
+    /// The text of a look.
+    fn text(&self, chair: &mut Chair<Switch>, query: Query) -> Result<Vec<u8>, Refusal>
+        requires { IsChairOf (λ _. switch) self.now.desk.now chair.old }
+        ensures { IsChairOf (λ _. switch) self.now.desk.now chair.new }
+    {
+        let page = self.page(chair, query)?;
+        text_of(self.alloc, &page).or(Err(Refusal::Memory))
+    }
+
+    /// How many limbs are saved.
+    fn saved(&self, chair: &mut Chair<Switch>) -> Result<usize, Refusal>
+        requires { IsChairOf (λ _. switch) self.now.desk.now chair.old }
+        ensures { IsChairOf (λ _. switch) self.now.desk.now chair.new }
+    {
+        let saved = self.desk.limbs(self.rt, self.alloc, chair)?;
+        Ok(saved.limbs.as_slice().len())
+    }
+}
+
+impl<R: Abort + Threads + Wait + Sync> Office<'_, R> {
+    /// Fills `main` with one thief.
+    fn filled(&self, chair: &mut Chair<Switch>) -> Result<Report, Refusal>
+        requires { IsChairOf (λ _. switch) self.now.desk.now chair.old }
+        ensures { IsChairOf (λ _. switch) self.now.desk.now chair.new }
+    {
+        let main = name(self.rt, b"main");
+        self.desk.fill(self.rt, self.alloc, chair, &main, 1)
+    }
+
+    /// Fills `main` with no thief, through the gate that does nothing.
+    fn filled_with_gate(&self, chair: &mut Chair<Switch>) -> Result<Report, Refusal>
+        requires { IsChairOf (λ _. switch) self.now.desk.now chair.old }
+        ensures { IsChairOf (λ _. switch) self.now.desk.now chair.new }
+    {
+        let main = name(self.rt, b"main");
+        self.desk
+            .fill_with(self.rt, self.alloc, chair, &main, 0, &NoGate)
+    }
+
+    /// Looks, fills twice, and saves.
+    fn used(&self, chair: &mut Chair<Switch>) -> Result<(), Refusal>
+        requires { IsChairOf (λ _. switch) self.now.desk.now chair.old }
+        ensures { IsChairOf (λ _. switch) self.now.desk.now chair.new }
+    {
+        let shown = self.text(chair, Query::Branches)?;
+        assert!(self.rt;
+            shown.as_slice() == b"0: branches 1 edits 1 made 2\n  main 2\n".as_slice()
+        );
+        let full = self.filled(chair)?;
+        assert_eq!(self.rt; (full.planned, full.installed), (1, 1));
+        let empty = self.filled_with_gate(chair)?;
+        assert_eq!(self.rt; empty.planned, 0);
+        assert_eq!(self.rt; self.saved(chair)?, 1);
+        Ok(())
+    }
+}
+
+/// The log, or `None` if the chair lacks a share.
+fn closed(desk: Desk<Switch>, chair: Chair<Switch>) -> Option<Log>
+    requires { IsChairOf (λ _. switch) desk chair }
+{
+    desk.close(chair).ok()
+}
+
+/// The receipt of an insert.
+fn receipt(at: u64, reply: Reply) -> Receipt {
+    Receipt { at, reply }
+}
+
+/// Makes each call at a desk of one read.
+fn use_all<R: Abort + Threads + Wait + Sync>(office: &Office<'_, R>, chair: &mut Chair<Switch>)
+    requires at { IsChairOf (λ _. switch) office.now.desk.now chair.old }
+    requires every { (view chair.old).shares ≡ every_share }
+    ensures { IsChairOf (λ _. switch) office.now.desk.now chair.new }
+{
+    let (first, second) = office.worked_by_two(chair);
+    assert!(office.rt; first == receipt(1, Reply::Edited(1)));
+    assert!(office.rt; second == receipt(2, Reply::No(Refusal::Newer(1))));
+    assert_eq!(office.rt; news(office.desk, chair), 2);
+    assert!(office.rt; office.used(chair).is_ok());
+}
+
+#[test]
+fn each_call_of_a_desk(rt: HostRuntime) -> Result<(), Fail> {
+    let (desk, mut chair) = opened(rt.alloc())?;
+    use_all(&Office::new(&rt, rt.alloc(), &desk), &mut chair);
+    let Some(log) = closed(desk, chair) else {
+        panic!(rt; "a chair with every share")
+    };
+    assert_eq!(rt; log.as_slice().len(), 2);
+    Ok(())
+}
+
+/// A desk that is opened from the limbs of a chart of one read, and its first chair.
+fn opened_from_limbs(alloc: Global) -> Result<(Desk<Switch>, Chair<Switch>), Refusal>
+    ensures { IfOk result (λ r. IsChairOf (λ _. switch) r.0 r.1) }
+{
+    let chart = Chart::new(alloc, Switch, 0, limits(), &[READ])?;
+    let limbs = chart.limbs(alloc)?;
+    Desk::open_limbs(alloc, Switch, 0, limits(), limbs.as_slice())
+}
+
+#[test]
+fn desk_is_opened_from_limbs(rt: HostRuntime) -> Result<(), Fail> {
+    let (desk, chair) = opened_from_limbs(rt.alloc())?;
+    assert!(rt; closed(desk, chair).is_some_and(|log| log.as_slice().is_empty()));
+    Ok(())
+}
