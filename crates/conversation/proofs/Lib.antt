@@ -1,5 +1,5 @@
 pub mod Splits
 pub mod Fronts
-pub mod Tellings
+pub mod AnsweredLines
 pub mod Turns
 mod Examples

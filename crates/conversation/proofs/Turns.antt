@@ -9,7 +9,7 @@ use Rattle.std.specs.Result.{IsErr, IsErrAnd}
 use Rattle.conversation.specs.declared.fault.StreamFault.{StreamFault}
 use Rattle.conversation.specs.Answering.{HasAnswered, Reached, Finished}
 use Rattle.conversation.specs.Conversations.{Leaves, EndsWithFault, IsFront}
-use Rattle.conversation.proofs.Tellings.{ToldAll, told_start, told_whole, told_first, told_all, behind}
+use Rattle.conversation.proofs.AnsweredLines.{ToldAll, told_start, told_whole, told_first, told_all, behind}
 use Rattle.std.proofs.KnownBytes.{Appends-nil, Appends-trans, Consumes-nil, Consumes-trans}
 use Rattle.conversation.specs.declared.limits.TheConstants.{KEPT_BYTES, MOST_SCRIPT_BYTES}
 

@@ -11,8 +11,8 @@ use Rattle.std.proofs.lemmas.List.{length-append}
 use Rattle.schedule_trie.specs.Cut.{Cut, piece_at, note_of, keys_in, has, Once, IsCut}
 use Rattle.schedule_trie.specs.Climbs.{keys_up_to, keys_to, last_of, HasClimbedTo}
 use Rattle.schedule_trie.proofs.Climbs.{IsStepUp, step_up}
-use Rattle.schedule_trie.proofs.Once.{Once-from_linked, once_before}
-use Rattle.schedule_trie.proofs.Partings.{parting}
+use Rattle.schedule_trie.proofs.NoRepeats.{Once-from_linked, once_before}
+use Rattle.schedule_trie.proofs.KeyPositions.{parting}
 use Rattle.cutoff.specs.Fitting.{StoredRun, steps_at}
 use Rattle.cutoff.specs.Links.{without_register, number_at, run_number, IsExitOf, IsStored, IsLinked}
 use Rattle.cutoff.specs.Plans.{FitsDownTo, FitsDown}

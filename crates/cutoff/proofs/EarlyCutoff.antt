@@ -6,7 +6,7 @@ use Rattle.frames.specs.Behaviour.{Behaviour}
 use Rattle.frames.specs.Configuration.{Configuration, replayed}
 use Rattle.schedule_trie.specs.Forest.{step_of}
 use Rattle.schedule_trie.specs.Cut.{Cut, piece_at, slots_of, note_of}
-use Rattle.schedule_trie.proofs.Once.{has-head, has-tail}
+use Rattle.schedule_trie.proofs.NoRepeats.{has-head, has-tail}
 use Rattle.checkpoints.specs.Segment.{SegmentRun}
 use Rattle.cutoff.specs.Fitting.{StoredRun, RunPart, RunFits, Fits, run_of, steps_at}
 use Rattle.cutoff.specs.Settles.{IsWork, Settles}

@@ -12,7 +12,7 @@ use Rattle.cutoff.specs.Charts.{Charted, IsCharted, StepsFit}
 use Rattle.cutoff.specs.Edits.{Edits, FitsEdit}
 use Rattle.cutoff.proofs.Commands.{insert_fits, remove_fits, fork_fits, detach_fits, drop_fits}
 use Rattle.cutoff.proofs.Edits.{replace_fits, linked_kept}
-use Rattle.cutoff.proofs.Kept.{charted_marked}
+use Rattle.cutoff.proofs.SameBranches.{charted_marked}
 
 edited_fits : {P : Type 0} (b : Behaviour P) (limits : Limits) (f g : Forest) (edit : Edit) → FitsEdit b edit → StepsFit b f → edited limits f edit ≡ Ok g → StepsFit b g
 edited_fits b limits f g (Insert name place step) new fits e = insert_fits b limits f g name place step new fits e

@@ -8,8 +8,8 @@ use Rattle.frames.specs.Equality.{SameConfiguration}
 use Rattle.checkpoints.specs.Segment.{SegmentRun, IsRun}
 use Rattle.schedule_trie.specs.Forest.{step_of}
 use Rattle.schedule_trie.specs.Cut.{Cut, piece_at, note_of, keys_in, has, Once, IsCut, IsNoted}
-use Rattle.schedule_trie.proofs.Once.{once_before}
-use Rattle.schedule_trie.proofs.Partings.{parting}
+use Rattle.schedule_trie.proofs.NoRepeats.{once_before}
+use Rattle.schedule_trie.proofs.KeyPositions.{parting}
 use Rattle.cutoff.specs.Fitting.{StoredRun, KeepsRuns, run_of, steps_at, slots_at}
 use Rattle.cutoff.specs.Links.{without_register, IsLinked}
 use Rattle.cutoff.specs.Charts.{Charted, IsCharted}
@@ -18,11 +18,11 @@ use Rattle.cutoff.specs.Prefixes.{RunsDown, RunsTo, IsMarked, RunGoesOn, exit_or
 use Rattle.cutoff.proofs.Fits.{register_kept}
 use Rattle.cutoff.proofs.Links.{linked_none, new_linked}
 use Rattle.cutoff.proofs.Walks.{by_key, noted_slots}
-use Rattle.cutoff.proofs.Kept.{charted_kept, charted_marked}
-use Rattle.cutoff.proofs.Fresh.{fresh_installed}
+use Rattle.cutoff.proofs.SameBranches.{charted_kept, charted_marked}
+use Rattle.cutoff.proofs.FreshRuns.{fresh_installed}
 use Rattle.cutoff.proofs.Climbs.{path_once}
 use Rattle.cutoff.proofs.Prefixes.{down_more}
-use Rattle.cutoff.proofs.Rests.{down_kept, noted_at, noted_cells}
+use Rattle.cutoff.proofs.RestWalks.{down_kept, noted_at, noted_cells}
 
 -- equal configurations are the same except for their registers
 pub alone_same : {R P : Type 0} {E : R → R → Bool} {c d : Configuration R P} → SameConfiguration E c d → without_register c ≡ without_register d

@@ -14,7 +14,7 @@ use Rattle.cutoff.specs.Prefixes.{HasTrueRun, RunsDown, RunsTo, IsMarked, exit_o
 use Rattle.cutoff.specs.Charts.{Charted, IsCharted}
 use Rattle.cutoff.proofs.Edited.{charted}
 use Rattle.schedule_trie.proofs.Strands.{keys_in-last}
-use Rattle.cutoff.proofs.Kept.{charted_marked}
+use Rattle.cutoff.proofs.SameBranches.{charted_marked}
 
 module _ {R P : Type 0} (E : R → R → Bool) (is : R → Behaviour P) (old new : Cut (StoredRun R P)) (same : new.pieces ≡ old.pieces) where
   steps_same : (k : ℕ) → steps_at old k ≡ steps_at new k

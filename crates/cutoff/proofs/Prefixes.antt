@@ -10,7 +10,7 @@ use Rattle.checkpoints.specs.Segment.{IsRun}
 use Rattle.schedule_trie.specs.Cut.{Cut, piece_at, note_of, has}
 use Rattle.schedule_trie.specs.Climbs.{keys_to, keys_up_to}
 use Rattle.schedule_trie.proofs.Climbs.{IsStepUp}
-use Rattle.schedule_trie.proofs.Once.{has_cases, has-head, has-tail}
+use Rattle.schedule_trie.proofs.NoRepeats.{has_cases, has-head, has-tail}
 use Rattle.cutoff.specs.Fitting.{StoredRun, run_of, RunFits, steps_at}
 use Rattle.cutoff.specs.Links.{without_register, IsLinked}
 use Rattle.cutoff.specs.Prefixes.{RunsDown, RunsTo, IsKnown, exit_or_start, exit_or}

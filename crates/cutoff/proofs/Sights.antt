@@ -11,7 +11,7 @@ use Rattle.schedule_trie.specs.Forest.{step_of}
 use Rattle.schedule_trie.specs.Cut.{Cut, piece_at, slots_of, line, forest, keys_in, has, Once, IsCut}
 use Rattle.schedule_trie.specs.Climbs.{keys_up_to, keys_to, HasClimbedTo}
 use Rattle.schedule_trie.proofs.Climbs.{IsStepUp, step_up, up_to-here}
-use Rattle.schedule_trie.proofs.Once.{has_cases, has-append, has-head, has-tail, has-in, once_before}
+use Rattle.schedule_trie.proofs.NoRepeats.{has_cases, has-append, has-head, has-tail, has-in, once_before}
 use Rattle.schedule_trie.proofs.OwnParts.{IsClimbing, last_reached}
 use Rattle.cutoff.specs.declared.sight.Sight.{Sight}
 use Rattle.cutoff.specs.declared.sight.Sight.TheVariants.{Unseen, Fit, Unfit}

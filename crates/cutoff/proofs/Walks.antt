@@ -15,7 +15,7 @@ use Rattle.checkpoints.specs.Segment.{SegmentRun, IsRun}
 use Rattle.frames.specs.Recorded.{AllFit}
 use Rattle.schedule_trie.specs.Forest.{step_of}
 use Rattle.schedule_trie.specs.Cut.{Cut, Piece, piece_at, slots_of, note_of, with_note, line, has, Once, keys_in, IsNoted, IsCut}
-use Rattle.schedule_trie.proofs.Once.{has-head, has-tail, Once-from_linked}
+use Rattle.schedule_trie.proofs.NoRepeats.{has-head, has-tail, Once-from_linked}
 use Rattle.cutoff.specs.Fitting.{StoredRun, RunPart, run_of, RunFits, Fits, KeepsRuns, steps_at, slots_at, run_at, reached, counted, part_of}
 use Rattle.cutoff.specs.Settles.{IsWork, IsSettledAt, IsSegmentSettled, Settles, IsFilled}
 use Rattle.cutoff.specs.Links.{IsStored, IsTruePiece, IsLinked}

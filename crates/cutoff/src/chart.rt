@@ -16,10 +16,9 @@ mod last;
 mod limbs;
 
 use crate::install::{Installation, fits_down, has_segment};
-use crate::number::Number;
+use crate::number::{Number, take_number};
 use crate::plan::{Base, Job, plan_all};
-use crate::runs::Spot;
-use crate::settle::{runs_in, take_number};
+use crate::runs::{Spot, runs_in};
 use crate::stored::Stored;
 use checkpoints::run::Run;
 use frames::config::Config;
@@ -67,7 +66,7 @@ impl<R: Register> Chart<R> {
     /// # Errors
     ///
     /// Full if there are more steps than `limits.cells`; Memory.
-    #[tactic(auto, using(crate::proofs::Kept::refused_still, crate::proofs::Kept::out_of_memory))]
+    #[tactic(auto, using(crate::proofs::SameBranches::refused_still, crate::proofs::SameBranches::out_of_memory))]
     pub fn new(
         alloc: Global,
         register: R,
@@ -230,7 +229,7 @@ impl<R: Register> Chart<R> {
     ///
     /// NoBranch; NoPlace if the branch has fewer than `place` cells; Memory. On an error, some of
     /// the new runs, which fit, may have been stored; nothing else changes.
-    #[tactic(auto, using(crate::proofs::Kept::refused_still, crate::proofs::Kept::out_of_memory))]
+    #[tactic(auto, using(crate::proofs::SameBranches::refused_still, crate::proofs::SameBranches::out_of_memory))]
     pub fn settle(&mut self, alloc: Global, branch: &Name, place: u32) -> Result<Spot<R>, Refusal>
         ensures ok { IfOk result
             (λ spot. IsSettled R.PartialEq.eq (R.behaviour self.old.start.register) self.old

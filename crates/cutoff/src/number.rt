@@ -1,6 +1,6 @@
 //! Numbers of stored runs.
 
-ghost use Rattle.std.specs.Prelude.{◌≡◌, ◌<◌, ◌≤◌, ◌-◌, ◌^◌, ℕ, Some, None, is_some};
+ghost use Rattle.std.specs.Prelude.{◌≡◌, ◌<◌, ◌≤◌, ◌⊎◌, ◌+◌, ◌-◌, ◌^◌, ℕ, Some, None, is_some};
 ghost use Rattle.std.specs.Bool.{Decides};
 ghost use Rattle.std.specs.Option.{option_or};
 
@@ -86,4 +86,18 @@ impl Number {
     {
         self.word != u64::MAX && self.word == other.word
     }
+}
+
+/// Returns the next number for a run, and adds 1 to `next`. If all numbers are used, returns no
+/// number, and changes nothing.
+pub(crate) fn take_number(next: &mut u64) -> Number
+    ensures { ((result ≡ None) × (next.new ≡ next.old))
+        ⊎ ((result ≡ Some next.old) × (next.new ≡ next.old + 1)) }
+{
+    if *next == u64::MAX {
+        return Number::none();
+    }
+    let number = Number::of(*next);
+    *next += 1;
+    number
 }

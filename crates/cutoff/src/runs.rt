@@ -1,10 +1,13 @@
 //! Lists of the stored runs of a branch's first cells.
 
-ghost use Rattle.std.specs.Prelude.{◌≡◌, map};
-ghost use Rattle.cutoff.specs.Fitting.{part_of};
+ghost use Rattle.std.specs.Prelude.{◌≡◌, IfOk, map};
+ghost use Rattle.cutoff.specs.Fitting.{part_of, parts_of, run_at};
 
+use crate::stored::Stored;
 use checkpoints::run::Run;
 use frames::register::Register;
+use schedule_trie::trie::{SegKey, Trie};
+use std::alloc::{AllocError, Global};
 use std::marker::Model;
 use std::sync::Arc;
 
@@ -48,4 +51,33 @@ impl<R: Register> Runs<R> {
 pub struct Spot<R: Register> {
     pub runs: Runs<R>,
     pub replayed: u32,
+}
+
+/// The runs stored in the segments `keys`, in order, as far as these have the first `place` of
+/// their cells; each run comes with how many of its steps are steps of these cells. Stops at a
+/// segment with no stored run.
+pub(crate) fn runs_in<R: Register>(
+    alloc: Global,
+    trie: &Trie<Stored<R>>,
+    keys: &[SegKey],
+    place: u32,
+) -> Result<Runs<R>, AllocError>
+    ensures { IfOk result (λ runs. runs ≡ parts_of place (map (run_at trie.now) keys.now)) }
+{
+    let mut runs = Vec::new(alloc);
+    let mut rest = place;
+    for key in keys {
+        if rest == 0 {
+            break;
+        }
+        let Some(stored) = trie.note(*key) else {
+            break;
+        };
+        let run = Arc::try_clone(stored.run())?;
+        let count = (rest as usize).min(run.steps().len()) as u32;
+        rest -= count;
+        runs.push((run, count))?;
+    }
+    let parts = Runs::new(runs);
+    Ok(parts)
 }

@@ -1,17 +1,16 @@
-//! What a settle does at a segment: tests whether its stored run fits, replays it and stores the new
-//! run, or reads its run.
+//! What a settle does at a segment: if the stored run doesn't fit, it replays the segment's steps
+//! and stores the new run.
 
-ghost use Rattle.std.specs.Prelude.{◌≡◌, ◌≤◌, ◌⊎◌, ℕ, None, Some, IfOk, OnOk, OnErr, MatchOption, length, map, ◌+◌};
+ghost use Rattle.std.specs.Prelude.{◌≡◌, ◌≤◌, ℕ, None, Some, IfOk, OnOk, OnErr, MatchOption, length};
 ghost use Rattle.std.specs.Arc.{arc_value};
 ghost use Rattle.checkpoints.specs.Segment.{SegmentRun, IsRun};
 ghost use Rattle.frames.specs.Recorded.{AllFit};
 ghost use Rattle.schedule_trie.specs.Cut.{piece_at, slots_of, note_of};
-ghost use Rattle.cutoff.specs.Fitting.{RunFits, Fits, steps_at, run_at, parts_of};
+ghost use Rattle.cutoff.specs.Fitting.{RunFits, Fits, steps_at};
 ghost use Rattle.cutoff.specs.Settles.{IsSegmentSettled};
 ghost use Rattle.cutoff.specs.Links.{IsLinkedAt};
 
-use crate::number::Number;
-use crate::runs::Runs;
+use crate::number::{Number, take_number};
 use crate::stored::Stored;
 use checkpoints::run::run_of;
 use frames::config::Config;
@@ -52,23 +51,11 @@ pub(crate) fn segment_cells<R: Register>(trie: &Trie<Stored<R>>, key: SegKey) ->
     }
 }
 
-/// Returns the next number for a run, and adds 1 to `next`. If all numbers are used, returns
-/// `None`, and changes nothing.
-pub(crate) fn take_number(next: &mut u64) -> Number
-    ensures { ((result ≡ None) × (next.new ≡ next.old))
-        ⊎ ((result ≡ Some next.old) × (next.new ≡ next.old + 1)) }
-{
-    if *next == u64::MAX {
-        return Number::none();
-    }
-    let number = Number::of(*next);
-    *next += 1;
-    number
-}
-
 /// Replays the segment `key`, which no stored run fits at `config`, from `config`, and stores the
-/// new run. `above` is `None`, or the number of a run with the exit `config`. Returns how many steps
-/// were replayed: all of the segment's. On an error nothing changes.
+/// new run. `above` is `None`, or the number of a run with the exit `config`. Returns how many
+/// steps were replayed: all of the segment's. On an error nothing changes.
+// (inlined in its caller, it makes a replayed step dearer)
+#[inline(never)]
 pub(crate) fn replay_segment<R: Register>(
     alloc: Global,
     trie: &mut Trie<Stored<R>>,
@@ -96,33 +83,4 @@ pub(crate) fn replay_segment<R: Register>(
     let id = take_number(next);
     trie.set_note(key, Some(Stored::new(run, id, above)));
     Ok(replayed)
-}
-
-/// The runs stored in the segments `keys`, in order, as far as these have the first `place` of
-/// their cells; each run comes with how many of its steps are steps of these cells. Stops at a
-/// segment with no stored run.
-pub(crate) fn runs_in<R: Register>(
-    alloc: Global,
-    trie: &Trie<Stored<R>>,
-    keys: &[SegKey],
-    place: u32,
-) -> Result<Runs<R>, AllocError>
-    ensures { IfOk result (λ runs. runs ≡ parts_of place (map (run_at trie.now) keys.now)) }
-{
-    let mut runs = Vec::new(alloc);
-    let mut rest = place;
-    for key in keys {
-        if rest == 0 {
-            break;
-        }
-        let Some(stored) = trie.note(*key) else {
-            break;
-        };
-        let run = Arc::try_clone(stored.run())?;
-        let count = (rest as usize).min(run.steps().len()) as u32;
-        rest -= count;
-        runs.push((run, count))?;
-    }
-    let parts = Runs::new(runs);
-    Ok(parts)
 }

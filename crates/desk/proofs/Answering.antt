@@ -9,7 +9,7 @@ use Rattle.sessions.specs.World.{World}
 use Rattle.sessions.specs.Acts.{command_result, is_full}
 use Rattle.sessions.specs.Logs.{IsLegal, acted_by, entry, is_logged, logged, world_after}
 use Rattle.sessions.proofs.LegalLogs.{after_more}
-use Rattle.sessions.proofs.Ordinary.{acted_logged, acted_full}
+use Rattle.sessions.proofs.LoggedReplies.{acted_logged, acted_full}
 
 reached : (a b : ℕ) (t : Bool) → nat_le a b ≡ t → a ≤ b → t ≡ true
 reached a b true e h = refl

@@ -14,7 +14,7 @@ use Rattle.turn.specs.declared.view.View.{View}
 use Rattle.sessions.specs.declared.command.Command.TheVariants as command
 use Rattle.sessions.specs.declared.reply.Reply.TheVariants.{Joined, No}
 use Rattle.sessions.specs.declared.log.Entry.{Entry}
-use Rattle.sessions.specs.Books.{Held, Staged, opening_of}
+use Rattle.sessions.specs.Books.{Held, StoredWorld, opening_of}
 use Rattle.sessions.specs.Logs.{entry, world_after}
 use Rattle.sessions.specs.World.{World}
 use Rattle.desk.specs.declared.item.Item.{Item}
@@ -37,8 +37,8 @@ cut = record { strands = strand (codes "main") [] ∷ []; pieces = []; made = 0;
 abbrev chart : Charted ⊤ SafePoint
 chart = record { cut = cut; start = initial_configuration safe_behaviour tt 0; value = 0 }
 
-abbrev stage : Staged ⊤ SafePoint
-stage = record {
+abbrev stored : StoredWorld ⊤ SafePoint
+stored = record {
   chart = chart;
   limits = limits;
   cursors = replicate 16 None;
@@ -48,7 +48,7 @@ stage = record {
 }
 
 abbrev first : Held ⊤ SafePoint
-first = record { first = chart; now = stage; log = []; room = 0 }
+first = record { first = chart; now = stored; log = []; room = 0 }
 
 -- a chair with every share that has seen these calls
 abbrev having : List Entry → View (Item ⊤ SafePoint)

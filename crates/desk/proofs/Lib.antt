@@ -1,9 +1,9 @@
-pub mod Crossing
+pub mod ThreadSafety
 pub mod Lists
 pub mod Logged
 pub mod Answering
 pub mod Works
 pub mod Holdings
-pub mod Fillings
-pub mod Beginnings
+pub mod ReportCounts
+pub mod FirstChair
 mod Examples

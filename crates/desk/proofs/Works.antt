@@ -20,7 +20,7 @@ use Rattle.sessions.specs.Looks.{looked_in, shown_in}
 use Rattle.sessions.specs.Books.{Held, IsHeld, ActsOnBook, RefusesMemoryLast, LacksMemory, opening_of, world_of}
 use Rattle.sessions.specs.Logs.{IsLegal, entry, logged, is_logged, world_after}
 use Rattle.turn.specs.Entries.{AtMostOne}
-use Rattle.sessions.proofs.Ordinary.{acted_logged, acted_full}
+use Rattle.sessions.proofs.LoggedReplies.{acted_logged, acted_full}
 use Rattle.sessions.proofs.Towers.{tower_after}
 use Rattle.desk.specs.declared.receipt.Receipt.{Receipt}
 use Rattle.desk.specs.declared.item.Item.{Item}

@@ -15,7 +15,7 @@ use Rattle.frames.specs.declared.verdict.Verdict.TheVariants.{Fresh, Overlap, St
 use Rattle.frames.specs.Behaviour.{Behaviour}
 use Rattle.frames.specs.correctness.Verdicts.{Known, initially, after, returning, invoked_now, last_read, reading, overlaps}
 use Rattle.frames.specs.correctness.Regularity.{in_progress, OnReturn, EachRead, NotStray, NeverStray, IsRegular, IsAtomic, by_number, IsNumber, Numbered}
-use Rattle.frames.proofs.Agreed.{found_last, is_among}
+use Rattle.frames.proofs.KnownAndSeen.{found_last, is_among}
 
 -- a read's record is right: by its invocation no more writes had returned than by now, and what was
 -- fresh was the value of the last of them, or the initial value if none had

@@ -8,7 +8,7 @@ use Rattle.frames.specs.Behaviour.{Behaviour}
 use Rattle.frames.specs.Configuration.{Configuration, stepped, events_of, fits_step, replayed, history}
 use Rattle.frames.specs.Recorded.{AllFit, Alone, first_configuration}
 use Rattle.frames.proofs.Seen.{Seen, Returned, opening, after_step, read_in, reads, seen, refuses, refuses_none, Always}
-use Rattle.frames.proofs.Halves.{all_left, all_right, two_false}
+use Rattle.frames.proofs.JoinedLists.{all_left, all_right, two_false}
 
 -- a list of fitting steps leads the register alone to c, and its history shows s
 pub record Reached {P : Type 0} (b : Behaviour P) (v : ℕ) (c : Alone P) (s : Seen) : Type 0 where

@@ -31,10 +31,10 @@ use Rattle.frames.specs.laws.Steps.{IsVoid, void_unless_enabled, stopped_is_void
 use Rattle.frames.specs.laws.Safe.{safe_lawful, value_of_its_bit}
 use Rattle.frames.proofs.Seen.{Seen, opening, sees, now_last, IsFreshAlone, Always, Allowed}
 use Rattle.frames.proofs.Moves.{moves, StepsTo, step_begins, step_goes, step_stops}
-use Rattle.frames.proofs.Told.{Told, told_begun, told_gone, told_void, told_stop, told_none, told_reads}
-use Rattle.frames.proofs.Agreed.{fresh_alike}
-use Rattle.frames.proofs.Agreement.{always_known}
-use Rattle.frames.proofs.Judged.{none_in, is_fresh}
+use Rattle.frames.proofs.GoodHistories.{Told, told_begun, told_gone, told_void, told_stop, told_none, told_reads}
+use Rattle.frames.proofs.KnownAndSeen.{fresh_alike}
+use Rattle.frames.proofs.OneWriterPromises.{always_known}
+use Rattle.frames.proofs.VerdictFacts.{none_in, is_fresh}
 
 abbrev C : Type 0
 C = Alone SafePoint

@@ -1,5 +1,5 @@
 -- What a history shows, step by step: the fold over which the laws of layers are proved.
--- `Agreement` shows that this fold and `Known` agree.
+-- `OneWriterPromises` shows that this fold and `Known` agree.
 use Rattle.std.specs.Prelude.{◌≡◌, ◌≢◌, ℕ, ◌<◌, Bool, true, false, Option, Some, None, List, [], ◌∷◌, ◌++◌, ◌==◌, ◌&&◌, ◌||◌, if◌then◌else◌, IsTrue}
 use Rattle.std.specs.List.{list_any, AllByRecursion}
 use Rattle.std.proofs.Common.{refl, ap, eq-eqb}

@@ -16,8 +16,8 @@ use Rattle.frames.specs.OneWriter.{HasOneWriter}
 use Rattle.frames.specs.correctness.Verdicts.{Known}
 use Rattle.frames.specs.correctness.Regularity.{AlwaysReads}
 use Rattle.frames.proofs.Reached.{reached_first}
-use Rattle.frames.proofs.Agreed.{Alike}
-use Rattle.frames.proofs.Agreement.{always_known, always_seen}
+use Rattle.frames.proofs.KnownAndSeen.{Alike}
+use Rattle.frames.proofs.OneWriterPromises.{always_known, always_seen}
 use Rattle.layers.specs.Nested.{part_place, own_words, layered, layer_initial, gathered}
 use Rattle.layers.specs.Sound.{LayerHolds, LayerReaches}
 use Rattle.layers.specs.laws.Nested.{row_fits}
@@ -26,7 +26,7 @@ use Rattle.layers.specs.laws.Layered.{layer_lawful}
 use Rattle.layers.specs.laws.Over.{LayerOver}
 use Rattle.layers.proofs.Law.{View, Watch, IsKept, IsUser}
 use Rattle.layers.proofs.Links.{below_of}
-pub use Rattle.frames.proofs.Told.{Told, told_begun, told_gone, told_void, told_stop, told_none, told_reads}
+pub use Rattle.frames.proofs.GoodHistories.{Told, told_begun, told_gone, told_void, told_stop, told_none, told_reads}
 use Rattle.frames.proofs.Pending.{none_at, awake_at, first_well}
 use Rattle.layers.proofs.Turns.{standing_of}
 use Rattle.layers.proofs.LayerSteps.{steps_joint}

@@ -33,8 +33,8 @@ use Rattle.frames.specs.laws.Steps.{IsReached, step_keeps, process_there}
 use Rattle.frames.specs.laws.OneWriter.{writer_zero, reader_some, reader_few}
 use Rattle.frames.proofs.Seen.{refuses, Allowed}
 use Rattle.frames.proofs.Accepted.{accepted_one}
-use Rattle.frames.proofs.Agreed.{found_last}
-use Rattle.frames.proofs.Agreement.{afters}
+use Rattle.frames.proofs.KnownAndSeen.{found_last}
+use Rattle.frames.proofs.OneWriterPromises.{afters}
 use Rattle.frames.proofs.Pending.{op_of, ops_of, ops_after, none_at, first_well}
 use Rattle.frames.proofs.Pointwise.{put, put_same, put_other, put_is, put_put}
 use Rattle.layers.proofs.Counted.{Counted, uncounted, Counts, NumberedIf, NumberedStep}

@@ -7,7 +7,7 @@ use Rattle.std.proofs.lemmas.List.{map_push, set_at, get_or_push, length_push, a
 use Rattle.lineage.specs.declared.node.Node.{Node}
 use Rattle.lineage.specs.Family.{has}
 use Rattle.lineage.specs.Lineages.{tip_at, node, node_at, item_in, path_to, IsSoundFamily, IsPutLast}
-use Rattle.lineage.proofs.Once.{has-append, has-head, has-tail, has_cases, has-right}
+use Rattle.lineage.proofs.KeyLists.{has-append, has-head, has-tail, has_cases, has-right}
 use Rattle.lineage.proofs.Walks.{path_to_is}
 use Rattle.lineage.proofs.Pushes.{pushed_sound, pushed_last}
 

@@ -5,7 +5,7 @@ use Rattle.std.proofs.lemmas.Map.Keys.{IsDistinct-cons}
 use Rattle.std.proofs.lemmas.Map.Steps.{length-le_from_distinct_below}
 use Rattle.lineage.specs.Family.{has, last_of}
 use Rattle.lineage.specs.Climbs.{IsClimb, climb}
-use Rattle.lineage.proofs.Once.{has_cases, has-head, has-tail, stands, has_not_from, has_from_any, AllByRecursion-from_has, reverse_cons, last_from-push}
+use Rattle.lineage.proofs.KeyLists.{has_cases, has-head, has-tail, stands, has_not_from, has_from_any, AllByRecursion-from_has, reverse_cons, last_from-push}
 
 module _ (p : ℕ → Option (Option ℕ)) where
   climb_none : (n : ℕ) → climb p n None ≡ []

@@ -9,10 +9,10 @@ use Rattle.lineage.specs.declared.node.Node.{Node}
 use Rattle.lineage.specs.Family.{has, above_key, divided_keys, IsAdded}
 use Rattle.lineage.specs.Climbs.{IsClimb, Ends}
 use Rattle.lineage.specs.Lineages.{tip_at, is_key, node, node_at, item_in, above_in, above_node, path_to, links_to_key, holders_of, node_over, node_under, family_on, IsOn, IsSoundFamily}
-use Rattle.lineage.proofs.Once.{has-head, has-tail, has_cases, reverse_cons}
+use Rattle.lineage.proofs.KeyLists.{has-head, has-tail, has_cases, reverse_cons}
 use Rattle.lineage.proofs.Walks.{path_to_is, link_within}
 use Rattle.lineage.proofs.Counts.{one, count_changed}
-use Rattle.lineage.proofs.Kept.{map_same, map-map, absent_holders}
+use Rattle.lineage.proofs.KeptLinks.{map_same, map-map, absent_holders}
 use Rattle.lineage.proofs.Pushes.{added}
 
 -- the nodes after a node is put right above another

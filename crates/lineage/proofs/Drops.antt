@@ -5,10 +5,10 @@ use Rattle.std.specs.List.{remove}
 use Rattle.lineage.specs.declared.node.Node.{Node}
 use Rattle.lineage.specs.Family.{has, path_in, IsFamily, IsReleased}
 use Rattle.lineage.specs.Lineages.{tip_at, node_at, item_in, above_in, above_node, path_to, family_on, Stays, IsOn, IsSoundFamily, IsReleasing}
-use Rattle.lineage.proofs.Once.{has-reverse}
+use Rattle.lineage.proofs.KeyLists.{has-reverse}
 use Rattle.lineage.proofs.Climbs.{climb_there, climb_unique}
 use Rattle.lineage.proofs.Walks.{path_to_is, path_at, item_is, climb_at}
-use Rattle.lineage.proofs.Kept.{node_from, over_path, map_same}
+use Rattle.lineage.proofs.KeptLinks.{node_from, over_path, map_same}
 use Rattle.std.proofs.lemmas.List.{get_or_read, length-map, reverse-reverse}
 use Rattle.lineage.proofs.Releases.{released_first}
 use Rattle.lineage.proofs.Removed.{map-remove}

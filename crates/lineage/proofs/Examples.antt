@@ -1,7 +1,7 @@
 -- Worked examples of definitions that claim an existence: one that holds, and a near miss.
 use Rattle.std.proofs.Common.{ℕ, zero, suc, ◌≡◌, ◌≢◌, true, false, true≢false, List, [], ◌∷◌, ◌++◌, Option, Some, None, IsSome, unwrap_or, slice_index_or, drop, ap, refl, sym, ◌∙◌, arith}
 use Rattle.lineage.specs.Family.{Family, item_at, path_in, has, last_of, IsForked, IsForkedAbove, IsExchanged, EndsAlone, IsFamily}
-use Rattle.lineage.proofs.Once.{has_cases}
+use Rattle.lineage.proofs.KeyLists.{has_cases}
 
 abbrev family : List (Option ℕ) → List (List ℕ) → Family ℕ
 family items paths = record { items = items; paths = paths }

@@ -12,7 +12,7 @@ use Rattle.lineage.specs.Lineages.{tip_at, is_key, node_at, item_in, above_in, a
 use Rattle.lineage.proofs.Climbs.{climb_unique}
 use Rattle.lineage.proofs.Walks.{path_at, item_is}
 use Rattle.lineage.proofs.Counts.{one}
-use Rattle.lineage.proofs.Kept.{node_from, over_path}
+use Rattle.lineage.proofs.KeptLinks.{node_from, over_path}
 use Rattle.lineage.proofs.Forks.{forked_sound}
 use Rattle.lineage.proofs.Drops.{on_path, path_there}
 use Rattle.lineage.proofs.Chains.{map_on}

@@ -8,11 +8,11 @@ use Rattle.lineage.specs.declared.node.Node.{Node}
 use Rattle.lineage.specs.Family.{last_of, item_at, path_in, IsForked, Family}
 use Rattle.lineage.specs.Climbs.{IsClimb, Ends}
 use Rattle.lineage.specs.Lineages.{tip_at, is_key, is_above, node, node_at, item_in, above_in, above_node, path_to, links_to_key, holders_of, with_holder, family_on, IsOn, IsSoundFamily}
-use Rattle.lineage.proofs.Once.{reverse_cons}
+use Rattle.lineage.proofs.KeyLists.{reverse_cons}
 use Rattle.lineage.proofs.Climbs.{climb_top}
 use Rattle.lineage.proofs.Walks.{path_to_is, item_is, climb_at}
 use Rattle.lineage.proofs.Counts.{one, count_same, count_few, count_weaker}
-use Rattle.lineage.proofs.Kept.{over_climb, over_path, map_same, tip_push, on_within, node_climb}
+use Rattle.lineage.proofs.KeptLinks.{over_climb, over_path, map_same, tip_push, on_within, node_climb}
 
 module _ {X : Type 0} where
   held_above : (b : Bool) (o : Option (Node X)) → above_in (with_holder b o) ≡ above_in o

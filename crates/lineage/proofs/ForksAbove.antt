@@ -6,7 +6,7 @@ use Rattle.std.proofs.lemmas.List.Concat.{flat_map-append}
 use Rattle.lineage.specs.declared.node.Node.{Node}
 use Rattle.lineage.specs.Family.{has, path_in, item_at, above_key, divided_keys, IsForkedAbove}
 use Rattle.lineage.specs.Lineages.{is_key, node_at, item_in, node_over, node_under, with_holder, family_on, IsSoundFamily}
-use Rattle.lineage.proofs.Once.{has-reverse}
+use Rattle.lineage.proofs.KeyLists.{has-reverse}
 use Rattle.lineage.proofs.Climbs.{not_again}
 use Rattle.lineage.proofs.Walks.{climb_at, item_is}
 use Rattle.lineage.proofs.Divisions.{divided_sound, divided_paths, divided_added}

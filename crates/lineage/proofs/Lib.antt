@@ -1,20 +1,20 @@
-pub mod Once
+pub mod KeyLists
 pub mod Climbs
 pub mod Walks
 pub mod Counts
-pub mod Kept
+pub mod KeptLinks
 pub mod Pushes
 pub mod Forks
 pub mod Divisions
 pub mod Removed
-pub mod Onto
+pub mod ClimbsThrough
 pub mod Releases
 pub mod Drops
-pub mod Same
-pub mod Alone
+pub mod SameLinks
+pub mod LoneTips
 pub mod Chains
 pub mod Exchanges
 pub mod ForksAbove
-pub mod Past
+pub mod SkippedClimbs
 pub mod Skips
 mod Examples

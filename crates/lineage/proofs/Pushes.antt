@@ -9,10 +9,10 @@ use Rattle.lineage.specs.declared.node.Node.{Node}
 use Rattle.lineage.specs.Family.{path_in, IsAdded}
 use Rattle.lineage.specs.Climbs.{IsClimb, Ends}
 use Rattle.lineage.specs.Lineages.{tip_at, is_key, node, node_at, item_in, above_in, above_node, path_to, links_to_key, holders_of, family_on, IsOn, IsSoundFamily}
-use Rattle.lineage.proofs.Once.{has-head, has-tail, reverse_cons}
+use Rattle.lineage.proofs.KeyLists.{has-head, has-tail, reverse_cons}
 use Rattle.lineage.proofs.Walks.{path_to_is, path_at, item_is}
 use Rattle.lineage.proofs.Counts.{one, count_changed}
-use Rattle.lineage.proofs.Kept.{over_climb, over_path, map_same, absent_holders}
+use Rattle.lineage.proofs.KeptLinks.{over_climb, over_path, map_same, absent_holders}
 
 -- the nodes after a node is put at the end of a path
 pub record IsPushed {X : Type 0} (s t : List (Option (Node X))) (tips new : List (Option ℕ)) (path key : ℕ) (item : X) : Type 0 where

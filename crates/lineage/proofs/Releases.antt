@@ -10,12 +10,12 @@ use Rattle.lineage.specs.declared.node.Node.{Node}
 use Rattle.lineage.specs.Family.{has}
 use Rattle.lineage.specs.Climbs.{IsClimb, Ends}
 use Rattle.lineage.specs.Lineages.{tip_at, is_key, is_above, node, node_at, above_in, above_node, keys_up, links_to_key, holders_of, next_up, less_one, IsOn, IsSoundFamily, IsReleasing}
-use Rattle.lineage.proofs.Once.{has_cases, has_not_from}
+use Rattle.lineage.proofs.KeyLists.{has_cases, has_not_from}
 use Rattle.lineage.proofs.Climbs.{climb_unique, climb_kept, climb_step, not_again}
 use Rattle.lineage.proofs.Walks.{keys_up_is}
 use Rattle.lineage.proofs.Counts.{one, count_changed, count_some, count_no}
-use Rattle.lineage.proofs.Kept.{node_from, over_climb, is_key_true, is_above_true, holders_alike}
-use Rattle.lineage.proofs.Onto.{climb_on, not_above}
+use Rattle.lineage.proofs.KeptLinks.{node_from, over_climb, is_key_true, is_above_true, holders_alike}
+use Rattle.lineage.proofs.ClimbsThrough.{climb_on, not_above}
 use Rattle.lineage.proofs.Removed.{removed_from, stays_at}
 
 -- the first step: the tip is removed from the list of tips

@@ -9,12 +9,12 @@ use Rattle.lineage.specs.declared.node.Node.{Node}
 use Rattle.lineage.specs.Family.{has, keys_without, item_at}
 use Rattle.lineage.specs.Climbs.{IsClimb}
 use Rattle.lineage.specs.Lineages.{tip_at, is_key, is_above, node, node_at, item_in, above_in, above_node, path_to, links_to_key, holders_of, past, past_node, passed_on, family_on, IsSoundFamily}
-use Rattle.lineage.proofs.Once.{has-head}
+use Rattle.lineage.proofs.KeyLists.{has-head}
 use Rattle.lineage.proofs.Walks.{path_to_is, item_is, link_within}
 use Rattle.lineage.proofs.Counts.{one, count_changed, count_same, count_few}
-use Rattle.lineage.proofs.Kept.{map_same, map-map, node_climb, node_from, linked_there}
+use Rattle.lineage.proofs.KeptLinks.{map_same, map-map, node_climb, node_from, linked_there}
 use Rattle.lineage.proofs.Climbs.{not_again}
-use Rattle.lineage.proofs.Past.{past_link, past_twice, without-reverse, has_without, climb_past, each_past, each_past_link, sum_past, count_map, map_at, both, sum_apart}
+use Rattle.lineage.proofs.SkippedClimbs.{past_link, past_twice, without-reverse, has_without, climb_past, each_past, each_past_link, sum_past, count_map, map_at, both, sum_apart}
 
 module _ {X : Type 0} where
   link_of : (key : ℕ) (top : Option ℕ) (b : Bool) (h : ℕ) (o : Option (Node X)) → above_in (past_node key top (passed_on b h o)) ≡ past_link key top (above_in o)

@@ -6,7 +6,7 @@ use Rattle.lineage.specs.declared.node.Node.{Node}
 use Rattle.lineage.specs.Family.{last_of, item_at, path_in}
 use Rattle.lineage.specs.Climbs.{IsClimb, Ends}
 use Rattle.lineage.specs.Lineages.{tip_at, node_at, item_in, above_in, above_node, keys_up, path_to, family_on, IsSoundFamily}
-use Rattle.lineage.proofs.Once.{reverse_cons}
+use Rattle.lineage.proofs.KeyLists.{reverse_cons}
 use Rattle.lineage.proofs.Climbs.{climb_is, climb_short, climb_from, climb_top}
 
 module _ {X : Type 0} (s : List (Option (Node X))) where

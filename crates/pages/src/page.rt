@@ -76,8 +76,9 @@ pub fn config_page<R: Register>(
     }
 }
 
-/// Returns the page of these events, each of which has the index of its step, or, if `kind` is
-/// `Verdict`, of the verdicts on the returned reads among them. Fails only if memory runs out.
+/// Returns the page of history of these events, each with the index of its step; or, if `kind` is
+/// `Verdict`, the page of the verdicts on the reads that return among them. Fails only if memory
+/// runs out.
 pub fn events_page(
     alloc: Global,
     kind: PlaceKind,

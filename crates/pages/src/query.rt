@@ -29,11 +29,17 @@ pub enum Query {
 /// What a look at a place of a branch is to show there.
 #[derive(Clone, Copy, Debug, PartialEq, Eq)]
 pub enum PlaceKind {
+    /// The processes, and the values of all bit cells and words.
     State,
+    /// What the process with this number is doing.
     Process(u32),
+    /// Each bit cell, with any write or read in progress on it, and each word.
     Bits,
+    /// The pending operation of each process, as frames.
     Pending,
+    /// The events of the steps up to the place.
     History,
-    /// Holds the initial value if the tower has one writer, else `None`.
+    /// The verdict on each read that returned in the steps up to the place. Holds the initial value
+    /// if the tower has one writer, else `None`.
     Verdict(Option<u32>),
 }

@@ -15,8 +15,8 @@ use Rattle.frames.specs.OneWriter.{one_writer}
 use Rattle.frames.specs.laws.OneWriter as writer
 use Rattle.frames.specs.correctness.Regularity.{in_progress, IsSafe}
 use Rattle.frames.proofs.Seen.{Seen, Returned, opening, sees, got, now_last, IsFreshAlone, ended}
-use Rattle.frames.proofs.Agreed.{fresh_alike}
-use Rattle.frames.proofs.Judged.{none_in, is_fresh, fresh_value}
+use Rattle.frames.proofs.KnownAndSeen.{fresh_alike}
+use Rattle.frames.proofs.VerdictFacts.{none_in, is_fresh, fresh_value}
 use Rattle.frames.proofs.Pointwise.{put, put_same, put_other, put_zero, put_back, put_all}
 use Rattle.layers.specs.Nested.{Ends, Table, layered}
 use Rattle.layers.specs.Sound.{IsNotSpent, IsSoundTable, FitsBelow}

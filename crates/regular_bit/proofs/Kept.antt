@@ -16,9 +16,9 @@ use Rattle.frames.specs.Configuration.{in_order, chosen_of}
 use Rattle.frames.specs.OneWriter.{one_writer}
 use Rattle.frames.specs.laws.OneWriter as writer
 use Rattle.frames.specs.correctness.Regularity.{in_progress, IsSafe, IsRegular}
-use Rattle.frames.proofs.Agreed.{fresh_alike, stray_alike}
+use Rattle.frames.proofs.KnownAndSeen.{fresh_alike, stray_alike}
 use Rattle.frames.proofs.Seen.{Seen, Returned, among, opening, sees, got, now_last, IsFreshAlone, IsNotStray, ended, among_more, among_here}
-use Rattle.frames.proofs.Judged.{fresh_value}
+use Rattle.frames.proofs.VerdictFacts.{fresh_value}
 use Rattle.frames.proofs.Pointwise.{put, put_same, put_other}
 use Rattle.layers.specs.Nested.{Ends, Asks, Sets, Table, layered}
 use Rattle.layers.specs.Sound.{IsNotSpent, IsSoundTable, FitsBelow}

@@ -13,7 +13,7 @@ use Rattle.schedule_trie.specs.Slots.{set_step}
 use Rattle.schedule_trie.specs.Cut.{Piece, Strand, piece, piece_at, slots_of, line, branches_on, has, has_cell, Once, IsSegment, IsSoundCut}
 use Rattle.schedule_trie.specs.Tries.{piece_of, pieces_of}
 use Rattle.schedule_trie.proofs.Lists.{turned}
-use Rattle.schedule_trie.proofs.Once.{has_not_from, has-head, has-tail}
+use Rattle.schedule_trie.proofs.NoRepeats.{has_not_from, has-head, has-tail}
 
 -- one key has another segment, and each other key still has the segment that it had
 pub record Changes {T : Type 0} (old new : ℕ → Option (Piece T)) (key : ℕ) (p : Piece T) : Type 0 where

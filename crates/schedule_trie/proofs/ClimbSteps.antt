@@ -5,13 +5,13 @@ use Rattle.lineage.specs.Family.{item_at, path_in, last_of}
 use Rattle.schedule_trie.specs.declared.trie.Trie.TheInside.{Inside}
 use Rattle.schedule_trie.specs.Cut.{Cut, Piece, piece_at, slots_of, line, keys_in, above_of, has, Once, IsWhole}
 use Rattle.schedule_trie.specs.Tries.{cut_of, IsHeldCut}
-use Rattle.schedule_trie.proofs.Once.{Once-from_linked, has-head, has-tail, has-in}
+use Rattle.schedule_trie.proofs.NoRepeats.{Once-from_linked, has-head, has-tail, has-in}
 use Rattle.schedule_trie.specs.Climbs.{keys_to, HasClimbedTo}
 use Rattle.schedule_trie.proofs.Climbs.{IsLast, IsStepUp, last_is, step_up, cells_up, shorter_up}
 use Rattle.schedule_trie.proofs.Lines.{keys_are, line_fits, sound_short}
-use Rattle.schedule_trie.proofs.Readings.{above_told, lacked_none}
+use Rattle.schedule_trie.proofs.CellPlaces.{above_told, lacked_none}
 use Rattle.schedule_trie.proofs.StepSet.{item_there, none_there}
-use Rattle.schedule_trie.proofs.Touched.{some_slots}
+use Rattle.schedule_trie.proofs.TouchedSegments.{some_slots}
 use Rattle.schedule_trie.specs.declared.limits.TheConstants.{MOST_CELLS_MADE}
 
 module _ {T : Type 0} (t : Inside T) (c : Cut T) (seen : cut_of t ≡ c) (held : IsHeldCut t) (index : ℕ) where

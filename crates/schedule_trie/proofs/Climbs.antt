@@ -8,12 +8,12 @@ use Rattle.schedule_trie.specs.declared.slot.Slot.{Slot}
 use Rattle.schedule_trie.specs.Forest.{cell_of, is_cell}
 use Rattle.schedule_trie.specs.Cut.{Piece, slots_of, line, has, has_cell, Once, IsSpotInPath, LiesInPath}
 use Rattle.schedule_trie.specs.Climbs.{keys_up_to, keys_to, HasClimbedTo}
-use Rattle.schedule_trie.proofs.Once.{has-tail, has_not_from, has-in, once_before}
+use Rattle.schedule_trie.proofs.NoRepeats.{has-tail, has_not_from, has-in, once_before}
 use Rattle.schedule_trie.proofs.Lines.{in_line}
 use Rattle.schedule_trie.proofs.Pushes.{line-append}
-use Rattle.schedule_trie.proofs.Partings.{parting}
+use Rattle.schedule_trie.proofs.KeyPositions.{parting}
 use Rattle.std.proofs.lemmas.Bool.Decides.{nat_tests}
-use Rattle.schedule_trie.proofs.Readings.{most, first_left, first_right, none_of, first_of, first_is, none_is}
+use Rattle.schedule_trie.proofs.CellPlaces.{most, first_left, first_right, none_of, first_of, first_is, none_is}
 use Rattle.schedule_trie.proofs.Lists.{slice_get_left, slice_get_right, turned}
 
 -- the keys up to a key, if it isn't among those before it

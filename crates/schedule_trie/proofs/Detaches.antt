@@ -3,20 +3,20 @@ use Rattle.std.proofs.Common.{◌≡◌, ℕ, ◌+◌, ◌<◌, ◌≤◌, Bool,
 use Rattle.std.proofs.lemmas.List.{length-set, get_or-set_same}
 use Rattle.lineage.specs.Family.{item_at, path_in, IsOnPath, IsExchanged, IsFamily}
 use Rattle.lineage.proofs.Chains.{map_on}
-use Rattle.lineage.proofs.Once.{stands}
+use Rattle.lineage.proofs.KeyLists.{stands}
 use Rattle.schedule_trie.specs.declared.segment.Segment.{Segment}
 use Rattle.schedule_trie.specs.declared.trie.Trie.TheInside.{Inside}
 use Rattle.schedule_trie.specs.Forest.{slots_in}
 use Rattle.schedule_trie.specs.Cut.{Piece, piece_at, forest, line, keys_in, set_keys, has, Once, IsSoundCut, branches_on}
 use Rattle.schedule_trie.specs.Tries.{piece_of, strands_of, names_of, cut_of, IsHeldCut}
 use Rattle.schedule_trie.specs.Copies.{AreCopies, IsDetached}
-use Rattle.schedule_trie.proofs.Once.{has_not_from}
+use Rattle.schedule_trie.proofs.NoRepeats.{has_not_from}
 use Rattle.schedule_trie.proofs.Lines.{slots_in_on}
 use Rattle.schedule_trie.proofs.StepSet.{piece_seen, cut_from_sound}
 use Rattle.schedule_trie.proofs.Strands.{keys_in-of, length-strands, strands-set, length-set_keys}
 use Rattle.schedule_trie.proofs.Released.{IsReleased, IsSoundBut, released_sound, released_branches, released_notes}
 use Rattle.schedule_trie.proofs.Renumbered.{AreCopied, HaveValues, copied_from}
-use Rattle.schedule_trie.proofs.Beside.{old_kept, new_notes, new_apart, sound_beside, only_renumbered}
+use Rattle.schedule_trie.proofs.NewSegments.{old_kept, new_notes, new_apart, sound_beside, only_renumbered}
 use Rattle.schedule_trie.specs.declared.limits.TheConstants.{MOST_CELLS_MADE}
 
 -- a list has no key twice if for each key only one list of keys can be before it

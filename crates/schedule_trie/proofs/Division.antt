@@ -6,7 +6,7 @@ use Rattle.std.proofs.lemmas.List.{map-append}
 use Rattle.schedule_trie.specs.declared.slot.Slot.{Slot}
 use Rattle.schedule_trie.specs.Forest.{branch, cell_of, everywhere}
 use Rattle.schedule_trie.specs.Cut.{Cut, Piece, Strand, piece_at, slots_of, note_of, line, branches_on, keys_in, has, has_cell, Once, Linked, IsSegment, IsSoundCut, KeepsNotesOff, divided_keys, divided_strand}
-use Rattle.schedule_trie.proofs.Once.{has-head, has-tail, has_cases, has_not_from, has-left, has-right, Once-left, Once-right, Once-apart}
+use Rattle.schedule_trie.proofs.NoRepeats.{has-head, has-tail, has_cases, has_not_from, has-left, has-right, Once-left, Once-right, Once-apart}
 use Rattle.schedule_trie.proofs.Lines.{given_at, weaker}
 
 -- the key has the cells below the cut, and a new key has those above

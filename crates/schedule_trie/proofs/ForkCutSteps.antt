@@ -19,9 +19,9 @@ use Rattle.schedule_trie.proofs.ForkCuts.{cut, cut_whole, same_branches, cut_fro
 use Rattle.schedule_trie.proofs.ForkSteps.{fork_held, fork_told}
 use Rattle.schedule_trie.proofs.InsertSteps.{unnoted}
 use Rattle.schedule_trie.proofs.Notes.{notes_but}
-use Rattle.schedule_trie.proofs.StepSet.{one_holder}
+use Rattle.schedule_trie.proofs.CellHolders.{one_holder}
 use Rattle.schedule_trie.proofs.Strands.{keys_in-of, strands-divided}
-use Rattle.schedule_trie.proofs.Touched.{parted}
+use Rattle.schedule_trie.proofs.TouchedSegments.{parted}
 
 -- a list from an index on
 pub rest_of : {X : Type 0} (n : ℕ) (xs : List X) → take (length xs - n) (drop n xs) ≡ drop n xs

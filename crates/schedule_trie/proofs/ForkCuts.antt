@@ -6,7 +6,7 @@ use Rattle.std.proofs.lemmas.List.{length-append, length-map, length-take-le, ta
 use Rattle.std.proofs.Math.Seq.{drop-cons, take-append_seam}
 use Rattle.schedule_trie.specs.Forest.{Branch, cell_of, everywhere}
 use Rattle.schedule_trie.specs.Cut.{Cut, Piece, piece_at, slots_of, line, forest, keys_in, has, has_cell, Once, IsSegment, IsWhole, divided_keys, divided_strand, above_key}
-use Rattle.schedule_trie.proofs.Once.{has-head, has-tail, Once-from_linked, once_before}
+use Rattle.schedule_trie.proofs.NoRepeats.{has-head, has-tail, Once-from_linked, once_before}
 use Rattle.schedule_trie.proofs.Lines.{once_at}
 use Rattle.schedule_trie.proofs.Pushes.{line-append}
 use Rattle.schedule_trie.proofs.Division.{Divides, keys_in-divided, branches-divided, lacked-divided, sound-divided}

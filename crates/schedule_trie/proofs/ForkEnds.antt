@@ -3,10 +3,10 @@ use Rattle.std.proofs.Common.{◌≡◌, ℕ, ◌+◌, ◌<◌, true, List, [], 
 use Rattle.std.proofs.lemmas.List.{length-append}
 use Rattle.schedule_trie.specs.Cut.{Cut, Piece, piece_at, slots_of, line, keys_in, has, LiesInPath, IsWhole}
 use Rattle.schedule_trie.specs.Climbs.{keys_up_to, keys_to}
-use Rattle.schedule_trie.proofs.Once.{has-head, has-in}
+use Rattle.schedule_trie.proofs.NoRepeats.{has-head, has-in}
 use Rattle.schedule_trie.proofs.Climbs.{up_to-here}
 use Rattle.schedule_trie.proofs.Pushes.{line-append}
-use Rattle.schedule_trie.proofs.Touched.{some_slots}
+use Rattle.schedule_trie.proofs.TouchedSegments.{some_slots}
 
 pub on_ok : {X E P Q : Type 0} (r : Result X E) → (P → Q) → OnOk r P → OnOk r Q
 on_ok (Ok x) f h = f h

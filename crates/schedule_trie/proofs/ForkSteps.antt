@@ -14,7 +14,7 @@ use Rattle.schedule_trie.specs.Cut.{Cut, strand, forest, piece_at, line, branche
 use Rattle.schedule_trie.specs.Climbs.{keys_to, HasClimbedTo}
 use Rattle.schedule_trie.specs.Tries.{pieces_of, strands_of, names_of, cut_of, IsHeldCut}
 use Rattle.schedule_trie.specs.Forks.{IsBranchForked, IsForkedWhole}
-use Rattle.schedule_trie.proofs.Partings.{parting}
+use Rattle.schedule_trie.proofs.KeyPositions.{parting}
 use Rattle.schedule_trie.proofs.Forks.{with_front, front_whole, front_forked}
 use Rattle.schedule_trie.proofs.StepSet.{item_there}
 use Rattle.schedule_trie.proofs.Strands.{names_on, keys_in-of, strands-last}

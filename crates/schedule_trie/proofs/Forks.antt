@@ -5,11 +5,11 @@ use Rattle.std.proofs.Math.Seq.{take-append_seam}
 use Rattle.schedule_trie.specs.Forest.{branch, index_of, slots_in}
 use Rattle.schedule_trie.specs.Cut.{Cut, Piece, Strand, strand, piece_at, line, forest, branch_on, branches_on, keys_in, has, note_of, Linked, IsSoundCut, IsWhole, KeepsNotesOff, IsParted}
 use Rattle.schedule_trie.specs.Forks.{IsBranchForked}
-use Rattle.schedule_trie.proofs.Once.{has-append}
+use Rattle.schedule_trie.proofs.NoRepeats.{has-append}
 use Rattle.schedule_trie.proofs.Lines.{slots_in_on}
 use Rattle.schedule_trie.proofs.Pushes.{line-append}
 use Rattle.schedule_trie.proofs.StepSet.{cut_from_sound}
-use Rattle.schedule_trie.proofs.Touched.{none_parted}
+use Rattle.schedule_trie.proofs.TouchedSegments.{none_parted}
 use Rattle.schedule_trie.proofs.Strands.{keys_in-last}
 
 has-keys_in : (strands more : List Strand) (i k : ℕ) → has k (keys_in strands i) ≡ true → has k (keys_in (strands ++ more) i) ≡ true

@@ -18,12 +18,13 @@ use Rattle.schedule_trie.specs.Tries.{piece_of, strands_of, names_of, cut_of, Is
 use Rattle.schedule_trie.proofs.Strands.{strands-divided}
 use Rattle.schedule_trie.proofs.Lines.{slots_in_on}
 use Rattle.schedule_trie.proofs.Changes.{Changes, piece_at_set}
-use Rattle.schedule_trie.proofs.StepSet.{piece_seen, key_within, cut_from_sound, holds_cell, one_holder}
+use Rattle.schedule_trie.proofs.StepSet.{piece_seen, key_within, cut_from_sound}
+use Rattle.schedule_trie.proofs.CellHolders.{holds_cell, one_holder}
 use Rattle.schedule_trie.proofs.Insertion.{put, grown_put, put_through, put_elsewhere, grown_once, grown_cells, sound_grown, branches_changed}
 use Rattle.schedule_trie.proofs.Division.{Divides, lacked-divided, sound-divided, branches-divided, notes-divided}
 use Rattle.schedule_trie.proofs.DivisionSteps.{divides_from}
 use Rattle.schedule_trie.proofs.Notes.{notes_at, notes_but, unchanged_kept}
-use Rattle.schedule_trie.proofs.Touched.{ends_before, none_at_end}
+use Rattle.schedule_trie.proofs.TouchedSegments.{ends_before, none_at_end}
 use Rattle.schedule_trie.proofs.Lists.{cell_in_at, slice_get_some}
 use Rattle.std.proofs.lemmas.Option.{slice_get_within}
 

@@ -8,7 +8,7 @@ use Rattle.frames.specs.declared.types.Step.{Step}
 use Rattle.schedule_trie.specs.declared.slot.Slot.{Slot}
 use Rattle.schedule_trie.specs.Forest.{slot, cell_of, before_cell, put_before, everywhere}
 use Rattle.schedule_trie.specs.Cut.{Piece, Strand, slots_of, branches_on, has, has_cell, Once, IsSoundCut}
-use Rattle.schedule_trie.proofs.Once.{has-head, has-tail, has_cases, has_not_from}
+use Rattle.schedule_trie.proofs.NoRepeats.{has-head, has-tail, has_cases, has_not_from}
 use Rattle.schedule_trie.proofs.Lines.{once_at, given_at}
 use Rattle.schedule_trie.proofs.Changes.{absent_by, Changes, line_through, everywhere_on, has_cell_get}
 use Rattle.schedule_trie.proofs.Pushes.{segments_more, apart_more}

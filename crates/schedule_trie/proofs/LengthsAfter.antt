@@ -11,7 +11,7 @@ use Rattle.schedule_trie.specs.Forks.{IsBranchForked}
 use Rattle.schedule_trie.proofs.Insertion.{inserted-at}
 use Rattle.schedule_trie.proofs.LimbLists.{slots_in-last}
 use Rattle.schedule_trie.proofs.Lines.{line_once, slots_in_on, sound_short}
-use Rattle.schedule_trie.proofs.Once.{Once-from_linked}
+use Rattle.schedule_trie.proofs.NoRepeats.{Once-from_linked}
 use Rattle.schedule_trie.proofs.Removals.{without-at}
 use Rattle.schedule_trie.proofs.Lists.{cell_in_at, slice_get_some}
 use Rattle.std.proofs.lemmas.Option.{slice_get_within}

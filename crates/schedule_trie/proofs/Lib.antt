@@ -1,12 +1,13 @@
 pub mod Lists
-pub mod Once
+pub mod NoRepeats
 pub mod Strands
-pub mod Partings
+pub mod KeyPositions
 pub mod Climbs
 pub mod Lines
 pub mod Changes
 pub mod ClimbSteps
 pub mod StepSet
+pub mod CellHolders
 pub mod Pushes
 pub mod Whole
 pub mod PushSteps
@@ -18,7 +19,7 @@ pub mod Division
 pub mod DivisionSteps
 pub mod InsertSteps
 pub mod PathsWithout
-pub mod Readings
+pub mod CellPlaces
 pub mod Removals
 pub mod RemoveSteps
 pub mod Forks
@@ -32,11 +33,11 @@ pub mod Positions
 pub mod Released
 pub mod Drops
 pub mod Renumbered
-pub mod Beside
+pub mod NewSegments
 pub mod Detaches
 pub mod Notes
-pub mod Touched
-pub mod Apart
+pub mod TouchedSegments
+pub mod NamesApart
 pub mod Shared
 pub mod Lengths
 pub mod NamesKept
@@ -50,8 +51,8 @@ pub mod LimbCounts
 pub mod LoadSteps
 pub mod OwnParts
 pub mod MarkSteps
-pub mod LimbsTold
+pub mod LimbFromMarks
 pub mod LimbsSaved
-pub mod LimbsNear
+pub mod LimbLimits
 mod Examples
 pub mod WrongEdits

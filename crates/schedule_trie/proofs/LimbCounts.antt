@@ -1,9 +1,10 @@
 -- The number of own cells of limbs.
-use Rattle.std.proofs.Common.{◌≡◌, ℕ, zero, suc, ◌+◌, ◌-◌, ◌<◌, ◌≤◌, true, false, nat_lt, List, [], ◌∷◌, ◌++◌, length, take, get_or, refl, sym, ap, ◌∙◌, arith}
+use Rattle.std.proofs.Common.{◌≡◌, ℕ, zero, suc, ◌+◌, ◌-◌, ◌<◌, ◌≤◌, true, false, nat_lt, List, [], ◌∷◌, ◌++◌, length, take, get_or, sym, ap, ◌∙◌, arith}
 use Rattle.std.proofs.lemmas.Bool.Decides.{nat_tests}
 use Rattle.std.proofs.lemmas.List.{take_more}
 use Rattle.schedule_trie.specs.declared.limb.Limb.{Limb}
 use Rattle.schedule_trie.specs.Limbs.{cells_of}
+use Rattle.schedule_trie.proofs.Lists.{taken_whole}
 
 pub cells_of-append : (xs ys : List Limb) → cells_of (xs ++ ys) ≡ cells_of xs + cells_of ys
 cells_of-append [] ys = omega arith
@@ -30,12 +31,6 @@ module _ (ls : List Limb) (i : ℕ) (l : Limb) (less : i < length ls) (at : get_
 
   pub room_left : (room most : ℕ) → cells_of (take i ls) + room ≡ most → length l.steps ≤ room → cells_of (take (i + 1) ls) + (room - length l.steps) ≡ most
   room_left room most so_far few = let next = cells_of-next in omega arith
-
-pub taken_whole : {X : Type 0} (i : ℕ) (xs : List X) → length xs ≤ i → take i xs ≡ xs
-taken_whole zero [] h = refl
-taken_whole zero (x ∷ xs) h = absurd (omega arith)
-taken_whole (suc i) [] h = refl
-taken_whole (suc i) (x ∷ xs) h = ap (λ l. x ∷ l) (taken_whole i xs (omega arith))
 
 pub not_too_many : (ls : List Limb) (i room most : ℕ) → length ls ≤ i → cells_of (take i ls) + room ≡ most → false ≡ nat_lt most (cells_of ls)
 not_too_many ls i room most end so_far =

@@ -7,7 +7,7 @@ use Rattle.std.proofs.lemmas.List.{map-append}
 use Rattle.schedule_trie.specs.Cut.{has}
 use Rattle.schedule_trie.specs.Forest.{Branch, cell_of, slot, numbered, slots_in, step_of, cell_in}
 use Rattle.schedule_trie.specs.Limbs.{has_slot, holds, is_in_branches}
-use Rattle.schedule_trie.proofs.Once.{has_cases, has-head, has-tail, has-append, has_not_from}
+use Rattle.schedule_trie.proofs.NoRepeats.{has_cases, has-head, has-tail, has-append, has_not_from}
 use Rattle.schedule_trie.proofs.Lists.{turned}
 
 -- the cells' numbers; a cell is found by its number among them

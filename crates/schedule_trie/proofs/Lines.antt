@@ -13,7 +13,7 @@ use Rattle.schedule_trie.specs.Cut.{forest, piece_at, Piece, Strand, line, slots
 use Rattle.lineage.specs.Family.{path_in}
 use Rattle.schedule_trie.specs.Tries.{names_of, cut_of, IsHeldCut}
 use Rattle.schedule_trie.proofs.Strands.{names_on, length-strands, keys_in-of}
-use Rattle.schedule_trie.proofs.Once.{has-append, has-head, has-tail, Once-append, Once-bounded, has_not_from, Once-from_linked}
+use Rattle.schedule_trie.proofs.NoRepeats.{has-append, has-head, has-tail, Once-append, Once-bounded, has_not_from, Once-from_linked}
 use Rattle.schedule_trie.specs.declared.limits.TheConstants.{MOST_CELLS_MADE}
 use Rattle.schedule_trie.proofs.Lists.{slice_get_right}
 

@@ -1,5 +1,5 @@
 -- Adding limbs one by one.
-use Rattle.std.proofs.Common.{◌≡◌, ℕ, zero, suc, ◌+◌, ◌-◌, ◌<◌, ◌≤◌, Bool, true, false, not, ◌&&◌, ◌||◌, cond, nat_eq, List, [], ◌∷◌, ◌++◌, length, map, take, drop, get_or, position, Some, None, refl, sym, ap, subst, ◌∙◌, arith, append_assoc, append-nil}
+use Rattle.std.proofs.Common.{◌≡◌, ℕ, zero, suc, ◌+◌, ◌-◌, ◌<◌, ◌≤◌, Bool, true, false, not, ◌&&◌, ◌||◌, cond, nat_eq, List, [], ◌∷◌, ◌++◌, length, map, take, get_or, position, Some, None, refl, sym, ap, subst, ◌∙◌, arith, append_assoc, append-nil}
 use Rattle.std.specs.List.{list_any, position_or_len}
 use Rattle.std.specs.Option.{IfSome}
 use Rattle.std.specs.Cmp.Lexicographic.{pointwise}
@@ -15,7 +15,7 @@ use Rattle.schedule_trie.specs.Limbs.{slots_on, grown, grow, no_branches, forest
 use Rattle.schedule_trie.specs.Loads.{CanGrow, IsGrown}
 use Rattle.schedule_trie.proofs.ForkAnswers.{any_or_none}
 use Rattle.schedule_trie.proofs.LengthsAfter.{branch_count, cells_few}
-use Rattle.schedule_trie.proofs.LimbCounts.{cells_of-first, cells_of-next, taken_whole}
+use Rattle.schedule_trie.proofs.LimbCounts.{cells_of-first, cells_of-next}
 use Rattle.schedule_trie.proofs.LimbLaws.{may_share_parts, HasGrown, grown_none, grown_more, short, forest_made, forest_count}
 use Rattle.schedule_trie.proofs.LimbLists.{slots_in-last}
 use Rattle.schedule_trie.proofs.Notes.{blank_kept}
@@ -187,28 +187,6 @@ module _ (ls : List Limb) (lawful : AreLawfulLimbs ls) (n : ℕ) (l : Limb) (les
         told.forest_is ∙ ap (λ f. grown f l) is ∙ sym (grow-last no_branches xs l) ∙ ap forest_of (sym more)
 
 -- an item of the rest
-rest_item : {X : Type 0} (x : X) (xs : List X) (m i : ℕ) (d : X) → length xs ≤ m → i < length (take m xs) → d ≡ get_or (take m xs) i d
-    → (i + 1 < length (x ∷ xs)) × (get_or (x ∷ xs) (i + 1) d ≡ d)
-rest_item x xs m i d most less at =
-    let whole = taken_whole m xs most in
-    let inside : i < length xs = subst (λ l. i < length l) whole less in
-    let here : get_or xs i d ≡ d = sym (subst (λ l. d ≡ get_or l i d) whole at) in
-    (omega (arith, inside), subst (λ n. get_or (x ∷ xs) n d ≡ d) (next i) here)
-  where
-    next : (i : ℕ) → suc i ≡ i + 1
-    next i = omega arith
-
-pub item_of_rest : {X : Type 0} (all : List X) (i : ℕ) (d : X) → 0 < length all → i < length (take (length all - 1) (drop 1 all)) → d ≡ get_or (take (length all - 1) (drop 1 all)) i d
-    → (i + 1 < length all) × (get_or all (i + 1) d ≡ d)
-item_of_rest [] i d some less at = absurd (omega arith)
-item_of_rest (x ∷ all) i d some less at = rest_item x all (suc (length all) - 1) i d (omega arith) less at
-
-pub rest_ends : {X : Type 0} (all : List X) (i : ℕ) → 0 < length all → length (take (length all - 1) (drop 1 all)) ≤ i → length all ≤ i + 1
-rest_ends [] i some end = omega arith
-rest_ends (x ∷ all) i some end =
-    let whole = taken_whole (suc (length all) - 1) all (omega arith) in
-    let len = subst (λ l. length l ≤ i) whole end in omega arith
-
 -- the first limb
 abbrev no_slots : List Slot
 no_slots = []

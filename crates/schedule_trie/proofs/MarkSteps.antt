@@ -7,8 +7,8 @@ use Rattle.schedule_trie.specs.Cut.{Piece, slots_of, line, has, Once}
 use Rattle.schedule_trie.specs.Climbs.{keys_up_to}
 use Rattle.schedule_trie.specs.Marks.{mark, mark_at, AreMarked}
 use Rattle.schedule_trie.proofs.Climbs.{up_to-here, line-last}
-use Rattle.schedule_trie.proofs.LimbCounts.{taken_whole}
-use Rattle.schedule_trie.proofs.Once.{has-append, has_cases, has-in, once_before}
+use Rattle.schedule_trie.proofs.Lists.{taken_whole}
+use Rattle.schedule_trie.proofs.NoRepeats.{has-append, has_cases, has-in, once_before}
 use Rattle.schedule_trie.proofs.Pushes.{line-append}
 
 split_at : {X : Type 0} (xs : List X) (i : ℕ) (d : X) → i < length xs → get_or xs i d ≡ d → (back : List X) × (xs ≡ take i xs ++ d ∷ back)

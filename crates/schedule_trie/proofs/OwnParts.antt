@@ -7,8 +7,8 @@ use Rattle.schedule_trie.specs.Cut.{has}
 use Rattle.schedule_trie.specs.Climbs.{keys_to, HasClimbedTo}
 use Rattle.schedule_trie.specs.Marks.{mark_at, IsMarkOf, IsOwnPart}
 use Rattle.schedule_trie.proofs.Climbs.{IsLast, IsStepUp}
-use Rattle.schedule_trie.proofs.Once.{has_cases, last_from-push}
-use Rattle.schedule_trie.proofs.Partings.{parting}
+use Rattle.schedule_trie.proofs.NoRepeats.{has_cases, last_from-push}
+use Rattle.schedule_trie.proofs.KeyPositions.{parting}
 
 -- a climb is at a key; `own` are the keys below it, each of which is free
 pub record IsClimbing (IsFree : ℕ → Type 0) (keys : List ℕ) (at : Option ℕ) (own : List ℕ) : Type 0 where

@@ -2,7 +2,7 @@
 use Rattle.std.proofs.Common.{◌≡◌, ℕ, zero, suc, Bool, true, false, not, ◌||◌, nat_eq, cond, List, [], ◌∷◌, map, Option, Some, None, refl, sym, ap, subst, ◌∙◌}
 use Rattle.std.proofs.lemmas.Bool.{eqb-true}
 use Rattle.schedule_trie.specs.Cut.{Strand, keys_in, has, Linked, keys_without, strand_without}
-use Rattle.schedule_trie.proofs.Once.{has-head, has-tail, has_cases}
+use Rattle.schedule_trie.proofs.NoRepeats.{has-head, has-tail, has_cases}
 
 -- the keys of the branch at an index, after a key is removed
 pub keys_in-without : (key : ℕ) (ss : List Strand) (i : ℕ) → keys_in (map (strand_without key) ss) i ≡ keys_without key (keys_in ss i)

@@ -1,7 +1,7 @@
 -- The position of a key in the paths that have it.
 use Rattle.std.proofs.Common.{◌≡◌, ℕ, zero, suc, ◌+◌, true, List, [], ◌∷◌, length, slice_get, Option, Some, None, refl, sym, ap, subst, ◌∙◌, true≢false, arith}
 use Rattle.schedule_trie.specs.Cut.{has, Linked}
-use Rattle.schedule_trie.proofs.Once.{Ups, Ups-one, has_cases}
+use Rattle.schedule_trie.proofs.NoRepeats.{Ups, Ups-one, has_cases}
 
 -- the way up from an index of a path
 ups_at : (above : ℕ → Option ℕ) (up : Option ℕ) (seen ks : List ℕ) (place k : ℕ) → Ups above up seen → Linked above up ks → slice_get ks place ≡ Some k

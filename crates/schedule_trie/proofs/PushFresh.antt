@@ -9,7 +9,7 @@ use Rattle.schedule_trie.specs.declared.trie.Trie.TheInside.{Inside}
 use Rattle.schedule_trie.specs.Forest.{slot}
 use Rattle.schedule_trie.specs.Cut.{piece, piece_at, slots_of, note_of, line, keys_in, set_keys, has, Linked, SharesAbove, IsChangedEnd, IsPushed}
 use Rattle.schedule_trie.specs.Tries.{piece_of, strands_of, names_of, cut_of, IsHeldCut}
-use Rattle.schedule_trie.proofs.Once.{has_not_from}
+use Rattle.schedule_trie.proofs.NoRepeats.{has_not_from}
 use Rattle.schedule_trie.proofs.Changes.{Changes}
 use Rattle.schedule_trie.proofs.Notes.{notes_beside}
 use Rattle.schedule_trie.proofs.Whole.{whole_pushed, is_pushed}

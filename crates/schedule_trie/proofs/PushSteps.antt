@@ -11,14 +11,14 @@ use Rattle.schedule_trie.specs.declared.trie.Trie.TheInside.{Inside}
 use Rattle.schedule_trie.specs.Forest.{slot}
 use Rattle.schedule_trie.specs.Cut.{Cut, forest, piece, piece_at, slots_of, note_of, line, keys_in, set_keys, has, Once, IsOwnEnd, IsChangedEnd, Nowhere, HasChanged, IsPushed, IsWhole}
 use Rattle.schedule_trie.specs.Tries.{piece_of, pieces_of, strands_of, cut_of, AreLengths, AreNames, IsHeldCut, IsKept}
-use Rattle.schedule_trie.proofs.Once.{has-append, Once-from_linked, has-in, once_before}
+use Rattle.schedule_trie.proofs.NoRepeats.{has-append, Once-from_linked, has-in, once_before}
 use Rattle.schedule_trie.proofs.Changes.{Changes, piece_at_set}
 use Rattle.schedule_trie.proofs.Climbs.{last_parts}
 use Rattle.schedule_trie.proofs.Lines.{keys_are}
 use Rattle.schedule_trie.proofs.StepSet.{piece_seen, key_within, item_there}
 use Rattle.schedule_trie.proofs.Notes.{notes_at, notes_but}
 use Rattle.schedule_trie.proofs.Pushes.{line-append}
-use Rattle.schedule_trie.proofs.Touched.{some_slots}
+use Rattle.schedule_trie.proofs.TouchedSegments.{some_slots}
 use Rattle.schedule_trie.proofs.Whole.{whole_pushed, is_pushed}
 use Rattle.schedule_trie.proofs.Strands.{set_keys-same}
 

@@ -3,7 +3,7 @@ use Rattle.std.proofs.Common.{◌≡◌, ℕ, zero, suc, Bool, true, false, List
 use Rattle.std.specs.Option.{IfSome}
 use Rattle.schedule_trie.specs.Forest.{branch, slots_in}
 use Rattle.schedule_trie.specs.Cut.{Cut, Piece, Strand, piece_at, slots_of, note_of, line, forest, branches_on, keys_in, has, has_cell, SharesAbove, IsSegment, IsSoundCut, AreGone, KeepsAllNotes}
-use Rattle.schedule_trie.proofs.Once.{has-head, has-tail, has_not_from}
+use Rattle.schedule_trie.proofs.NoRepeats.{has-head, has-tail, has_not_from}
 use Rattle.schedule_trie.proofs.Lines.{in_line, slots_in_on}
 
 -- no branch has a segment

@@ -10,7 +10,7 @@ use Rattle.schedule_trie.specs.declared.slot.Slot.{Slot}
 use Rattle.schedule_trie.specs.Forest.{branch, cell_of, is_other, without, everywhere}
 use Rattle.schedule_trie.specs.Cut.{Piece, Strand, slots_of, line, branches_on, keys_in, has, has_cell, Once, Linked, IsSegment, IsSoundCut, keys_without, strand_without}
 use Rattle.schedule_trie.proofs.Lists.{turned}
-use Rattle.schedule_trie.proofs.Once.{has_not_from, has-head, has-tail, has_cases}
+use Rattle.schedule_trie.proofs.NoRepeats.{has_not_from, has-head, has-tail, has_cases}
 use Rattle.schedule_trie.proofs.Changes.{line_through, everywhere_on, cell_apart, has_cell_get}
 use Rattle.schedule_trie.proofs.Lines.{once_at, given_at}
 use Rattle.schedule_trie.proofs.PathsWithout.{keys_in-without, has_from_without, has_other, has-without, past, linked_without}

@@ -9,7 +9,7 @@ use Rattle.schedule_trie.specs.Forest.{slot, step_of, cell_of, numbered, renumbe
 use Rattle.schedule_trie.specs.Cut.{Piece, piece, slots_of, note_of, line, has, has_cell, Once, IsSegment}
 use Rattle.schedule_trie.specs.Tries.{piece_of}
 use Rattle.schedule_trie.specs.Copies.{AreCopies}
-use Rattle.schedule_trie.proofs.Once.{has_cases, has_not_from, has-head, has-tail}
+use Rattle.schedule_trie.proofs.NoRepeats.{has_cases, has_not_from, has-head, has-tail}
 use Rattle.schedule_trie.proofs.Lines.{line-drop}
 use Rattle.schedule_trie.proofs.Pushes.{line-append}
 

@@ -16,7 +16,7 @@ use Rattle.schedule_trie.specs.Tries.{cut_of, IsHeldCut}
 use Rattle.schedule_trie.proofs.Lines.{slots_in_on, once_at, given_at}
 use Rattle.schedule_trie.proofs.Changes.{has_cell_get}
 use Rattle.schedule_trie.proofs.Positions.{one_place, before_place}
-use Rattle.schedule_trie.proofs.Apart.{branches_apart}
+use Rattle.schedule_trie.proofs.NamesApart.{branches_apart}
 use Rattle.schedule_trie.proofs.Climbs.{last_parts}
 use Rattle.schedule_trie.proofs.ForkSteps.{no_last}
 use Rattle.schedule_trie.proofs.Lists.{slice_get_left, slice_get_right}

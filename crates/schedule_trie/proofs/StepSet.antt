@@ -9,15 +9,15 @@ use Rattle.schedule_trie.specs.declared.slot.Slot.{Slot}
 use Rattle.schedule_trie.specs.declared.segment.Segment.{Segment}
 use Rattle.schedule_trie.specs.declared.trie.Trie.TheInside.{Inside}
 use Rattle.schedule_trie.specs.declared.refusal.Refusal.TheVariants.{NoPlace}
-use Rattle.schedule_trie.specs.Forest.{branch, cell_on_branch, cell_by, replace_step, at_cell, on_found, replaced_by, index_of, slots_in, cell_in, cell_of, everywhere}
+use Rattle.schedule_trie.specs.Forest.{branch, replace_step, at_cell, on_found, replaced_by, index_of, slots_in, cell_in, cell_of, everywhere}
 use Rattle.schedule_trie.specs.Slots.{set_step}
-use Rattle.schedule_trie.specs.Cut.{line, has_cell, Strand, IsNoted, with_note, branches_on, Cut, Piece, piece, piece_at, slots_of, forest, keys_in, IsSpotInPath, note_of, IsSoundCut, IsCut, IsWithin, IsSegment, KeepsNotesOff, HoldsCellAt, IsStepSet}
+use Rattle.schedule_trie.specs.Cut.{line, Strand, IsNoted, with_note, branches_on, Cut, Piece, piece, piece_at, slots_of, forest, keys_in, IsSpotInPath, note_of, IsSoundCut, IsCut, IsWithin, IsSegment, IsStepSet}
 use Rattle.schedule_trie.specs.Tries.{piece_of, cut_of, IsHeldCut}
 use Rattle.schedule_trie.specs.declared.limits.Limits.{Limits}
 use Rattle.schedule_trie.specs.declared.limits.TheConstants.{MOST_CELLS_MADE}
-use Rattle.schedule_trie.proofs.Changes.{SameCells, piece_at_set, Changes, has_cell_get, sound_same, replaced_everywhere, replaced_same}
+use Rattle.schedule_trie.proofs.Changes.{SameCells, piece_at_set, Changes, sound_same, replaced_everywhere, replaced_same}
 use Rattle.schedule_trie.proofs.Lines.{slots_in_on}
-use Rattle.schedule_trie.proofs.Notes.{notes_at, notes_but}
+use Rattle.schedule_trie.proofs.Notes.{notes_at}
 use Rattle.schedule_trie.proofs.Lists.{cell_in_at, slice_get_some}
 use Rattle.std.proofs.lemmas.Option.{slice_get_within}
 
@@ -142,42 +142,6 @@ module _ {T : Type 0} (old new : Cut T) (name : List ℕ) (place index key offse
   pub replace_ok : (step : Step) → IsStepSet old new key offset step → replace_step (forest old) name place step ≡ Ok (forest new)
   replace_ok step set = command_at (replaced_by step)
       ∙ sym (λ i. Ok (record { branches = set.everywhere_set the_cell.0 the_cell.1 i; made = set.made i }))
-
--- the result of `cell_on_branch`
-pub cell_found : {T : Type 0} (c : Cut T) (name : List ℕ) (place index key offset : ℕ) (s : Slot) → index_of (forest c).branches name ≡ Some index
-    → IsSpotInPath (piece_at c.pieces) (keys_in c.strands index) place (key, offset) → slice_get (slots_of (piece_at c.pieces key)) offset ≡ Some s
-    → cell_on_branch (forest c) name place ≡ Some s.cell
-cell_found c name place index key offset s found stands here =
-    ap (λ o. cell_by o (forest c) place) found
-    ∙ ap (λ l. option_map cell_of (slice_get l place)) (slots_in_on (piece_at c.pieces) c.strands index)
-    ∙ ap (option_map cell_of) (sym stands.same ∙ here)
-
--- the segment of the cell at a place of a branch
-pub holds_cell : {T : Type 0} (c : Cut T) (name : List ℕ) (place index key offset : ℕ) → index_of (forest c).branches name ≡ Some index
-    → IsSpotInPath (piece_at c.pieces) (keys_in c.strands index) place (key, offset) → HoldsCellAt c name place key
-holds_cell c name place index key offset found stands =
-    let p = slice_get_some (slots_of (piece_at c.pieces key)) offset stands.within in
-    record {
-      cell = p.0.cell;
-      there = cell_found c name place index key offset p.0 found stands p.1;
-      held = has_cell_get (slots_of (piece_at c.pieces key)) offset p.0 p.1;
-    }
-
--- only one segment has the cell at a place of a branch
-pub one_holder : {T : Type 0} (c : Cut T) (name : List ℕ) (place j k : ℕ) → IsSoundCut (piece_at c.pieces) c.strands c.made
-    → HoldsCellAt c name place j → HoldsCellAt c name place k → j ≡ k
-one_holder c name place j k sound a b =
-    let there : Some a.cell ≡ Some b.cell = sym a.there ∙ b.there in
-    let same : a.cell ≡ b.cell = cc in
-    sound.apart j k a.cell a.held (subst (λ x. has_cell x (slots_of (piece_at c.pieces k)) ≡ true) (sym same) b.held)
-
--- an edit at a cell touches exactly the segment that has it
-pub notes_here : {T : Type 0} (old new : Cut T) (name : List ℕ) (place index key offset : ℕ) → IsSoundCut (piece_at old.pieces) old.strands old.made
-    → index_of (forest old).branches name ≡ Some index → IsSpotInPath (piece_at old.pieces) (keys_in old.strands index) place (key, offset)
-    → KeepsNotesOff old new (λ k. k ≡ key) → KeepsNotesOff old new (HoldsCellAt old name place)
-notes_here old new name place index key offset sound found stands notes =
-    let here = holds_cell old name place index key offset found stands in
-    notes_but old new key (HoldsCellAt old name place) (HoldsCellAt old name place) notes (λ k h. one_holder old name place k key sound h here) here
 
 -- the note of a segment is set
 module _ {T : Type 0} (t : Inside T) (key : ℕ) (v w : Segment T) (held : IsHeldCut t) (there : item_at t.segments key ≡ Some v) (same : w.slots ≡ v.slots) where

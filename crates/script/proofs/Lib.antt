@@ -2,5 +2,5 @@ pub mod Shapes
 pub mod Bytes
 pub mod Verbs
 pub mod Sound
-pub mod Again
-pub mod Said
+pub mod ReadBack
+pub mod LineMeaning

@@ -1,5 +1,5 @@
 -- The grammar of a line of a script. A definition with an optional result reads one or more words,
--- and gives `None` if they don't have the form that its comment gives.
+-- and gives `None` if they don't spell what it reads.
 use Rattle.std.specs.Prelude.{ℕ, List, [], ◌∷◌, Option, Some, None, Bool, ◌==◌, ◌&&◌, nat_le, length, codes, if◌then◌else◌}
 use Rattle.std.specs.Option.{option_map, option_and_then}
 use Rattle.std.specs.List.{list_all}
@@ -179,6 +179,12 @@ call_of ws = do
 -- whether a call may have this byte, one of 0x20 to 0x7E
 abbrev pub is_call_byte : ℕ → Bool
 is_call_byte b = nat_le 32 b && nat_le b 126
+
+-- what a line says, given its session and the request that was read from it; it is bad if none was
+-- read
+abbrev pub line_of : ℕ → Option Request → Line
+line_of session None = line.Bad
+line_of session (Some r) = line.Call (record { session = session; request = r })
 
 -- what a line says, given the call that was read from it; it is bad if none was read
 abbrev pub call_or_bad : Option Call → Line

@@ -1,16 +1,18 @@
-//! Reading a line of a script. A function that reads words returns `None` if they don't have the
-//! form that its comment gives.
+//! Reading a line of a script. A function that reads words returns `None` or `Line::Bad` if they
+//! don't spell what it reads.
 
 ghost use Rattle.std.specs.Prelude.{◌≡◌};
 ghost use Rattle.std.specs.List.{list_all};
+ghost use Rattle.std.specs.Option.{option_map};
 ghost use Rattle.words.specs.Steps.{step_of_words};
 ghost use Rattle.script.specs.declared.call.Line.{Line};
+ghost use Rattle.script.specs.declared.call.Request.TheVariants.{Fill, Look};
 ghost use Rattle.script.specs.Lines as spec;
 ghost use Rattle.script.specs.Spelling.{LineSays};
 
 use crate::call::{Call, Line, Request};
 use crate::look::{branch_and_place, look_of, only_branch, place_in};
-use crate::verb::{CommandVerb, Verb, verb_of};
+use crate::verb::{CommandVerb, LookVerb, Verb, verb_of};
 use frames::types::Step;
 use schedule_trie::name::Name;
 use sessions::command::Command;
@@ -34,27 +36,22 @@ pub fn read_line(line: &[u8]) -> Line
     reading(line)
 }
 
-/// Reads a line, word by word.
+/// Reads a line, which is blank, bad, or the number of a session and then its request.
 fn reading(line: &[u8]) -> Line
     ensures { result ≡ spec.read_line line.now }
 {
-    match line.first() {
-        None | Some(b'#') => Line::Blank,
-        Some(_) => called(line),
+    if matches!(line.first(), None | Some(b'#')) {
+        return Line::Blank;
     }
-}
-
-/// Reads a line that is neither empty nor a comment.
-fn called(line: &[u8]) -> Line
-    ensures { result ≡ spec.called line.now }
-{
     if line.len() > MOST_BYTES || !all_plain(line) {
         return Line::Bad;
     }
-    match call_of(&mut Parts::new(line, b' ')) {
-        None => Line::Bad,
-        Some(call) => Line::Call(call),
-    }
+    let words = &mut Parts::new(line, b' ');
+    let Some(session) = number(words.next()) else {
+        return Line::Bad;
+    };
+    let word = words.next();
+    request_line(session, word, words)
 }
 
 /// Whether each byte is one of 0x20 to 0x7E.
@@ -69,48 +66,66 @@ fn all_plain(line: &[u8]) -> bool
     plain
 }
 
-/// Reads the number of a session, and the session's request.
-fn call_of(words: &mut Parts<'_>) -> Option<Call>
-    ensures { result ≡ spec.call_of words.old }
-{
-    let session = number(words.next())?;
-    let word = words.next();
-    let request = request_of(session, word, words)?;
-    Some(Call { session, request })
-}
-
 /// Reads a session's request that begins with this word.
-fn request_of(session: u32, word: &[u8], words: &mut Parts<'_>) -> Option<Request>
-    ensures { result ≡ spec.request_of session word.now words.old }
+fn request_line(session: u32, word: &[u8], words: &mut Parts<'_>) -> Line
+    ensures { result ≡ spec.line_of session (spec.request_of session word.now words.old) }
 {
     match verb_of(word) {
-        None => guarded(word, words),
-        Some(Verb::Look(verb)) => look_of(session, verb, words).map(Request::Look),
-        Some(Verb::Fill) => only_branch(words).map(Request::Fill),
-        Some(Verb::Command(verb)) => act_of(None, verb, words),
+        None => guarded_line(session, word, words),
+        Some(Verb::Look(verb)) => look_line(session, verb, words),
+        Some(Verb::Fill) => fill_line(session, words),
+        Some(Verb::Command(verb)) => act_line(session, None, verb, words),
     }
 }
 
-/// Reads a command that has a guard; `word` is `@` and the guard.
-fn guarded(word: &[u8], words: &mut Parts<'_>) -> Option<Request>
-    ensures { result ≡ spec.guarded word.now words.old }
+/// Reads the words of a look after its first word.
+fn look_line(session: u32, verb: LookVerb, words: &mut Parts<'_>) -> Line
+    ensures { result ≡ spec.line_of session
+        (option_map Look (spec.look_of session verb words.old)) }
+{
+    let Some(query) = look_of(session, verb, words) else {
+        return Line::Bad;
+    };
+    let request = Request::Look(query);
+    Line::Call(Call { session, request })
+}
+
+/// Reads the words of a fill after its first word.
+fn fill_line(session: u32, words: &mut Parts<'_>) -> Line
+    ensures { result ≡ spec.line_of session (option_map Fill (spec.only_branch words.old)) }
+{
+    let Some(branch) = only_branch(words) else {
+        return Line::Bad;
+    };
+    let request = Request::Fill(branch);
+    Line::Call(Call { session, request })
+}
+
+/// Reads a command with a guard. `word`, the request's first word, has to be `@` and the guard.
+fn guarded_line(session: u32, word: &[u8], words: &mut Parts<'_>) -> Line
+    ensures { result ≡ spec.line_of session (spec.guarded word.now words.old) }
 {
     let Some((b'@', guard)) = word.split_first() else {
-        return None;
+        return Line::Bad;
     };
-    let edits = number(guard)?;
+    let Some(edits) = number(guard) else {
+        return Line::Bad;
+    };
     match verb_of(words.next()) {
-        Some(Verb::Command(verb)) => act_of(Some(u64::from(edits)), verb, words),
-        _ => None,
+        Some(Verb::Command(verb)) => act_line(session, Some(u64::from(edits)), verb, words),
+        _ => Line::Bad,
     }
 }
 
 /// Reads the words of a command after the command's first word; the guard is read already.
-fn act_of(if_at: Option<u64>, verb: CommandVerb, words: &mut Parts<'_>) -> Option<Request>
-    ensures { result ≡ spec.act_of if_at verb words.old }
+fn act_line(session: u32, if_at: Option<u64>, verb: CommandVerb, words: &mut Parts<'_>) -> Line
+    ensures { result ≡ spec.line_of session (spec.act_of if_at verb words.old) }
 {
-    let command = command_of(verb, words)?;
-    Some(Request::Act { if_at, command })
+    let Some(command) = command_of(verb, words) else {
+        return Line::Bad;
+    };
+    let request = Request::Act { if_at, command };
+    Line::Call(Call { session, request })
 }
 
 /// Reads the words of a command after its first word.

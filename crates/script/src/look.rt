@@ -1,5 +1,5 @@
 //! Reading a look, and the branches and places of a line. A function that reads words returns
-//! `None` if they don't have the form that its comment gives.
+//! `None` if they don't spell what it reads.
 
 ghost use Rattle.std.specs.Prelude.{◌≡◌, IfSome};
 ghost use Rattle.words.specs.Words.{after_next};

@@ -47,7 +47,7 @@ pub(crate) enum CommandVerb {
 pub(crate) fn verb_of(word: &[u8]) -> Option<Verb>
     ensures { result ≡ spec.verb_of word.now }
 {
-    // Compiled to comparisons of the length, and then of bytes in turn.
+    // This `match` compiles to a comparison of the length, and then of the bytes one by one.
     match word {
         b"branches" => Some(Verb::Look(LookVerb::Branches)),
         b"cursor" => Some(Verb::Look(LookVerb::Cursor)),

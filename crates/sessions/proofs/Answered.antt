@@ -9,7 +9,7 @@ use Rattle.sessions.specs.Acts.{command_result, answered, early_refusals, late_r
 use Rattle.schedule_trie.specs.declared.refusal.Refusal.TheVariants.{LogFull, Memory}
 use Rattle.sessions.specs.Logs.{is_logged}
 use Rattle.sessions.specs.Books.{IsLate}
-use Rattle.sessions.proofs.Ordinary.{acted_logged}
+use Rattle.sessions.proofs.LoggedReplies.{acted_logged}
 
 pub lacks_some : {A : Type 0} (o : Option A) → ((x : A) → o ≡ Some x → ⊥) → None ≡ o
 lacks_some None h = refl

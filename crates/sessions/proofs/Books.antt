@@ -12,12 +12,12 @@ use Rattle.schedule_trie.specs.declared.refusal.Refusal.TheVariants.{Memory}
 use Rattle.sessions.specs.World.{opening}
 use Rattle.sessions.specs.Acts.{command_result, is_full, with_one_logged}
 use Rattle.sessions.specs.Logs.{IsLegal, is_logged, world_after, acted_by}
-use Rattle.sessions.specs.Books.{Held, IsBook, IsLawfulWorld, NoneDue, ActsOnBook, book_of, opening_of, opening_over, staged, world_of}
+use Rattle.sessions.specs.Books.{Held, IsBook, IsLawfulWorld, NoneDue, ActsOnBook, book_of, opening_of, opening_over, stored, world_of}
 use Rattle.sessions.specs.declared.workspace.Workspace.{Workspace}
 use Rattle.std.specs.Global.{Vec}
 use Rattle.cutoff.specs.Charts.{Charted}
 use Rattle.sessions.proofs.LegalLogs.{legal_more, after_more}
-use Rattle.sessions.proofs.Ordinary.{acted_logged, never_memory}
+use Rattle.sessions.proofs.LoggedReplies.{acted_logged, never_memory}
 use Rattle.sessions.proofs.Sound.{command_sound}
 
 pub below : (a b : ℕ) (t : Bool) → nat_le a b ≡ t → t ≡ false → b < a
@@ -60,9 +60,9 @@ module _ {R P : Type 0} (is : R → Behaviour P) (first : Charted R P) (s t : Wo
   room = let most = b.same_limit in above s.chart.cut.limits.log (length log.items) (omega (arith, most, count, less))
 
   -- memory runs out
-  module _ (who : ℕ) (guard : Option ℕ) (c : Command) (has : (n : ℕ) → is_full (world_of is (staged s n)) ≡ false → NoneDue who guard c (world_of is (staged s n)) × (world_of is (staged t n) ≡ world_of is (staged s n))) where
-    world_kept : world_of is (staged t (length reserved.items)) ≡ world_of is old.now
-    world_kept = ap (λ l. world_of is (staged t (length l))) kept ∙ (has (length log.items) room).1
+  module _ (who : ℕ) (guard : Option ℕ) (c : Command) (has : (n : ℕ) → is_full (world_of is (stored s n)) ≡ false → NoneDue who guard c (world_of is (stored s n)) × (world_of is (stored t n) ≡ world_of is (stored s n))) where
+    world_kept : world_of is (stored t (length reserved.items)) ≡ world_of is old.now
+    world_kept = ap (λ l. world_of is (stored t (length l))) kept ∙ (has (length log.items) room).1
 
     pub opens_kept : opening_of is (book_of first t reserved) ≡ opening_of is old
     opens_kept = opens_same is old (book_of first t reserved) refl world_kept
@@ -72,7 +72,7 @@ module _ {R P : Type 0} (is : R → Behaviour P) (first : Charted R P) (s t : Wo
 
   -- the command is answered
   module _ (more : Vec Entry) (e made : Entry) (is_made : made ≡ e) (pushed : more.items ≡ reserved.items ++ made ∷ [])
-      (has : (n : ℕ) → is_full (world_of is (staged s n)) ≡ false → command_result e.who e.if_at e.command (world_of is (staged s n)) ≡ record { world = with_one_logged (world_of is (staged t n)); reply = e.reply }) where
+      (has : (n : ℕ) → is_full (world_of is (stored s n)) ≡ false → command_result e.who e.if_at e.command (world_of is (stored s n)) ≡ record { world = with_one_logged (world_of is (stored t n)); reply = e.reply }) where
     abbrev new : Held R P
     new = book_of first t more
 
@@ -83,7 +83,7 @@ module _ {R P : Type 0} (is : R → Behaviour P) (first : Charted R P) (s t : Wo
     counted = ap length added ∙ length_push log.items e
 
     acts : command_result e.who e.if_at e.command (world_of is old.now) ≡ record { world = world_of is new.now; reply = e.reply }
-    acts = has (length log.items) room ∙ λ i. record { world = world_of is (staged t (sym counted i)); reply = e.reply }
+    acts = has (length log.items) room ∙ λ i. record { world = world_of is (stored t (sym counted i)); reply = e.reply }
 
     is_told : is_logged e.reply ≡ true
     is_told = ap (λ a. is_logged a.reply) (sym acts) ∙ (acted_logged e.who (world_of is old.now) e.if_at e.command room).0

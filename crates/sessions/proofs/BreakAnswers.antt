@@ -11,9 +11,9 @@ use Rattle.sessions.specs.declared.reply.Reply.{Reply}
 use Rattle.sessions.specs.declared.reply.Reply.TheVariants.{BreakSet, BreakCleared}
 use Rattle.sessions.specs.Acts.{first_refusal, refused_if, with_one_logged}
 use Rattle.sessions.specs.BreakLists.{breaks_at, has_break, with_break, without_break}
-use Rattle.sessions.specs.Books.{Staged, Does, IsCarriedOut, Undone, world_of}
+use Rattle.sessions.specs.Books.{StoredWorld, Does, IsCarriedOut, Undone, world_of}
 
-module _ {R P : Type 0} (is : R → Behaviour P) (old : Staged R P) (who : ℕ) (b : Break) (new : List Break) where
+module _ {R P : Type 0} (is : R → Behaviour P) (old : StoredWorld R P) (who : ℕ) (b : Break) (new : List Break) where
   pub break_set : new ≡ with_break b (breaks_at old.breaks who)
       → IsCarriedOut is who (command.Break b) old (record old { breaks = slice_set old.breaks who new }) BreakSet
   break_set e = record {
@@ -40,7 +40,7 @@ module _ {R P : Type 0} (is : R → Behaviour P) (old : Staged R P) (who : ℕ) 
     replies = refl;
   }
 
-pub break_lacks : {R P : Type 0} (is : R → Behaviour P) (old : Staged R P) (who : ℕ) (b : Break)
+pub break_lacks : {R P : Type 0} (is : R → Behaviour P) (old : StoredWorld R P) (who : ℕ) (b : Break)
     → has_break b (breaks_at old.breaks who) ≡ false → Undone is who (command.Clear b) old old NoBreak
 break_lacks is old who b has = record {
   why = inl (ap (λ h. first_refusal (refused_if (not h) NoBreak ∷ [])) has);

@@ -1,6 +1,6 @@
 pub mod Answered
 pub mod LegalLogs
-pub mod Ordinary
+pub mod LoggedReplies
 pub mod Books
 pub mod Searches
 pub mod Runs
@@ -8,12 +8,12 @@ pub mod NextHits
 pub mod Looks
 pub mod Towers
 pub mod Rows
-pub mod Standing
+pub mod CursorPlaces
 pub mod Sound
-pub mod Unmoved
+pub mod UnmovedCursors
 pub mod EditAnswers
 pub mod Loads
 pub mod Openings
-pub mod Kept
+pub mod KeptBranches
 pub mod BreakAnswers
 pub mod SeekAnswers

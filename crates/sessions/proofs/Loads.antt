@@ -13,7 +13,7 @@ use Rattle.schedule_trie.specs.Limbs.{FitLimits, AreLawfulLimbs, cells_of, fores
 use Rattle.schedule_trie.proofs.LimbLaws.{forest_made}
 use Rattle.cutoff.specs.Charts.{Charted, LimbsFit}
 use Rattle.sessions.specs.World.{opening}
-use Rattle.sessions.specs.Books.{opening_over, staged, world_of}
+use Rattle.sessions.specs.Books.{opening_over, stored, world_of}
 use Rattle.sessions.specs.declared.workspace.Workspace.{Workspace}
 use Rattle.sessions.specs.Saves.{IsSaved}
 
@@ -47,6 +47,6 @@ opening_so is chart register value limits f same_register same_value same =
 pub saved_so : {R P A E : Type 0} (is : R → Behaviour P) (s : Workspace R P) (n : ℕ) (items : A → List Limb) (told : Result A E)
     → IfOk told (λ r. items r ≡ limbs (forest s.chart.cut)) → IfOk told (λ r. AreLawfulLimbs (items r)) → IfOk told (λ r. 0 < length (items r))
     → IfOk told (λ r. FitLimits s.chart.cut.limits (items r)) → IfOk told (λ r. LimbsFit (is s.chart.start.register) (items r))
-    → IfOk told (λ r. IsSaved (world_of is (staged s n)) (items r))
+    → IfOk told (λ r. IsSaved (world_of is (stored s n)) (items r))
 saved_so is s n items (Ok r) same lawful some near fit = record { same = same; lawful = lawful; some = some; fit = fit; near = near }
 saved_so is s n items (Err e) same lawful some near fit = tt

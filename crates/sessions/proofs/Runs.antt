@@ -22,7 +22,7 @@ use Rattle.pages.specs.Breaks.{is_met}
 use Rattle.frames.specs.Recorded.{Alone, first_configuration, shown}
 use Rattle.views.specs.Looks.{steps_in}
 use Rattle.views.proofs.Spots.{steps_named}
-use Rattle.views.proofs.Alone.{replayed_alone, history_alone, replayed-append, history-append}
+use Rattle.views.proofs.BehaviourAlone.{replayed_alone, history_alone, replayed-append, history-append}
 use Rattle.sessions.specs.Seeks.{no_events, events_before, is_hit}
 use Rattle.sessions.specs.Walks.{ReportsPart, ReportsParts, is_on_bit, records_any}
 use Rattle.sessions.proofs.Searches.{met_by_records}

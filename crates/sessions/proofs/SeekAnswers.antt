@@ -11,7 +11,7 @@ use Rattle.sessions.specs.declared.way.Way.{Way}
 use Rattle.sessions.specs.declared.way.Way.TheVariants.{Forth, Back}
 use Rattle.sessions.specs.World.{World}
 use Rattle.sessions.specs.Acts.{first_refusal, hit_of, hit_reply, late_refusals, left, put_cursor, reply_to, with_one_logged}
-use Rattle.sessions.specs.Books.{Does, IsCarriedOut, Staged, seek_command, world_of}
+use Rattle.sessions.specs.Books.{Does, IsCarriedOut, StoredWorld, seek_command, world_of}
 
 -- what a seek does to a world
 module _ {P : Type 0} (who : ℕ) (w : World P) where
@@ -35,7 +35,7 @@ pub put_none : (who : ℕ) (o : Option Cursor) (cursors : List (Option Cursor)) 
 put_none who None cursors h = refl
 put_none who (Some c) cursors h = cc
 
-module _ {R P : Type 0} (is : R → Behaviour P) (old new : Staged R P) (who : ℕ) (way : Way) (same : world_of is new ≡ world_of is old) where
+module _ {R P : Type 0} (is : R → Behaviour P) (old new : StoredWorld R P) (who : ℕ) (way : Way) (same : world_of is new ≡ world_of is old) where
   pub sought : (hit : Option Cursor) (cursors : List (Option Cursor)) (reply : Reply) → hit ≡ hit_of way (world_of is old) who → put_cursor who hit new.cursors ≡ cursors → reply ≡ hit_reply hit
       → IsCarriedOut is who (seek_command way) old (record new { cursors = cursors }) reply
   sought hit cursors reply found put replied = record {

@@ -25,7 +25,7 @@ use Rattle.sessions.specs.Acts.{answered, breaks_after, command_result, cursors_
 use Rattle.sessions.specs.Books.{IsLawfulWorld}
 use Rattle.sessions.proofs.Answered.{early_none}
 use Rattle.sessions.proofs.NextHits.{next_is_hit}
-use Rattle.sessions.proofs.Standing.{edited_stand, first_stands, hit_stands, made_within, put_stands}
+use Rattle.sessions.proofs.CursorPlaces.{edited_stand, first_stands, hit_stands, made_within, put_stands}
 
 none_in : (xs ys : List (Option Refusal)) → first_refusal (xs ++ ys) ≡ None → (first_refusal xs ≡ None) × (first_refusal ys ≡ None)
 none_in [] ys e = (refl, e)

@@ -24,8 +24,8 @@ use Rattle.sessions.specs.World.{World, opening}
 use Rattle.sessions.specs.Acts.{command_result, first_refusal, refusals, late_refusals, is_full, left, reply_to, with_one_logged}
 use Rattle.sessions.specs.Logs.{IsLegal, world_after, logged}
 
--- a stage: a world whose branches are kept in a chart, with stored runs that commands don't see
-pub record Staged (R P : Type 0) : Type 0 where
+-- a stored world: a world whose branches are in a chart, with stored runs that commands don't see
+pub record StoredWorld (R P : Type 0) : Type 0 where
   pub chart : Charted R P
   pub limits : Limits
   pub cursors : List (Option Cursor)
@@ -33,8 +33,8 @@ pub record Staged (R P : Type 0) : Type 0 where
   pub edits : ℕ
   pub logged : ℕ
 
--- the world of a stage, which is what commands see: all but the stored runs
-abbrev pub world_of : {R P : Type 0} → (R → Behaviour P) → Staged R P → World P
+-- what commands see of a stored world: all but the stored runs
+abbrev pub world_of : {R P : Type 0} → (R → Behaviour P) → StoredWorld R P → World P
 world_of is s =
     record {
       tower = is s.chart.start.register;
@@ -47,9 +47,9 @@ world_of is s =
       logged = s.logged;
     }
 
--- the stage of a workspace, when n commands are logged
-abbrev pub staged : {R P : Type 0} → Workspace R P → ℕ → Staged R P
-staged s n = record { chart = s.chart; limits = s.chart.cut.limits; cursors = s.cursors; breaks = s.breaks.items; edits = s.edits; logged = n }
+-- the stored world of a workspace, when n commands are logged
+abbrev pub stored : {R P : Type 0} → Workspace R P → ℕ → StoredWorld R P
+stored s n = record { chart = s.chart; limits = s.chart.cut.limits; cursors = s.cursors; breaks = s.breaks.items; edits = s.edits; logged = n }
 
 -- what every command keeps of a world: its limits are in their ranges; the number of cells ever
 -- made is within them; it has sixteen sessions, whose cursors are at places that exist; and the
@@ -62,11 +62,11 @@ pub record IsLawfulWorld {P : Type 0} (w : World P) : Type 0 where
   pub breaks : length w.breaks ≡ 16
   pub few_edits : w.edits ≤ w.logged
 
--- a book: the chart that it opened with, its present stage, its log, and the number of further
--- entries that the log has memory reserved for
+-- a book: the chart that it opened with, its present stored world, its log, and the number of
+-- further entries that the log has memory reserved for
 pub record Held (R P : Type 0) : Type 0 where
   pub first : Charted R P
-  pub now : Staged R P
+  pub now : StoredWorld R P
   pub log : List Entry
   pub room : ℕ
 
@@ -97,7 +97,7 @@ pub record IsHeld {R P : Type 0} (is : R → Behaviour P) (h : Held R P) : Type 
 
 -- a book, from its fields
 abbrev pub book_of : {R P : Type 0} → Charted R P → Workspace R P → Vec Entry → Held R P
-book_of first s log = record { first = first; now = staged s (length log.items); log = log.items; room = vec_capacity log - vec_len log }
+book_of first s log = record { first = first; now = stored s (length log.items); log = log.items; room = vec_capacity log - vec_len log }
 
 -- the invariant of a book whose log may have `log_limit` entries
 pub record IsBook {R P : Type 0} (is : R → Behaviour P) (log_limit : ℕ) (h : Held R P) : Type 0 where
@@ -146,27 +146,27 @@ IsLate who c w r = (first_refusal (late_refusals who c w) ≡ Some r) ⊎ ((r �
 
 -- a command is carried out: `late_refusals` gives no reason to refuse it, and its reply and, once the
 -- command is counted as logged, the new world are those that `reply_to` and `left` give
-pub record IsCarriedOut {R P : Type 0} (is : R → Behaviour P) (who : ℕ) (c : Command) (old new : Staged R P) (reply : Reply) : Type 0 where
+pub record IsCarriedOut {R P : Type 0} (is : R → Behaviour P) (who : ℕ) (c : Command) (old new : StoredWorld R P) (reply : Reply) : Type 0 where
   pub fine : first_refusal (late_refusals who c (world_of is old)) ≡ None
   pub leaves : left who c (world_of is old) ≡ with_one_logged (world_of is new)
   pub replies : reply_to who c (world_of is old) ≡ reply
 
 -- a command isn't carried out: r is the first reason that `late_refusals` gives, or Memory if it
 -- gives none, and the world is unchanged
-pub record Undone {R P : Type 0} (is : R → Behaviour P) (who : ℕ) (c : Command) (old new : Staged R P) (r : Refusal) : Type 0 where
+pub record Undone {R P : Type 0} (is : R → Behaviour P) (who : ℕ) (c : Command) (old new : StoredWorld R P) (r : Refusal) : Type 0 where
   pub why : IsLate who c (world_of is old) r
   pub same : world_of is new ≡ world_of is old
 
 -- the result of a command that `early_refusals` doesn't refuse: Ok with its reply if it is carried
 -- out; otherwise the reason why not, with the world unchanged
-abbrev pub Does : {R P : Type 0} → (R → Behaviour P) → ℕ → Command → Staged R P → Staged R P → Result Reply Refusal → Type 0
+abbrev pub Does : {R P : Type 0} → (R → Behaviour P) → ℕ → Command → StoredWorld R P → StoredWorld R P → Result Reply Refusal → Type 0
 Does is who c old new (Ok reply) = IsCarriedOut is who c old new reply
 Does is who c old new (Err r) = Undone is who c old new r
 
 -- the answer to a command, if the log isn't full: Ok with the reply that `command_result` gives, and
 -- the world that it gives once the command is counted as logged; or an error, if memory runs out and
 -- there is no reason to refuse the command, with the world unchanged
-abbrev pub HasAnswer : {R P : Type 0} → (R → Behaviour P) → ℕ → Option ℕ → Command → Staged R P → Staged R P → Result Reply AllocError → Type 0
+abbrev pub HasAnswer : {R P : Type 0} → (R → Behaviour P) → ℕ → Option ℕ → Command → StoredWorld R P → StoredWorld R P → Result Reply AllocError → Type 0
 HasAnswer is who guard c old new (Ok reply) = command_result who guard c (world_of is old) ≡ record { world = with_one_logged (world_of is new); reply = reply }
 HasAnswer is who guard c old new (Err e) = NoneDue who guard c (world_of is old) × (world_of is new ≡ world_of is old)
 

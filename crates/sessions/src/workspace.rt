@@ -6,7 +6,7 @@ ghost use Rattle.sessions.specs.Acts.{early_refusals, first_refusal, fits_comman
 ghost use Rattle.sessions.specs.Acts as spec;
 ghost use Rattle.schedule_trie.specs.Edits.{edit_in, step_in};
 ghost use Rattle.sessions.specs.Edits.{edit_of};
-ghost use Rattle.sessions.specs.Books.{HasAnswer, Does, staged, world_of};
+ghost use Rattle.sessions.specs.Books.{HasAnswer, Does, stored, world_of};
 ghost use Rattle.sessions.specs.Bounds.{CanAct};
 
 mod cursors;
@@ -46,8 +46,8 @@ impl<R: Register> Workspace<R> {
         command: &Command,
     ) -> Result<Reply, AllocError>
         requires { CanAct self.old }
-        ensures { (n : ℕ) → is_full (world_of R.behaviour (staged self.old n)) ≡ false
-            → HasAnswer R.behaviour who if_at command.now (staged self.old n) (staged self.new n)
+        ensures { (n : ℕ) → is_full (world_of R.behaviour (stored self.old n)) ≡ false
+            → HasAnswer R.behaviour who if_at command.now (stored self.old n) (stored self.new n)
             result }
     {
         let (session, step, edit) = sorted(command);
@@ -77,7 +77,7 @@ impl<R: Register> Workspace<R> {
     ) -> Option<Refusal>
         ensures { (n : ℕ) (c : Command) → needs_session c ≡ session
             → option_and_then step_in (edit_of c) ≡ step → result ≡ first_refusal
-            (early_refusals who if_at c (world_of R.behaviour (staged self.now n))) }
+            (early_refusals who if_at c (world_of R.behaviour (stored self.now n))) }
     {
         let index = who as usize;
         if index >= SESSIONS || (session && self.cursors[index].is_none()) {
@@ -109,7 +109,7 @@ impl<R: Register> Workspace<R> {
             ≡ true }
         requires edit { edit_of command.now ≡ option_map edit_in edit }
         ensures { (n : ℕ)
-            → Does R.behaviour who command.now (staged self.old n) (staged self.new n) result }
+            → Does R.behaviour who command.now (stored self.old n) (stored self.new n) result }
     {
         if let Some(edit) = edit {
             return self.edit(alloc, &edit);

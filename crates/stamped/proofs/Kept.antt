@@ -21,10 +21,10 @@ use Rattle.frames.specs.laws.OneWriter as writer
 use Rattle.frames.specs.Recorded.{AllFit, first_configuration}
 use Rattle.frames.specs.correctness.Regularity.{in_progress, IsRegular, NotStray}
 use Rattle.frames.proofs.Seen.{Seen, Returned, among, opening, sees, got, now_last, IsNotStray, refuses, ended, Allowed}
-use Rattle.frames.proofs.Agreed.{stray_alike}
-use Rattle.frames.proofs.Agreement.{always_seen}
+use Rattle.frames.proofs.KnownAndSeen.{stray_alike}
+use Rattle.frames.proofs.OneWriterPromises.{always_seen}
 use Rattle.frames.specs.correctness.Regularity.{IsAtomic}
-use Rattle.frames.proofs.Judged.{not_stray_is}
+use Rattle.frames.proofs.VerdictFacts.{not_stray_is}
 use Rattle.frames.proofs.Pointwise.{put, put_same, put_other}
 use Rattle.layers.proofs.Numbering.{numbered_atomic}
 use Rattle.layers.specs.Sound.{LayerHolds, LayerReaches}

@@ -21,11 +21,11 @@ use Rattle.words.specs.Words.{lines, words, next, after_next, is_end}
 use Rattle.words.specs.Steps.{step_of_words}
 use Rattle.words.proofs.Steps.{first_word}
 use Rattle.frames.specs.declared.types.Step.{Step}
-use Rattle.tower_file.proofs.Loop.{want_of_memory}
+use Rattle.tower_file.proofs.StepLoop.{want_of_memory}
 use Rattle.tower_file.proofs.BenchLimbs.{limbs_text}
 use Rattle.tower_file.proofs.BenchSound.{line_goes_on, limbs_are, begun, bench_is}
 use Rattle.tower_file.proofs.Formats.{IsFormat}
-use Rattle.tower_file.proofs.BenchAgain.{bench_reading_again}
+use Rattle.tower_file.proofs.BenchReadBack.{bench_reading_again}
 
 -- ---- results that are passed on
 

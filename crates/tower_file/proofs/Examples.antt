@@ -11,7 +11,7 @@ use Rattle.tower_file.specs.Reading.{steps_of}
 use Rattle.tower_file.specs.Spelling.{spelling, SpellsSteps}
 use Rattle.tower_file.specs.Benches.{Bench, bench_of}
 use Rattle.tower_file.specs.BenchSpelling.{bench_spelling, SpellsFront}
-use Rattle.tower_file.proofs.Again.{reading_again}
+use Rattle.tower_file.proofs.ReadBack.{reading_again}
 
 -- the file of a safe bit and these steps
 abbrev file : List Step → File

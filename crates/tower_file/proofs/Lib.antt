@@ -1,12 +1,12 @@
-pub mod Loop
+pub mod StepLoop
 pub mod Texts
 pub mod Sound
-pub mod Again
+pub mod ReadBack
 pub mod Formats
-pub mod Answer
+pub mod CallResults
 pub mod BenchLimbs
 pub mod BenchSound
-pub mod BenchAgain
+pub mod BenchReadBack
 pub mod BenchAnswers
 pub mod LimbNames
 pub mod TowerNames

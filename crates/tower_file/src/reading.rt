@@ -173,7 +173,7 @@ fn steps_of(
 
 /// Reads the lines of a file, without a check for foreign bytes (those that no file may have). Only
 /// the steps need memory.
-#[tactic(auto, using(crate::proofs::Loop::fewer_left))]
+#[tactic(auto, using(crate::proofs::StepLoop::fewer_left))]
 fn file_of_lines(alloc: Global, bytes: &[u8]) -> Result<TowerFile, FileFault>
     ensures exact { Gives as_file result (spec.file_of_lines (lines bytes.now)) }
     ensures memory { MemoryOnlyIf result

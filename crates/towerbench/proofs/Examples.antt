@@ -10,7 +10,7 @@ use Rattle.tower_file.specs.Files.{File, file_of}
 use Rattle.tower_file.specs.Spelling.{spelling}
 use Rattle.tower_file.specs.Benches.{Bench}
 use Rattle.tower_file.specs.BenchSpelling.{bench_spelling}
-use Rattle.tower_file.proofs.Again.{reading_again}
+use Rattle.tower_file.proofs.ReadBack.{reading_again}
 use Rattle.conversation.specs.declared.fault.StreamFault.TheVariants as stream
 use Rattle.conversation.specs.Moments.{Streams, streams}
 use Rattle.conversation.specs.Conversations.{Answering}

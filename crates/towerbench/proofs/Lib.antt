@@ -1,7 +1,7 @@
-pub mod Opened
+pub mod RunEndings
 pub mod Refusals
 pub mod Endings
 pub mod Replies
-pub mod Grounds
+pub mod UnchangedTower
 pub mod Benches
 mod Examples

@@ -62,10 +62,10 @@ where
         out.new.items) }
     ensures alone { IsAlone seat.old → IsAlone seat.new }
 {
-    match read_line(line) {
+    match &read_line(line) {
         Line::Blank => Ok(()),
         Line::Bad => push_bad_line(out, number),
-        Line::Call(call) => answer_call(alloc, seat, &call, out),
+        Line::Call(call) => answer_call(alloc, seat, call, out),
     }
 }
 

@@ -86,7 +86,7 @@ pub(crate) fn run_setup<H: Threads + Wait + Sync, R: Read, W: Write>(
         (streams (R.remaining reader.old) (W.contents writer.old))
         (streams (R.remaining reader.new) (W.contents writer.new)) result }
 {
-    macro_rules! begin_on {
+    macro_rules! begin_with {
         ($register:expr, $value:expr) => {{
             let opening = Opening {
                 register: $register,
@@ -97,21 +97,21 @@ pub(crate) fn run_setup<H: Threads + Wait + Sync, R: Read, W: Write>(
         }};
     }
     match tower_of(&setup.bench) {
-        TowerSpec::Safe { init } => begin_on!(Safe, init),
-        TowerSpec::Copies { readers, init } => begin_on!(copies(readers), init),
-        TowerSpec::Regular { readers, init } => begin_on!(regular(readers), init),
+        TowerSpec::Safe { init } => begin_with!(Safe, init),
+        TowerSpec::Copies { readers, init } => begin_with!(copies(readers), init),
+        TowerSpec::Regular { readers, init } => begin_with!(regular(readers), init),
         TowerSpec::Unary {
             values,
             readers,
             init,
-        } => begin_on!(unary(values, readers), init),
-        TowerSpec::Stamped { values, last } => begin_on!(stamped(values, last), 0),
+        } => begin_with!(unary(values, readers), init),
+        TowerSpec::Stamped { values, last } => begin_with!(stamped(values, last), 0),
         TowerSpec::Matrix {
             processes,
             values,
             last_tag,
             last_stamp,
-        } => begin_on!(matrix(processes, values, last_tag, last_stamp), 0),
+        } => begin_with!(matrix(processes, values, last_tag, last_stamp), 0),
     }
 }
 

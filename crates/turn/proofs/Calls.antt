@@ -11,8 +11,8 @@ use Rattle.turn.specs.Shares.{has_share, HasAll, shares_without, together, count
 use Rattle.turn.specs.laws.Shares.{below_every, has_without, given_inside, given_some, kept_some, count_some, number_held, together_some}
 use Rattle.turn.specs.Histories.{StartsWith, first_view, with_news, longer, joined, IsJoined, HoldsSome, under, OwnsItsCalls, kept, handed}
 use Rattle.turn.specs.Rule.{Kept, NewsReports}
-use Rattle.turn.proofs.Fronts.{nothing_new, under_kept}
-use Rattle.turn.proofs.Keeps.{starts, none_under, longer_cases}
+use Rattle.turn.proofs.Prefixes.{nothing_new, under_kept}
+use Rattle.turn.proofs.RuleSteps.{starts, none_under, longer_cases}
 
 module _ {T E : Type 0} (by : E → ℕ) (entries : T → List E) where
   abbrev V : Type 0

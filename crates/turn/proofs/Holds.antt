@@ -7,7 +7,7 @@ use Rattle.turn.specs.Shares.{has_share, chair_number}
 use Rattle.turn.specs.Entries.{AtMostOne}
 use Rattle.turn.specs.Histories.{StartsWith, grabbed, published, released, under, OwnsItsCalls, Holding}
 use Rattle.turn.specs.Rule.{Grabs}
-use Rattle.turn.proofs.Fronts.{under_append}
+use Rattle.turn.proofs.Prefixes.{under_append}
 
 module _ {T : Type 0} where
   abbrev some_or : T → Option T → T

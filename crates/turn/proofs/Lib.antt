@@ -1,5 +1,5 @@
-pub mod Fronts
-pub mod Keeps
+pub mod Prefixes
+pub mod RuleSteps
 pub mod Holds
 pub mod Calls
 mod Examples

@@ -7,7 +7,7 @@ use Rattle.frames.specs.declared.types.Op.TheVariants.{Read, Write}
 use Rattle.frames.specs.declared.types.Event.TheVariants.{Invoke, Wrote}
 use Rattle.frames.specs.correctness.Regularity.{in_progress}
 use Rattle.frames.proofs.Seen.{Seen, Returned, among, sees, now_last, IsNotStray, among_more, among_here}
-use Rattle.frames.proofs.Judged.{not_stray_is}
+use Rattle.frames.proofs.VerdictFacts.{not_stray_is}
 use Rattle.frames.proofs.Pointwise.{put, put_same, put_other, put_all}
 
 -- the bit is 1, and no write of 0 to it is in progress

@@ -22,7 +22,7 @@ use Rattle.frames.specs.Configuration.{in_order, chosen_of}
 use Rattle.frames.specs.OneWriter.{one_writer}
 use Rattle.frames.specs.laws.OneWriter as writer
 use Rattle.frames.specs.correctness.Regularity.{IsRegular}
-use Rattle.frames.proofs.Agreed.{stray_alike}
+use Rattle.frames.proofs.KnownAndSeen.{stray_alike}
 use Rattle.frames.proofs.Pointwise.{put, put_same, put_other, put_zero, put_back, put_over, put_all}
 use Rattle.layers.specs.Nested.{Program, Ends, Asks, Table, layered}
 use Rattle.layers.specs.Sound.{IsNotSpent, IsSoundTable, FitsBelow}

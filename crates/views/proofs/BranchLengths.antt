@@ -1,7 +1,8 @@
 -- How long branches are.
-use Rattle.std.proofs.Common.{◌≡◌, ℕ, zero, suc, ◌+◌, List, [], ◌∷◌, ◌++◌, length, take, map, slice_get, Some, refl, sym, ap, subst, ◌∙◌, arith}
-use Rattle.std.specs.Option.{option_map, IfSome}
+use Rattle.std.proofs.Common.{◌≡◌, ℕ, zero, suc, ◌+◌, List, [], ◌∷◌, ◌++◌, length, take, map, slice_get, Some, refl, sym, ap, ◌∙◌, arith}
+use Rattle.std.specs.Option.{option_map}
 use Rattle.schedule_trie.specs.Forest.{Branch, slots_in, name_in, index_of, AreNamedApart}
+use Rattle.schedule_trie.proofs.NamesApart.{found_apart}
 use Rattle.pages.specs.declared.page.branches.BranchLength.{BranchLength}
 use Rattle.pages.specs.page.Branches.{length_of}
 
@@ -21,7 +22,7 @@ branch_at : (branches : List Branch) (i : ℕ) (name : List ℕ) (len : ℕ) →
     → Some len ≡ option_map (λ j. length (slots_in branches j)) (index_of branches name) → IsBranchAt branches i name len
 branch_at branches i name len apart named counts =
     let b = there branches i name (sym named) in
-    let found : index_of branches name ≡ Some i = subst (λ o. IfSome o (λ n. index_of branches n ≡ Some i)) (sym named) (apart i) in
+    let found = found_apart branches i name apart (sym named) in
     let counted : Some len ≡ Some (length (slots_in branches i)) = counts ∙ ap (option_map (λ j. length (slots_in branches j))) found in
     let same : len ≡ length (slots_in branches i) = cc in
     record { here = b.0; at = b.1; named = b.2; counted = sym (same ∙ ap length b.3) }

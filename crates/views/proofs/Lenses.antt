@@ -20,7 +20,7 @@ use Rattle.views.specs.Lenses.{MatchTheirKeys}
 use Rattle.pages.specs.Pages.{page_at}
 use Rattle.views.specs.Spots.{IsAlike, part_end}
 use Rattle.views.specs.laws.PlaceLaws.{SamePlace, same_place, place_decides}
-use Rattle.views.proofs.Alone.{replayed_alone, replayed-append, page_alone}
+use Rattle.views.proofs.BehaviourAlone.{replayed_alone, replayed-append, page_alone}
 
 pub take-take : (n m : ℕ) (steps : List Step) → n ≤ m → take n (take m steps) ≡ take n steps
 take-take zero m steps h = refl

@@ -1,4 +1,4 @@
-pub mod Alone
+pub mod BehaviourAlone
 pub mod Lenses
 pub mod Spots
 pub mod Indices

@@ -19,7 +19,7 @@ use Rattle.views.specs.Spots.{part_end, parts_end, parts_events, IsSpotOf}
 use Rattle.pages.specs.Pages.{page_at, shows_events}
 use Rattle.views.specs.RunPages.{run_page, found_last, Shows}
 use Rattle.views.specs.Looks.{place_page}
-use Rattle.views.proofs.Alone.{page_alone}
+use Rattle.views.proofs.BehaviourAlone.{page_alone}
 
 pub slip_told : {R P : Type 0} (is : R → Behaviour P) (start : Configuration R P) (value : ℕ) (steps : List Step) (place len : ℕ) (parts : List (RunPart R P))
     → IsSpotOf is start value steps place len parts → (kind : PlaceKind) (branch : List ℕ)

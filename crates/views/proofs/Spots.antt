@@ -24,7 +24,7 @@ use Rattle.cutoff.proofs.Fits.{register_kept, replayed_same, alone_same}
 use Rattle.frames.specs.Recorded.{first_configuration}
 use Rattle.views.specs.Spots.{part_end, part_events, parts_end, parts_events, IsSpotOf}
 use Rattle.views.specs.Looks.{steps_in}
-use Rattle.views.proofs.Alone.{replayed_alone, history_alone, replayed-append, history-append, history_same}
+use Rattle.views.proofs.BehaviourAlone.{replayed_alone, history_alone, replayed-append, history-append, history_same}
 
 module _ {R P : Type 0} (E : R → R → Bool) (equal : IsEquivalence E) (is : R → Behaviour P) (alike : (x y : R) → E x y ≡ true → is x ≡ is y)
     (b : Behaviour P) (old new : Cut (StoredRun R P)) where

@@ -1,10 +1,7 @@
 -- A text is cut at each byte that passes a test.
 use Rattle.std.specs.Option.{option_map}
-use Rattle.std.proofs.Common.{Bor, Option, Some, None, not, is_some, nat_lt, ◌==◌, ◌≡◌, ℕ, zero, suc, ◌+◌, ◌<◌, ◌≤◌, Bool, true, false, cond, List, [], ◌∷◌, length, get_or, take, drop, refl, sym, ap, ◌∙◌, arith}
+use Rattle.std.proofs.Common.{Bor, Option, Some, None, not, is_some, ◌==◌, ◌≡◌, ℕ, ◌+◌, ◌<◌, ◌≤◌, Bool, true, false, cond, List, [], ◌∷◌, length, take, drop, refl, sym, ap, ◌∙◌, arith}
 use Rattle.std.specs.List.{slice_split, onto_first, position, position_or_len}
-use Rattle.std.proofs.lemmas.Bool.{false_from_ne_true}
-use Rattle.std.proofs.lemmas.Bool.Decides.{nat_tests}
-use Rattle.bstr.specs.Find.{IsFirstByte, is_byte}
 use Rattle.std.proofs.lemmas.Grind.{common_steps}
 use Rattle.std.proofs.lemmas.List.Sums.{fails_before_first}
 use Rattle.std.proofs.lemmas.List.Splits.{slice_split_none, slice_split_first}
@@ -42,39 +39,3 @@ is_end-parts_left c None true e = refl
 is_end-parts_left c None false e = cc
 is_end-parts_left c (Some text) true e = cc
 is_end-parts_left c (Some text) false e = sym (split_some (λ b. b == c) text.now)
-
--- ---- the first byte of a kind
-
-none_before : (p : ℕ → Bool) (xs : List ℕ) → ((j : ℕ) → j < length xs → p (get_or xs j 0) ≡ true → ⊥) → position_or_len p xs ≡ length xs
-none_before p [] none = refl
-none_before p (x ∷ xs) none =
-    let here : p x ≡ false = false_from_ne_true (p x) (none 0 (omega arith)) in
-    let later : position_or_len p xs ≡ length xs = none_before p xs (λ j less. none (suc j) (omega (arith, less))) in
-    let step : position_or_len p (x ∷ xs) ≡ 1 + position_or_len p xs = ap (λ b. cond (not b) (1 + position_or_len p xs) 0) here in
-    omega (arith, step, later)
-
-first_there : (p : ℕ → Bool) (xs : List ℕ) (k : ℕ) → k < length xs → p (get_or xs k 0) ≡ true → ((j : ℕ) → j < k → p (get_or xs j 0) ≡ true → ⊥) → position_or_len p xs ≡ k
-first_there p [] k within here none = absurd (omega (arith, within))
-first_there p (x ∷ xs) zero within here none = ap (λ b. cond (not b) (1 + position_or_len p xs) 0) here
-first_there p (x ∷ xs) (suc k) within here none =
-    let other : p x ≡ false = false_from_ne_true (p x) (none 0 (omega arith)) in
-    let later : position_or_len p xs ≡ k = first_there p xs k (omega (arith, within)) here (λ j less. none (suc j) (omega (arith, less))) in
-    let step : position_or_len p (x ∷ xs) ≡ 1 + position_or_len p xs = ap (λ b. cond (not b) (1 + position_or_len p xs) 0) other in
-    omega (arith, step, later)
-
-not_below : (n : ℕ) → nat_lt n n ≡ false
-not_below n = grind (arith, nat_tests)
-
-below : (k n : ℕ) → k < n → nat_lt k n ≡ true
-below k n h = grind (arith, nat_tests)
-
-abbrev place_in : List ℕ → ℕ → Option ℕ
-place_in xs n = cond (nat_lt n (length xs)) (Some n) None
-
-pub is_position : (c : ℕ) (xs : List ℕ) (r : Option ℕ) → IsFirstByte (is_byte c) xs r → r ≡ position (λ b. b == c) xs
-is_position c xs None none =
-    let at = none_before (λ b. b == c) xs (λ j less. none j (omega arith) less) in
-    sym (ap (place_in xs) at ∙ ap (λ b. cond b (Some (length xs)) None) (not_below (length xs)))
-is_position c xs (Some k) found =
-    let at = first_there (λ b. b == c) xs k found.0.high found.1 (λ j less. found.0.before j (omega arith) less) in
-    sym (ap (place_in xs) at ∙ ap (λ b. cond b (Some k) None) (below k (length xs) found.0.high))

@@ -4,7 +4,6 @@ ghost use Rattle.std.specs.Prelude.{◌≡◌, ◌==◌, ◌∷◌, position};
 ghost use Rattle.std.specs.Option.{option_map};
 ghost use Rattle.words.specs.Words.{parts, parts_left, next, after_next, is_end};
 
-use bstr::ByteSlice;
 use std::marker::Model;
 
 /// The parts of a text that aren't taken yet. The text is cut into parts at its separators.
@@ -75,5 +74,6 @@ pub(crate) fn first_part(text: &[u8], separator: u8) -> (&[u8], Option<&[u8]>)
 fn first_place(text: &[u8], byte: u8) -> Option<usize>
     ensures { result ≡ position (λ b. b == byte) text.now }
 {
-    text.find_byte(byte)
+    // Parts are short: one test for each byte costs less than a call that tests many at once.
+    text.iter().position(|b| *b == byte)
 }

@@ -1,2 +1,2 @@
-pub mod Dealing
-pub mod Slotting
+pub mod DequeRule
+pub mod FilledSlots

@@ -83,7 +83,7 @@ fn push_invocation(out: &mut Vec<u8>, op: Op) -> Pushed
     push_op(out, op)
 }
 
-/// Adds the kind of an event, and the name after it.
+/// Adds a text, and a name after it.
 fn push_named(out: &mut Vec<u8>, kind: &str, name: &str) -> Pushed
     ensures { OnOk result (out.new.items ≡ out.old.items ++ kind.now ++ name.now) }
 {

@@ -27,8 +27,9 @@ impl<T: Drop> Trie<T> {
         }
     }
 
-    /// The number of cells of the branch at an index, whose length isn't cached. If the branch whose
-    /// length was cached last ends with the same segment, they are as long, and no cell is counted.
+    /// The number of cells of the branch at an index, whose length isn't cached. If the branch
+    /// whose length was cached last ends with the same segment, both are equally long, and no
+    /// cell is counted.
     fn counted_len(&self, index: usize) -> u32
         ensures { result ≡ length (slots_in (forest self.now).branches index) }
     {

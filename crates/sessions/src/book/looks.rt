@@ -10,10 +10,10 @@ ghost use Rattle.sessions.specs.Books.{opening_of};
 use super::Book;
 use crate::cursor::SESSIONS;
 use frames::register::Register;
+use schedule_trie::listed::Listed;
 use schedule_trie::refusal::Refusal;
 use std::alloc::Global;
 use views::branches::branches_page;
-use views::listed::Listed;
 use views::page::Page;
 use views::page::cursor::CursorPage;
 use views::query::Query;
@@ -27,8 +27,7 @@ impl<R: Register> Book<R> {
         ensures no_stray { IfOk result (λ slip. ShowsNoStray slip.page) }
         ensures err { IfErr result (λ e. e ≡ Refusal.Memory) }
     {
-        let branches = &self.workspace.chart;
-        let page = branches_page(alloc, self.workspace.edits, branches)?;
+        let page = branches_page(alloc, self.workspace.edits, &self.workspace.chart)?;
         Ok(Slip::of(Page::Branches(page)))
     }
 

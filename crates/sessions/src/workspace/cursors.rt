@@ -3,7 +3,7 @@
 ghost use Rattle.std.specs.Prelude.{◌≡◌, ℕ, ◌<◌, IfOk, length};
 ghost use Rattle.schedule_trie.specs.Cut.{forest};
 ghost use Rattle.sessions.specs.Cursors as spec;
-ghost use Rattle.sessions.specs.Books.{Does, IsCarriedOut, seek_command, staged, world_of};
+ghost use Rattle.sessions.specs.Books.{Does, IsCarriedOut, seek_command, stored, world_of};
 ghost use Rattle.sessions.specs.Bounds.{CanAct};
 ghost use Rattle.std.specs.Option.{option_map};
 ghost use Rattle.sessions.specs.Acts.{hit_of, hit_reply};
@@ -31,8 +31,8 @@ impl<R: Register> Workspace<R> {
     pub(super) fn join(&mut self, alloc: Global, who: u32) -> Reply
         requires can { CanAct self.old }
         requires session { who < 16 }
-        ensures { (n : ℕ) → IsCarriedOut R.behaviour who Command.Join (staged self.old n)
-            (staged self.new n) result }
+        ensures { (n : ℕ) → IsCarriedOut R.behaviour who Command.Join (stored self.old n)
+            (stored self.new n) result }
     {
         self.cursors[who as usize] = first_cursor(&self.chart);
         self.breaks[who as usize] = Breaks::new(alloc);
@@ -43,8 +43,8 @@ impl<R: Register> Workspace<R> {
     pub(super) fn leave(&mut self, alloc: Global, who: u32) -> Reply
         requires can { CanAct self.old }
         requires session { who < 16 }
-        ensures { (n : ℕ) → IsCarriedOut R.behaviour who Command.Leave (staged self.old n)
-            (staged self.new n) result }
+        ensures { (n : ℕ) → IsCarriedOut R.behaviour who Command.Leave (stored self.old n)
+            (stored self.new n) result }
     {
         self.cursors[who as usize] = None;
         self.breaks[who as usize] = Breaks::new(alloc);
@@ -59,8 +59,8 @@ impl<R: Register> Workspace<R> {
     pub(super) fn go(&mut self, who: u32, branch: &Name, place: u32) -> Result<Reply, Refusal>
         requires can { CanAct self.old }
         requires session { who < 16 }
-        ensures { (n : ℕ) → Does R.behaviour who (Command.Go branch.now place) (staged self.old n)
-            (staged self.new n) result }
+        ensures { (n : ℕ) → Does R.behaviour who (Command.Go branch.now place) (stored self.old n)
+            (stored self.new n) result }
     {
         let Some(len) = self.chart.len(branch) else {
             return Err(Refusal::NoBranch);
@@ -84,8 +84,8 @@ impl<R: Register> Workspace<R> {
     pub(super) fn seek(&mut self, alloc: Global, who: u32, way: Way) -> Result<Reply, Refusal>
         requires can { CanAct self.old }
         requires session { who < 16 }
-        ensures { (n : ℕ) → Does R.behaviour who (seek_command way) (staged self.old n)
-            (staged self.new n) result }
+        ensures { (n : ℕ) → Does R.behaviour who (seek_command way) (stored self.old n)
+            (stored self.new n) result }
     {
         let hit = self.hit_of(alloc, who, way)?;
         let reply = hit_reply(&hit);
@@ -100,9 +100,9 @@ impl<R: Register> Workspace<R> {
         requires can { CanAct self.old }
         requires session { who < 16 }
         ensures hit { (n : ℕ) → IfOk result
-            (λ hit. hit ≡ hit_of way (world_of R.behaviour (staged self.old n)) who) }
-        ensures world { (n : ℕ) → world_of R.behaviour (staged self.new n)
-            ≡ world_of R.behaviour (staged self.old n) }
+            (λ hit. hit ≡ hit_of way (world_of R.behaviour (stored self.old n)) who) }
+        ensures world { (n : ℕ) → world_of R.behaviour (stored self.new n)
+            ≡ world_of R.behaviour (stored self.old n) }
     {
         let cursor = cursor_of(&self.cursors, who);
         let breaks = breaks_of(&self.breaks, who);
@@ -120,8 +120,8 @@ impl<R: Register> Workspace<R> {
     pub(super) fn set_break(&mut self, who: u32, added: Break) -> Result<Reply, Refusal>
         requires can { CanAct self.old }
         requires session { who < 16 }
-        ensures { (n : ℕ) → Does R.behaviour who (Command.Break added) (staged self.old n)
-            (staged self.new n) result }
+        ensures { (n : ℕ) → Does R.behaviour who (Command.Break added) (stored self.old n)
+            (stored self.new n) result }
     {
         self.breaks[who as usize].add(added)?;
         Ok(Reply::BreakSet)
@@ -135,8 +135,8 @@ impl<R: Register> Workspace<R> {
     pub(super) fn clear_break(&mut self, who: u32, gone: Break) -> Result<Reply, Refusal>
         requires can { CanAct self.old }
         requires session { who < 16 }
-        ensures { (n : ℕ) → Does R.behaviour who (Command.Clear gone) (staged self.old n)
-            (staged self.new n) result }
+        ensures { (n : ℕ) → Does R.behaviour who (Command.Clear gone) (stored self.old n)
+            (stored self.new n) result }
     {
         if !self.breaks[who as usize].has(gone) {
             return Err(Refusal::NoBreak);

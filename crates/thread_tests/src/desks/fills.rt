@@ -283,8 +283,8 @@ fn fork_in_the_middle(rt: &impl Abort) -> Command {
     }
 }
 
-/// An editor and a filler work at a new desk of the thousand steps. Compares the log and the text of
-/// a look's page with a book's.
+/// An editor and a filler work at a new desk of the thousand steps. Compares the log and the text
+/// of a look's page with a book's.
 fn fill_and_edit<R: Abort + Threads + Wait + Sync>(
     rt: &R,
     alloc: Global,

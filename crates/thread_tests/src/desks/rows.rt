@@ -37,8 +37,8 @@ fn receipt(at: u64, reply: Reply) -> Receipt {
     Receipt { at, reply }
 }
 
-/// Two chairs each insert a read at the beginning, and try this at most `tries` times while there is
-/// no memory. Both inserts are guarded by edit count 0, so the second is refused.
+/// Two chairs each insert a read at the beginning, and try this at most `tries` times while there
+/// is no memory. Both inserts are guarded by edit count 0, so the second is refused.
 pub(super) fn insert_by_both<R: Abort + Wait>(
     room: &Room<'_, R>,
     first: &mut Chair<Safe>,

@@ -3,7 +3,7 @@ use Rattle.frames.specs.Configuration.{fits_step, stepped, events_of, replayed, 
 use Rattle.checkpoints.specs.Kept.{kept_events}
 use Rattle.checkpoints.specs.Reports.{reported_events}
 use Rattle.checkpoints.proofs.Replays.{left_at, none_left, step_fits, rest_fits, step_kept, step_replayed, step_told}
-use Rattle.checkpoints.proofs.Tellings.{told_more}
+use Rattle.checkpoints.proofs.MarkedEvents.{told_more}
 use Rattle.checkpoints.proofs.replaying.replay_from.Goals as goal
 
 pub step-reported-requires : goal.step-reported-requires

@@ -3,7 +3,7 @@ use Rattle.frames.specs.Configuration.{replayed, history}
 use Rattle.frames.specs.Recorded.{AllFit}
 use Rattle.checkpoints.specs.Kept.{kept_events}
 use Rattle.checkpoints.specs.Reports.{reported_events}
-use Rattle.checkpoints.proofs.Tellings.{IsTold}
+use Rattle.checkpoints.proofs.MarkedEvents.{IsTold}
 use Rattle.checkpoints.proofs.replaying.replay_from.Given as goal
 
 -- the replay so far, and that of the steps still to be made, are together the whole replay

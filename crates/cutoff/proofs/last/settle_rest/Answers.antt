@@ -1,9 +1,9 @@
 use Rattle.std.proofs.Common.{◌≡◌, ◌+◌, ◌++◌, [], Some, true, drop, get_or, refl, sym, subst, ◌∙◌, arith, append-nil}
 use Rattle.cutoff.specs.Prefixes.{Hangs, exit_or_start}
 use Rattle.schedule_trie.specs.Cut.{has, keys_in}
-use Rattle.cutoff.proofs.Kept.{cut_kept, keeps_still}
-use Rattle.cutoff.proofs.Rests.{IsGoing, going_starts, going_past, going_next, kept_next, going_settles, small_next, fits_next}
-use Rattle.cutoff.proofs.Lefts.{again_left, hangs_next, kept_settles, early_settles}
+use Rattle.cutoff.proofs.SameBranches.{cut_kept, keeps_still}
+use Rattle.cutoff.proofs.RestWalks.{IsGoing, going_starts, going_past, going_next, kept_next, going_settles, small_next, fits_next}
+use Rattle.cutoff.proofs.LeftToSettle.{again_left, hangs_next, kept_settles, early_settles}
 use Rattle.cutoff.proofs.last.settle_rest.Goals as goal
 
 pub loop-segment-init : goal.loop-segment-init

@@ -3,7 +3,7 @@ use Rattle.schedule_trie.specs.Cut.{keys_in}
 use Rattle.frames.specs.Configuration.{Configuration}
 use Rattle.cutoff.specs.Links.{IsLinkedAt}
 use Rattle.cutoff.specs.Prefixes.{Hangs, IsLeft, run_named}
-use Rattle.cutoff.proofs.Rests.{IsGoing}
+use Rattle.cutoff.proofs.RestWalks.{IsGoing}
 use Rattle.cutoff.proofs.last.settle_rest.Given as goal
 
 abbrev pub invariant-loop-segment : goal.invariant-loop-segment

@@ -2,8 +2,8 @@ use Rattle.std.proofs.Common.{sym, ap, ◌∙◌}
 use Rattle.std.specs.Arc.{arc_value}
 use Rattle.std.specs.Option.{option_map}
 use Rattle.cutoff.specs.Fitting.{run_of}
-use Rattle.cutoff.proofs.Kept.{all_kept}
-use Rattle.cutoff.proofs.Lasts.{marked_now}
+use Rattle.cutoff.proofs.SameBranches.{all_kept}
+use Rattle.cutoff.proofs.LastRuns.{marked_now}
 use Rattle.cutoff.proofs.last.settle_to.Goals as goal
 
 pub settle_rest-requires-clause-left : goal.settle_rest-requires-clause-left

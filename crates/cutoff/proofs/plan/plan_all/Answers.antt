@@ -2,7 +2,7 @@ use Rattle.std.proofs.Common.{◌≡◌, ◌≤◌, ◌<◌, length, map, refl, 
 use Rattle.std.proofs.lemmas.List.{length-map}
 use Rattle.schedule_trie.specs.Cut.{piece_at, branch_on, keys_in}
 use Rattle.cutoff.specs.Plans.{keys_of}
-use Rattle.cutoff.proofs.Plannings.{plan_adds, plan_on, plan_ends}
+use Rattle.cutoff.proofs.Plans.{plan_adds, plan_on, plan_ends}
 use Rattle.cutoff.proofs.Sights.{none_seen}
 use Rattle.cutoff.proofs.plan.plan_all.Goals as goal
 

@@ -5,7 +5,7 @@ use Rattle.schedule_trie.specs.Climbs.{HasClimbedTo}
 use Rattle.schedule_trie.proofs.Climbs.{step_up}
 use Rattle.cutoff.specs.Prefixes.{IsHung}
 use Rattle.cutoff.proofs.Climbs.{path_once}
-use Rattle.cutoff.proofs.Hangings.{hung_here, hung_more}
+use Rattle.cutoff.proofs.HungRuns.{hung_here, hung_more}
 use Rattle.cutoff.proofs.prefix.hung_from.Goals as goal
 
 pub returns-in_default : goal.returns-in_default

@@ -2,7 +2,7 @@ use Rattle.std.proofs.Common.{◌≡◌, ℕ, true}
 use Rattle.schedule_trie.specs.Cut.{has, keys_in}
 use Rattle.schedule_trie.proofs.Climbs.{IsStepUp}
 use Rattle.cutoff.specs.Prefixes.{IsHung}
-use Rattle.cutoff.proofs.Hangings.{HasLinked}
+use Rattle.cutoff.proofs.HungRuns.{HasLinked}
 use Rattle.cutoff.proofs.prefix.hung_from.Given as goal
 
 abbrev pub invariant-loop : goal.invariant-loop

@@ -7,7 +7,7 @@ use Rattle.schedule_trie.proofs.Climbs.{step_up}
 use Rattle.cutoff.specs.Prefixes.{RunsDown, IsKnown}
 use Rattle.cutoff.proofs.Climbs.{path_once}
 use Rattle.cutoff.proofs.Fits.{stored_at}
-use Rattle.cutoff.proofs.Lefts.{hung_runs, hung_marked}
+use Rattle.cutoff.proofs.LeftToSettle.{hung_runs, hung_marked}
 use Rattle.cutoff.proofs.Prefixes.{up_new, none_known}
 use Rattle.cutoff.proofs.prefix.known_prefix.Goals as goal
 

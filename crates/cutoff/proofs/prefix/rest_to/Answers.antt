@@ -1,4 +1,4 @@
-use Rattle.cutoff.proofs.Lasts.{left_in}
+use Rattle.cutoff.proofs.LastRuns.{left_in}
 use Rattle.cutoff.proofs.prefix.rest_to.Goals as goal
 
 pub returns : goal.returns

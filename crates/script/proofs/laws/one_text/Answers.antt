@@ -1,5 +1,5 @@
 use Rattle.std.proofs.Common.{sym, ◌∙◌}
-use Rattle.script.proofs.Said.{says_what_is_read, reads_what_is_said}
+use Rattle.script.proofs.LineMeaning.{says_what_is_read, reads_what_is_said}
 use Rattle.script.proofs.laws.one_text.Goals as goal
 
 pub returns-clause-text : goal.returns-clause-text

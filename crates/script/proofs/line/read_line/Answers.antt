@@ -1,5 +1,5 @@
 use Rattle.std.proofs.Common.{sym, ◌∙◌}
-use Rattle.script.proofs.Said.{says_what_is_read, reads_what_is_said}
+use Rattle.script.proofs.LineMeaning.{says_what_is_read, reads_what_is_said}
 use Rattle.script.proofs.line.read_line.Goals as goal
 
 pub returns-clause-says : goal.returns-clause-says

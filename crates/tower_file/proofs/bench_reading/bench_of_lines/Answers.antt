@@ -2,7 +2,7 @@ use Rattle.std.proofs.Common.{rules, ◌≡◌, true, Ok, None}
 use Rattle.words.specs.Words.{lines, after_next}
 use Rattle.tower_file.specs.BenchSpelling.{bench_header, SpellsFront}
 use Rattle.tower_file.specs.Reading.{first_foreign, has_header, tower_of}
-use Rattle.tower_file.proofs.Loop.{want_of_memory, known_fault}
+use Rattle.tower_file.proofs.StepLoop.{want_of_memory, known_fault}
 use Rattle.tower_file.proofs.BenchAnswers.{bench_lawful, spells_front}
 use Rattle.tower_file.proofs.bench_reading.bench_of_lines.Goals as goal
 

@@ -1,7 +1,7 @@
 use Rattle.std.proofs.Common.{rules, ◌≡◌, ◌+◌, ◌++◌, ◌∷◌, [], true, false, length, List, Ok, Option, Some, sym, ap, ◌∙◌, arith, length-append}
 use Rattle.frames.specs.declared.types.Step.{Step}
 use Rattle.tower_file.specs.Reading.{next_step, steps_of}
-use Rattle.tower_file.proofs.Loop.{with_front, more_lines, ends, fails, goes_on, some_step, given_fault, known_fault, bad_step_is_known}
+use Rattle.tower_file.proofs.StepLoop.{with_front, more_lines, ends, fails, goes_on, some_step, given_fault, known_fault, bad_step_is_known}
 use Rattle.tower_file.proofs.reading.steps_of.Goals as goal
 
 pub returns-in_err-next-clause-read : goal.returns-in_err-next-clause-read

@@ -1,7 +1,7 @@
 use Rattle.std.proofs.Common.{◌≡◌, ◌+◌, ◌<◌, ◌≤◌, ◌^◌, true, false, List, length}
 use Rattle.frames.specs.declared.types.Step.{Step}
 use Rattle.tower_file.specs.Reading.{steps_of}
-use Rattle.tower_file.proofs.Loop.{with_front}
+use Rattle.tower_file.proofs.StepLoop.{with_front}
 use Rattle.tower_file.proofs.reading.steps_of.Given as goal
 
 abbrev pub invariant-reading : goal.invariant-reading

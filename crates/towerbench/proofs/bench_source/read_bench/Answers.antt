@@ -2,7 +2,7 @@ use Rattle.std.specs.List.{list_all}
 use Rattle.std.proofs.lemmas.Bool.{and_parts}
 use Rattle.tower_file.specs.Towers.{is_lawful_tower}
 use Rattle.tower_file.specs.Versions.{may_have}
-use Rattle.tower_file.proofs.Again.{all_fit}
+use Rattle.tower_file.proofs.ReadBack.{all_fit}
 use Rattle.towerbench.proofs.bench_source.read_bench.Goals as goal
 
 pub one_branch-requires-clause-fit : goal.one_branch-requires-clause-fit

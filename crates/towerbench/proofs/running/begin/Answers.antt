@@ -3,7 +3,7 @@ use Rattle.schedule_trie.specs.Limbs.{limbs}
 use Rattle.tower_file.specs.Benches.{bench_of}
 use Rattle.towerbench.specs.Openings.{CanOpen}
 use Rattle.towerbench.specs.Seats.{world_at}
-use Rattle.towerbench.proofs.Opened.{ended_by_fault_at, ground_at, done_at, left_at}
+use Rattle.towerbench.proofs.RunEndings.{ended_by_fault_at, ground_at, done_at, left_at}
 use Rattle.towerbench.proofs.running.begin.Goals as goal
 
 pub returns-in-Err-serve_at : goal.returns-in-Err-serve_at

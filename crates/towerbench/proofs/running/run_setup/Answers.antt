@@ -1,7 +1,7 @@
 use Rattle.std.proofs.Common.{refl, sym, ◌∙◌}
 use Rattle.towers.specs.Towers.{copies_tower, regular_tower, unary_tower, stamped_tower, matrix_tower}
 use Rattle.tower_file.specs.declared.tower.TowerSpec.TheVariants.{Copies, Regular, Unary, Stamped, Matrix}
-use Rattle.towerbench.proofs.Opened.{builds_as}
+use Rattle.towerbench.proofs.RunEndings.{builds_as}
 use Rattle.towerbench.proofs.running.run_setup.Goals as goal
 
 pub begin-requires-in-Copies-clause-builds : goal.begin-requires-in-Copies-clause-builds

@@ -2,7 +2,7 @@ use Rattle.std.proofs.Common.{rules, sym, subst}
 use Rattle.atomic_table.specs.Table.{Me}
 use Rattle.turn.specs.declared.view.View.{View}
 use Rattle.turn.specs.Histories.{HoldsSome}
-use Rattle.turn.proofs.Keeps.{grabs}
+use Rattle.turn.proofs.RuleSteps.{grabs}
 use Rattle.turn.proofs.steps.grab.Goals as goal
 
 pub compare_exchange-requires : goal.compare_exchange-requires

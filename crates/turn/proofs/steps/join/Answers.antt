@@ -1,5 +1,5 @@
 use Rattle.std.proofs.Common.{rules}
-use Rattle.turn.proofs.Keeps.{joins}
+use Rattle.turn.proofs.RuleSteps.{joins}
 use Rattle.turn.proofs.steps.join.Goals as goal
 
 pub join_seat-requires : goal.join_seat-requires

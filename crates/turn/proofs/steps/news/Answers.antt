@@ -1,5 +1,5 @@
 use Rattle.std.proofs.Common.{rules}
-use Rattle.turn.proofs.Keeps.{tells}
+use Rattle.turn.proofs.RuleSteps.{tells}
 use Rattle.turn.proofs.steps.news.Goals as goal
 
 pub load-requires : goal.load-requires

@@ -1,5 +1,5 @@
 use Rattle.std.proofs.Common.{rules, ap, length, ◌∙◌}
-use Rattle.turn.proofs.Keeps.{publishes}
+use Rattle.turn.proofs.RuleSteps.{publishes}
 use Rattle.turn.proofs.steps.publish.Goals as goal
 
 pub store-requires : goal.store-requires

@@ -1,5 +1,5 @@
 use Rattle.std.proofs.Common.{rules}
-use Rattle.turn.proofs.Keeps.{releases}
+use Rattle.turn.proofs.RuleSteps.{releases}
 use Rattle.turn.proofs.steps.release.Goals as goal
 
 pub store-requires : goal.store-requires

@@ -1,5 +1,5 @@
 use Rattle.std.proofs.Common.{rules}
-use Rattle.turn.proofs.Keeps.{splits}
+use Rattle.turn.proofs.RuleSteps.{splits}
 use Rattle.turn.proofs.steps.split.Goals as goal
 
 pub split_seat-requires : goal.split_seat-requires

@@ -1,8 +1,8 @@
 use Rattle.std.proofs.Common.{sym, subst}
 use Rattle.crossbeam_deque.specs.Handles.{worker_view}
 use Rattle.workers.specs.Slots.{IsAtWork}
-use Rattle.workers.proofs.Dealing.{comes_back}
-use Rattle.workers.proofs.Slotting.{tray_slots, comes_over}
+use Rattle.workers.proofs.DequeRule.{comes_back}
+use Rattle.workers.proofs.FilledSlots.{tray_slots, comes_over}
 use Rattle.workers.proofs.crew.+fn-share-join+arg3+share.Goals as goal
 
 pub absorb-requires-clause-rule : goal.absorb-requires-clause-rule

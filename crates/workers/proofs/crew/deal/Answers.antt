@@ -1,4 +1,4 @@
-use Rattle.workers.proofs.Dealing.{deals_next}
+use Rattle.workers.proofs.DequeRule.{deals_next}
 use Rattle.workers.proofs.crew.deal.Goals as goal
 
 pub push_as-requires-clause-pushes : goal.push_as-requires-clause-pushes

@@ -2,8 +2,8 @@ use Rattle.std.proofs.Common.{◌∙◌, ap, sym, subst, arith, rules}
 use Rattle.crossbeam_deque.specs.Handles.{worker_view}
 use Rattle.workers.specs.Hands.{HasAllJobs}
 use Rattle.workers.specs.Slots.{IsAtWork}
-use Rattle.workers.proofs.Dealing.{takes, finds}
-use Rattle.workers.proofs.Slotting.{works_on, next_below, nearer, slots_length}
+use Rattle.workers.proofs.DequeRule.{takes, finds}
+use Rattle.workers.proofs.FilledSlots.{works_on, next_below, nearer, slots_length}
 use Rattle.workers.proofs.crew.work.Goals as goal
 
 pub pop_as-requires-clause-fifo : goal.pop_as-requires-clause-fifo

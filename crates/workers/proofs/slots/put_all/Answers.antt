@@ -2,7 +2,7 @@ use Rattle.std.proofs.Common.{◌≡◌, length, sym, ap, ◌∙◌, arith, leng
 use Rattle.std.proofs.lemmas.List.{nil_from_length}
 use Rattle.std.specs.Vec.Iter.{into_iter_items}
 use Rattle.workers.specs.Slots.{with_all}
-use Rattle.workers.proofs.Slotting.{tray_within, tray_later}
+use Rattle.workers.proofs.FilledSlots.{tray_within, tray_later}
 use Rattle.workers.proofs.slots.put_all.Goals as goal
 
 pub put-requires : goal.put-requires

@@ -2,7 +2,7 @@ use Rattle.std.proofs.Common.{◌≡◌, ◌∷◌, drop, get_or, length, ap, su
 use Rattle.std.specs.Vec.Iter.{into_iter_items}
 use Rattle.std.specs.Prelude.{vec_len}
 use Rattle.workers.specs.Slots.{AreFull}
-use Rattle.workers.proofs.Slotting.{full_none, full_at, full_over, begins_next, begins_all}
+use Rattle.workers.proofs.FilledSlots.{full_none, full_at, full_over, begins_next, begins_all}
 use Rattle.workers.proofs.slots.under_keys.Goals as goal
 
 pub unreachable-requires : goal.unreachable-requires

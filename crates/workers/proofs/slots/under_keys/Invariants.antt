@@ -1,7 +1,7 @@
 use Rattle.std.proofs.Common.{◌≡◌, ◌≤◌, drop, length, vec_capacity, vec_len}
 use Rattle.std.specs.Vec.Iter.{into_iter_items, into_iter_len}
 use Rattle.workers.specs.Slots.{AreFull}
-use Rattle.workers.proofs.Slotting.{Begins}
+use Rattle.workers.proofs.FilledSlots.{Begins}
 use Rattle.workers.proofs.slots.under_keys.Given as goal
 
 abbrev pub invariant-loop-slot : goal.invariant-loop-slot

@@ -1,4 +1,4 @@
-use Rattle.workers.proofs.Dealing.{hires}
+use Rattle.workers.proofs.DequeRule.{hires}
 use Rattle.workers.proofs.thief.hire.Goals as goal
 
 pub another-pass-requires : goal.another-pass-requires

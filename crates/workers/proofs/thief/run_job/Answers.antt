@@ -1,5 +1,5 @@
 use Rattle.workers.specs.declared.job.JobOutcome.TheVariants.{Ran, NoMemory}
-use Rattle.workers.proofs.Slotting.{outcome_at}
+use Rattle.workers.proofs.FilledSlots.{outcome_at}
 use Rattle.workers.proofs.thief.run_job.Goals as goal
 
 pub returns-in-Ok : goal.returns-in-Ok

@@ -1,8 +1,8 @@
 use Rattle.std.proofs.Common.{sym, subst, rules, arith}
 use Rattle.crossbeam_deque.specs.Handles.{view}
 use Rattle.workers.specs.Slots.{HasTray}
-use Rattle.workers.proofs.Dealing.{takes}
-use Rattle.workers.proofs.Slotting.{next_below, steals_on, tray_room}
+use Rattle.workers.proofs.DequeRule.{takes}
+use Rattle.workers.proofs.FilledSlots.{next_below, steals_on, tray_room}
 use Rattle.workers.proofs.thief.steal_all.Goals as goal
 
 pub steal_as-requires-clause-takes : goal.steal_as-requires-clause-takes

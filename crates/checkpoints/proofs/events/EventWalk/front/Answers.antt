@@ -1,7 +1,7 @@
 use Rattle.std.proofs.Common.{◌∙◌, ap, take}
 use Rattle.checkpoints.specs.Kept.{kept_events}
 use Rattle.checkpoints.specs.Reports.{reported_events}
-use Rattle.checkpoints.proofs.Tellings.{told_front}
+use Rattle.checkpoints.proofs.MarkedEvents.{told_front}
 use Rattle.checkpoints.proofs.events.EventWalk.front.Goals as goal
 
 pub returns : goal.returns

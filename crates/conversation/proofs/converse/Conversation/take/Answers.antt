@@ -4,7 +4,7 @@ use Rattle.std.specs.declared.alloc.AllocError.{AllocError}
 use Rattle.std.proofs.lemmas.List.{length-append}
 use Rattle.std.proofs.lemmas.Result.{on_ok_weaker}
 use Rattle.conversation.specs.Answering.{HasAnswered, kept_with}
-use Rattle.conversation.proofs.Tellings.{told_on, told_line, behind}
+use Rattle.conversation.proofs.AnsweredLines.{told_on, told_line, behind}
 use Rattle.conversation.proofs.converse.Conversation.take.Goals as goal
 
 -- one more line of a piece

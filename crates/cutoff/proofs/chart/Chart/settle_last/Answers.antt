@@ -4,8 +4,8 @@ use Rattle.schedule_trie.specs.Cut.{line, piece_at, keys_in, forest}
 use Rattle.cutoff.specs.Fitting.{part_of}
 use Rattle.cutoff.specs.Charts.{look}
 use Rattle.cutoff.specs.Settles.{IsSettledLast}
-use Rattle.cutoff.proofs.Kept.{charted_kept, charted_marked, len_there, look_there, refused_still, out_of_memory, seen_begins, all_kept}
-use Rattle.cutoff.proofs.Lasts.{place_found, found_fits, none_settled, last_settled, keeps_named}
+use Rattle.cutoff.proofs.SameBranches.{charted_kept, charted_marked, len_there, look_there, refused_still, out_of_memory, seen_begins, all_kept}
+use Rattle.cutoff.proofs.LastRuns.{place_found, found_fits, none_settled, last_settled, keeps_named}
 use Rattle.cutoff.proofs.chart.Chart.settle_last.Goals as goal
 
 pub returns-then-place-eq0-clause-ok : goal.returns-then-place-eq0-clause-ok

@@ -1,6 +1,6 @@
 use Rattle.std.proofs.Common.{length, ap, ◌∙◌, arith, rules}
 use Rattle.turn.specs.Chairs.{view}
-use Rattle.desk.proofs.Fillings.{sum_none, sum_more, planned_more}
+use Rattle.desk.proofs.ReportCounts.{sum_none, sum_more, planned_more}
 use Rattle.desk.proofs.Holdings.{stays_here, stays_on}
 use Rattle.desk.proofs.desk.Desk.install_all.Goals as goal
 

@@ -1,5 +1,5 @@
 use Rattle.turn.specs.Chairs.{view}
-use Rattle.desk.proofs.Beginnings.{begun, begun_legal}
+use Rattle.desk.proofs.FirstChair.{begun, begun_legal}
 use Rattle.desk.proofs.desk.Desk.over.Goals as goal
 
 first : goal.returns-clause-first

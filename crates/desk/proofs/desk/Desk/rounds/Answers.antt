@@ -1,6 +1,6 @@
 use Rattle.turn.specs.Chairs.{view}
 use Rattle.desk.specs.Works.{NeedsBranch}
-use Rattle.desk.proofs.Fillings.{sum_both}
+use Rattle.desk.proofs.ReportCounts.{sum_both}
 use Rattle.desk.proofs.Holdings.{stays_on, stays_read}
 use Rattle.desk.proofs.desk.Desk.rounds.Goals as goal
 

@@ -4,7 +4,7 @@ use Rattle.std.proofs.lemmas.Bool.{eqb-true}
 use Rattle.lineage.specs.Family.{EndsAlone}
 use Rattle.lineage.specs.Lineages.{tip_at}
 use Rattle.lineage.proofs.Walks.{last_is}
-use Rattle.lineage.proofs.Alone.{tip_node, alone, not_alone}
+use Rattle.lineage.proofs.LoneTips.{tip_node, alone, not_alone}
 use Rattle.lineage.proofs.lineage.Lineage.ends_alone.Goals as goal
 
 pub returns-in_default-clause-no : goal.returns-in_default-clause-no

@@ -1,5 +1,5 @@
 use Rattle.std.proofs.Common.{arith}
-use Rattle.lineage.proofs.Past.{all_past}
+use Rattle.lineage.proofs.SkippedClimbs.{all_past}
 use Rattle.lineage.proofs.lineage.take_out.skip_in_tips.Goals as goal
 
 pub returns : goal.returns

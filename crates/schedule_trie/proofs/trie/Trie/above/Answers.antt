@@ -2,7 +2,7 @@ use Rattle.std.proofs.Common.{sym, ap, ◌∙◌}
 use Rattle.schedule_trie.specs.Cut.{piece_at, keys_in}
 use Rattle.schedule_trie.specs.Tries.{cut_of}
 use Rattle.schedule_trie.proofs.Lines.{keys_are}
-use Rattle.schedule_trie.proofs.Readings.{above_told, lacked_none}
+use Rattle.schedule_trie.proofs.CellPlaces.{above_told, lacked_none}
 use Rattle.schedule_trie.proofs.StepSet.{none_there}
 use Rattle.schedule_trie.proofs.trie.Trie.above.Goals as goal
 

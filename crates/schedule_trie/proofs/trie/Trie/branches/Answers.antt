@@ -2,7 +2,7 @@ use Rattle.std.proofs.Common.{length, sym, ap, ◌∙◌, arith}
 use Rattle.std.proofs.lemmas.List.{length-map}
 use Rattle.schedule_trie.specs.Cut.{branch_on, piece_at}
 use Rattle.schedule_trie.specs.Tries.{names_of}
-use Rattle.schedule_trie.proofs.Apart.{branches_apart}
+use Rattle.schedule_trie.proofs.NamesApart.{branches_apart}
 use Rattle.schedule_trie.proofs.Strands.{length-strands}
 use Rattle.schedule_trie.proofs.trie.Trie.branches.Goals as goal
 

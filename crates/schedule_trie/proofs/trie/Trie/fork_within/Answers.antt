@@ -9,7 +9,7 @@ use Rattle.schedule_trie.specs.Forks.{IsBranchForked}
 use Rattle.schedule_trie.specs.Tries.{cut_of, IsHeldCut}
 use Rattle.schedule_trie.proofs.DivisionSteps.{still_there}
 use Rattle.schedule_trie.proofs.ForkCutSteps.{cut_fork}
-use Rattle.schedule_trie.proofs.Partings.{parting}
+use Rattle.schedule_trie.proofs.KeyPositions.{parting}
 use Rattle.schedule_trie.proofs.PushSteps.{roomed_held, roomed_err}
 use Rattle.schedule_trie.proofs.StepSet.{held_there}
 use Rattle.schedule_trie.proofs.LengthSteps.{forked_lengths}

@@ -2,7 +2,7 @@ use Rattle.std.proofs.Common.{◌≡◌, ◌+◌, ◌<◌, length, map, Some, tr
 use Rattle.schedule_trie.specs.Forest.{step_of}
 use Rattle.schedule_trie.specs.Cut.{has, keys_in, line, piece_at, Once}
 use Rattle.schedule_trie.specs.Marks.{AreMarked, IsOwnPart}
-use Rattle.schedule_trie.proofs.LimbsTold.{own_once, own_places, own_few, is_limb, marks_next}
+use Rattle.schedule_trie.proofs.LimbFromMarks.{own_once, own_places, own_few, is_limb, marks_next}
 use Rattle.schedule_trie.proofs.trie.Trie.limb_at.Goals as goal
 
 pub mark_all-requires-clause-places : goal.mark_all-requires-clause-places

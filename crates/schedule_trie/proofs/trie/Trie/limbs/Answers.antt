@@ -4,12 +4,11 @@ use Rattle.schedule_trie.specs.Cut.{forest}
 use Rattle.schedule_trie.specs.Forest.{Forest, name_of}
 use Rattle.schedule_trie.specs.Limbs.{FitLimits, AreLawfulLimbs, forest_of, limbs}
 use Rattle.schedule_trie.specs.Renumbering.{IsRenumbered}
-use Rattle.schedule_trie.proofs.LimbCounts.{taken_whole}
 use Rattle.schedule_trie.proofs.LimbsKept.{limbs_kept}
 use Rattle.schedule_trie.proofs.LimbsLawful.{limbs_lawful}
-use Rattle.schedule_trie.proofs.LimbsNear.{limbs_near}
+use Rattle.schedule_trie.proofs.LimbLimits.{limbs_near}
 use Rattle.schedule_trie.proofs.LimbsSaved.{length-limbs, taken_next}
-use Rattle.schedule_trie.proofs.Lists.{slice_get_some}
+use Rattle.schedule_trie.proofs.Lists.{slice_get_some, taken_whole}
 use Rattle.schedule_trie.proofs.trie.Trie.limbs.Goals as goal
 
 past_all : (f : Forest) {count i : ℕ} → count ≡ length f.branches → count ≤ i → length (limbs f) ≤ i

@@ -6,7 +6,7 @@ use Rattle.schedule_trie.specs.Climbs.{keys_to}
 use Rattle.schedule_trie.proofs.Climbs.{cells_within, place_up, place_above}
 use Rattle.schedule_trie.proofs.ClimbSteps.{path_last, branch_once, branch_short, turn}
 use Rattle.schedule_trie.proofs.Lines.{slots_in_on}
-use Rattle.schedule_trie.proofs.Readings.{first_within}
+use Rattle.schedule_trie.proofs.CellPlaces.{first_within}
 use Rattle.schedule_trie.proofs.trie.Trie.place_at.Goals as goal
 
 pub loop-up-init : goal.loop-up-init

@@ -4,7 +4,7 @@ use Rattle.schedule_trie.specs.Cut.{forest, IsWhole}
 use Rattle.schedule_trie.specs.Edits.{Remove, IsEdited}
 use Rattle.schedule_trie.proofs.LengthsAfter.{place_inside, shorter, still_removed}
 use Rattle.schedule_trie.proofs.RemoveSteps.{remove_ok}
-use Rattle.schedule_trie.proofs.StepSet.{notes_here}
+use Rattle.schedule_trie.proofs.CellHolders.{notes_here}
 use Rattle.schedule_trie.proofs.trie.Trie.remove.Goals as goal
 
 pub overflow_sub-len : goal.overflow_sub-len

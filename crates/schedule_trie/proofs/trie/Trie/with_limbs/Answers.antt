@@ -2,8 +2,8 @@ use Rattle.std.proofs.Common.{◌+◌, ◌≤◌, ◌≡◌, length, take, sym, 
 use Rattle.schedule_trie.specs.Forest.{lone_branch}
 use Rattle.schedule_trie.specs.Cut.{forest}
 use Rattle.schedule_trie.specs.Limbs.{cells_of, forest_of}
-use Rattle.schedule_trie.proofs.LimbCounts.{taken_whole}
-use Rattle.schedule_trie.proofs.LoadSteps.{item_of_rest, rest_ends, first_grown, can_grow, grown_next}
+use Rattle.schedule_trie.proofs.Lists.{taken_whole, item_of_rest, rest_ends}
+use Rattle.schedule_trie.proofs.LoadSteps.{first_grown, can_grow, grown_next}
 use Rattle.schedule_trie.proofs.trie.Trie.with_limbs.Goals as goal
 
 pub loop-limb-init : goal.loop-limb-init

@@ -4,7 +4,7 @@ use Rattle.schedule_trie.specs.Cut.{forest}
 use Rattle.sessions.specs.Logs.{entry}
 use Rattle.sessions.specs.Books.{opening_of}
 use Rattle.sessions.proofs.Books.{book_kept, book_more, done_acts, opens_kept, opens_more, unlacking}
-use Rattle.sessions.proofs.Standing.{are_within}
+use Rattle.sessions.proofs.CursorPlaces.{are_within}
 use Rattle.sessions.proofs.book.Book.act.Goals as goal
 
 pub answer-requires : goal.answer-requires

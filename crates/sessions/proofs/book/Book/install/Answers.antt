@@ -2,7 +2,7 @@ use Rattle.std.proofs.Common.{◌∙◌, length, refl, ap}
 use Rattle.std.specs.Arc.{arc_value}
 use Rattle.sessions.specs.Books.{book_of, opening_of, world_of}
 use Rattle.sessions.proofs.Books.{book_same, opens_same}
-use Rattle.sessions.proofs.Kept.{install_kept, kept_world}
+use Rattle.sessions.proofs.KeptBranches.{install_kept, kept_world}
 use Rattle.sessions.proofs.book.Book.install.Goals as goal
 
 pub returns-clause-installs : goal.returns-clause-installs

@@ -7,9 +7,9 @@ use Rattle.views.specs.Looks.{steps_in}
 use Rattle.sessions.specs.Acts.{hit_from}
 use Rattle.sessions.specs.BreakLists.{breaks_at}
 use Rattle.sessions.specs.Cursors.{cursor, cursor_at}
-use Rattle.sessions.specs.Books.{staged, world_of}
+use Rattle.sessions.specs.Books.{stored, world_of}
 use Rattle.sessions.specs.Seeks.{hits, next_place}
-use Rattle.sessions.proofs.Kept.{kept_world}
+use Rattle.sessions.proofs.KeptBranches.{kept_world}
 use Rattle.sessions.proofs.workspace.Workspace.hit_of.Goals as goal
 
 pub returns-in-Some-clause-hit : goal.returns-in-Some-clause-hit
@@ -18,7 +18,7 @@ returns-in-Some-clause-hit g c = λ n.
     let who = c.args.who in
     let way = c.args.way in
     let s = c.args.self.now in
-    let w = world_of is (staged s n) in
+    let w = world_of is (stored s n) in
     let here = c.in-Some.cursor in
     let breaks : c.breaks_of-breaks.result.now ≡ breaks_at s.breaks.items who = c.breaks_of-breaks.ensures ∙ ap (λ l. breaks_at l who) c.deref.ensures.value in
     let found : cursor_at s.cursors who ≡ Some here = sym c.cursor_of-cursor.ensures ∙ c.in-Some.is in

@@ -2,7 +2,7 @@ use Rattle.std.proofs.Common.{Result, Ok, Err, OnOk, refl}
 use Rattle.schedule_trie.specs.Cut.{forest}
 use Rattle.schedule_trie.specs.Edits.{edit_in}
 use Rattle.sessions.specs.declared.cursor.Shift.TheVariants.{Up, Down}
-use Rattle.sessions.proofs.Unmoved.{unmoved, unmoved_other}
+use Rattle.sessions.proofs.UnmovedCursors.{unmoved, unmoved_other}
 use Rattle.sessions.proofs.workspace.edits.change_and_move.Goals as goal
 use Rattle.sessions.proofs.workspace.edits.change_and_move.Goals.{in_default-via-in-Insert+else-any_after, in_default-via-in-Remove+else-any_after-2, in_default-via-in-Drop+else-holds_up, in_default-via-in_default}
 

@@ -18,7 +18,7 @@ use Rattle.sessions.proofs.command.Command.TheSendSync as commands
 use Rattle.desk.specs.contracts.item.Item as item
 use Rattle.desk.specs.contracts.journal.Journal as journal
 use Rattle.desk.specs.contracts.desk.Desk as desk
-use Rattle.desk.proofs.Crossing.{safe_chair, safe_desk, mark_send}
+use Rattle.desk.proofs.ThreadSafety.{safe_chair, safe_desk, mark_send}
 use Rattle.thread_tests.specs.contracts.desks.crossings.Crossing as crossing
 use Rattle.thread_tests.specs.contracts.desks.crossings.Crossing.TheInside as inside
 use Rattle.thread_tests.specs.contracts.desks.crossings.EditsOnce as gate

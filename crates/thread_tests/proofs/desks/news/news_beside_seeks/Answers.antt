@@ -1,7 +1,7 @@
 use denote.Param.Send.{param_send, param_sync, arg_send, shr_send}
 use denote.Exit.{no}
 use Rattle.std.proofs.alloc.Global.TheSendSync as global
-use Rattle.desk.proofs.Crossing.{two_send, five_send, safe_chair, safe_desk, mark_send}
+use Rattle.desk.proofs.ThreadSafety.{two_send, five_send, safe_chair, safe_desk, mark_send}
 use Rattle.thread_tests.proofs.flags.Flags.TheSendSync as flags
 use Rattle.thread_tests.proofs.desks.news.news_beside_seeks.Goals as goal
 

@@ -1,7 +1,7 @@
 use denote.Param.Send.{param_send, param_sync, arg_send, shr_send}
 use denote.Exit.{no}
 use Rattle.std.proofs.alloc.Global.TheSendSync as global
-use Rattle.desk.proofs.Crossing.{two_send, four_send, safe_chair, safe_desk, mark_send}
+use Rattle.desk.proofs.ThreadSafety.{two_send, four_send, safe_chair, safe_desk, mark_send}
 use Rattle.thread_tests.proofs.desks.threads.rounds_of_four.Goals as goal
 
 pub join-chair-requires-send-F : goal.join-chair-requires-send-F

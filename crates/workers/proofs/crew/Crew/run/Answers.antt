@@ -1,5 +1,5 @@
 use Rattle.std.proofs.Common.{refl, ap, ◌∙◌}
-use Rattle.workers.proofs.Slotting.{at_start, slots_full}
+use Rattle.workers.proofs.FilledSlots.{at_start, slots_full}
 use Rattle.workers.proofs.crew.Crew.run.Goals as goal
 
 pub share-owner-requires-clause-ready : goal.share-owner-requires-clause-ready

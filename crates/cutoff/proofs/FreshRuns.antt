@@ -1,0 +1,115 @@
+-- Segments that stored runs are known to fit down to, after a run is stored.
+use Rattle.std.proofs.Common.{◌≡◌, ℕ, ◌≤◌, Bool, true, false, ◌||◌, List, [], ◌∷◌, ◌++◌, map, Option, Some, None, ◌⊎◌, inl, inr, refl, sym, ap, subst, ◌∙◌, append_assoc, true≢false}
+use Rattle.std.specs.Prelude.{⊤}
+use Rattle.std.specs.Option.{option_map, option_or}
+use Rattle.std.proofs.lemmas.Option.{slice_get_past}
+use Rattle.frames.specs.Behaviour.{Behaviour}
+use Rattle.frames.specs.Configuration.{Configuration, replayed}
+use Rattle.schedule_trie.specs.Forest.{step_of}
+use Rattle.schedule_trie.specs.Cut.{Cut, piece_at, note_of, slots_of, keys_in, has, Once, IsCut, IsNoted}
+use Rattle.schedule_trie.specs.Climbs.{keys_up_to}
+use Rattle.schedule_trie.proofs.Climbs.{up_to-here}
+use Rattle.schedule_trie.proofs.NoRepeats.{has-append, has_not_from, has-in}
+use Rattle.schedule_trie.proofs.KeyPositions.{parting, IsParting}
+use Rattle.cutoff.specs.Fitting.{StoredRun, run_of, steps_at}
+use Rattle.cutoff.specs.Links.{without_register, IsLinked, IsExitOf, number_at, run_number}
+use Rattle.cutoff.specs.Prefixes.{RunsDown, RunsTo, IsMarked, AreFresh, exit_or_start, exit_or}
+use Rattle.cutoff.proofs.Fits.{stored_at}
+use Rattle.cutoff.proofs.Walks.{by_key}
+use Rattle.cutoff.proofs.Climbs.{path_once}
+use Rattle.cutoff.proofs.RestWalks.{down_kept, noted_cells}
+
+once_after : (front : List ℕ) (key : ℕ) (back : List ℕ) → Once (front ++ key ∷ back) → has key back ≡ false
+once_after [] key back o = o.0
+once_after (k ∷ front) key back o = once_after front key back o.1
+
+lacks_front : (key : ℕ) (front back : List ℕ) → has key (front ++ back) ≡ false → has key front ≡ false
+lacks_front key front back h =
+    has_not_from key front (λ e. true≢false (sym (has-append key front back ∙ ap (λ b. b || has key back) e) ∙ h))
+
+module _ {R P : Type 0} (E : R → R → Bool) (is : R → Behaviour P) (old new : Cut (StoredRun R P)) (start : Configuration R P) (key : ℕ) (s : StoredRun R P) (whole : IsCut old) (noted : IsNoted old new key (Some s)) where
+  abbrev b : Behaviour P
+  b = is start.register
+
+  steps_kept : (j : ℕ) → steps_at old j ≡ steps_at new j
+  steps_kept j = by_key j key _
+      (λ e. subst (λ z. steps_at old z ≡ steps_at new z) (sym e) (ap (map step_of) (sym (noted_cells s (piece_at old.pieces key) (piece_at new.pieces key) noted.here))))
+      (λ ne. ap (λ o. map step_of (slots_of o)) (sym (noted.others j ne)))
+
+  still_down : (c : Configuration R P) (keys : List ℕ) (end : Configuration R P) → has key keys ≡ false → RunsDown E is old b c keys end → RunsDown E is new b c keys end
+  still_down c keys end lacks = down_kept E is old new b c keys end (λ j h. noted.others j (λ e. true≢false (sym (subst (λ z. has z keys ≡ true) e h) ∙ lacks)))
+
+  -- true runs still fit down some segments after a run is stored at `key`, if true runs fit down to `key`
+  glued : (c : Configuration R P) (front back : List ℕ) (end stop : Configuration R P) → has key back ≡ false
+      → RunsDown E is old b c (front ++ key ∷ back) end → RunsDown E is new b c (front ++ key ∷ []) stop → RunsDown E is new b c (front ++ key ∷ back) end
+  glued c [] back end stop lacks was to =
+      (to.0, subst (λ l. RunsDown E is new b (replayed b c l) back end) (steps_kept key) (still_down (replayed b c (steps_at old key)) back end lacks was.1))
+  glued c (k ∷ front) back end stop lacks was to = (
+    to.0,
+    glued (replayed b c (steps_at new k)) front back end stop lacks
+        (subst (λ l. RunsDown E is old b (replayed b c l) (front ++ key ∷ back) end) (steps_kept k) was.1) to.1,
+  )
+
+  down_again : (i k : ℕ) → IsMarked E is new start (Some key) → IsParting (keys_in old.strands i) k → (end : Configuration R P)
+      → RunsDown E is old b start (keys_up_to k (keys_in old.strands i)) end → RunsDown E is new b start (keys_up_to k (keys_in old.strands i)) end
+  down_again i k at_key p end down = by (has key path) refl
+    where
+      path : List ℕ
+      path = keys_up_to k (keys_in old.strands i)
+
+      by : (t : Bool) → has key path ≡ t → RunsDown E is new b start path end
+      by false e = still_down start path end e down
+      by true e =
+          let q = parting path key e in
+          let keys : keys_in old.strands i ≡ q.front ++ key ∷ (q.back ++ p.back) =
+          p.is ∙ sym (append_assoc p.front (k ∷ []) p.back) ∙ ap (λ l. l ++ p.back) (sym p.to ∙ q.is) ∙ append_assoc q.front (key ∷ q.back) p.back in
+          let there : has key (keys_in old.strands i) ≡ true = ap (has key) keys ∙ has-in key q.front (q.back ++ p.back) in
+          let up : keys_up_to key (keys_in old.strands i) ≡ q.front ++ key ∷ [] = ap (keys_up_to key) keys ∙ up_to-here key q.front (q.back ++ p.back) q.lacks in
+          let lacks : has key q.back ≡ false = lacks_front key q.back p.back (once_after q.front key (q.back ++ p.back) (subst Once keys (path_once old whole i))) in
+          let to = subst (λ ss. RunsTo E is new start (Some key) (keys_in ss i)) noted.strands
+          (at_key i (subst (λ ss. has key (keys_in ss i) ≡ true) (sym noted.strands) there)) in
+          subst (λ l. RunsDown E is new b start l end) (sym q.is)
+          (glued start q.front q.back end (exit_or_start new start (Some key)) lacks (subst (λ l. RunsDown E is old b start l end) q.is down)
+          (subst (λ l. RunsDown E is new b start l (exit_or_start new start (Some key))) up to))
+
+  -- a segment stays marked, if the one whose run is new is marked
+  mark_kept : (k : ℕ) → (k ≡ key → ⊥) → IsMarked E is new start (Some key) → IsMarked E is old start (Some k) → IsMarked E is new start (Some k)
+  mark_kept k other at_key marked = λ i h.
+      let there : has k (keys_in old.strands i) ≡ true = subst (λ ss. has k (keys_in ss i) ≡ true) noted.strands h in
+      let end : exit_or_start old start (Some k) ≡ exit_or_start new start (Some k) =
+      ap (λ o. exit_or start (option_map run_of (note_of o))) (sym (noted.others k other)) in
+      subst (λ ss. RunsTo E is new start (Some k) (keys_in ss i)) (sym noted.strands)
+      (subst (RunsDown E is new b start (keys_up_to k (keys_in old.strands i))) end
+      (down_again i k at_key (parting (keys_in old.strands i) k there) (exit_or_start old start (Some k)) (marked i there)))
+
+  number_kept : (k : ℕ) → (k ≡ key → ⊥) → number_at new (Some k) ≡ number_at old (Some k)
+  number_kept k other = ap (λ o. run_number (note_of o)) (noted.others k other)
+
+  fresh_from : (first : ℕ) → IsMarked E is new start (Some key) → ((k a : ℕ) → number_at old (Some k) ≡ Some a → first ≤ a → IsMarked E is old start (Some k))
+      → AreFresh E is new start (Some first)
+  fresh_from first at_key was = λ k a number late.
+      by_key k key _ (λ e. subst (λ z. IsMarked E is new start (Some z)) (sym e) at_key)
+      (λ ne. mark_kept k ne at_key (was k a (sym (number_kept k ne) ∙ number) late))
+
+  -- no stored run has a number that wasn't given
+  not_given : (h : R) (next : ℕ) (c : Configuration ⊤ P) → IsLinked E h next None c old → (k a : ℕ) → number_at old (Some k) ≡ Some a → next ≤ a → ⊥
+  not_given h next c linked k a number late = by (note_of (piece_at old.pieces k)) refl number
+    where
+      by : (o : Option (StoredRun R P)) → note_of (piece_at old.pieces k) ≡ o → run_number o ≡ Some a → ⊥
+      by None at e = cc
+      by (Some t) at e =
+          let id = subst (λ n. IsExitOf linked.exits n (without_register t.run.exit)) e (stored_at E h linked.exits old k t (linked.each k) at).id in
+          let past = slice_get_past linked.exits a (subst (λ n. n ≤ a) (sym linked.as_many) late) in
+          cc
+
+  -- the fresh runs after a run with this number, if any, is stored at `key`, if `key` is marked then
+  pub fresh_installed : (h : R) (next : ℕ) (c : Configuration ⊤ P) (fresh id : Option ℕ) → IsLinked E h next None c old → (id ≡ None) ⊎ (id ≡ Some next)
+      → IsMarked E is new start (Some key) → AreFresh E is old start fresh → AreFresh E is new start (option_or fresh id)
+  fresh_installed h next c (Some first) id linked given at_key was = fresh_from first at_key was
+  fresh_installed h next c None None linked given at_key was = tt
+  fresh_installed h next c None (Some a) linked (inl e) at_key was = cc
+  fresh_installed h next c None (Some a) linked (inr e) at_key was =
+      fresh_from a at_key (λ k x number late. absurd (not_given h next c linked k x number (subst (λ z. z ≤ x) same late)))
+    where
+      same : a ≡ next
+      same = cc

@@ -1,0 +1,62 @@
+-- What a history shows of a register that refuses nothing, and whose returned reads are good.
+use Rattle.std.proofs.Common.{◌≡◌, ℕ, List, [], ◌∷◌, refl, ap, sym, subst, Bool, false, Option, Some, None, IsTrue, append-nil}
+use Rattle.std.specs.Prelude.{if◌then◌else◌}
+use Rattle.std.specs.List.{AllByRecursion}
+use Rattle.frames.specs.declared.types.Op.{Op}
+use Rattle.frames.specs.declared.types.Event.{Event}
+use Rattle.frames.specs.declared.types.Event.TheVariants.{Invoke, Void, Stop}
+use Rattle.frames.specs.declared.types.Reason.{Reason}
+use Rattle.frames.specs.declared.types.StepEvents.{StepEvents}
+use Rattle.frames.specs.Configuration.{chosen_of, in_order}
+use Rattle.frames.proofs.Seen.{Seen, Returned, after_step, read_in, reads, sees, got, refuses, refuses_none, Allowed}
+use Rattle.frames.proofs.Reached.{IsFine}
+use Rattle.frames.proofs.JoinedLists.{all_both}
+
+-- what is seen after the invocation of an operation, unless it is refused at once
+pub begun_seen : (who : ℕ) (o : Op) (end : Option Event) (s : Seen) → refuses end ≡ false
+    → after_step (in_order (Some (Invoke who o)) end) s ≡ sees end (sees (Some (Invoke who o)) s)
+begun_seen who o end s e = ap (λ c. if c then s else sees end (sees (Some (Invoke who o)) s)) e
+
+-- what is seen after a bit action of a pending operation, unless it ends in a refusal
+pub gone_seen : (who : ℕ) (chosen : Option (ℕ × Bool)) (end : Option Event) (s : Seen) → refuses end ≡ false
+    → after_step (in_order (chosen_of who chosen) end) s ≡ sees end s
+gone_seen who None end s e = refl
+gone_seen who (Some c) end s e = ap (λ c. if c then s else sees end s) e
+
+pub gone_reads : (Good : Returned → Type 0) (who : ℕ) (chosen : Option (ℕ × Bool)) (end : Option Event) (s : Seen) → IsFine Good s (in_order (chosen_of who chosen) end)
+    → (refuses end ≡ false) × AllByRecursion Good (got end s)
+gone_reads Good who None end s h = (h.first, subst (AllByRecursion Good) (append-nil (got end s)) h.reads)
+gone_reads Good who (Some c) end s h = (h.second, h.reads)
+
+-- a step's events take `Seen` from s to z, refuse nothing, and return only good reads
+abbrev pub Told : (Returned → Type 0) → Seen → StepEvents → Seen → Type 0
+Told Good s e z = IsFine Good s e × (z ≡ after_step e s)
+
+-- this holds when a layer's operation has begun, and may have ended at once
+pub told_begun : (Good : Returned → Type 0) (p : ℕ) (o : Op) (end : Option Event) (s : Seen) → refuses end ≡ false → AllByRecursion Good (got end (sees (Some (Invoke p o)) s))
+    → Told Good s (in_order (Some (Invoke p o)) end) (sees end (sees (Some (Invoke p o)) s))
+told_begun Good p o end s f g = (record { first = refl; second = f; reads = g }, sym (begun_seen p o end s f))
+
+-- this holds when a layer's operation has made a bit action, and may have ended
+pub told_gone : (Good : Returned → Type 0) (p : ℕ) (chosen : Option (ℕ × Bool)) (end : Option Event) (s : Seen) → refuses end ≡ false → AllByRecursion Good (got end s)
+    → Told Good s (in_order (chosen_of p chosen) end) (sees end s)
+told_gone Good p None end s f g = (record { first = f; second = refl; reads = all_both Good (got end s) [] g tt }, refl)
+told_gone Good p (Some c) end s f g = (record { first = refl; second = f; reads = g }, sym (gone_seen p (Some c) end s f))
+
+pub told_void : (Good : Returned → Type 0) (s : Seen) (p : ℕ) (reason : Reason) → Told Good s (in_order (Some (Void p reason)) None) s
+told_void Good s p reason = (record { first = refl; second = refl; reads = tt }, refl)
+
+pub told_stop : (Good : Returned → Type 0) (s : Seen) (p : ℕ) → Told Good s (in_order (Some (Stop p)) None) s
+told_stop Good s p = (record { first = refl; second = refl; reads = tt }, refl)
+
+pub told_none : (Good : Returned → Type 0) (s : Seen) (es : List StepEvents) → Allowed (Told Good) s es → IsTrue (refuses_none es)
+told_none Good s [] h = refl
+told_none Good s (e ∷ es) h =
+    let k : IsTrue (refuses_none es) = told_none Good h.0 es h.1.1 in
+    rw (h.1.0.0.first, h.1.0.0.second) k
+
+pub told_reads : (Good : Returned → Type 0) (s : Seen) (es : List StepEvents) → Allowed (Told Good) s es → AllByRecursion Good (reads s es)
+told_reads Good s [] h = tt
+told_reads Good s (e ∷ es) h =
+    all_both Good (read_in e s) (reads (after_step e s) es) h.1.0.0.reads
+    (told_reads Good (after_step e s) es (subst (λ z. Allowed (Told Good) z es) h.1.0.1 h.1.1))

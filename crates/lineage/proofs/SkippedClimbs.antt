@@ -1,0 +1,159 @@
+-- Climbs and counts when a key is skipped.
+use Rattle.std.proofs.Common.{◌≡◌, ◌≢◌, ℕ, ◌+◌, ◌<◌, ◌≤◌, zero, suc, Bool, true, false, not, cond, nat_eq, List, [], ◌∷◌, ◌++◌, length, map, reverse, get_or, Option, Some, None, refl, sym, ◌∙◌, ap, subst, arith, inl, inr, ◌⊎◌, eq-eqb, ne_eqb, append-nil}
+use Rattle.std.specs.List.{count_by}
+use Rattle.std.proofs.lemmas.Bool.{cases_eq}
+use Rattle.std.proofs.lemmas.List.{length-map, ext_get_or}
+use Rattle.std.proofs.lemmas.List.Sums.{sum_by-cons}
+use Rattle.lineage.specs.Family.{has, keys_without}
+use Rattle.lineage.specs.Climbs.{IsClimb}
+use Rattle.lineage.specs.Lineages.{tip_at, is_key, is_above, past}
+use Rattle.lineage.proofs.KeyLists.{has-head, has-tail, has_cases, reverse_cons}
+use Rattle.lineage.proofs.Counts.{one}
+
+abbrev pub past_link : ℕ → Option ℕ → Option (Option ℕ) → Option (Option ℕ)
+past_link key top None = None
+past_link key top (Some next) = Some (past key top next)
+
+module _ (key : ℕ) (top : Option ℕ) where
+  pub past_key : (k : ℕ) → key ≡ k → past key top (Some k) ≡ top
+  past_key k e = ap (λ b. cond b top (Some k)) (eq-eqb key k e)
+
+  pub past_other : (k : ℕ) → key ≢ k → past key top (Some k) ≡ Some k
+  past_other k ne = ap (λ b. cond b top (Some k)) (ne_eqb key k ne)
+
+  pub past_twice : (o : Option ℕ) → (o ≡ Some key → ⊥) → past key top o ≡ o
+  past_twice None h = refl
+  past_twice (Some k) h = past_other k (λ e. h (ap Some (sym e)))
+
+  pub kept_other : (k : ℕ) (keys : List ℕ) → key ≢ k → keys_without key (k ∷ keys) ≡ k ∷ keys_without key keys
+  kept_other k keys ne = ap (λ b. cond (not b) (k ∷ keys_without key keys) (keys_without key keys)) (ne_eqb key k ne)
+
+  pub gone_key : (k : ℕ) (keys : List ℕ) → key ≡ k → keys_without key (k ∷ keys) ≡ keys_without key keys
+  gone_key k keys e = ap (λ b. cond (not b) (k ∷ keys_without key keys) (keys_without key keys)) (eq-eqb key k e)
+
+  pub without-append : (xs ys : List ℕ) → keys_without key (xs ++ ys) ≡ keys_without key xs ++ keys_without key ys
+  without-append [] ys = refl
+  without-append (x ∷ xs) ys = by (cases_eq key x) (without-append xs ys)
+    where
+      by : (key ≡ x) ⊎ (key ≢ x) → keys_without key (xs ++ ys) ≡ keys_without key xs ++ keys_without key ys
+          → keys_without key (x ∷ xs ++ ys) ≡ keys_without key (x ∷ xs) ++ keys_without key ys
+      by (inl e) ih = gone_key x (xs ++ ys) e ∙ ih ∙ ap (λ l. l ++ keys_without key ys) (sym (gone_key x xs e))
+      by (inr ne) ih = kept_other x (xs ++ ys) ne ∙ ap (λ l. x ∷ l) ih ∙ ap (λ l. l ++ keys_without key ys) (sym (kept_other x xs ne))
+
+  pub without-reverse : (up : List ℕ) → reverse (keys_without key up) ≡ keys_without key (reverse up)
+  without-reverse [] = refl
+  without-reverse (k ∷ up) = by (cases_eq key k) (without-reverse up)
+    where
+      whole : keys_without key (reverse (k ∷ up)) ≡ keys_without key (reverse up) ++ keys_without key (k ∷ [])
+      whole = ap (keys_without key) (reverse_cons k up) ∙ without-append (reverse up) (k ∷ [])
+
+      by : (key ≡ k) ⊎ (key ≢ k) → reverse (keys_without key up) ≡ keys_without key (reverse up) → reverse (keys_without key (k ∷ up)) ≡ keys_without key (reverse (k ∷ up))
+      by (inl e) ih =
+          ap reverse (gone_key k up e) ∙ ih ∙ sym (append-nil (keys_without key (reverse up)))
+          ∙ ap (λ l. keys_without key (reverse up) ++ l) (sym (gone_key k [] e)) ∙ sym whole
+      by (inr ne) ih =
+          ap reverse (kept_other k up ne) ∙ reverse_cons k (keys_without key up) ∙ ap (λ l. l ++ k ∷ []) ih
+          ∙ ap (λ l. keys_without key (reverse up) ++ l) (sym (kept_other k [] ne)) ∙ sym whole
+
+  pub has_without : (x : ℕ) (up : List ℕ) → x ≢ key → has x up ≡ true → has x (keys_without key up) ≡ true
+  has_without x [] ne h = h
+  has_without x (k ∷ up) ne h = by (cases_eq key k) (has_cases x k up ((x ≡ k) ⊎ (has x (keys_without key up) ≡ true)) h (λ e. inl e) (λ m. inr (has_without x up ne m)))
+    where
+      by : (key ≡ k) ⊎ (key ≢ k) → (x ≡ k) ⊎ (has x (keys_without key up) ≡ true) → has x (keys_without key (k ∷ up)) ≡ true
+      by (inl e) (inl same) = absurd (ne (same ∙ sym e))
+      by (inl e) (inr m) = ap (has x) (gone_key k up e) ∙ m
+      by (inr nk) (inl same) = ap (has x) (kept_other k up nk) ∙ subst (λ z. has z (k ∷ keys_without key up) ≡ true) (sym same) (has-head k (keys_without key up))
+      by (inr nk) (inr m) = ap (has x) (kept_other k up nk) ∙ has-tail x k (keys_without key up) m
+
+-- each climb skips the key
+pub climb_past : (p q : ℕ → Option (Option ℕ)) (key : ℕ) (top : Option ℕ) → p key ≡ Some top → (top ≡ Some key → ⊥) → ((k : ℕ) → k ≢ key → q k ≡ past_link key top (p k))
+    → (at : Option ℕ) (up : List ℕ) → IsClimb p at up → IsClimb q (past key top at) (keys_without key up)
+climb_past p q key top here itself links at [] h = ap (past key top) h
+climb_past p q key top here itself links at (k ∷ up) h = by (cases_eq key k) (climb_past p q key top here itself links h.1.0 up h.1.1.1)
+  where
+    by : (key ≡ k) ⊎ (key ≢ k) → IsClimb q (past key top h.1.0) (keys_without key up) → IsClimb q (past key top at) (keys_without key (k ∷ up))
+    by (inl e) ih =
+        let link : Some h.1.0 ≡ Some top = sym h.1.1.0 ∙ ap p (sym e) ∙ here in
+        let next : h.1.0 ≡ top = cc in
+        let a : past key top at ≡ top = ap (past key top) h.0 ∙ past_key key top k e in
+        let b : past key top h.1.0 ≡ top = ap (past key top) next ∙ past_twice key top top itself in
+        subst (λ l. IsClimb q (past key top at) l) (sym (gone_key key top k up e))
+        (subst (λ o. IsClimb q o (keys_without key up)) (b ∙ sym a) ih)
+    by (inr ne) ih =
+        let a : past key top at ≡ Some k = ap (past key top) h.0 ∙ past_other key top k ne in
+        let l : q k ≡ Some (past key top h.1.0) = links k (λ e. ne (sym e)) ∙ ap (past_link key top) h.1.1.0 in
+        let c : IsClimb q (past key top at) (k ∷ keys_without key up) = (a, (past key top h.1.0, (l, ih))) in
+        subst (λ l. IsClimb q (past key top at) l) (sym (kept_other key top k up ne)) c
+
+-- each link to the key becomes a link to the key above it
+pub each_past : (key m : ℕ) (top : Option ℕ) → m ≢ key → (o : Option ℕ) → one (is_key m (past key top o)) ≡ one (is_key m o) + cond (is_key m top) (one (is_key key o)) 0
+each_past key m top ne None = by (is_key m top)
+  where
+    by : (b : Bool) → 0 ≡ 0 + cond b 0 0
+    by true = omega arith
+    by false = omega arith
+each_past key m top ne (Some k) = by (cases_eq key k)
+  where
+    sum : (b : Bool) → one b ≡ 0 + cond b 1 0
+    sum true = omega arith
+    sum false = omega arith
+
+    none : (n : ℕ) (b : Bool) → n ≡ n + cond b 0 0
+    none n true = omega arith
+    none n false = omega arith
+
+    by : (key ≡ k) ⊎ (key ≢ k) → one (is_key m (past key top (Some k))) ≡ one (nat_eq m k) + cond (is_key m top) (one (nat_eq key k)) 0
+    by (inl e) =
+        ap (λ o. one (is_key m o)) (past_key key top k e) ∙ sum (is_key m top)
+        ∙ ap (λ n. n + cond (is_key m top) 1 0) (sym (ap one (ne_eqb m k (λ w. ne (w ∙ sym e)))))
+        ∙ ap (λ b. one (nat_eq m k) + cond (is_key m top) (one b) 0) (sym (eq-eqb key k e))
+    by (inr nk) =
+        ap (λ o. one (is_key m o)) (past_other key top k nk) ∙ none (one (nat_eq m k)) (is_key m top)
+        ∙ ap (λ b. one (nat_eq m k) + cond (is_key m top) (one b) 0) (sym (ne_eqb key k nk))
+
+pub each_past_link : (key m : ℕ) (top : Option ℕ) → m ≢ key → (o : Option (Option ℕ)) → one (is_above m (past_link key top o)) ≡ one (is_above m o) + cond (is_key m top) (one (is_above key o)) 0
+each_past_link key m top ne None = each_past key m top ne None
+each_past_link key m top ne (Some next) = each_past key m top ne next
+
+-- if the count of each item is such a sum, so is the count of a list
+pub sum_past : {A : Type 0} (f p q : A → Bool) (b : Bool) (xs : List A) → ((x : A) → one (f x) ≡ one (p x) + cond b (one (q x)) 0) → count_by f xs ≡ count_by p xs + cond b (count_by q xs) 0
+sum_past f p q true [] h = omega arith
+sum_past f p q false [] h = omega arith
+sum_past f p q true (x ∷ xs) h =
+    let a = sum_by-cons (λ y. one (f y)) x xs in let b = sum_by-cons (λ y. one (p y)) x xs in let c = sum_by-cons (λ y. one (q y)) x xs in
+    let d = h x in let e = sum_past f p q true xs h in
+    omega (arith, a, b, c, d, e)
+sum_past f p q false (x ∷ xs) h =
+    let a = sum_by-cons (λ y. one (f y)) x xs in let b = sum_by-cons (λ y. one (p y)) x xs in
+    let d = h x in let e = sum_past f p q false xs h in
+    omega (arith, a, b, d, e)
+
+pub count_map : {A B : Type 0} (p : B → Bool) (f : A → B) (xs : List A) → count_by p (map f xs) ≡ count_by (λ x. p (f x)) xs
+count_map p f [] = refl
+count_map p f (x ∷ xs) =
+    let a = sum_by-cons (λ y. one (p y)) (f x) (map f xs) in let b = sum_by-cons (λ y. one (p (f y))) x xs in let c = count_map p f xs in
+    omega (arith, a, b, c)
+
+pub map_at : {A B : Type 0} (f : Option A → Option B) (xs : List (Option A)) (i : ℕ) → f None ≡ None → get_or (map f xs) i None ≡ f (get_or xs i None)
+map_at f [] i h = sym h
+map_at f (x ∷ xs) zero h = refl
+map_at f (x ∷ xs) (suc i) h = map_at f xs i h
+
+pub both : (b : Bool) (x y : ℕ) → cond b x 0 + cond b y 0 ≡ cond b (x + y) 0
+both true x y = refl
+both false x y = omega arith
+
+-- a list whose items are the tips, each past the key, is `past` applied to each tip
+pub all_past : (key : ℕ) (top : Option ℕ) (xs ys : List (Option ℕ)) → length ys ≡ length xs → ((k : ℕ) → k < length xs → tip_at ys k ≡ past key top (tip_at xs k)) → ys ≡ map (past key top) xs
+all_past key top xs ys len h =
+    ext_get_or None ys (map (past key top) xs) (len ∙ sym (length-map xs (past key top)))
+    (λ i lt. h i (subst (λ n. i < n) len lt) ∙ sym (map_at (past key top) xs i refl))
+
+-- if each element passes at most one of two tests, and then also a third test, the counts of the
+-- two tests add up to at most that of the third
+pub sum_apart : {A : Type 0} (p q r : A → Bool) (xs : List A) → ((x : A) → one (p x) + one (q x) ≤ one (r x)) → count_by p xs + count_by q xs ≤ count_by r xs
+sum_apart p q r [] h = omega arith
+sum_apart p q r (x ∷ xs) h =
+    let a = sum_by-cons (λ y. one (p y)) x xs in let b = sum_by-cons (λ y. one (q y)) x xs in let c = sum_by-cons (λ y. one (r y)) x xs in
+    let d = h x in let e = sum_apart p q r xs h in
+    omega (arith, a, b, c, d, e)

@@ -1,0 +1,601 @@
+-- Cursors are within their branches, also after an edit.
+use Rattle.std.proofs.Common.{◌≡◌, ℕ, zero, suc, ◌+◌, ◌<◌, ◌≤◌, Bool, true, false, not, ◌&&◌, ◌||◌, cond, nat_eq, nat_lt, nat_le, List, [], ◌∷◌, ◌++◌, length, map, take, slice_get, get_or, Option, Some, None, Result, Ok, Err, IfOk, is_some, refl, sym, ap, subst, ◌∙◌, true≢false, arith}
+use Rattle.std.specs.Option.{option_map, IfSome}
+use Rattle.std.specs.List.{position, position_or_len, remove, list_any}
+use Rattle.std.specs.Cmp.Lexicographic.{pointwise, nat_list_eq_equiv}
+use Rattle.std.proofs.lemmas.Bool.Decides.{nat_tests}
+use Rattle.std.proofs.lemmas.List.{length-append, length-map, length-take-le, get_or-set_same, get_or-set_other}
+use Rattle.std.specs.List.{IsDistinct, AllByRecursion}
+use Rattle.std.specs.Prelude.{slice_set}
+use Rattle.std.proofs.lemmas.Map.Steps.{length-le_from_distinct_below}
+use Rattle.std.proofs.lemmas.List.Folds.{list_any_at}
+use Rattle.std.proofs.Math.ListN.{get_or-map}
+use Rattle.std.proofs.lemmas.List.Quantifiers.{position-Some}
+use Rattle.std.proofs.lemmas.List.Sums.{fails_before_first}
+use Rattle.std.proofs.lemmas.Option.{slice_get-get_or, slice_get_within, slice_get_past, get_or_from_slice_get}
+use Rattle.std.proofs.lemmas.Bool.{and_parts}
+use Rattle.schedule_trie.proofs.Lists.{cell_in_at}
+use Rattle.schedule_trie.proofs.NamesApart.{found_apart}
+use Rattle.frames.specs.declared.types.Step.{Step}
+use Rattle.schedule_trie.specs.declared.slot.Slot.{Slot}
+use Rattle.schedule_trie.specs.declared.limits.Limits.{Limits}
+use Rattle.schedule_trie.specs.declared.refusal.Refusal.{Refusal}
+use Rattle.schedule_trie.specs.declared.refusal.Refusal.TheVariants.{NoPlace, Full, NameTaken, BadName, TooManyBranches, LastBranch}
+use Rattle.schedule_trie.specs.Names.{is_well_formed}
+use Rattle.schedule_trie.specs.Edits.{Edit, Insert, Remove, Replace, Fork, Detach, Drop, edited}
+use Rattle.schedule_trie.specs.Forest as forests
+use Rattle.schedule_trie.specs.Forest.{Forest, Branch, IsForest, AreNamedApart, index_of, slots_in, name_in, name_of, everywhere, only_in, put_before, put_last, without, is_cell, cell_in, cell_of, cell_on_branch, cell_by, place_of, place_by, len_of}
+use Rattle.cutoff.specs.Charts.{looked_at}
+use Rattle.views.specs.Looks.{steps_in}
+use Rattle.views.proofs.Spots.{length_told}
+use Rattle.sessions.specs.declared.cursor.Cursor.{Cursor}
+use Rattle.sessions.specs.declared.cursor.Shift.{Shift}
+use Rattle.sessions.specs.declared.cursor.Shift.TheVariants as shift
+use Rattle.sessions.specs.Edits.{moved_by, drops_occupied}
+use Rattle.sessions.specs.Bounds.{AreWithin}
+use Rattle.sessions.specs.Cursors.{AreAtPlaces, first_cursor, IsAtPlace, cursor_at, each_cursor, is_occupied, is_on_branch, cursor, acts_in, is_shifted_by, shifted, shifted_place}
+use Rattle.schedule_trie.specs.declared.limits.TheConstants.{MOST_CELLS_MADE}
+
+lt_false : (a b : ℕ) → b ≤ a → nat_lt a b ≡ false
+lt_false a b h = grind (arith, nat_tests)
+
+not_above : (a b : ℕ) → nat_lt a b ≡ false → b ≤ a
+not_above a b e = grind (arith, nat_tests)
+
+above : (a b : ℕ) → nat_lt a b ≡ true → a < b
+above a b e = grind (arith, nat_tests)
+
+same_number : (a b : ℕ) → nat_eq a b ≡ true → a ≡ b
+same_number a b e = grind (arith, nat_tests)
+
+other_number : (a b : ℕ) → nat_eq a b ≡ false → a ≡ b → ⊥
+other_number a b e same = grind (arith, nat_tests)
+
+same_name : (xs ys : List ℕ) → pointwise nat_eq xs ys ≡ true → xs ≡ ys
+same_name [] [] e = refl
+same_name [] (y ∷ ys) e = cc
+same_name (x ∷ xs) [] e = cc
+same_name (x ∷ xs) (y ∷ ys) e = by (same_name xs ys) (nat_eq x y) refl e
+  where
+    by : (pointwise nat_eq xs ys ≡ true → xs ≡ ys) → (b : Bool) → nat_eq x y ≡ b → (b && pointwise nat_eq xs ys) ≡ true → x ∷ xs ≡ y ∷ ys
+    by rest true h g =
+        let behind : xs ≡ ys = rest g in
+        let here : x ≡ y = same_number x y h in
+        cc
+    by rest false h g = cc
+
+-- a cursor is at a place that exists: its branch has this index, and is long enough
+pub record Stands (bs : List Branch) (c : Cursor) : Type 0 where
+  pub index : ℕ
+  pub named : name_in bs index ≡ Some c.branch
+  pub within : c.place ≤ length (slots_in bs index)
+
+named_at : (name : List ℕ) (bs : List Branch) (i : ℕ) → index_of bs name ≡ Some i → name_in bs i ≡ Some name
+named_at name bs i e =
+    let p = position-Some (pointwise nat_eq name) (map name_of bs) i name e in
+    let same : name ≡ get_or (map name_of bs) i name = same_name name (get_or (map name_of bs) i name) p.1 in
+    slice_get-get_or (map name_of bs) i name p.0 ∙ ap Some (sym same)
+
+looked : (f : Forest) (place : ℕ) (o : Option ℕ) → forests.on_found o (looked_at f place) ≡ Ok f → (i : ℕ) × (o ≡ Some i) × (place ≤ length (slots_in f.branches i))
+looked f place None e = absurd (cc)
+looked f place (Some i) e = (i, refl, by (nat_lt (length (slots_in f.branches i)) place) refl e)
+  where
+    by : (b : Bool) → nat_lt (length (slots_in f.branches i)) place ≡ b → cond b (Err NoPlace) (Ok f) ≡ Ok f → place ≤ length (slots_in f.branches i)
+    by true h g = absurd (cc)
+    by false h g = not_above (length (slots_in f.branches i)) place h
+
+pub stands : (f : Forest) (c : Cursor) → IsAtPlace f c → Stands f.branches c
+stands f c e =
+    let p = looked f c.place (index_of f.branches c.branch) e in
+    record { index = p.0; named = named_at c.branch f.branches p.0 p.1; within = p.2 }
+
+pub stands_in : (f : Forest) (c : Cursor) → AreNamedApart f.branches → Stands f.branches c → IsAtPlace f c
+stands_in f c apart s =
+    ap (λ o. forests.on_found o (looked_at f c.place)) (found_apart f.branches s.index c.branch apart s.named)
+    ∙ ap (λ b. cond b (Err NoPlace) (Ok f)) (lt_false (length (slots_in f.branches s.index)) c.place s.within)
+
+-- a cursor's place still exists if the branches keep their names and none of them is shorter
+pub stands_longer : (bs cs : List Branch) (c : Cursor) → map name_of cs ≡ map name_of bs → ((j : ℕ) → length (slots_in bs j) ≤ length (slots_in cs j)) → Stands bs c → Stands cs c
+stands_longer bs cs c names longer s =
+    let more = longer s.index in
+    record { index = s.index; named = ap (λ ns. slice_get ns s.index) names ∙ s.named; within = omega (arith, s.within) }
+
+names_everywhere : (g : List Slot → List Slot) (bs : List Branch) → map name_of (everywhere g bs) ≡ map name_of bs
+names_everywhere g [] = refl
+names_everywhere g (b ∷ bs) = ap (λ ns. b.name ∷ ns) (names_everywhere g bs)
+
+slots_everywhere : (g : List Slot → List Slot) (bs : List Branch) (j : ℕ) → g [] ≡ [] → slots_in (everywhere g bs) j ≡ g (slots_in bs j)
+slots_everywhere g [] j e = sym e
+slots_everywhere g (b ∷ bs) zero e = refl
+slots_everywhere g (b ∷ bs) (suc j) e = slots_everywhere g bs j e
+
+names_only_in : (i : ℕ) (g : List Slot → List Slot) (bs : List Branch) → map name_of (only_in i g bs) ≡ map name_of bs
+names_only_in i g [] = refl
+names_only_in zero g (b ∷ bs) = refl
+names_only_in (suc i) g (b ∷ bs) = ap (λ ns. b.name ∷ ns) (names_only_in i g bs)
+
+longer_only_in : (i : ℕ) (g : List Slot → List Slot) (bs : List Branch) → ((l : List Slot) → length l ≤ length (g l)) → (j : ℕ) → length (slots_in bs j) ≤ length (slots_in (only_in i g bs) j)
+longer_only_in i g [] h j = omega arith
+longer_only_in zero g (b ∷ bs) h zero = h b.slots
+longer_only_in zero g (b ∷ bs) h (suc j) = omega arith
+longer_only_in (suc i) g (b ∷ bs) h zero = omega arith
+longer_only_in (suc i) g (b ∷ bs) h (suc j) = longer_only_in i g bs h j
+
+-- a branch with a cell added before the one with number `x`
+module _ (x : ℕ) (new : Slot) where
+  pub put_longer : (slots : List Slot) → length slots ≤ length (put_before x new slots)
+  put_longer [] = omega arith
+  put_longer (y ∷ ys) = by (put_longer ys) (nat_eq y.cell x)
+    where
+      by : length ys ≤ length (put_before x new ys) → (b : Bool) → suc (length ys) ≤ length (cond b (new ∷ y ∷ []) (y ∷ []) ++ put_before x new ys)
+      by rest true = omega arith
+      by rest false = omega arith
+
+  pub put_one_more : (slots : List Slot) (k : ℕ) (s : Slot) → slice_get slots k ≡ Some s → s.cell ≡ x → suc (length slots) ≤ length (put_before x new slots)
+  put_one_more [] k s e h = absurd (cc)
+  put_one_more (y ∷ ys) zero s e h = by (put_longer ys) (nat_eq y.cell x) refl
+    where
+      by : length ys ≤ length (put_before x new ys) → (b : Bool) → nat_eq y.cell x ≡ b → suc (suc (length ys)) ≤ length (cond b (new ∷ y ∷ []) (y ∷ []) ++ put_before x new ys)
+      by rest true g = omega arith
+      by rest false g = let same : y ≡ s = cc in absurd (other_number y.cell x g (ap (λ z. z.cell) same ∙ h))
+  put_one_more (y ∷ ys) (suc k) s e h = by (put_one_more ys k s e h) (nat_eq y.cell x)
+    where
+      by : suc (length ys) ≤ length (put_before x new ys) → (b : Bool) → suc (suc (length ys)) ≤ length (cond b (new ∷ y ∷ []) (y ∷ []) ++ put_before x new ys)
+      by rest true = omega arith
+      by rest false = omega arith
+
+-- no cell has this number
+abbrev pub Lacks : ℕ → List Slot → Type 0
+Lacks x slots = (k : ℕ) (s : Slot) → slice_get slots k ≡ Some s → s.cell ≡ x → ⊥
+
+-- at most one cell has this number
+abbrev pub HasOnce : ℕ → List Slot → Type 0
+HasOnce x slots = (k l : ℕ) (s t : Slot) → slice_get slots k ≡ Some s → slice_get slots l ≡ Some t → s.cell ≡ x → t.cell ≡ x → k ≡ l
+
+pub none_gone : (x : ℕ) (slots : List Slot) → Lacks x slots → length slots ≤ length (without x slots)
+none_gone x [] h = omega arith
+none_gone x (y ∷ ys) h = by (none_gone x ys (λ k s e c. h (suc k) s e c)) (nat_eq y.cell x) refl
+  where
+    by : length ys ≤ length (without x ys) → (b : Bool) → nat_eq y.cell x ≡ b → suc (length ys) ≤ length (cond (not b) (y ∷ without x ys) (without x ys))
+    by rest true e = absurd (h 0 y refl (same_number y.cell x e))
+    by rest false e = omega arith
+
+pub one_gone : (x : ℕ) (slots : List Slot) → HasOnce x slots → length slots ≤ suc (length (without x slots))
+one_gone x [] h = omega arith
+one_gone x (y ∷ ys) h = by (one_gone x ys (λ k l s t d e a b. let same : suc k ≡ suc l = h (suc k) (suc l) s t d e a b in omega arith)) (nat_eq y.cell x) refl
+  where
+    lacks : y.cell ≡ x → Lacks x ys
+    lacks e k s at c = let same : 0 ≡ suc k = h 0 (suc k) y s refl at e c in omega arith
+
+    by : length ys ≤ suc (length (without x ys)) → (b : Bool) → nat_eq y.cell x ≡ b → suc (length ys) ≤ suc (length (cond (not b) (y ∷ without x ys) (without x ys)))
+    by rest true e = let all = none_gone x ys (lacks (same_number y.cell x e)) in omega arith
+    by rest false e = omega arith
+
+-- the cell at the place that was found for a number has that number
+pub cell_found : (x k : ℕ) (slots : List Slot) (d : Slot) → position (is_cell x) slots ≡ Some k → (s : Slot) × (slice_get slots k ≡ Some s) × (s.cell ≡ x)
+cell_found x k slots d e =
+    let p = position-Some (is_cell x) slots k d e in
+    (get_or slots k d, slice_get-get_or slots k d p.0, same_number (get_or slots k d).cell x p.1)
+
+pub cell_lacked : (x : ℕ) (slots : List Slot) → position (is_cell x) slots ≡ None → Lacks x slots
+cell_lacked x slots e k s at c = by (nat_lt (position_or_len (is_cell x) slots) (length slots)) refl e
+  where
+    inside : k < length slots
+    inside = slice_get_within slots k s at
+
+    here : get_or slots k s ≡ s
+    here = get_or_from_slice_get slots k s s at
+
+    by : (b : Bool) → nat_lt (position_or_len (is_cell x) slots) (length slots) ≡ b → cond b (Some (position_or_len (is_cell x) slots)) None ≡ None → ⊥
+    by true h g = absurd (cc)
+    by false h g =
+        let past : length slots ≤ position_or_len (is_cell x) slots = not_above (position_or_len (is_cell x) slots) (length slots) h in
+        let other : is_cell x (get_or slots k s) ≡ false = fails_before_first (is_cell x) slots k s (omega (arith, inside)) in
+        other_number s.cell x (ap (is_cell x) (sym here) ∙ other) c
+
+pub at_place : (slots : List Slot) (k : ℕ) → k < length slots → (s : Slot) × (slice_get slots k ≡ Some s)
+at_place [] k h = absurd (omega arith)
+at_place (y ∷ ys) zero h = (y, refl)
+at_place (y ∷ ys) (suc k) h = at_place ys k (omega arith)
+
+some_at : (o : Option ℕ) → is_some o ≡ true → (k : ℕ) × (o ≡ Some k)
+some_at None e = absurd (cc)
+some_at (Some k) e = (k, refl)
+
+-- a branch has a cell once
+same_place : (f : Forest) → IsForest f → (j k l : ℕ) (s t : Slot) → slice_get (slots_in f.branches j) k ≡ Some s → slice_get (slots_in f.branches j) l ≡ Some t → s.cell ≡ t.cell → k ≡ l
+same_place f held j k l s t d e c =
+    let slots = slots_in f.branches j in
+    let shared : take (suc k) slots ≡ take (suc l) slots = held.shared j j k l s t d e c in
+    let within_k : k < length slots = slice_get_within slots k s d in
+    let within_l : l < length slots = slice_get_within slots l t e in
+    let first : length (take (suc k) slots) ≡ suc k = length-take-le (suc k) slots (omega arith) in
+    let second : length (take (suc l) slots) ≡ suc l = length-take-le (suc l) slots (omega arith) in
+    let lengths : length (take (suc k) slots) ≡ length (take (suc l) slots) = ap length shared in
+    omega arith
+
+-- an edit at a place of a branch, and a cursor
+module _ (f : Forest) (held : IsForest f) (name : List ℕ) (place i : ℕ) (found : index_of f.branches name ≡ Some i) (c : Cursor) (s : Stands f.branches c) where
+  abbrev here : List Slot
+  here = slots_in f.branches i
+
+  abbrev there : List Slot
+  there = slots_in f.branches s.index
+
+  placed : (x : ℕ) → place_of f c.branch x ≡ position (is_cell x) there
+  placed x = ap (λ o. place_by o f x) (found_apart f.branches s.index c.branch held.apart s.named)
+
+  cell_is : (t : Slot) → slice_get here place ≡ Some t → cell_on_branch f name place ≡ Some t.cell
+  cell_is t e = ap (λ o. cell_by o f place) found ∙ ap (option_map cell_of) e
+
+  cell_none : length here ≤ place → cell_on_branch f name place ≡ None
+  cell_none past = ap (λ o. cell_by o f place) found ∙ ap (option_map cell_of) (slice_get_past here place past)
+
+  -- at the end of a branch no cursor is after the place
+  last_behind : length here ≤ place → is_shifted_by f name place c ≡ true → ⊥
+  last_behind past e =
+      let p = and_parts (pointwise nat_eq name c.branch) (nat_lt place c.place) (ap (λ o. acts_in o f name c.branch && nat_lt place c.place) (sym (cell_none past)) ∙ e) in
+      let same : name ≡ c.branch = same_name name c.branch p.0 in
+      let index : Some i ≡ Some s.index = sym found ∙ ap (index_of f.branches) same ∙ found_apart f.branches s.index c.branch held.apart s.named in
+      let one : i ≡ s.index = cc in
+      let lengths : length here ≡ length there = ap (λ j. length (slots_in f.branches j)) one in
+      let ahead : place < c.place = above place c.place p.1 in
+      omega (arith, s.within)
+
+  -- a cursor after a cell is on a branch that has it
+  has_behind : (t : Slot) → slice_get here place ≡ Some t → is_shifted_by f name place c ≡ true → ((k : ℕ) × (position (is_cell t.cell) there ≡ Some k)) × (place < c.place)
+  has_behind t at e =
+      let p = and_parts (is_some (place_of f c.branch t.cell)) (nat_lt place c.place) (ap (λ o. acts_in o f name c.branch && nat_lt place c.place) (sym (cell_is t at)) ∙ e) in
+      (some_at (position (is_cell t.cell) there) (ap is_some (sym (placed t.cell)) ∙ p.0), above place c.place p.1)
+
+  goes : (cs : List Branch) (sh : Shift) → (is_shifted_by f name place c ≡ true → Stands cs (cursor c.branch (shifted_place sh c.place)))
+      → (is_shifted_by f name place c ≡ false → Stands cs c) → Stands cs (shifted sh f name place c)
+  goes cs sh up down = by (is_shifted_by f name place c) refl
+    where
+      by : (b : Bool) → is_shifted_by f name place c ≡ b → Stands cs (cond b (cursor c.branch (shifted_place sh c.place)) c)
+      by true e = up e
+      by false e = down e
+
+  insert_last : (new : Slot) → length here ≤ place → Stands (only_in i (put_last new) f.branches) (shifted shift.Up f name place c)
+  insert_last new past =
+      goes (only_in i (put_last new) f.branches) shift.Up (λ e. absurd (last_behind past e))
+      (λ e. stands_longer f.branches (only_in i (put_last new) f.branches) c (names_only_in i (put_last new) f.branches)
+      (longer_only_in i (put_last new) f.branches (λ l. let more = length-append l (new ∷ []) in omega arith)) s)
+
+  insert_before : (new t : Slot) → slice_get here place ≡ Some t → Stands (everywhere (put_before t.cell new) f.branches) (shifted shift.Up f name place c)
+  insert_before new t at =
+      let g = put_before t.cell new in
+      let cs = everywhere g f.branches in
+      let names = names_everywhere g f.branches in
+      goes cs shift.Up
+      (λ e.
+      let p = has_behind t at e in
+      let q = cell_found t.cell p.0.0 there t p.0.1 in
+      let more : suc (length there) ≤ length (g there) = put_one_more t.cell new there p.0.0 q.0 q.1 q.2 in
+      let same : length (slots_in cs s.index) ≡ length (g there) = ap length (slots_everywhere g f.branches s.index refl) in
+      record { index = s.index; named = ap (λ ns. slice_get ns s.index) names ∙ s.named; within = omega (arith, s.within) })
+      (λ e. stands_longer f.branches cs c names
+      (λ j. let same : length (slots_in cs j) ≡ length (g (slots_in f.branches j)) = ap length (slots_everywhere g f.branches j refl) in
+      let more = put_longer t.cell new (slots_in f.branches j) in omega arith) s)
+
+  once : (x : ℕ) → HasOnce x there
+  once x k l a b e d m n = same_place f held s.index k l a b e d (m ∙ sym n)
+
+  -- a cell has the same place in each branch that has it
+  one_place : (t : Slot) → slice_get here place ≡ Some t → (k : ℕ) → position (is_cell t.cell) there ≡ Some k → (k ≡ place) × (k < length there)
+  one_place t at k e =
+      let q = cell_found t.cell k there t e in
+      let shared : take (suc place) here ≡ take (suc k) there = held.shared i s.index place k t q.0 at q.1 (sym q.2) in
+      let inside : place < length here = slice_get_within here place t at in
+      let within_k : k < length there = slice_get_within there k q.0 q.1 in
+      let first : length (take (suc place) here) ≡ suc place = length-take-le (suc place) here (omega arith) in
+      let second : length (take (suc k) there) ≡ suc k = length-take-le (suc k) there (omega arith) in
+      let lengths : length (take (suc place) here) ≡ length (take (suc k) there) = ap length shared in
+      (omega arith, within_k)
+
+  stays : (t : Slot) → slice_get here place ≡ Some t → is_shifted_by f name place c ≡ false → (o : Option ℕ) → position (is_cell t.cell) there ≡ o
+      → (n : ℕ) → n ≡ length (without t.cell there) → length there ≤ suc (length (without t.cell there)) → c.place ≤ n
+  stays t at e None h n same few = let all = none_gone t.cell there (cell_lacked t.cell there h) in omega (arith, s.within)
+  stays t at e (Some k) h n same few =
+      let one = one_place t at k h in
+      let acts : (true && nat_lt place c.place) ≡ false =
+      ap (λ o. is_some o && nat_lt place c.place) (sym (placed t.cell ∙ h)) ∙ ap (λ o. acts_in o f name c.branch && nat_lt place c.place) (sym (cell_is t at)) ∙ e in
+      let behind : c.place ≤ place = not_above place c.place acts in
+      omega (arith, one)
+
+  remove_at : (t : Slot) → slice_get here place ≡ Some t → Stands (everywhere (without t.cell) f.branches) (shifted shift.Down f name place c)
+  remove_at t at =
+      let g = without t.cell in
+      let cs = everywhere g f.branches in
+      let named = ap (λ ns. slice_get ns s.index) (names_everywhere g f.branches) ∙ s.named in
+      let same : length (slots_in cs s.index) ≡ length (g there) = ap length (slots_everywhere g f.branches s.index refl) in
+      let few : length there ≤ suc (length (g there)) = one_gone t.cell there (once t.cell) in
+      goes cs shift.Down
+      (λ e. let p = has_behind t at e in record { index = s.index; named = named; within = omega (arith, s.within, p.1) })
+      (λ e. record { index = s.index; named = named; within = stays t at e (position (is_cell t.cell) there) refl (length (slots_in cs s.index)) same few })
+
+-- one more branch
+name_more : (bs more : List Branch) (j : ℕ) (name : List ℕ) → name_in bs j ≡ Some name → name_in (bs ++ more) j ≡ Some name
+name_more [] more j name e = absurd (cc)
+name_more (b ∷ bs) more zero name e = e
+name_more (b ∷ bs) more (suc j) name e = name_more bs more j name e
+
+slots_more : (bs more : List Branch) (j : ℕ) (name : List ℕ) → name_in bs j ≡ Some name → slots_in (bs ++ more) j ≡ slots_in bs j
+slots_more [] more j name e = absurd (cc)
+slots_more (b ∷ bs) more zero name e = refl
+slots_more (b ∷ bs) more (suc j) name e = slots_more bs more j name e
+
+stands_more : (bs more : List Branch) (c : Cursor) → Stands bs c → Stands (bs ++ more) c
+stands_more bs more c s =
+    let same : length (slots_in (bs ++ more) s.index) ≡ length (slots_in bs s.index) = ap length (slots_more bs more s.index c.branch s.named) in
+    record { index = s.index; named = name_more bs more s.index c.branch s.named; within = omega (arith, s.within) }
+
+-- or one less
+stands_less : (bs : List Branch) (i : ℕ) (c : Cursor) (j : ℕ) → (i ≡ j → ⊥) → name_in bs j ≡ Some c.branch → c.place ≤ length (slots_in bs j) → Stands (remove bs i) c
+stands_less [] i c j apart e h = absurd (cc)
+stands_less (b ∷ bs) zero c zero apart e h = absurd (apart refl)
+stands_less (b ∷ bs) zero c (suc j) apart e h = record { index = j; named = e; within = h }
+stands_less (b ∷ bs) (suc i) c zero apart e h = record { index = 0; named = e; within = h }
+stands_less (b ∷ bs) (suc i) c (suc j) apart e h =
+    let s = stands_less bs i c j (λ same. apart (ap suc same)) e h in
+    record { index = suc s.index; named = s.named; within = s.within }
+
+below : (a b : ℕ) → a ≤ b → (a ≡ b → ⊥) → a < b
+below a b h apart = by (nat_lt a b) refl
+  where
+    by : (t : Bool) → nat_lt a b ≡ t → a < b
+    by true e = above a b e
+    by false e = let past : b ≤ a = not_above a b e in absurd (apart (omega arith))
+
+not_below : (a b : ℕ) → nat_le a b ≡ false → b < a
+not_below a b e = grind (arith, nat_tests)
+
+other_name : (xs ys : List ℕ) → pointwise nat_eq xs ys ≡ false → xs ≡ ys → ⊥
+other_name xs ys e same = true≢false (sym (nat_list_eq_equiv.refl xs) ∙ ap (pointwise nat_eq xs) same ∙ e)
+
+named_one : (bs : List Branch) (i j : ℕ) (xs ys : List ℕ) → i ≡ j → name_in bs i ≡ Some xs → name_in bs j ≡ Some ys → xs ≡ ys
+named_one bs i j xs ys same a b = let e : Some xs ≡ Some ys = sym a ∙ ap (name_in bs) same ∙ b in cc
+
+cursor_within : (cursors : List (Option Cursor)) (who : ℕ) (c : Cursor) → cursor_at cursors who ≡ Some c → who < length cursors
+cursor_within [] who c e = absurd (cc)
+cursor_within (o ∷ os) zero c e = omega arith
+cursor_within (o ∷ os) (suc who) c e = let rest = cursor_within os who c e in omega arith
+
+not_there : (name : List ℕ) (cursors : List (Option Cursor)) (who : ℕ) (c : Cursor) → is_occupied name cursors ≡ false → cursor_at cursors who ≡ Some c → pointwise nat_eq name c.branch ≡ false
+not_there name cursors who c free at = by (pointwise nat_eq name c.branch) refl
+  where
+    by : (b : Bool) → pointwise nat_eq name c.branch ≡ b → b ≡ false
+    by true e = absurd (true≢false (sym (list_any_at (is_on_branch name) cursors who None (cursor_within cursors who c at) (ap (is_on_branch name) at ∙ e)) ∙ free))
+    by false e = refl
+
+-- what holds of an edit's result, once its branch is found and its tests have passed
+module _ (P : Forest → Type 0) where
+  found_ok : (o : Option ℕ) (command : ℕ → Result Forest Refusal) → ((i : ℕ) → o ≡ Some i → IfOk (command i) P) → IfOk (forests.on_found o command) P
+  found_ok None command h = tt
+  found_ok (Some i) command h = h i refl
+
+  asked_ok : (t : Bool) (r : Refusal) (x : Result Forest Refusal) → (t ≡ false → IfOk x P) → IfOk (cond t (Err r) x) P
+  asked_ok true r x h = tt
+  asked_ok false r x h = h refl
+
+from_ok : (P : Forest → Type 0) (x : Result Forest Refusal) (g : Forest) → x ≡ Ok g → IfOk x P → P g
+from_ok P x g e h = subst (λ y. IfOk y P) e h
+
+length_numbered : (n : ℕ) (steps : List Step) → length (forests.numbered n steps) ≡ length steps
+length_numbered n [] = refl
+length_numbered n (s ∷ steps) = ap suc (length_numbered (suc n) steps)
+
+renumbered_longer : (n : ℕ) (l : List Slot) → length l ≤ length (forests.renumbered n l)
+renumbered_longer n l = let a = length_numbered n (map forests.step_of l) in let b = length-map l forests.step_of in omega arith
+
+replaced_longer : (step : Step) (x : ℕ) (l : List Slot) → length l ≤ length (forests.replaced_by step x l)
+replaced_longer step x l = let b = length-map l (forests.with_step x step) in omega arith
+
+on_cursor : Edit → Forest → Cursor → Cursor
+on_cursor (Insert name place step) f c = shifted shift.Up f name place c
+on_cursor (Remove name place) f c = shifted shift.Down f name place c
+on_cursor edit f c = c
+
+-- no cursor is on a branch that is dropped
+abbrev Stays : Edit → Cursor → Type 0
+Stays (Drop name) c = pointwise nat_eq name c.branch ≡ false
+Stays edit c = Unit {0}
+
+module _ (limits : Limits) (f : Forest) (held : IsForest f) (c : Cursor) (s : Stands f.branches c) where
+  abbrev Goes : Edit → Forest → Type 0
+  Goes edit g = Stands g.branches (on_cursor edit f c)
+
+  edited_one : (edit : Edit) → Stays edit c → IfOk (edited limits f edit) (Goes edit)
+  unfolding on_cursor
+  edited_one (Insert name place step) h =
+      let goes = Goes (Insert name place step) in
+      found_ok goes (index_of f.branches name) (forests.insert_at limits f place step)
+      (λ i found. asked_ok goes (nat_lt (length (slots_in f.branches i)) place) NoPlace _
+      (λ fits. asked_ok goes (nat_le limits.cells f.made) Full (Ok (forests.inserted f i place step))
+      (λ room. by i found (not_above (length (slots_in f.branches i)) place fits) (nat_eq place (length (slots_in f.branches i))) refl)))
+    where
+      by : (i : ℕ) → index_of f.branches name ≡ Some i → place ≤ length (slots_in f.branches i) → (b : Bool) → nat_eq place (length (slots_in f.branches i)) ≡ b
+          → Stands
+          (cond b (only_in i (put_last (forests.slot f.made step)) f.branches) (everywhere (put_before (cell_in (slots_in f.branches i) place) (forests.slot f.made step)) f.branches))
+          (shifted shift.Up f name place c)
+      by i found within true same =
+          let last : place ≡ length (slots_in f.branches i) = same_number place (length (slots_in f.branches i)) same in
+          insert_last f held name place i found c s (forests.slot f.made step) (omega arith)
+      by i found within false other =
+          let apart = other_number place (length (slots_in f.branches i)) other in
+          let t = at_place (slots_in f.branches i) place (below place (length (slots_in f.branches i)) within apart) in
+          subst (λ x. Stands (everywhere (put_before x (forests.slot f.made step)) f.branches) (shifted shift.Up f name place c)) (sym (cell_in_at (slots_in f.branches i) place t.0 t.1))
+          (insert_before f held name place i found c s (forests.slot f.made step) t.0 t.1)
+  edited_one (Remove name place) h =
+      let goes = Goes (Remove name place) in
+      found_ok goes (index_of f.branches name) (forests.at_cell f place without)
+      (λ i found. asked_ok goes (nat_le (length (slots_in f.branches i)) place) NoPlace _ (λ fits.
+      let here = slots_in f.branches i in
+      let t = at_place here place (not_below (length here) place fits) in
+      subst (λ x. Stands (everywhere (without x) f.branches) (shifted shift.Down f name place c)) (sym (cell_in_at here place t.0 t.1)) (remove_at f held name place i found c s t.0 t.1)))
+  edited_one (Replace name place step) h =
+      let goes = Goes (Replace name place step) in
+      found_ok goes (index_of f.branches name) (forests.at_cell f place (forests.replaced_by step))
+      (λ i found. asked_ok goes (nat_le (length (slots_in f.branches i)) place) NoPlace _ (λ fits.
+      let change = forests.replaced_by step (cell_in (slots_in f.branches i) place) in
+      stands_longer f.branches (everywhere change f.branches) c (names_everywhere change f.branches)
+      (λ j. let same : length (slots_in (everywhere change f.branches) j) ≡ length (change (slots_in f.branches j)) = ap length (slots_everywhere change f.branches j refl) in
+      let more = replaced_longer step (cell_in (slots_in f.branches i) place) (slots_in f.branches j) in omega arith) s))
+  edited_one (Fork name place new) h =
+      let goes = Goes (Fork name place new) in
+      found_ok goes (index_of f.branches name) (forests.fork_at limits f place new)
+      (λ i found. asked_ok goes (list_any (pointwise nat_eq new) (map name_of f.branches)) NameTaken _
+      (λ other. asked_ok goes (not (is_well_formed new)) BadName _
+      (λ formed. asked_ok goes (nat_lt (length (slots_in f.branches i)) place) NoPlace _
+      (λ fits. asked_ok goes (nat_le limits.branches (length f.branches)) TooManyBranches _
+      (λ room. stands_more f.branches (forests.branch new (take place (slots_in f.branches i)) ∷ []) c s)))))
+  edited_one (Detach name) h =
+      let goes = Goes (Detach name) in
+      found_ok goes (index_of f.branches name) (forests.detach_at limits f)
+      (λ i found. asked_ok goes (nat_lt limits.cells (f.made + length (slots_in f.branches i))) Full _ (λ room.
+      let change = forests.renumbered f.made in
+      stands_longer f.branches (only_in i change f.branches) c (names_only_in i change f.branches) (longer_only_in i change f.branches (renumbered_longer f.made)) s))
+  edited_one (Drop name) h =
+      let goes = Goes (Drop name) in
+      found_ok goes (index_of f.branches name) (forests.drop_at f)
+      (λ i found. asked_ok goes (nat_le (length f.branches) 1) LastBranch _ (λ more.
+      let named = named_at name f.branches i found in
+      stands_less f.branches i c s.index (λ same. other_name name c.branch h (named_one f.branches i s.index name c.branch same named s.named)) s.named s.within))
+
+-- the cells that are ever made stay within the limits
+module _ (limits : Limits) (f : Forest) (few : f.made ≤ limits.cells) where
+  abbrev IsFew : Forest → Type 0
+  IsFew g = g.made ≤ limits.cells
+
+  few_after : (edit : Edit) → IfOk (edited limits f edit) IsFew
+  few_after (Insert name place step) =
+      found_ok IsFew (index_of f.branches name) (forests.insert_at limits f place step)
+      (λ i found. asked_ok IsFew (nat_lt (length (slots_in f.branches i)) place) NoPlace _
+      (λ fits. asked_ok IsFew (nat_le limits.cells f.made) Full (Ok (forests.inserted f i place step))
+      (λ room. let more : f.made < limits.cells = not_below limits.cells f.made room in omega arith)))
+  few_after (Remove name place) =
+      found_ok IsFew (index_of f.branches name) (forests.at_cell f place without) (λ i found. asked_ok IsFew (nat_le (length (slots_in f.branches i)) place) NoPlace _ (λ fits. few))
+  few_after (Replace name place step) =
+      found_ok IsFew (index_of f.branches name) (forests.at_cell f place (forests.replaced_by step))
+      (λ i found. asked_ok IsFew (nat_le (length (slots_in f.branches i)) place) NoPlace _ (λ fits. few))
+  few_after (Fork name place new) =
+      found_ok IsFew (index_of f.branches name) (forests.fork_at limits f place new)
+      (λ i found. asked_ok IsFew (list_any (pointwise nat_eq new) (map name_of f.branches)) NameTaken _
+      (λ other. asked_ok IsFew (not (is_well_formed new)) BadName _
+      (λ formed. asked_ok IsFew (nat_lt (length (slots_in f.branches i)) place) NoPlace _
+      (λ fits. asked_ok IsFew (nat_le limits.branches (length f.branches)) TooManyBranches _ (λ room. few)))))
+  few_after (Detach name) =
+      found_ok IsFew (index_of f.branches name) (forests.detach_at limits f)
+      (λ i found. asked_ok IsFew (nat_lt limits.cells (f.made + length (slots_in f.branches i))) Full _
+      (λ room. not_above limits.cells (f.made + length (slots_in f.branches i)) room))
+  few_after (Drop name) =
+      found_ok IsFew (index_of f.branches name) (forests.drop_at f) (λ i found. asked_ok IsFew (nat_le (length f.branches) 1) LastBranch _ (λ more. few))
+
+  pub made_within : (g : Forest) (edit : Edit) → edited limits f edit ≡ Ok g → g.made ≤ limits.cells
+  made_within g edit e = from_ok IsFew (edited limits f edit) g e (few_after edit)
+
+-- of all cursors
+each_stands : (f g : Forest) (change : Cursor → Cursor) (cursors : List (Option Cursor)) → ((who : ℕ) (c : Cursor) → cursor_at cursors who ≡ Some c → IsAtPlace f c → IsAtPlace g (change c))
+    → AreAtPlaces f cursors → AreAtPlaces g (each_cursor change cursors)
+each_stands f g change cursors one all who =
+    subst (λ o. IfSome o (IsAtPlace g)) (sym (get_or-map (option_map change) cursors who None)) (by (cursor_at cursors who) refl (all who))
+  where
+    by : (o : Option Cursor) → cursor_at cursors who ≡ o → IfSome o (IsAtPlace f) → IfSome (option_map change o) (IsAtPlace g)
+    by None e h = tt
+    by (Some c) e h = one who c e h
+
+all_kept : (f g : Forest) (cursors : List (Option Cursor)) → ((who : ℕ) (c : Cursor) → cursor_at cursors who ≡ Some c → IsAtPlace f c → IsAtPlace g c) → AreAtPlaces f cursors → AreAtPlaces g cursors
+all_kept f g cursors one all who = by (cursor_at cursors who) refl (all who)
+  where
+    by : (o : Option Cursor) → cursor_at cursors who ≡ o → IfSome o (IsAtPlace f) → IfSome o (IsAtPlace g)
+    by None e h = tt
+    by (Some c) e h = one who c e h
+
+module _ (limits : Limits) (f g : Forest) (held : IsForest f) (apart : AreNamedApart g.branches) (cursors : List (Option Cursor)) (all : AreAtPlaces f cursors) where
+  one_stands : (edit : Edit) → edited limits f edit ≡ Ok g → (c : Cursor) → Stays edit c → IsAtPlace f c → IsAtPlace g (on_cursor edit f c)
+  one_stands edit e c stays here = stands_in g (on_cursor edit f c) apart (from_ok (Goes limits f held c (stands f c here) edit) (edited limits f edit) g e (edited_one limits f held c (stands f c here) edit stays))
+
+  -- after an edit that drops no branch with a cursor on it, each cursor is at a place that exists
+  pub edited_stand : (edit : Edit) → edited limits f edit ≡ Ok g → drops_occupied edit cursors ≡ false → AreAtPlaces g (moved_by edit f cursors)
+  unfolding on_cursor
+  edited_stand (Insert name place step) e h = each_stands f g (shifted shift.Up f name place) cursors (λ who c at. one_stands (Insert name place step) e c tt) all
+  edited_stand (Remove name place) e h = each_stands f g (shifted shift.Down f name place) cursors (λ who c at. one_stands (Remove name place) e c tt) all
+  edited_stand (Replace name place step) e h = all_kept f g cursors (λ who c at. one_stands (Replace name place step) e c tt) all
+  edited_stand (Fork name place new) e h = all_kept f g cursors (λ who c at. one_stands (Fork name place new) e c tt) all
+  edited_stand (Detach name) e h = all_kept f g cursors (λ who c at. one_stands (Detach name) e c tt) all
+  edited_stand (Drop name) e h = all_kept f g cursors (λ who c at. one_stands (Drop name) e c (not_there name cursors who c h at)) all
+
+-- after a session's cursor is put at a place that exists, all cursors are at such places
+pub put_stands : (f : Forest) (cursors : List (Option Cursor)) (who : ℕ) (o : Option Cursor) → who < length cursors → IfSome o (IsAtPlace f) → AreAtPlaces f cursors
+    → AreAtPlaces f (slice_set cursors who o)
+put_stands f cursors who o h one all k = by (nat_eq k who) refl
+  where
+    by : (b : Bool) → nat_eq k who ≡ b → IfSome (cursor_at (slice_set cursors who o) k) (IsAtPlace f)
+    by true e =
+        let here : cursor_at (slice_set cursors who o) k ≡ o = ap (cursor_at (slice_set cursors who o)) (same_number k who e) ∙ get_or-set_same cursors who o None h in
+        subst (λ p. IfSome p (IsAtPlace f)) (sym here) one
+    by false e = subst (λ p. IfSome p (IsAtPlace f)) (sym (get_or-set_other cursors who k o None (other_number k who e))) (all k)
+
+-- the first cursor of a session that joins is at a place that exists
+pub first_stands : (f : Forest) → AreNamedApart f.branches → IfSome (first_cursor f) (IsAtPlace f)
+first_stands f apart = by (name_in f.branches 0) refl
+  where
+    by : (o : Option (List ℕ)) → name_in f.branches 0 ≡ o → IfSome (option_map (λ name. cursor name 0) o) (IsAtPlace f)
+    by None e = tt
+    by (Some name) e = stands_in f (cursor name 0) apart (record { index = 0; named = e; within = omega arith })
+
+-- no branch has more cells than were made, since it has each at most once
+cells_apart : (slots : List Slot) → ((k l : ℕ) (s t : Slot) → slice_get slots k ≡ Some s → slice_get slots l ≡ Some t → s.cell ≡ t.cell → k ≡ l) → IsDistinct nat_eq (map cell_of slots)
+unfolding IsDistinct
+cells_apart [] h = tt
+cells_apart (y ∷ ys) h =
+    (others ys (λ k s e c. let same : 0 ≡ suc k = h 0 (suc k) y s refl e c in omega arith), cells_apart ys (λ k l s t d e c. let same : suc k ≡ suc l = h (suc k) (suc l) s t d e c in omega arith))
+  where
+    differ : (b : Bool) (z : Slot) → nat_eq y.cell z.cell ≡ b → (y.cell ≡ z.cell → ⊥) → b ≡ false
+    differ true z e apart = absurd (apart (same_number y.cell z.cell e))
+    differ false z e apart = refl
+
+    others : (zs : List Slot) → ((k : ℕ) (s : Slot) → slice_get zs k ≡ Some s → y.cell ≡ s.cell → ⊥) → AllByRecursion (λ z. nat_eq y.cell z ≡ false) (map cell_of zs)
+    others [] g = tt
+    others (z ∷ zs) g = (differ (nat_eq y.cell z.cell) z refl (g 0 z refl), others zs (λ k. g (suc k)))
+
+cells_below : (n : ℕ) (slots : List Slot) → ((k : ℕ) → IfSome (slice_get slots k) (λ s. s.cell < n)) → (q : ℕ) → list_any (nat_eq q) (map cell_of slots) ≡ true → q < n
+cells_below n [] h q e = absurd (cc)
+cells_below n (y ∷ ys) h q e = by (cells_below n ys (λ k. h (suc k)) q) (nat_eq q y.cell) refl e
+  where
+    by : (list_any (nat_eq q) (map cell_of ys) ≡ true → q < n) → (b : Bool) → nat_eq q y.cell ≡ b → (b || list_any (nat_eq q) (map cell_of ys)) ≡ true → q < n
+    by rest true g i = let same = same_number q y.cell g in let first : y.cell < n = h 0 in omega arith
+    by rest false g i = rest i
+
+pub few_within : (f : Forest) → IsForest f → (j : ℕ) → length (slots_in f.branches j) ≤ f.made
+few_within f held j =
+    let slots = slots_in f.branches j in
+    let apart : IsDistinct nat_eq (map cell_of slots) = cells_apart slots (same_place f held j) in
+    let few : length (map cell_of slots) ≤ f.made = length-le_from_distinct_below (map cell_of slots) f.made apart (cells_below f.made slots (held.given j)) in
+    let same : length (map cell_of slots) ≡ length slots = length-map slots cell_of in
+    omega arith
+
+pub are_within : (f : Forest) (cursors : List (Option Cursor)) → IsForest f → f.made ≤ MOST_CELLS_MADE → AreAtPlaces f cursors → AreWithin cursors
+are_within f cursors held few all who = by (cursor_at cursors who) (all who)
+  where
+    by : (o : Option Cursor) → IfSome o (IsAtPlace f) → IfSome o (λ c. c.place ≤ MOST_CELLS_MADE)
+    by None h = tt
+    by (Some c) h = let s = stands f c h in omega (arith, s.within, few_within f held s.index, few)
+
+-- a place that is at most a branch's length exists, if a cursor is on that branch
+pub goes_within : (f : Forest) (c : Cursor) (place n : ℕ) → IsAtPlace f c → len_of f c.branch ≡ Some n → place ≤ n → IsAtPlace f (cursor c.branch place)
+goes_within f c place n h len few =
+    let p = looked f c.place (index_of f.branches c.branch) h in
+    let lengths : Some (length (slots_in f.branches p.0)) ≡ Some n = ap (option_map (λ i. length (slots_in f.branches i))) (sym p.1) ∙ len in
+    let same : length (slots_in f.branches p.0) ≡ n = cc in
+    ap (λ o. forests.on_found o (looked_at f place)) p.1 ∙ ap (λ b. cond b (Err NoPlace) (Ok f)) (lt_false (length (slots_in f.branches p.0)) place (omega arith))
+
+-- the place of a hit exists
+pub hit_stands : (f : Forest) (c : Cursor) (place : ℕ) → IsAtPlace f c → place < length (steps_in f c.branch) + 1
+    → IsAtPlace f (cursor c.branch place)
+hit_stands f c place h within =
+    let p = looked f c.place (index_of f.branches c.branch) h in
+    let n = length (slots_in f.branches p.0) in
+    let len : len_of f c.branch ≡ Some n = ap (option_map (λ i. length (slots_in f.branches i))) p.1 in
+    let long = length_told f c.branch n (sym len) in
+    goes_within f c place n h len (omega (arith, long, within))
