@@ -41,8 +41,10 @@ def operations(room):
             page, other = f"0 state main {first + 11}\n", 0 if first else 128
             # (between two looks the lens is filled with places of another run, none after its neighbour)
             fill = "".join(f"0 state main {other + place}\n" for place in range(2, 68, 2))
-            near, far = (instructions([path], page + f"0 state main {first + place}\n{fill}" * 20, room) for place in (11, 111))
-            figures.append((far - near) / (20 * 100))
+            # (pages differ in length, less so in sum)
+            rounds = ("".join(f"0 state main {first + place + ahead}\n{fill}" for place in range(1, 28)) for ahead in (0, 100))
+            near, far = (instructions([path], page + looks, room) for looks in rounds)
+            figures.append((far - near) / (27 * 100))
         print(f"  {line:16}" + "".join(f"{it:9.1f}" for it in figures) + f"   of {count} steps")
 
 

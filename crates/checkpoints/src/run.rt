@@ -86,20 +86,19 @@ impl<R: Register> Run<R> {
 }
 
 /// Replays the steps of `items` (each item has one step), in order, from `entry`. The steps must
-/// fit the register of `entry`. Returns the run of these steps, which shares `entry` as its entry.
-/// Fails only if memory runs out.
+/// fit the register of `entry`. Returns the run of these steps, with `entry` as its entry. Fails
+/// only if memory runs out.
 pub fn run_of<R: Register, S: HasStep>(
     alloc: Global,
-    entry: &Arc<Config<R>>,
+    entry: Arc<Config<R>>,
     items: &[S],
 ) -> Result<Run<R>, AllocError>
-    requires { AllFit (R.behaviour (arc_value entry.now).register) (map S.step_in items.now) }
-    ensures entry { IfOk result (λ run. run.entry ≡ arc_value entry.now) }
+    requires { AllFit (R.behaviour (arc_value entry).register) (map S.step_in items.now) }
+    ensures entry { IfOk result (λ run. run.entry ≡ arc_value entry) }
     ensures steps { IfOk result (λ run. run.steps ≡ map S.step_in items.now) }
 {
     let made = replay_from(alloc, entry.copy(alloc)?, items)?;
     let exit = Arc::new(alloc, made.config)?;
-    let entry = Arc::try_clone(entry)?;
     Ok(Run {
         entry,
         reported: made.reported,
@@ -119,5 +118,5 @@ pub fn run_segment<R: Register>(
     ensures steps { IfOk result (λ run. run.steps ≡ steps.now) }
 {
     let entry = Arc::new(alloc, entry.copy(alloc)?)?;
-    run_of(alloc, &entry, steps)
+    run_of(alloc, entry, steps)
 }

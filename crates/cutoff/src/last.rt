@@ -12,7 +12,7 @@ ghost use Rattle.cutoff.specs.Fitting.{KeepsRuns, reached, run_at, steps_at};
 ghost use Rattle.cutoff.specs.Settles.{IsSegmentSettled, IsFilled, SettlesTo};
 ghost use Rattle.cutoff.specs.Charts.{StepsFit};
 ghost use Rattle.cutoff.specs.Links.{AreLinked, IsLinkedAt};
-ghost use Rattle.cutoff.specs.Prefixes.{IsMarked, IsPlaceIn, IsLeft, exit_or_start, exit_or, run_named};
+ghost use Rattle.cutoff.specs.Prefixes.{IsMarked, IsPlaceIn, IsLeft, exit_or_start, run_named};
 
 use crate::number::Number;
 use crate::prefix::{Rest, keys_down_to, rest_to};
@@ -73,19 +73,22 @@ pub(crate) fn exit_named<'a, R: Register>(
     }
 }
 
-/// The exit of `run`; a copy of `config` if there is no run.
-fn exit_or<R: Register>(
+/// The exit of the run stored in the segment `key`, to be shared. If `key` is `None`, or no run is
+/// stored there, a copy of `start`.
+fn shared_exit<R: Register>(
     alloc: Global,
-    config: &Config<R>,
-    run: Option<Arc<Run<R>>>,
+    trie: &Trie<Stored<R>>,
+    start: &Config<R>,
+    key: Option<SegKey>,
 ) -> Result<Arc<Config<R>>, AllocError>
-    ensures { IfOk result (λ c. arc_value c ≡ exit_or config.now (option_map arc_value run)) }
+    ensures { IfOk result (λ c. arc_value c ≡ exit_or_start trie.now start.now key) }
 {
-    let Some(run) = run else {
-        return Ok(Arc::new(alloc, config.copy(alloc)?)?);
-    };
-    let exit = Arc::try_clone(run.shared_exit())?;
-    Ok(exit)
+    if let Some(key) = key {
+        if let Some(stored) = trie.note(key) {
+            return Ok(Arc::try_clone(stored.run().shared_exit())?);
+        }
+    }
+    Ok(Arc::new(alloc, start.copy(alloc)?)?)
 }
 
 /// Settles the segment `key` at the exit of the run stored in the segment `above`, or at the start
@@ -118,9 +121,8 @@ fn settle_after<R: Register>(
         trie.set_note(key, Some(again));
         return Ok(0);
     }
-    let run = run_named(trie, above)?;
-    let config = exit_or(alloc, start, run)?;
-    let replayed = replay_segment(alloc, trie, next, key, &config, number)?;
+    let config = shared_exit(alloc, trie, start, above)?;
+    let replayed = replay_segment(alloc, trie, next, key, config, number)?;
     Ok(replayed)
 }
 

@@ -22,6 +22,7 @@ use std::sync::Arc;
 
 /// The run stored in the segment `key`, if it fits at `config`; else `None`. `above` is `None`, or
 /// the number of a run with the exit `config`.
+#[inline(always)]
 pub(crate) fn fitting<'a, R: Register>(
     trie: &'a Trie<Stored<R>>,
     key: SegKey,
@@ -61,18 +62,18 @@ pub(crate) fn replay_segment<R: Register>(
     trie: &mut Trie<Stored<R>>,
     next: &mut u64,
     key: SegKey,
-    config: &Arc<Config<R>>,
+    config: Arc<Config<R>>,
     above: Number,
 ) -> Result<u32, AllocError>
-    requires linked { IsLinkedAt R.PartialEq.eq (arc_value config.now) next.old above trie.old }
+    requires linked { IsLinkedAt R.PartialEq.eq (arc_value config) next.old above trie.old }
     requires short { length (steps_at trie.old key) ≤ 128 }
-    requires fits { AllFit (R.behaviour (arc_value config.now).register) (steps_at trie.old key) }
-    requires misses { Fits R.PartialEq.eq trie.old (arc_value config.now) key → ⊥ }
+    requires fits { AllFit (R.behaviour (arc_value config).register) (steps_at trie.old key) }
+    requires misses { Fits R.PartialEq.eq trie.old (arc_value config) key → ⊥ }
     ensures settled { IfOk result (λ n. (run : SegmentRun R R.Pending)
-        × IsSegmentSettled R.PartialEq.eq trie.old trie.new (arc_value config.now) key run n
+        × IsSegmentSettled R.PartialEq.eq trie.old trie.new (arc_value config) key run n
         × IsRun (R.behaviour run.entry.register) run) }
     ensures linked { OnOk result
-        (IsLinkedAt R.PartialEq.eq (arc_value config.now) next.new None trie.new) }
+        (IsLinkedAt R.PartialEq.eq (arc_value config) next.new None trie.new) }
     ensures unchanged { OnErr result ((trie.new ≡ trie.old) × (next.new ≡ next.old)) }
 {
     let cells = segment_cells(trie, key);

@@ -1,6 +1,6 @@
 //! Configurations of a register, and the steps of a schedule.
 
-ghost use Rattle.std.specs.Prelude.{◌≡◌, ℕ, ◌<◌, ◌+◌, Bool, true, false, Option, Some, None, IfOk, IsTrue, IfSome, MatchOption, ⊤, List, length, IfNone, slice_index_or, slice_set, replicate};
+ghost use Rattle.std.specs.Prelude.{◌≡◌, ◌==◌, ℕ, ◌<◌, ◌+◌, Bool, true, false, Option, Some, None, IfOk, IsTrue, IfSome, MatchOption, ⊤, List, length, IfNone, slice_index_or, slice_set, replicate};
 ghost use Rattle.std.specs.Bool.{Decides};
 ghost use Rattle.std.specs.Option.{option_map};
 ghost use Rattle.safe_bit.specs.Memory.{Memory};
@@ -123,6 +123,8 @@ impl<R: Register> Config<R> {
     }
 
     /// An equal copy, with its own cells and words. `AllocError` if memory runs out.
+    // (inlined, so that a replay makes the copy in place)
+    #[inline(always)]
     pub fn copy(&self, alloc: Global) -> Result<Config<R>, AllocError>
         ensures { IfOk result (λ c. c ≡ self.now) }
     {
@@ -247,7 +249,7 @@ impl<R: Register> Config<R> {
         match step {
             Step::Write { p, v } => self.invoke(p, Op::Write(v)),
             Step::Read { p } => self.invoke(p, Op::Read),
-            Step::Go { p, c } => self.proceed(p, c == 1),
+            Step::Go { p, c } => self.proceed(p, c),
             Step::Stop { p } => self.stop(p),
         }
     }
@@ -274,16 +276,16 @@ impl<R: Register> Config<R> {
         invoke(&self.register, &mut self.store, who, op, stack)
     }
 
-    /// Process `who` makes its next bit action. If the process has no operation pending, the step
-    /// is void.
+    /// Process `who` makes its next bit action. A hit read of a bit gives 1 if `c` is 1, and else 0.
+    /// If the process has no operation pending, the step is void.
     #[inline(always)]
-    fn proceed(&mut self, who: u32, choice: bool) -> StepEvents
+    fn proceed(&mut self, who: u32, c: u32) -> StepEvents
         requires { who < (R.behaviour self.old.register).processes }
-        ensures { Did who (going (R.behaviour self.old.register) who choice
+        ensures { Did who (going (R.behaviour self.old.register) who (c == 1)
             (running_at who self.old) self.old.memory) self.old result self.new }
     {
         let stack = &mut self.processes[who as usize].stack;
-        proceed(&self.register, &mut self.store, who, stack, choice)
+        proceed(&self.register, &mut self.store, who, stack, c)
     }
 }
 

@@ -1,6 +1,6 @@
 //! Functions for a register that has a store to itself, and so lies at `ORIGIN`.
 
-ghost use Rattle.std.specs.Prelude.{◌≡◌, ℕ, ◌<◌, [], true, Option, Some, None, IfOk};
+ghost use Rattle.std.specs.Prelude.{◌≡◌, ◌==◌, ℕ, ◌<◌, [], true, Option, Some, None, IfOk};
 ghost use Rattle.frames.specs.declared.types.Op.{Op};
 ghost use Rattle.frames.specs.declared.running.Running.{Running};
 ghost use Rattle.frames.specs.Configuration as spec;
@@ -108,16 +108,16 @@ pub fn invoke<R: Register>(
 }
 
 /// Process `who` makes its next bit action on a register that has the store to itself; the stack
-/// has just the frames of `who`'s pending operation, before and after. A hit read of a bit gives
-/// `choice`. Returns the step's events. If the process has no operation pending, the step is void
-/// and nothing changes.
+/// has just the frames of `who`'s pending operation, before and after. A hit read of a bit gives 1
+/// if `c` is 1, and else 0. Returns the step's events. If the process has no operation pending, the
+/// step is void and nothing changes.
 #[inline(always)]
 pub fn proceed<R: Register>(
     register: &R,
     store: &mut Store,
     who: u32,
     stack: &mut FlatStack,
-    choice: bool,
+    c: u32,
 ) -> StepEvents
     requires holds { R.Holds register.now store.old }
     requires may_be_at { (slot : Option (Running R.Pending))
@@ -126,12 +126,14 @@ pub fn proceed<R: Register>(
     ensures { (slot : Option (Running R.Pending)) → IsReached (R.Reaches register.now) who slot
         → stack.old ≡ stack_of (R.behaviour register.now) slot
         → Acts (R.behaviour register.now)
-        (going (R.behaviour register.now) who choice slot store.old) result
+        (going (R.behaviour register.now) who (c == 1) slot store.old) result
         stack.new store.new }
 {
     if stack.is_empty() {
         return alone(Event::Void(who, Reason::Idle));
     }
+    // made only here, since a void step needs none
+    let choice = c == 1;
     let progress = go_own(register, store, who, stack, choice);
     let chosen = match progress.chosen {
         Some((bit, value)) => Some(Event::Chosen(who, bit, value)),

@@ -305,6 +305,7 @@ impl<T: Drop> Trie<T> {
 
     /// Sets the note of a segment, or clears it if `note` is `None`; nothing else changes. If no
     /// segment has the key, nothing changes at all. Never allocates.
+    #[inline(always)]
     pub fn set_note(&mut self, key: SegKey, note: Option<T>)
         ensures { IsNoted self.old self.new key note }
     {

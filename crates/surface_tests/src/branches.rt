@@ -6,7 +6,7 @@ mod books;
 pub(crate) mod charts;
 mod forests;
 pub(crate) mod jobs;
-mod pages;
+mod made_pages;
 pub(crate) mod shown;
 
 use crate::registers::{GO, READ, WRITE};

@@ -61,7 +61,7 @@ pub(crate) fn push_line(out: &mut Vec<u8>, word: &str, numbers: &[u32]) -> Resul
     ensures { OnOk result
         (out.new.items ≡ out.old.items ++ text_with_end (text word.now numbers.now)) }
 {
-    push_words(out, word, numbers).map_err(|_| AllocError)?;
+    push_words(out, word, numbers)?;
     out.push(b'\n')?;
     Ok(())
 }

@@ -6,11 +6,9 @@ ghost use Rattle.words.specs.Steps as spec;
 
 use crate::number::{one_number, two_numbers};
 use crate::parts::Parts;
-use crate::text::push_number;
+use crate::text::{push_number, push_text};
 use frames::types::Step;
 use std::alloc::AllocError;
-use std::io;
-use std::io::Write;
 
 /// Reads the next words as a step; `None` if they spell no step, or if more words follow.
 pub fn step_of(words: &mut Parts<'_>) -> Option<Step>
@@ -53,12 +51,11 @@ fn append_letter(out: &mut Vec<u8>, letter: u8, numbers: &[u32]) -> Result<(), A
 
 /// Adds a word at the end of `out` and then, for each number, a space and the number. Fails only if
 /// memory runs out.
-pub fn push_words(out: &mut Vec<u8>, word: &str, numbers: &[u32]) -> io::Result<()>
+pub fn push_words(out: &mut Vec<u8>, word: &str, numbers: &[u32]) -> Result<(), AllocError>
     ensures { OnOk result (out.new.items ≡ out.old.items ++ spec.text word.now numbers.now) }
 {
-    out.write_all(word.as_bytes())?;
-    append_numbers(out, numbers)?;
-    Ok(())
+    push_text(out, word)?;
+    append_numbers(out, numbers)
 }
 
 /// Adds at the end of `out`, for each number, a space and the number. Fails only if memory runs

@@ -1,4 +1,4 @@
-use Rattle.std.proofs.Common.{◌≡◌, true, None, refl, sym, ap, subst, ◌∙◌}
+use Rattle.std.proofs.Common.{◌≡◌, true, None, refl, sym, subst, ◌∙◌}
 use Rattle.std.specs.Arc.{arc_value}
 use Rattle.frames.specs.Recorded.{AllFit}
 use Rattle.checkpoints.specs.Segment.{IsRun}
@@ -6,7 +6,7 @@ use Rattle.schedule_trie.proofs.PushSteps.{on_err}
 use Rattle.cutoff.specs.Fitting.{Fits, steps_at}
 use Rattle.cutoff.specs.Settles.{IsSegmentSettled}
 use Rattle.cutoff.specs.Links.{without_register, IsLinkedAt}
-use Rattle.cutoff.specs.Prefixes.{exit_or_start, exit_or}
+use Rattle.cutoff.specs.Prefixes.{exit_or_start}
 use Rattle.cutoff.proofs.Links.{linked_none}
 use Rattle.cutoff.proofs.Segments.{noted_still, segment_taken, taken_again}
 use Rattle.cutoff.proofs.Walks.{linked_home}
@@ -54,7 +54,7 @@ returns-in-Some-clause-linked g c =
 pub returns-clause-settled : goal.returns-clause-settled
 returns-clause-settled g c =
     let settled = c.in_ok-replayed.ensures.settled in
-    let came : arc_value c.in_ok-config.config ≡ exit_or_start c.args.trie.now c.args.start.now c.args.above = c.in_ok-config.ensures ∙ ap (exit_or c.args.start.now) c.in_ok-run.ensures in
+    let came : arc_value c.in_ok-config.config ≡ exit_or_start c.args.trie.now c.args.start.now c.args.above = c.in_ok-config.ensures in
     (settled.0, subst (λ d. IsSegmentSettled g.R.PartialEq.eq c.args.trie.now c.replay_segment.new.trie d c.args.key settled.0 c.in_ok-replayed.replayed) came settled.1, settled.2)
 
 pub returns-clause-linked : goal.returns-clause-linked
@@ -62,7 +62,7 @@ returns-clause-linked g c =
     let E = g.R.PartialEq.eq in
     let start = c.args.start.now in
     let config = arc_value c.in_ok-config.config in
-    let came : config ≡ c.exit_named-number.result.0.now = c.in_ok-config.ensures ∙ ap (exit_or start) c.in_ok-run.ensures ∙ sym c.exit_named-number.ensures.exit in
+    let came : config ≡ c.exit_named-number.result.0.now = c.in_ok-config.ensures ∙ sym c.exit_named-number.ensures.exit in
     let own = subst (λ d. E d.register start.register ≡ true) (sym came) c.exit_named-number.ensures.own in
     linked_home E g.met.R.PartialEq.laws config.register start.register c.replay_segment.new.next None (without_register start) c.replay_segment.new.trie own
     (linked_none E config.register c.replay_segment.new.next _ _ (without_register start) c.replay_segment.new.trie c.in_ok-replayed.ensures.linked)
@@ -70,27 +70,24 @@ returns-clause-linked g c =
 pub replay_segment-requires-clause-linked : goal.replay_segment-requires-clause-linked
 replay_segment-requires-clause-linked g c =
     let came : arc_value c.in_ok-config.config ≡ c.exit_named-number.result.0.now =
-    c.in_ok-config.ensures ∙ ap (exit_or c.args.start.now) c.in_ok-run.ensures ∙ sym c.exit_named-number.ensures.exit in
+    c.in_ok-config.ensures ∙ sym c.exit_named-number.ensures.exit in
     subst (λ d. IsLinkedAt g.R.PartialEq.eq d c.args.next.now c.exit_named-number.result.1 c.args.trie.now) (sym came) (c.exit_named-number.ensures.moved c.args.next.now c.requires.linked)
 
 pub replay_segment-requires-clause-fits : goal.replay_segment-requires-clause-fits
 replay_segment-requires-clause-fits g c =
     let start = c.args.start.now in
-    let own = subst (λ d. g.R.PartialEq.eq d.register start.register ≡ true) (c.exit_named-number.ensures.exit ∙ sym (ap (exit_or start) c.in_ok-run.ensures) ∙ sym c.in_ok-config.ensures)
+    let own = subst (λ d. g.R.PartialEq.eq d.register start.register ≡ true) (c.exit_named-number.ensures.exit ∙ sym c.in_ok-config.ensures)
     c.exit_named-number.ensures.own in
     subst (λ b. AllFit b (steps_at c.args.trie.now c.args.key)) (sym (g.met.R.Register.alike (arc_value c.in_ok-config.config).register start.register own)) c.requires.fits
 
 pub replay_segment-requires-clause-misses : goal.replay_segment-requires-clause-misses
 replay_segment-requires-clause-misses g c =
     let came : arc_value c.in_ok-config.config ≡ c.exit_named-number.result.0.now =
-    c.in_ok-config.ensures ∙ ap (exit_or c.args.start.now) c.in_ok-run.ensures ∙ sym c.exit_named-number.ensures.exit in
+    c.in_ok-config.ensures ∙ sym c.exit_named-number.ensures.exit in
     subst (λ d. Fits g.R.PartialEq.eq c.args.trie.now d c.args.key → ⊥) (sym came) c.in_default.ensures
 
 pub returns-in_err-again-clause-unchanged : goal.returns-in_err-again-clause-unchanged
 returns-in_err-again-clause-unchanged g c = on_err c.from_residual.result _ refl
-
-pub returns-in_err-run-clause-unchanged : goal.returns-in_err-run-clause-unchanged
-returns-in_err-run-clause-unchanged g c = on_err c.from_residual-in_err-run.result _ refl
 
 pub returns-in_err-config-clause-unchanged : goal.returns-in_err-config-clause-unchanged
 returns-in_err-config-clause-unchanged g c = on_err c.from_residual-in_err-config.result _ refl

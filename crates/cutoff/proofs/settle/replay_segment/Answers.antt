@@ -13,7 +13,7 @@ use Rattle.cutoff.proofs.settle.replay_segment.Goals as goal
 pub returns-clause-settled : goal.returns-clause-settled
 returns-clause-settled g c = (
   c.in_ok-made.made,
-  segment_replayed g.R.PartialEq.eq c.args.trie.now c.set_note.new.self (arc_value c.args.config.now) c.args.key _ c.new-2.result c.set_note.ensures (c.new-2.ensures.run ∙ c.in_ok-run.ensures.ok)
+  segment_replayed g.R.PartialEq.eq c.args.trie.now c.set_note.new.self (arc_value c.args.config) c.args.key _ c.new-2.result c.set_note.ensures (c.new-2.ensures.run ∙ c.in_ok-run.ensures.ok)
       g.met.R.Eq.laws (c.in_ok-made.ensures.steps ∙ ap (map step_of) c.segment_cells-cells.ensures) c.in_ok-made.ensures.entry c.requires.misses (length c.segment_cells-cells.result.now)
       (ap length c.segment_cells-cells.ensures ∙ sym (length-map (slots_of (piece_at c.args.trie.now.pieces c.args.key)) step_of)),
   c.steps-steps.ensures.kept,
@@ -21,7 +21,7 @@ returns-clause-settled g c = (
 
 pub returns-clause-linked : goal.returns-clause-linked
 returns-clause-linked g c =
-    let config = arc_value c.args.config.now in
+    let config = arc_value c.args.config in
     let cells : map step_of c.segment_cells-cells.result.now ≡ steps_at c.args.trie.now c.args.key = ap (map step_of) c.segment_cells-cells.ensures in
     linked_none g.R.PartialEq.eq config.register c.take_number-id.new.next _ _ (without_register config) c.set_note.new.self
     (replayed_linked g.R.PartialEq.eq c.args.trie.now c.set_note.new.self config c.args.key c.in_ok-made.made c.new-2.result c.set_note.ensures (c.new-2.ensures.run ∙ c.in_ok-run.ensures.ok)

@@ -1,4 +1,4 @@
-use Rattle.std.proofs.Common.{◌<◌, sym, subst}
+use Rattle.std.proofs.Common.{◌<◌, ◌==◌, sym, subst}
 use Rattle.frames.proofs.Stepped.{stands, proceeds}
 use Rattle.frames.proofs.config.Config.proceed.Goals as goal
 
@@ -11,11 +11,11 @@ pub invariant_of-self : goal.invariant_of-self
 invariant_of-self g c =
     let lt = subst (λ x. c.args.who < (g.R.Behaves.behaviour x.register).processes) (sym c.self.view_is) c.requires in
     (proceeds (g.met.R.Register.lawful c.self.inside.register) (g.met.R.Register.reports c.self.inside.register) c.self.inside.processes.items c.self.invariant c.args.who lt
-    c.index_mut.result.now c.index_mut.ensures.value c.proceed.result c.proceed.new.stack c.proceed.new.store c.args.choice c.proceed.ensures).flat
+    c.index_mut.result.now c.index_mut.ensures.value c.proceed.result c.proceed.new.stack c.proceed.new.store (c.args.c == 1) c.proceed.ensures).flat
 
 pub returns : goal.returns
 returns g c =
     let lt = subst (λ x. c.args.who < (g.R.Behaves.behaviour x.register).processes) (sym c.self.view_is) c.requires in
     let did = proceeds (g.met.R.Register.lawful c.self.inside.register) (g.met.R.Register.reports c.self.inside.register) c.self.inside.processes.items c.self.invariant c.args.who lt
-    c.index_mut.result.now c.index_mut.ensures.value c.proceed.result c.proceed.new.stack c.proceed.new.store c.args.choice c.proceed.ensures in
+    c.index_mut.result.now c.index_mut.ensures.value c.proceed.result c.proceed.new.stack c.proceed.new.store (c.args.c == 1) c.proceed.ensures in
     record { events = rw (← c.self.view_is) did.events; after = rw (← c.self.view_is) did.after }

@@ -23,7 +23,8 @@ fn each_call_of_a_list(rt: HostRuntime) -> Result<(), Fail> {
     let copy = list.clone()?;
     let again = Listed::of(copy.allocator(), copy.as_slice())?;
     assert!(rt; again.as_slice() == [1, 2, 3].as_slice());
-    assert!(rt; list.into_vec().as_slice() == [1, 2, 3].as_slice());
+    let made_again = Listed::new(list.into_vec());
+    assert!(rt; made_again.as_slice() == [1, 2, 3].as_slice());
     Ok(())
 }
 
