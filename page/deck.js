@@ -3,12 +3,18 @@
 import { flipped } from "./document.js";
 import { between } from "./pages.js";
 import { reasonOf } from "./reading.js";
-import { comparison, pickedRead } from "./picture.js";
+import { refusalReason } from "./refused.js";
+import { comparison } from "./picture.js";
+import { pickedRead, storyOfRead } from "./whys.js";
+import { withWords } from "./words.js";
 import { element, here, isSaying, now, one, putIfChanged, runHere, say } from "./state.js";
 
 export const FEW_VALUES = 8;
+const STEP_WORDS = "A step is w P V (process P writes V), r P (P reads), g P C (P's next action, " +
+  "with choice C) or x P (P stops)";
 const STEP_PATTERN = "w [0-9] [0-9]+|r [0-9]|g [0-9] [01]|x [0-9]";
-const ACTIONS = { ws: "starts to write bit", we: "ends its write of bit", rs: "starts to read bit", re: "ends its read of bit" };
+export const ACTIONS = { ws: "starts to write bit", we: "ends its write of bit",
+  rs: "starts to read bit", re: "ends its read of bit" };
 // a button; its key finds it again when all is made again, so that it keeps the focus
 const button = (key, words, onclick, given = {}) => element("button", { "data-key": key, onclick, ...given }, words);
 const number = (label, value, max, given = {}) =>
@@ -87,7 +93,8 @@ function putSessions(does) {
 }
 // what the cursor's place asks for, or else what a picked read or the step before it did
 function sayWhatIs(hit, does) {
-  const { place, branch } = here(), run = runHere(), events = run.eventsAt(place - 1), picked = pickedRead();
+  const { name, place, branch } = here(), run = runHere(), picked = pickedRead();
+  const events = run.eventsAt(place - 1);
   const compared = comparison();
   if (compared && !picked) return say(compared, "why");
   const asked = hit.map((it) => `A write overlaps p${it.number}'s read of bit ${it.bit}. Give 0 or 1?`);
@@ -97,7 +104,14 @@ function sayWhatIs(hit, does) {
   const more = other ? [" ", button("other", `Try ${other} on a branch`, () => does.tryOther(place - 1))] : [];
   const gave = read?.ending === "returned" ? ` returned ${read.value}` : "";
   const reason = read && reasonOf(picked ? now.readings.get(now.view.picked.name).run : run, read);
-  return say(read ? `p${read.process}'s read${gave}. ${reason}` : isChosen ? events.join("; ") : "", "why", ...more);
+  const refused = picked?.refusal ? picked
+    : !picked && run.operations.find((it) => it.refusal && it.ended === place - 1);
+  if (refused) return say(refusalReason(now.model.shape, refused), "why");
+  const story = read && storyOfRead(picked ? now.view.picked.name : name, read)?.words;
+  const inside = story ? ` ${story}` : "";
+  const words = read ? withWords(`${reason}${inside}`) : [];
+  const said = read ? `p${read.process}'s read${gave}. ` : isChosen ? events.join("; ") : "";
+  return say(said, "why", ...words, ...more);
 }
 function nextWords() {
   const { place, branch } = here();
@@ -129,7 +143,9 @@ function menu(index, does) {
   const { branch } = here(), step = branch.step(index), events = runHere().eventsAt(index);
   const isChoice = step.startsWith("g"), isChosen = events.some((it) => it.includes(" chosen "));
   const others = now.model.sharers(branch, index).map((it) => it.name), said = (words) => element("small", {}, words);
-  const input = element("input", { value: step, "aria-label": "another step", pattern: STEP_PATTERN });
+  const input = element("input", { value: step, "aria-label": "another step", pattern: STEP_PATTERN,
+    oninvalid: ({ target }) => target.setCustomValidity(STEP_WORDS),
+    oninput: ({ target }) => target.setCustomValidity("") });
   const done = (gesture) => () => { closeMenu(); gesture(); };
   const choose = (key, words, gesture) => button(key, words, done(gesture), { "data-step-action": key });
   const replace = done(() => does.replace(index, input.value));

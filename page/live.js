@@ -1,23 +1,46 @@
 // The page: what a person does becomes lines of the script, and what the program answers is drawn.
 import { answer, packedData, stop } from "./engine.js";
-import { Document, detached, dropped, flipped, forked, otherChoice, put, removed, replaced } from "./document.js";
+import { Document, EMPTY_TOWER, detached, dropped, flipped, forked } from "./document.js";
+import { otherChoice, put, removed, replaced } from "./document.js";
 import { Model, stepsToEnd } from "./model.js";
 import { LABEL } from "./drawing.js";
 import { followFocus, isMissing, light, look, putPicture, shown } from "./picture.js";
 import { FEW_VALUES, closeMenu, openMenu, processesHere, putDeck } from "./deck.js";
 import { forgetTyped, putText, putTyped, showTab, watchText } from "./text.js";
-import { lessonStep, putLesson } from "./lessons.js";
-import { EMPTY_TOWER, chooseOpen, chooseTower, documentInAddress, firstDocument, keepDocument, leaveAddress } from "./files.js";
-import { preparePrint, saveAs, watchDrops } from "./files.js";
+import { lookAtSecond, putSecond } from "./second.js";
+import { forgetViewing, viewing } from "./viewing.js";
+import { lookIntoRead } from "./whys.js";
+import { isLessonAtStart, lessonStep, putLesson } from "./lessons.js";
+import { chooseOpen, chooseTower, documentInAddress, firstDocument } from "./files.js";
+import { keepDocument, leaveAddress, lessonOf, preparePrint, saveAs, watchDrops } from "./files.js";
+import { leaving, putUndo, takeBack } from "./back.js";
+import { FEW_FILES, openClass } from "./classroom.js";
+import { exerciseNamed, lessonsOf } from "./exercises.js";
+import { documentOf, textsOf } from "./opened.js";
+import { isPresenting, present, watchFolds } from "./room.js";
+import { openShare } from "./share.js";
+import { isStudying, leaveStudy, putStudy } from "./study.js";
+import { goalLooks, putTask, task } from "./task.js";
+import { headed, startOf } from "./tasks.js";
+import { remember, remembered } from "./kept.js";
+import { watchWords } from "./words.js";
 import { act, ask, here, isSaying, now, one, say } from "./state.js";
 
 const TRIES = [64, 1024, 16384], FAR = 1e9, MOST_STEPS_ON_A_BRANCH = 4000;
 async function draw(isFollowing = true) {
   await look(isFollowing);
+  await lookAtSecond();
+  // (how many pages the picture asked the program for, for the tests)
+  one("#inner").dataset.asked = now.model.asked;
+  await now.model.look(goalLooks());
+  now.model.asked = 0;
   putPicture(processesHere().filter((it) => it.isHit).map((it) => it.number));
+  putSecond();
   putDeck(does);
   putText();
   putLesson();
+  document.body.classList.toggle("covered", await putTask(taskDoes) || isLessonAtStart());
+  putUndo();
   followFocus();
   preparePrint();
 }
@@ -54,15 +77,19 @@ function add(commands) {
 }
 const edit = (make) => act(() => { clear(); return add([make()].flat()); });
 // begins a document; one that the program can't take is kept in the editor, so that it can be mended
-function begin(tower, script, { lesson = null, who } = {}) {
+function begin(tower, script, { lesson = null, who, isBack = false } = {}) {
   return act(async () => {
     clear();
+    const leave = isBack ? () => null : leaving({ tower, script });
     const next = Document.of(tower, script), before = { lesson: now.lesson, who: now.who };
     Object.assign(now, { lesson: lesson || null, who: who ?? next.lastSession });
     now.view.show = "all";
+    forgetViewing();
     now.followed = "";
     try {
       await change(next);
+      leave();
+      putUndo();
       // (keys go to a process that waits for a choice)
       const asked = processesHere().find((it) => it.isHit);
       if (asked) does.choose(asked.number);
@@ -75,7 +102,49 @@ function begin(tower, script, { lesson = null, who } = {}) {
     }
   });
 }
-const open = (tower, script, lesson) => begin(tower, script, { lesson });
+// what the page is for, until a person begins something
+let isWelcomed = false;
+function putWelcome() {
+  one("#welcome").hidden = isWelcomed || remembered("welcomed") === "yes";
+}
+function open(tower, script, lesson) {
+  isWelcomed = true;
+  putWelcome();
+  leaveStudy();
+  return begin(tower, script, { lesson });
+}
+function study(folder, given) {
+  isWelcomed = true;
+  putWelcome();
+  putStudy(folder, open, given);
+}
+function undo() {
+  const was = takeBack();
+  if (was) return begin(was.document.tower, was.document.script, { ...was, isBack: true });
+  return act(() => { clear(); return now.document.lastGesture && change(now.document.undo()); });
+}
+const withLines = (lines) => new Document(now.document.tower, lines, now.document.undone);
+const taskDoes = {
+  line: (command) => edit(() => command),
+  begin: (tower, script) => open(tower, script, null),
+  again: () => open(now.document.tower, `${startOf(now.document.lines).join("\n")}\n`, null),
+  predict: (number, words) => act(() => change(withLines(headed(now.document.lines,
+    `# predicted${number ? ` ${number}` : ""}: ${words.trim().replace(/\s+/g, " ")}`)))),
+  study,
+};
+// one document of one file or two; of more the teacher's table
+async function openFiles(files) {
+  const texts = await textsOf(files);
+  if (texts.length > FEW_FILES) return openClass(texts, open);
+  if (!texts.length) return null;
+  let found = null;
+  await act(() => { found = documentOf(texts); });
+  return found && openOne(found);
+}
+async function openOne({ name, tower, script, isPlayed, said }) {
+  await open(tower, script, isPlayed && lessonOf(name, script));
+  if (said && !isSaying("refusal")) say(`${said}${now.model.tower}.`);
+}
 // a place of a branch, or the nearest that it has
 const nearest = (name, place) => ({ name, place: Math.max(0, Math.min(place, now.model.branch(name).length)) });
 const move = (find) => act(() => {
@@ -93,6 +162,7 @@ const panelNext = (way) => move(({ name, place }) => {
 const freeName = (wish) =>
   [wish, ...[...now.model.branches.keys()].map((it) => `${wish}${it + 2}`)].find((it) => !now.model.branch(it));
 const redraw = (isFollowing) => act(() => draw(isFollowing));
+const views = viewing(redraw);
 const does = {
   edit: (command) => edit(() => command),
   go: (place) => move(({ name }) => ({ name, place })),
@@ -140,6 +210,16 @@ function pick(name, begun) {
   say("");
   light();
   putDeck(does);
+  act(async () => {
+    await lookIntoRead();
+    light();
+    putDeck(does);
+  });
+}
+// a click on a read says why it gave its value; another one opens the layer below
+function clickRead(name, { at: begun, process }) {
+  const { picked } = now.view, isPicked = picked?.name === name && picked.begun === Number(begun);
+  return isPicked ? views.open({ process }) : pick(name, Number(begun));
 }
 function pickNext() {
   const reads = now.readings.get(here().name).operations.filter((it) => it.kind === "read"), { picked } = now.view;
@@ -168,7 +248,7 @@ const actAs = (who) => act(() => { now.who = who; clear(); return draw(); });
 const play = (way) => act(() => { clear(); return now.lesson && change(lessonStep(way)); });
 const commands = {
   left: () => by(-1), right: () => by(1), help: () => ask(one("#help-dialog")), stop,
-  undo: () => act(() => { clear(); return now.document.lastGesture && change(now.document.undo()); }),
+  undo,
   redo: () => act(() => { clear(); return now.document.undone.length && change(now.document.redo()); }),
   fork: async (name) => { await focusOn(name); does.fork(); },
   detach: async (name) => { await focusOn(name); edit(() => detached(here())); },
@@ -177,9 +257,17 @@ const commands = {
     if (!other) return `drop ${name}`;
     return dropped(name, here().name === name ? nearest(other.name, here().place) : here());
   }),
+  ...views.commands,
   compare, alone: (name) => show(now.view.show === `only ${name}` ? "all" : `only ${name}`),
   own: (name) => move(() => ({ name, place: now.model.branch(name).shared })),
-  chooseTower: () => chooseTower(open), chooseOpen: () => chooseOpen(open), theme: switchTheme,
+  chooseTower: () => chooseTower(open), theme: switchTheme,
+  chooseOpen: () => chooseOpen(open, openFiles),
+  study: () => study((exerciseNamed(task().exercise)?.lesson || lessonsOf()[0]).folder),
+  studyClose: () => { leaveStudy(); redraw(true); }, table: () => openClass(null, open),
+  share: () => act(() => openShare((script) =>
+    act(() => change(Document.of(now.document.tower, script))))),
+  welcomed: () => { remember("welcomed", "yes"); putWelcome(); },
+  present: () => present(() => redraw(true)),
   lessonNext: () => play("next"), lessonEnd: () => play("end"),
   lessonClose: () => { now.lesson = null; keepDocument(); putLesson(); },
 };
@@ -207,6 +295,7 @@ const keys = {
   w: () => key("w"), r: () => key("r"), g: () => key("g"), x: () => key("x"), e: () => does.end(now.view.process),
   f: () => does.fork(), d: () => commands.detach(here().name), j: () => commands.own(here().name), m: () => compare(here().name),
   a: () => commands.alone(here().name), D: () => commands.drop(here().name),
+  ...views.keys,
   n: () => does.edit("seek"), b: () => does.edit("back"), v: pickNext, l: commands.lessonNext, "?": commands.help,
   "[": () => actAs((now.who + 15) % 16), "]": () => actAs((now.who + 1) % 16),
   Escape: () => { now.view.awaiting = ""; pick(); },
@@ -221,7 +310,8 @@ let lastKey = Promise.resolve();
 addEventListener("keydown", (event) => {
   const { target, shiftKey } = event, isHeld = event.ctrlKey || event.metaKey;
   if (event.key === "Escape" && !one("#menu").hidden) return closeMenu();
-  if (!now.model || event.altKey || target.closest(NO_KEYS)) return null;
+  if (event.key === "Escape" && isPresenting()) return commands.present();
+  if (!now.model || event.altKey || target.closest(NO_KEYS) || isStudying()) return null;
   if (["Enter", " "].includes(event.key) && target.closest("button, summary")) return null;
   const found = isHeld ? heldKeys[event.key] : /^[0-9]$/.test(event.key) ? () => digit(event.key) : keys[event.key];
   if (!found) return null;
@@ -234,26 +324,30 @@ addEventListener("keydown", (event) => {
 function command(name, branch) {
   if (now.model || ["stop", "help", "theme"].includes(name)) commands[name](branch || (now.model && here().name));
 }
+const placeAt = (x) =>
+  Math.round(now.range.axis.place(x - one("#inner").getBoundingClientRect().left - LABEL));
 const openMenuAt = (branch, step) => Promise.resolve(focusOn(branch)).then(() => openMenu(step, does));
 addEventListener("click", ({ target, clientX }) => {
   const at = (selector) => target.closest(selector), branch = at(".panel")?.dataset.branch;
   if (!at("#menu")) closeMenu();
-  if (at("[data-do]")) command(at("[data-do]").dataset.do, branch);
+  if (at("[data-study]")) study(at("[data-study]").dataset.study);
+  else if (at("[data-do]")) command(at("[data-do]").dataset.do, branch);
   else if (at("[data-tab]")) showTab(at("[data-tab]").dataset.tab);
   else if (at(".chip")) openMenuAt(branch, Number(at(".chip").dataset.step));
   else if (at("#table [data-step]")) openMenuAt("", Number(at("#table [data-step]").dataset.step));
-  else if (at(".operation.read")) pick(branch, Number(at(".operation.read").dataset.at));
+  else if (at("[data-nest]")) views.open(at("[data-nest]").dataset);
+  else if (at(".operation.write")) views.open({ process: at(".operation.write").dataset.process });
+  else if (at(".operation.read")) clickRead(branch, at(".operation.read").dataset);
   else if (at("[data-select]")) focusOn(at("[data-select]").dataset.select);
   else if (at(".drawn"))
     move(({ name }) => ({ name: branch || name,
-      place: Math.round((clientX - one("#inner").getBoundingClientRect().left - LABEL) / now.range.column) }));
+      place: placeAt(clientX) }));
 });
 for (const it of [one("#panels"), one("#tree-fold")])
   it.addEventListener("toggle", ({ target }) => {
     const { open: key } = target.dataset, { open: isOpen } = target;
-    if (key && isOpen === now.view.open.has(key)) return;
-    if (key) now.view.open[isOpen ? "add" : "delete"](key);
-    if (now.model) redraw(false);
+    if (key) views.fold(key, isOpen);
+    else if (now.model) redraw(false);
   }, true);
 one("#place").addEventListener("input", ({ target }) => does.go(Number(target.value)));
 one("#show").addEventListener("change", ({ target }) => show(target.value));
@@ -265,15 +359,23 @@ one("#scroll").addEventListener("scroll", () => {
   act(() => { isScrolled = false; return draw(false); });
 });
 addEventListener("resize", () => now.model && redraw(true));
-addEventListener("hashchange", () => {
-  const given = documentInAddress();
+addEventListener("hashchange", async () => {
   leaveAddress();
-  if (given) begin(given.tower, given.script, given);
+  const given = await documentInAddress();
+  if (given?.fault) return say(given.fault, "refusal");
+  leaveStudy();
+  return given && begin(given.tower, given.script, given);
 });
 watchText((next) => act(() => { say(""); return change(next); }).then(() => !isSaying("refusal")));
-watchDrops(open);
+watchDrops(openFiles);
+watchFolds(() => now.model && redraw(true));
+watchWords();
 const madeOf = ({ commit, kit }) => `commit ${commit || "unknown"}, kit ${kit || "unknown"}`;
 showTab("here");
 one("#made").textContent = madeOf(packedData());
-await (({ tower, script, who, lesson }) => begin(tower, script, { who, lesson }))(firstDocument());
+const first = await firstDocument();
+isWelcomed = !first.isFirst;
+putWelcome();
+await begin(first.tower, first.script, { who: first.who, lesson: first.lesson });
+if (first.fault) say(first.fault, "refusal");
 document.documentElement.dataset.ready = "";

@@ -1,11 +1,12 @@
 // What the program says of a document: its answer to each line, the branches, the cursors, and pages as they are wanted.
 import { placeOf } from "./document.js";
+import { Codes } from "./layers.js";
 import { LOOK, answersIn, between, cursorIn, firstDifference, forestIn, pageIn, pairedAnswers, sharedCells } from "./pages.js";
 import { faultInWords, refusalOf } from "./refusals.js";
 import { shapeOf } from "./towers.js";
 
 export const SESSIONS = between(0, 16);
-// at most this many lines of pages of bits are kept
+// at most this many lines of pages are kept
 const MOST_KEPT = 2000000;
 // a file with more steps than the program takes by default is run with a higher limit
 const ROOM = 65536, MORE_ROOM = ["--cells", "16777216"];
@@ -20,7 +21,8 @@ const linesOf = (lines) => lines.map((line) => `${line}\n`).join("");
 export class Model {
   // The answers to a document; a fault of the file, or of the whole run, is thrown. What `before` has of it stays.
   static async of(document, ask, before) {
-    const asked = [...document.lines, ...SESSIONS.map((who) => `${who} cursor`)];
+    const cursors = SESSIONS.map((who) => `${who} cursor`);
+    const asked = [...document.lines, ...cursors, `${LOOK} branches`];
     const made = await answered(ask, document.tower, linesOf(asked));
     const isSame = before && before.bench === made.bench;
     const model = new Model(document, ask, made.bench, isSame ? before : forestIn(made.bench), isSame ? before.pages : new Map());
@@ -30,12 +32,17 @@ export class Model {
   }
   constructor(document, ask, bench, { tower, branches }, pages) {
     Object.assign(this, { document, ask, bench, tower, branches, pages, shape: shapeOf(tower), notes: [] });
+    // (how many pages this model has asked for)
+    Object.assign(this, { codes: new Codes(this.shape), asked: 0 });
     this.byName = new Map(branches.map((it) => [it.name, it]));
   }
   understand(found) {
     const { document } = this, many = document.lines.length;
     this.answers = found.slice(0, many);
     this.cursors = SESSIONS.map((who) => this.cursorOf(found[many + who]));
+    // (the page branches: what its first line says, and each branch)
+    const { first = "", lines = [] } = found[many + SESSIONS.length] || {};
+    this.branchLines = [first.replace(/^[0-9]+: /, ""), ...lines];
     const refused = this.answers.map((it, index) => ({ line: index + 1, words: it && refusalOf(it.first, document.lines[index]) }));
     this.refusals = refused.filter((it) => it.words);
   }
@@ -72,8 +79,10 @@ export class Model {
   // gets those of these pages that aren't there yet; each is a kind, a branch's name and a place
   async look(looks) {
     const keys = new Set(looks.map((it) => this.key(...it))), wanted = [...keys].filter((it) => !this.pages.has(it));
-    if (this.pages.size * this.shape.cells > MOST_KEPT)
+    const kept = [...this.pages.values()].reduce((sum, { lines }) => sum + lines.length, 0);
+    if (kept > MOST_KEPT)
       for (const key of this.pages.keys()) if (!keys.has(key)) this.pages.delete(key);
+    this.asked += wanted.length;
     if (!wanted.length) return;
     const made = await answered(this.ask, this.bench, linesOf(wanted.map((it) => `${LOOK} ${it}`)));
     const found = answersIn(made.output);

@@ -1,4 +1,5 @@
 // What the program's answers say, as data. Nothing is worked out that no page says; a line that isn't known is noted.
+import { framesIn } from "./frames.js";
 
 // the session that asks for pages: none that can join
 export const LOOK = 999999999;
@@ -9,7 +10,7 @@ const EVENT = whole(`(${NUMBER}) p([0-9]) (invoke read|invoke write ${NUMBER}|re
   `void (?:busy|idle|stopped)|chosen bit ${NUMBER} value [01]|refused spent (?:stamped|matrix))`);
 const CELL = whole(`(${NUMBER}) ([01]) ([01-]) ([rh-])`);
 const WORDS = whole(`words (?:-|${NUMBER}(?: ${NUMBER})*)`);
-const BITS = whole("bits [01]+");
+const BITS = /^bits [01]+$/;
 const VERDICT = whole(`(${NUMBER} p[0-9] ${NUMBER}) (fresh|overlap|stray)`);
 const UNDEFINED = "undefined for matrix";
 const STEP = whole(`w [0-9] ${NUMBER}|r [0-9]|g [0-9] [01]|x [0-9]`);
@@ -79,11 +80,14 @@ const CELLS = new Map();
 const oneText = (words) => CELLS.get(words) || CELLS.set(words, words).get(words);
 // what each kind of page is at first, and how it takes a line, if it knows it
 const PAGES = {
-  state: [() => ({ processes: [], words: "" }), (page, line) => {
-    const found = processIn(line);
+  // `bits` has a digit for each bit
+  state: [() => ({ processes: [], words: "", bits: "" }), (page, line) => {
+    const found = processIn(line), isWords = !found && WORDS.test(line);
     if (found) page.processes.push(found);
-    else if (WORDS.test(line)) page.words = line;
-    return found || WORDS.test(line) || BITS.test(line);
+    else if (isWords) page.words = line;
+    else if (BITS.test(line)) page.bits = line.slice("bits ".length);
+    else return false;
+    return true;
   }],
   // `cells` has for each bit its value, what is being written and whether it is read, as `0 1 h`
   bits: [() => ({ cells: [] }), (page, line) => {
@@ -102,7 +106,12 @@ const PAGES = {
     page.isUndefined ||= line === UNDEFINED;
     return match || line === "none" || line === UNDEFINED;
   }],
-  pending: [() => ({}), () => true],
+  // `frames` has the frames of each process
+  pending: [() => ({ frames: [] }), (page, line) => {
+    const found = framesIn(line);
+    if (found) page.frames[found.process] = found.frames;
+    return found;
+  }],
 };
 export function pageIn(kind, lines) {
   const [first, take] = PAGES[kind], page = first();

@@ -1,11 +1,15 @@
 // The picture in the page: which branches and columns are in sight, the pages that these take, and what is drawn.
 import { between, firstDifference, sharedCells } from "./pages.js";
+import { axisLooks, findColumns, lengthOf, putScale } from "./columns.js";
+import { depthKey, depthOf, isFoldOpen, putDepths } from "./depths.js";
 import { Drawing, FEW_CELLS, LABEL, MARGIN } from "./drawing.js";
+import { layersOf } from "./layers.js";
 import { Reading, overlappedWrites } from "./reading.js";
-import { aboutBranch, hatch, looksOf } from "./still.js";
+import { aboutBranch, hatch, looksOf, readInside } from "./still.js";
+import { lookIntoRead, pickedRead, storyOfRead } from "./whys.js";
 import { all, element, here, mounted, now, one, putIfChanged, putParts } from "./state.js";
 
-const COLUMNS = [104, 76, 52, 44], AROUND = 20, MOST_LINES = 200000, SIGHT = 300, MOST_TREE = 12, TREE_ROW = 27;
+const SIGHT = 300, MOST_TREE = 12, TREE_ROW = 27, LEAST_ROOM = 300;
 const scroll = one("#scroll"), heights = new Map();
 one("#patterns").append(mounted(hatch()));
 // the branches that are drawn one below the other, as the page's choice has them
@@ -17,18 +21,22 @@ export function shown() {
   return model.branches;
 }
 const isComparing = () => now.view.show.startsWith("compare ");
-const longest = (branches) => Math.max(...branches.map((it) => it.length), 1);
-// the columns that are drawn: those in sight and some around them; if the page follows it, the cursor comes in sight
+const roomOf = () => Math.max(LEAST_ROOM, scroll.clientWidth - LABEL);
+// (of many bits the page of bits is asked for only while some of a branch's are unfolded)
+const MANY_CELLS = 64;
+function needsBits({ name }) {
+  const { shape, codes: { registers } } = now.model;
+  return !registers.length || shape.cells <= MANY_CELLS
+    || registers.some((it) => isFoldOpen(`${name} ${it.name}`));
+}
+function kindsOf(branch) {
+  const hasLayers = layersOf(now.model.shape).length > 0;
+  return ["state", hasLayers && "pending", needsBits(branch) && "bits"].filter(Boolean);
+}
 function findRange(branches, many, isFollowing) {
-  const room = Math.max(300, scroll.clientWidth - LABEL), { model, range } = now;
-  const fitting = COLUMNS.find((it) => longest(branches) * it + MARGIN <= room), column = fitting || COLUMNS.at(-1);
-  const x = here().place * column, centred = Math.max(0, x - room / 2);
-  let left = fitting ? 0 : range.column === column ? scroll.scrollLeft : centred;
-  if (isFollowing && (x < left + column || x > left + room - column)) left = centred;
-  const most = Math.max(20, MOST_LINES / model.shape.cells / many), middle = (left + room / 2) / column;
-  const half = Math.min(room / 2 / column + AROUND, most / 2);
-  const [from, to] = [middle - half, middle + half].map((it) => Math.round(it / 10) * 10);
-  return { from: Math.max(0, from), to: Math.max(10, to), column, left };
+  const { cells } = now.model.shape, lines = branches.some(needsBits) ? cells : 8 + cells / 16;
+  return findColumns(branches, { room: roomOf(), scrolled: scroll.scrollLeft, place: here().place,
+    isFollowing, cells: many * lines });
 }
 // how high a branch's panel is, or about how high it will be
 function heightOf(branch) {
@@ -53,30 +61,40 @@ function branchesOfTree() {
 }
 const cut = ({ from, to }, branch) => [from, to].map((it) => Math.min(it, branch.length));
 export async function look(isFollowing) {
-  const { model } = now, panels = panelsInSight(shown()), { name, place } = here(), tree = branchesOfTree();
-  const range = findRange(shown(), panels.length, isFollowing), looks = panels.flatMap((it) => looksOf(it, ...cut(range, it)));
+  const { model } = now, { name, place } = here(), tree = branchesOfTree();
+  await model.look(axisLooks(shown(), roomOf()));
+  const panels = panelsInSight(shown()), range = findRange(shown(), panels.length, isFollowing);
+  const looks = panels.flatMap((it) => looksOf(it, ...cut(range, it), kindsOf(it)));
   for (const it of tree) looks.push(...["history", "verdict"].map((kind) => [kind, it.name, cut(range, it)[1]]));
   for (const kind of ["state", "pending", "bits"]) looks.push([kind, name, place], [kind, name, Math.max(0, place - 1)]);
   await model.look(looks);
-  const before = now.readings, page = (it) => (kind, at) => model.page(kind, it.name, at);
-  const isSame = (was, it, from, to) => was && was.branch === it && was.from === from && was.to === to;
-  const read = (it, from, to) => {
-    const was = before.get(it.name);
-    now.readings.set(it.name, isSame(was, it, from, to) ? was : new Reading(it, from, to, page(it)));
-  };
-  now.readings = new Map();
-  for (const it of tree) read(it, cut(range, it)[1], cut(range, it)[1]);
-  for (const it of panels) read(it, ...cut(range, it));
+  readAll(tree, panels, range);
+  await lookIntoRead();
   now.range = range;
   now.inSight = new Set(panels);
 }
+function readAll(tree, panels, range) {
+  const { model, readings: before } = now;
+  now.readings = new Map();
+  for (const it of tree) {
+    const [, to] = cut(range, it);
+    now.readings.set(it.name, new Reading(it, to, to, (kind, at) => model.page(kind, it.name, at)));
+  }
+  for (const it of panels) {
+    const [from, to] = cut(range, it), was = before.get(it.name), kinds = kindsOf(it).join(" ");
+    const isSame = was && was.branch === it && was.from === from && was.to === to && was.kinds === kinds;
+    const reading = isSame ? was : readInside(model, it, from, to);
+    now.readings.set(it.name, Object.assign(reading, { kinds }));
+  }
+}
 export function isMissing() {
-  const { from, to, column } = now.range, left = scroll.scrollLeft / column;
-  const isBeyond = left < from || (left + (scroll.clientWidth - LABEL) / column > to && to < longest(now.model.branches));
+  const { from, to, axis } = now.range, { scrollLeft, clientWidth } = scroll;
+  const last = axis.place(scrollLeft + clientWidth - LABEL), end = lengthOf(now.model.branches);
+  const isBeyond = axis.place(scrollLeft) < from || (last > to && to < end);
   if (isBeyond || panelsInSight(shown()).some((it) => !now.inSight.has(it))) return true;
   return branchesOfTree().some((it) => !now.readings.has(it.name));
 }
-function stripNode({ kind, label, drawn, height }, { x, width, whole }) {
+export function stripNode({ kind, label, drawn, height }, { x, width, whole }) {
   const svg = (given, shapes) => mounted({ name: "svg", attributes: { height, ...given }, children: shapes });
   const picture = svg({ width, viewBox: `${x} 0 ${width} ${height}`, class: "drawn" }, drawn);
   picture.style.marginLeft = `${x}px`;
@@ -87,8 +105,8 @@ function stripNode({ kind, label, drawn, height }, { x, width, whole }) {
 const stripPart = (key, strip, frame) => ({ key, held: JSON.stringify([strip, frame]), make: () => stripNode(strip, frame) });
 // a register's bits, or the words, which are drawn once they are unfolded
 function foldPart(branch, { name, fold, rows }, frame) {
-  const key = `${branch.name} ${name}`, isOpen = now.view.open.has(key);
-  if (!rows.drawn.length) return [];
+  const key = `${branch.name} ${name}`, isOpen = isFoldOpen(key);
+  if (!rows.drawn.length && !fold?.drawn.length) return [];
   if (!fold) return [stripPart(name || "bits", rows, frame)];
   const make = () => element("details", { "data-open": key, open: isOpen && "" }, element("summary", {}, stripNode(fold, frame)),
     isOpen && stripNode(rows, frame));
@@ -113,7 +131,7 @@ function putPanel(section, branch, drawing, frame, { asked, groups, above, diffe
   const cursors = model.cursors.map((it, at) => ({ ...it, who: at })).filter((it) => it.name === branch.name && it.who !== who);
   section.style.minHeight = now.inSight.has(branch) ? "" : `${heightOf(branch)}px`;
   // (what is made of the same things is left as it is)
-  const kept = [parts[0].held, frame, asked, above, differing, cursors, [...now.view.open], [...groups]];
+  const kept = [parts[0].held, frame, asked, above, differing, cursors, depthKey(), [...groups]];
   const made = [reading, JSON.stringify(kept), now.inSight.has(branch)];
   if (section.made && made.every((it, index) => it === section.made[index])) return;
   section.made = made;
@@ -133,14 +151,15 @@ function differenceOf(branch, drawn) {
 // `asked` are the processes at the cursor whose read is hit
 export function putPicture(asked) {
   const { model, range, readings } = now, drawn = shown(), { name, place } = here(), panels = one("#panels");
-  const drawing = new Drawing(range, model.shape), x = drawing.left(range.from);
-  const whole = longest(model.branches) * range.column + MARGIN, width = Math.min(whole, drawing.left(range.to) + MARGIN) - x;
-  const frame = { x, width, whole: whole + LABEL }, inSight = drawn.filter((it) => now.inSight.has(it));
+  const drawing = new Drawing(range, model.shape, { depthOf, codes: model.codes });
+  const x = drawing.left(range.from), whole = range.axis.left(lengthOf(model.branches)) + MARGIN;
+  const width = Math.min(whole, drawing.left(range.to) + MARGIN) - x, { key } = range.axis;
+  const frame = { x, width, whole: whole + LABEL, axis: key }, inSight = drawn.filter((it) => now.inSight.has(it));
   const groups = drawing.groups(inSight.map((it) => readings.get(it.name)));
   one("#inner").style.width = `${frame.whole}px`;
   scroll.style.setProperty("--room", `${scroll.clientWidth}px`);
   Object.assign(one("#inner").dataset, { from: range.from, to: range.to });
-  putParts(one("#ruler"), [stripPart("ruler", drawing.ruler(longest(model.branches)), frame)]);
+  putParts(one("#ruler"), [stripPart("ruler", drawing.ruler(lengthOf(model.branches)), frame)]);
   putTree(drawing, frame);
   while (panels.children.length > drawn.length) panels.lastChild.remove();
   drawn.forEach((it, index) => {
@@ -153,10 +172,12 @@ export function putPicture(asked) {
   });
   // (measured once all are drawn, so that the page is laid out once)
   for (const it of inSight) heights.set(it.name, panels.children[drawn.indexOf(it)].offsetHeight);
-  one("#line").style.left = `${LABEL + place * range.column}px`;
+  one("#line").style.left = `${LABEL + range.axis.left(place)}px`;
   for (const it of all(".chip.next")) it.classList.remove("next");
   one(`.panel.focus .chip[data-step="${place}"]`)?.classList.add("next");
   putChoices();
+  putDepths();
+  putScale();
   light();
   scroll.scrollLeft = range.left;
 }
@@ -191,10 +212,6 @@ export function comparison() {
   if (at >= a.length && at >= b.length) return `${first}, and all their steps are equal.`;
   return `${first}; the first that differs is step ${at}: ${of(a)} on ${a.name}, ${of(b)} on ${b.name}.`;
 }
-export function pickedRead() {
-  const { picked } = now.view, reading = picked && now.readings.get(picked.name);
-  return reading ? reading.operationAt(picked.begun) : undefined;
-}
 export function light() {
   for (const it of all(".lit, .dim, .picked, .lifted")) it.classList.remove("lit", "dim", "picked", "lifted");
   const read = pickedRead(), section = read && all(".panel").find((it) => it.dataset.branch === now.view.picked.name);
@@ -202,10 +219,22 @@ export function light() {
   one("#zone").hidden = !lanes;
   if (!lanes) return;
   section.classList.add("lifted");
-  const { run, to } = now.readings.get(now.view.picked.name), { column } = now.range;
+  const { run, to } = now.readings.get(now.view.picked.name), { axis } = now.range;
   const overlapped = new Set(overlappedWrites(run, read).map((it) => String(it.begun)));
   section.querySelector(`.operation[data-at="${read.begun}"]`)?.classList.add("picked");
   for (const it of section.querySelectorAll(".operation.write")) it.classList.add(overlapped.has(it.dataset.at) ? "lit" : "dim");
-  Object.assign(one("#zone").style, { left: `${LABEL + read.begun * column}px`, top: `${lanes.offsetTop}px`,
-    width: `${((read.ended ?? to - 1) + 1 - read.begun) * column}px`, height: `${lanes.offsetHeight}px` });
+  const left = axis.left(read.begun), width = axis.left((read.ended ?? to - 1) + 1) - left;
+  Object.assign(one("#zone").style, { left: `${LABEL + left}px`, top: `${lanes.offsetTop}px`,
+    width: `${width}px`, height: `${lanes.offsetHeight}px` });
+  lightStory(section, read, storyOfRead(now.view.picked.name, read));
+}
+// the bars, rows and cells that a read's sentence names
+function lightStory(section, { process }, story) {
+  for (const { layer, from } of story?.parts || []) {
+    const bar = `[data-nest="${layer}"][data-from="${from}"][data-process="${process}"]`;
+    section.querySelector(bar)?.classList.add("lit");
+  }
+  for (const name of story?.rows || [])
+    for (const it of [...section.querySelectorAll("[data-row]"), ...all("[data-register]")])
+      if ([it.dataset.row, it.dataset.register].includes(name)) it.classList.add("lit");
 }

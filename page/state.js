@@ -7,7 +7,7 @@ export const now = {
   // the columns that are drawn, and how wide each is; the branches as they are read between these
   range: { from: 0, to: 0, column: 52 }, readings: new Map(), inSight: new Set(), followed: "",
   // which branches are shown, a read that is picked, the process that keys go to, a step that waits for its number
-  view: { show: "all", picked: null, process: 0, awaiting: "", open: new Set() },
+  view: { show: "all", picked: null, process: 0, awaiting: "" },
 };
 export const one = (selector) => document.querySelector(selector);
 export const all = (selector) => [...document.querySelectorAll(selector)];

@@ -1,6 +1,8 @@
 // The text next to the picture: the pages at the cursor, the script and the tower file, and the schedule as a table.
 import { Document } from "./document.js";
+import { ACTIONS } from "./deck.js";
 import { FEW_CELLS } from "./drawing.js";
+import { memoryCard } from "./memory.js";
 import { reasonOf } from "./reading.js";
 import { all, element, here, now, one, putIfChanged } from "./state.js";
 
@@ -16,10 +18,17 @@ function putPages() {
   const pages = ["state", "pending", "bits"].map((kind) => [kind, linesAt(kind, place), linesAt(kind, place - 1)]);
   const notes = [...model.notes, ...[...readings.values()].flatMap((it) => it.notes)].slice(0, MOST_NOTES);
   putIfChanged(one("#here"), JSON.stringify([name, place, branch.length, events, pages, notes]), () => [
+    memoryCard(name, place),
     place && element("h3", {}, `step ${place - 1}, just made: ${branch.step(place - 1)}`), element("pre", {}, events.join("\n")),
-    ...pages.flatMap(([kind, lines, was]) => [element("h3", {}, `${kind} ${name} ${place} of ${branch.length}`),
-      element("pre", { class: lines.join("").length > LONG && "long", "data-page": kind }, lines.flatMap(changed(was)))]),
+    programPages(pages.map(([kind, lines, was]) => [element("h3", {}, `${kind} ${name} ${place} of ${branch.length}`),
+      element("pre", { class: lines.join("").length > LONG && "long", "data-page": kind }, lines.flatMap(changed(was)))])),
     ...notes.map((it) => element("p", { class: "wrong" }, it))]);
+}
+// (of a tower of many bits the program's pages are folded, until somebody unfolds them)
+function programPages(pages) {
+  const isOpen = one("#here details")?.open ?? now.model.shape.cells <= FEW_CELLS;
+  return element("details", { open: isOpen && "" }, element("summary", {}, "pages of the program"),
+    pages.flat());
 }
 function putScript() {
   const { document: { script: text, lines, tower }, model } = now;
@@ -50,13 +59,20 @@ function goToLine(line) {
   script.scrollTop = (line - 4) * LINE_HEIGHT;
   putAnswer();
 }
+// what a step did: its events, or else its bit action
+function eventsIn({ run, branch, actions }, step) {
+  const events = run.eventsAt(step).map((it) => it.slice(it.indexOf(" ") + 1));
+  const [kind, process] = branch.step(step).split(" "), found = actions.get(`${step} ${process}`);
+  if (kind !== "g" || !found?.action || events.some((it) => it.startsWith("void"))) return events;
+  return [`p${process} ${ACTIONS[found.action]} ${found.bit}`, ...events];
+}
 // the columns in sight as a table, for those who read or hear it
 function putTable() {
   const { name, place, branch } = here(), reading = now.readings.get(name), { run, from, to, processes } = reading, rows = [];
   const isSmall = now.model.shape.cells <= FEW_CELLS, heads = ["step", "", "what happens", ...processes.map((it) => `p${it} then`)];
   for (let step = from; step < to; step++) {
     const reasons = run.operations.filter((it) => it.kind === "read" && it.ended === step).map((it) => reasonOf(run, it));
-    const events = run.eventsAt(step).map((it) => it.slice(it.indexOf(" ") + 1));
+    const events = eventsIn(reading, step);
     const doing = processes.map((it) => reading.actions.get(`${step + 1} ${it}`)?.doing || "");
     rows.push([step, branch.step(step), [...events, ...reasons].join("; "), ...doing, isSmall && bitsAt(name, step + 1)]);
   }

@@ -4,7 +4,8 @@ const field = (name, meaning, least, most, first) => ({ name, meaning, least, mo
 const INITIAL = field("INIT", "the initial value", 0, 1, 0);
 const READERS = field("READERS", "processes that read", 1, 4, 2);
 const VALUES = field("VALUES", "how many values, counted from 0", 2, 512, 2);
-const MOST_VALUES = 512, MOST_BITS = 4096;
+export const MOST_VALUES = 512;
+const MOST_BITS = 4096;
 export const TOWERS = {
   safe: { fields: [INITIAL], bits: () => 1, promise: "One bit. A read that overlaps a write may return 0 or 1." },
   copies: { fields: [READERS, INITIAL], bits: (readers) => readers,
@@ -18,9 +19,9 @@ export const TOWERS = {
     bits: (values, last) => (last + 1) * values,
     promise: "A number with a stamp, and a reader that remembers. Atomic for its one reader, up to LAST writes." },
   matrix: { fields: [field("N", "processes, each of which reads and writes", 2, 4, 2), VALUES,
-    field("TAG", "the last tag", 0, 511, 1), field("INNER", "the last stamp of each register", 0, 511, 3)],
+    field("TAG", "the last tag", 0, 511, 2), field("INNER", "the last stamp of each register", 0, 511, 3)],
     bits: (n, values, tag, inner) => n * n * (inner + 1) * (tag + 1) * n * values,
-    promise: "Stamped registers between N processes. TAG and INNER bound how many operations succeed." },
+    promise: "Stamped registers between N processes. Atomic for them all; TAG and INNER bound how many operations succeed." },
 };
 export function sizeFault(kind, numbers) {
   const { fields, bits } = TOWERS[kind];
@@ -40,7 +41,11 @@ export function shapeOf(line) {
   if (!Object.hasOwn(TOWERS, kind) || sizeFault(kind, numbers)) throw new Error(`This isn't a tower: ${line.slice(0, 60)}`);
   const { fields, bits } = TOWERS[kind], isMatrix = kind === "matrix";
   const number = (name, otherwise) => numbers[fields.findIndex((it) => it.name === name)] ?? otherwise;
-  return { kind, cells: bits(...numbers), values: number("VALUES", 2), side: isMatrix ? numbers[0] : 0,
+  const readers = number("READERS", 1), cells = bits(...numbers), side = isMatrix ? numbers[0] : 0;
+  // (`size` is how many codes a number has, `tagged` how many of them have one stamp)
+  const size = { unary: numbers[0], stamped: cells, matrix: cells / side ** 2 }[kind] || 0;
+  const tagged = isMatrix ? size / (number("INNER") + 1) : 0;
+  return { kind, cells, values: number("VALUES", 2), side, readers, size, tagged,
     processes: isMatrix ? numbers[0] : 1 + number("READERS", 1), isRefusing: isMatrix || kind === "stamped",
     writes: (process) => isMatrix || process === 0, reads: (process) => isMatrix || process > 0 };
 }

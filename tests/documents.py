@@ -1,8 +1,11 @@
 """Documents: what they name is there, their commands print what they say, and their lines fit.
 
-A document is README.md, each page of docs/ and lessons/, and each README.md in page/ and crates/.
+A document is README.md, CONTRIBUTING.md, each page of docs/ and lessons/, and each README.md in page/ and crates/.
 - A fence is closed before the next one begins. One ```console is run from the repository's top:
-  each line `$ COMMAND`, and below it what standard output then says.
+  each line `$ COMMAND`, and below it what standard output then says. One ```console CRATE needs that
+  crate's program, and is run once it is built.
+- One ```rust FILE, or another language, quotes lines of the file, as they are in it; a line `..`
+  is short for any lines.
 - A word between backticks that is a path is that of a file or a folder, or its end (`*` and NAME
   match any name); one that is a name of code (with `_`, `::`, `()` or a capital inside) occurs
   in the sources, and a definition's by its file is defined there: tests/definitions.py; one with a
@@ -43,12 +46,14 @@ LINK = re.compile(r"\]\(([^)#\s]+)(?:#[^)\s]*)?\)")
 # What matches any name in a path, and how paths begin that a reader makes himself.
 ANY_NAME, MADE_BY_A_READER = ("NAME", "KIND"), ("/tmp/", "out/", "page.html")
 
-# number: that of the fence's line; kind: its first word, or ""; margin: the text before it
-Block = collections.namedtuple("Block", "number kind margin lines")
+# number: that of the fence's line; kind: its first word, or ""; about: its second word, or "";
+# margin: the text before it
+Block = collections.namedtuple("Block", "number kind about margin lines")
+QUOTED, LEFT_OUT = ("rust", "antt", "text"), ".."
 
 
 def documents():
-    found = ["README.md"]
+    found = ["README.md", "CONTRIBUTING.md"]
     for pattern in ("docs/**/*.md", "lessons/**/*.md", "page/**/README.md", "crates/*/README.md"):
         found += sorted(glob.glob(pattern, recursive=True))
     return found
@@ -155,7 +160,7 @@ def parted(lines):
         mark = FENCE.match(line)
         words = mark.group(2).split() if mark else []
         if mark and block is None:
-            block = Block(number, words[0] if words else "", mark.group(1), [])
+            block = Block(number, *[*words, "", ""][:2], mark.group(1), [])
         elif block is None:
             text.append((number, line))
         elif mark and not words:
@@ -166,6 +171,37 @@ def parted(lines):
             block.lines.append(line[len(block.margin) :])
     wrong += [(block.number, "the fence isn't closed")] if block else []
     return text, blocks, wrong
+
+
+def quote_fault(block):
+    """Returns what is wrong with a block that quotes a file."""
+    if not os.path.isfile(block.about):
+        return f"there is no {block.about}"
+    source, at = cases.read(block.about).decode(), 0
+    for part in "\n".join(block.lines).split(f"\n{LEFT_OUT}\n"):
+        # (a quote has whole lines)
+        found = f"\n{source}".find(f"\n{part}\n", at)
+        if found < 0:
+            return f"{block.about} doesn't have, in this order: {part.strip().splitlines()[0]}"
+        at = found + len(part)
+    return None
+
+
+def commands_with_programs():
+    """Returns the blocks of commands that need a crate's program, each with its document, by the
+    program's path."""
+    found = collections.defaultdict(list)
+    for document in documents():
+        for it in parted(cases.read(document).decode().split("\n"))[1]:
+            if it.kind == CONSOLE and it.about:
+                found[f"crates/{it.about}/out/{it.about}"].append((document, it))
+    return found
+
+
+def fault_of_commands(asked):
+    """Returns what is wrong with the commands of these blocks; None: nothing."""
+    found = [console_faults(it.lines, it.number + 1, document) for document, it in asked]
+    return "; ".join(fault for faults in found for fault in faults) or None
 
 
 def faults_of_text(line, document, crate):
@@ -195,8 +231,11 @@ def faults_of(document):
         found += [(number, it) for it in faults_of_text(line, document, crate)]
     faults = [f"{document}:{number}: {it}" for number, it in sorted(found)]
     for it in blocks:
-        if it.kind == CONSOLE:
+        if it.kind == CONSOLE and not it.about:
             faults += console_faults(it.lines, it.number + 1, document)
+        if it.kind in QUOTED and it.about:
+            fault = quote_fault(it)
+            faults += [f"{document}:{it.number}: {fault}"] if fault else []
     return faults
 
 

@@ -5,7 +5,7 @@ usage: tests/style.py           prints each count, and what has risen above .ci/
        tests/style.py --lower   writes counts that are lower to .ci/habits
 
 docs/STYLE.md has the habits, and what to write. Names are read word by word, `told_of` as two; `where` is counted in comments
-and documents alone. Status 1 if a count has risen.
+and documents alone. A document's words between backticks are names, which count in the code. Status 1 if a count has risen.
 """
 import collections
 import fnmatch
@@ -51,6 +51,8 @@ def part_of(path):
 
 def words_of(path, text, habit):
     """Returns what of a text is read for a habit, as words parted by spaces."""
+    if path.endswith(".md"):
+        text = documents.SPAN.sub("", text)
     comment = COMMENT.get(path.rpartition(".")[2])
     if habit == "where" and comment:
         text = " ".join(comment.findall(text))

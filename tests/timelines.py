@@ -10,9 +10,14 @@ NAME.bench:
 - `does`: `w`, `r`, `x`, a bit action, or `-` if the step is void; of a range whether it reads the
   `column` or writes the `row` of a matrix;
 - `bit`: the bit of a bit action; `by`: whose step it is. These two may be left out.
-The program's pages of that script have to say the same. A page with a time line has the command
-that draws it, `tools/page lessons/LESSON/NAME.{tower,script} > NAME.html`, and no other such one;
-the solution of the reader's own exercise needs none.
+The program's pages of that script have to say the same. A lesson with a time line says under which
+number it is in the page.
+
+A block of the guide that begins with ```layers PATH shows the first steps of PATH.tower by layers.
+Below the bars of an operation are rows `p0 registers`, `p0 number` and `p0 bits`, whose bars are
+the operations inside it, from the step after the last one's end to the step that ends it: the
+register, and the value if it is written; the number's code; a bit with what a read of it gave, or
+what is written, as `bit 3:=1`.
 """
 import collections
 import os
@@ -20,14 +25,19 @@ import re
 
 import cases
 import quotes
+from pages.inside import Inside, Tower
 
 # The session whose looks come after the script; pages take any number.
 LOOK = "999999999"
-YOUR_OWN = "your-own"
-COMMAND = re.compile(r"`tools/page ([^` ]+)/([a-z-]+)\.\{(?:tower|bench),script\} > [a-z-]+\.html`")
 BAR = re.compile(r"\|(?:-*(write \d+|read)[- ]*([|x>])| (write \d+|read)( refused)?)")
 ENDINGS = {"|": "returned", "x": "stopped", ">": "pending"}
 IDLE = "-"
+GUIDE = "docs/guide/towers.md"
+INNER_BAR = re.compile(r"\|-*([^-|>][^|>]*?)-*([|>])")
+LAYERS = {"registers": "stamped", "number": "unary", "bits": "regular"}
+# an inner operation's words in the page, and what they are in short
+SHORT = ((r"(R\S+) := .* wrote (\d+) .*", r"\1:=\2"), (r"read (R\S+?)(?::.*)?", r"\1"), (r".*?(code \d+).*", r"\1"),
+         (r"(bit \d+) := (\d).*", r"\1:=\2"), (r"(bit \d+) is (\d)", r"\1=\2"), (r"(bit \d+) hit, chosen (\d)", r"\1=\2"))
 
 # begun, ended: steps; ended: None while it is pending; ending: a value of ENDINGS, or "refused"
 Operation = collections.namedtuple("Operation", "process what begun ended ending")
@@ -170,24 +180,79 @@ def fault_of_block(program, folder, words, lines):
     return None
 
 
-def faults_of_commands(folder, text, names):
-    """Yields what is wrong with the commands that draw a page's time lines."""
-    found = COMMAND.findall(text)
-    yield from (f"a picture of another folder: {it}" for it, _ in found if it != folder)
-    drawn = {name for _, name in found}
-    yield from (f"no command draws {it}" for it in sorted(names - drawn - {YOUR_OWN}))
-    yield from (f"no time line is of what is drawn: {it}" for it in sorted(drawn - names))
-
-
 def fault_of(path, program):
     """Returns what is wrong with the time lines of a page, or nothing."""
     folder = os.path.dirname(path)
     text, blocks = quotes.parted(quotes.TOP / path)
     timelines = [(mark.split()[1:], lines) for mark, lines in blocks if mark.split()[:1] == ["timeline"]]
-    faults = list(faults_of_commands(folder, text, {words[0] for words, _ in timelines}))
+    number = os.path.basename(folder).partition("-")[0].lstrip("0")
+    is_named = not timelines or f"lesson {number} in the page" in text
+    faults = [] if is_named else [f"it doesn't say that it is lesson {number} in the page"]
     for words, lines in timelines:
         try:
             faults.append(fault_of_block(program, folder, words, lines))
         except Odd as odd:
             faults.append(f"{' '.join(words)}: {odd}")
+    return "; ".join(it for it in faults if it)
+
+
+def inner_bars(line, columns):
+    """Returns the bars of a row of a layer: the steps of each, and its words; one that goes on has no end."""
+    found = []
+    for bar in INNER_BAR.finditer(line):
+        begun = next((it.first for it in columns if it.begin == bar.start()), None)
+        ended = next((it.last for it, after in zip(columns, [*columns[1:], None])
+                      if it.begin <= bar.end() - 1 and (after is None or bar.end() - 1 < after.begin)), None)
+        if begun is None or (bar[2] == "|" and ended is None):
+            raise Odd(f"a bar begins or ends over no step: {line}")
+        found.append((begun, None if bar[2] == ">" else ended, bar[1]))
+    return found
+
+
+def short(title):
+    """Returns the words of an inner operation in short."""
+    return next(re.sub(f"^{pattern}$", by, title) for pattern, by in SHORT if re.fullmatch(pattern, title))
+
+
+def inside_of(program, path):
+    """Returns what is inside the operations of a tower file's steps."""
+    tower = f"{path}.tower"
+    _, line, *steps = cases.read(tower).decode("ascii").splitlines()
+    count = len(steps)
+    looks = [f"{kind} main {place}" for kind in ("state", "bits") for place in range(count + 1)]
+    asked = "".join(f"{LOOK} {it}\n" for it in [*looks, f"history main {count}"])
+    ran = cases.run(program, [tower], asked.encode())
+    pages = [[line[2:] for line in lines.splitlines()]
+             for lines in re.findall(rf"^{LOOK}: .*\n((?:  .*\n)*)", ran.output.decode("ascii"), re.M)]
+    made = {"state": pages[: count + 1], "bits": pages[count + 1: -1], "history": pages[-1]}
+    return Inside(Tower(line), made)
+
+
+def fault_of_layers(program, path, lines):
+    """Returns what is wrong with a block of layers, or nothing."""
+    columns = columns_of(lines[0])
+    inside, last = inside_of(program, path), columns[-1].last
+    wanted = collections.defaultdict(list)
+    for it in (each for each in inside.operations if each.begun <= last):
+        wanted[f"p{it.process}"].append((it.begun, it.ended, it.words))
+    for it, layer, part, title in inside.nests():
+        name = next(word for word, known in LAYERS.items() if known == layer)
+        if it.begun <= last:
+            wanted[f"p{it.process} {name}"].append((part.begin, part.end if part.is_over else None, short(title)))
+    found = {}
+    for line in lines[1:]:
+        name = re.match(r"p\d(?: [a-z]+)?", line)[0]
+        found[name] = inner_bars(" " * len(name) + line[len(name):], columns)
+    if found != wanted:
+        return f"{path}: " + "; ".join(f"{it}: the block has {found.get(it)}, the pages {wanted.get(it)}"
+                                       for it in sorted({*found, *wanted}) if found.get(it) != wanted.get(it))
+    return None
+
+
+def fault_of_guide(program):
+    """Returns what is wrong with the layers that the guide draws, or nothing."""
+    blocks = re.findall(r"^```layers (\S+)\n(.*?)^```$", cases.read(GUIDE).decode("ascii"), re.M | re.S)
+    if len(blocks) < 2:
+        return "it draws no layers"
+    faults = [fault_of_layers(program, path, text.splitlines()) for path, text in blocks]
     return "; ".join(it for it in faults if it)

@@ -1,4 +1,4 @@
-"""Tests of the tools that prove and build, in scratch folders, with substitutes for the prover and the program: nothing is proved.
+"""Tests of the tools that prove, build and count, in scratch folders, with substitutes for the prover and the program: nothing is proved.
 
 Each tool is loaded for each test by itself, and works on a repository of three crates: `over` is above `low`, `tool` is a program over
 both. Expected values are written by hand.
@@ -15,6 +15,7 @@ import tempfile
 import types
 
 import cases
+import documents
 import refusals
 from trials import Test
 
@@ -109,6 +110,39 @@ def ran_side_by_side(failing=None):
 def order_of_tasks():
     same("all tasks", ran_side_by_side(), (True, [("first", 1), ("then", 1), ("short", 1), ("last", 1)]))
     same("a task that fails", ran_side_by_side("then"), (False, [("first", 1), ("then", 1)]))
+
+
+# What a check prints of a function that isn't proved, among what it prints of others.
+UNPROVED = """rt: chose --jobs 2 for low
+fn low::most: proved
+note: src/lib.rt:7:1: it is not proved that what the function ensures holds (`returns`)
+note: to see how far a `search` got, write `search rules` in place of that hole
+fn low::more: no proof: expected answers in ./proofs/more/Answers.antt
+help: write ./proofs/more/Answers.antt with these lines, and check again
+    returns c = ?
+note: `returns` of proofs/more/Answers.antt must prove: c.args.x + 1 ≡ c.args.x + 2
+  names you can use, by step:
+note: `returns` of proofs/more/Answers.antt may be false: the known facts allow `c.args.x` = `0`
+statements std: modules loaded=21 checked=0
+logic=not-proved
+"""
+
+
+def shown_of(log):
+    """Returns the lines that are shown of a failed proof with this log, after the first."""
+    with repository() as top:
+        put(f"{top}/prove.log", log)
+        return side_at(top).said_of_failure(f"{top}/prove.log", "low")[1:]
+
+
+def faults_of_failures():
+    said = UNPROVED.splitlines()
+    same("what isn't proved", shown_of(UNPROVED), [said[it] for it in (2, 4, 7, 9)])
+    lost = "src/lib.rt:11:11: error[unknown-name]: cannot find value `y` in this scope"
+    same("what can't be read", shown_of(f"rt: chose\n{lost}\nstatements\n"), [lost])
+    same("no such line", shown_of("killed\n" * 30), ["killed"] * 20)
+    many = shown_of(f"{lost}\n" * 21)
+    same("more than are shown", many, [lost] * 20 + ["(and 1 more lines of faults)"])
 
 
 def statements_at(top):
@@ -320,13 +354,30 @@ def floors_of_proofs():
     same("nothing", of(""), 2)
 
 
+def quotes_of_files():
+    with tempfile.TemporaryDirectory() as room:
+        put(f"{room}/lib.rt", "one\ntwo\nthree\nfour\n")
+
+        def is_quote(*lines, file="lib.rt"):
+            block = documents.Block(1, "rust", f"{room}/{file}", "", [*lines])
+            return documents.quote_fault(block) is None
+
+        same("lines in a row", is_quote("two", "three"), True)
+        same("lines left out", is_quote("one", "..", "four"), True)
+        same("another order", is_quote("three", "..", "two"), False)
+        same("lines that aren't in a row", is_quote("one", "three"), False)
+        same("part of a line", is_quote("wo"), False)
+        same("no such file", is_quote("two", file="main.rt"), False)
+
+
 ALL = {
-    "side_by_side": (crates_and_lines, tree_of_a_crate, order_of_tasks),
+    "side_by_side": (crates_and_lines, tree_of_a_crate, order_of_tasks, faults_of_failures),
     "statements": (words_of_a_library, built_once),
     "first_run": (words_of_first_run, answers_twice, answers_and_saves),
     "shares": (table_of_shares, edits_of_copies, shares_of_commands),
     "wrong": (places_of_changes, selections_of_edits, refusals_of_checks),
     "floors": (floors_of_proofs,),
+    "documents": (quotes_of_files,),
 }
 
 

@@ -29,6 +29,10 @@ LINES_LOADED_AS_ONE = 7
 NICEST = 19
 SECONDS_BETWEEN_NEWS = 60
 LINES_SHOWN = 20
+# What a check says of a place, of a function or a goal that isn't proved, and of what can't be read.
+OF_A_FAULT = re.compile(
+    r"(note: )?\S+:\d+:\d+: |fn .*: (?!proved$)|note: `.* (must prove|may be false)|.*\berror\b"
+)
 
 # waits: the keys of the tasks that have to go well first; lines: about how long it takes; most_jobs: how many processors it can
 # use; work: is given how many it may use and its niceness, and returns whether it went well.
@@ -203,11 +207,23 @@ def prove(crates, name, jobs, niceness):
     return is_proved
 
 
-def show_failure(log, name):
+def said_of_failure(log, name):
+    """Returns the lines that say why a crate isn't proved: those of its log that name a fault, or
+    the last ones if none does."""
     with open(log, encoding="utf-8", errors="replace") as it:
         lines = it.read().splitlines()
-    say(f"{name} is not proved; all that its proof said is in {os.path.relpath(log)}, which ends:")
-    print(*lines[-LINES_SHOWN:], sep="\n", file=sys.stderr, flush=True)
+    faults = [it for it in lines if OF_A_FAULT.match(it)]
+    how = "in part:" if faults else "which ends:"
+    said = f"{name} is not proved; all that its proof said is in {os.path.relpath(log)}, {how}"
+    left = len(faults) - LINES_SHOWN
+    more = [f"(and {left} more lines of faults)"] if left > 0 else []
+    return [said, *(faults[:LINES_SHOWN] or lines[-LINES_SHOWN:]), *more]
+
+
+def show_failure(log, name):
+    said, *lines = said_of_failure(log, name)
+    say(said)
+    print(*lines, sep="\n", file=sys.stderr, flush=True)
 
 
 def proofs(crates, names, prove_one=prove):

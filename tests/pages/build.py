@@ -1,5 +1,6 @@
 """What page/build makes: the program's module, and the page as one file."""
 import os
+import shutil
 import sys
 import threading
 
@@ -25,3 +26,11 @@ def has_module():
 def packed(path):
     """Returns the page with the module of a path, as it opens with its first screen."""
     return pack.packed(path, None)
+
+
+def put_modules(room, script):
+    """Puts the page's modules and a script of this folder into a folder, so that node takes each of them for a module."""
+    shutil.copytree(f"{TOP}/page", f"{room}/page")
+    shutil.copy(f"{TOP}/tests/pages/{script}", room)
+    with open(f"{room}/package.json", "w", encoding="ascii") as file:
+        file.write('{ "type": "module" }')

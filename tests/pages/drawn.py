@@ -3,12 +3,13 @@ import random
 import re
 
 import cases
+from pages.inside import Inside, Tower
 from pages.live import holds, same
 from pages.reader import NO_TOWER, Reader, bit_actions, overlapped
 
 MARKS = """(() => { const panel = document.querySelector(".panel.focus"), all = (name) => [...panel.querySelectorAll(name)];
   const steps = all(".chip").map((it) => Number(it.dataset.step));
-  return { from: Math.min(...steps), to: Math.max(...steps) + 1, chips: all(".chip text").map((it) => it.textContent),
+  return { from: Math.min(...steps), to: Math.max(...steps) + 1, chips: all(".chip title").map((it) => it.textContent.replace(/^step [0-9]+: /, "").split("; ")[0]),
     bars: all(".operation").map((it) => it.dataset.at + " " + it.querySelector("title").textContent.split(",")[0]),
     ticks: all(".tick").map((it) => it.dataset.action), chosen: all(".mark.chosen").length, void: all(".mark.void").length,
     stop: all(".mark.stop").length, refused: all(".mark.refused").length,
@@ -24,6 +25,13 @@ ROWS = """(() => { const panel = document.querySelector(".panel.focus"), rows = 
         const d = it.getAttribute("d").match(/M([0-9.]+) ([0-9.]+)/);
         return [it.getAttribute("class"), Number(d[1]), along(it, d)]; }) };
   return [Number(panel.querySelector(".chip rect").getAttribute("width")) + 3, rows]; })()"""
+INSIDE = """(() => { const panel = document.querySelector(".panel.focus"), all = (name) => [...panel.querySelectorAll(name)];
+  const number = (it, names) => names.map((name) => Number(it.dataset[name]));
+  const words = (it) => it.querySelector("title").textContent;
+  return [Number(document.querySelector("#depth").value),
+    all(".nest").map((it) => [it.dataset.nest, ...number(it, ["process", "from", "to"]), it.classList.contains("writes"), words(it)]),
+    all(".decoded [data-row]").map((it) => [it.dataset.row, [...it.querySelectorAll(".box")].map((box) =>
+      [...number(box, ["from", "to"]), words(box), Boolean(box.querySelector(".written"))])])]; })()"""
 KINDS = ("chosen", "void", "stop", "refused")
 SEED = 5
 MOVES = 40
@@ -52,6 +60,27 @@ def compare_rows(page, found, name, first, last):
             same(reads, {"-": [], "r": ["read-line"], "h": ["hit"]}[read], f"read of bit {bit} at {name} {place}")
 
 
+def compare_inside(page, tower, found, name, first, last):
+    """Compares the bars inside operations, and the rows of numbers, with a second reader's; operations that are cut are left out."""
+    length = max(int(look.split()[2]) for look in found if look.startswith(f"state {name} "))
+    pages = {kind: [found[f"{kind} {name} {place}"] for place in range(length + 1)] for kind in ("state", "bits")}
+    inside = Inside(tower, {**pages, "history": found[f"history {name} {length}"]})
+    depth, nests, rows = page.value(INSIDE)
+    whole = [it for it in inside.operations if first <= it.begun and (last == length or (it.ended is not None and it.ended < last))]
+    begun = {(it.process, place) for it in whole for place in range(it.begun + 1, (length if it.ended is None else it.ended) + 1)}
+    wanted = [[layer, it.process, part.begin, part.end, part.is_write, title] for it, layer, part, title in inside.nests()
+              if it in whole and layer in tower.layers[:depth]]
+    drawn = [it for it in nests if (it[1], it[2]) in begun]
+    same(sorted(it for it in drawn if it not in wanted), sorted(it for it in wanted if it not in drawn), f"inside {name}")
+    for row, boxes in rows:
+        register = tower.registers.index(row) if row in tower.registers else 0
+        bands = inside.bands(register)["number" if row in tower.registers else "best"]
+        for begin, end, *box in boxes:
+            is_cut = any(part.begin < first and part.end >= begin for it in inside.operations for part in it.parts)
+            for place in range(begin, end + 1):
+                holds(is_cut or tuple(box) == bands[place], f"{row} of {name} at {place}: {box}, wanted {bands[place]}")
+
+
 def compare(page, reader, name):
     """Compares the marks of the panel where the cursor is with the pages; returns how many steps were drawn."""
     (found, length), marks = reader.branch(name), page.value(MARKS)
@@ -68,6 +97,7 @@ def compare(page, reader, name):
     holds(set(marks["bars"]) <= set(bars) and (first or len(marks["bars"]) == len(bars)), f"{name}: {marks['bars']} for {bars}")
     same(sorted(marks["ticks"]), bit_actions(found, name, first, last), name)
     compare_rows(page, found, name, first, last)
+    compare_inside(page, Tower(reader.tower.split("\n")[1]), found, name, first, last)
     for kind in KINDS:
         same(marks[kind], sum(line.split()[2] == kind for at, line in history if first <= at < last), f"{name}, {kind}")
     same(sorted(marks["verdicts"]), sorted(verdicts), name)

@@ -25,7 +25,7 @@ def first_screen(page):
     holds(re.search(r"proved sources.*tested, not proved.*commit [0-9a-f]{12}.*kit \S+", footer), footer)
     page.button("p1 g 1 0")
     holds(page.said().startswith("p1's read returned 0. Fresh: no write had returned"), page.said())
-    same(page.count(".lit"), 1)
+    same(page.count(".operation.lit"), 1)
     page.button("other")
     same(page.place(), "other, place 5 of 5")
     holds("Overlap: write 1" in page.said(), page.said())
@@ -213,7 +213,8 @@ def files(page, program):
                 page.value("new Promise((done) => setTimeout(done, 20))")
         tower, script = page.document()
         texts = {it.suffix[1:]: it.read_text(encoding="utf-8") for it in folder.iterdir()}
-        same((texts["tower"], texts["script"]), (tower, script))
+        # (a saved script says first on which tower it runs)
+        same((texts["tower"], texts["script"]), (tower, f"# tower: {'; '.join(tower.strip().splitlines())}\n{script}"))
         same(Reader(program, texts["bench"], "").branch("other"), Reader(program, tower, script).branch("other"))
         picture = xml.dom.minidom.parseString(texts["svg"])
         holds(len(picture.getElementsByTagName("title")) > 3 and "var(" not in texts["svg"], "the picture isn't whole")
@@ -285,18 +286,12 @@ def tower_limits(page):
 
 
 def copies(page):
-    """The script and a link that holds the document are copied; the link opens the same document."""
+    """The script is copied."""
     page.open(ONE_READ, BEFORE_ITS_END)
     page.value("""Object.defineProperty(navigator, "clipboard", { value: { writeText: async (text) => { globalThis.copied = text; } } }) && 0""")
-    for kind in ("copy", "link"):
-        page.fill("#save", kind)
-        page.until("globalThis.copied")
-        if kind == "copy":
-            same(page.value("globalThis.copied"), BEFORE_ITS_END)
-            page.value("globalThis.copied = ''")
-    page.chrome.open(page.value("globalThis.copied"))
-    page.wait()
-    same(page.document(), [ONE_READ, BEFORE_ITS_END])
+    page.fill("#save", "copy")
+    page.until("globalThis.copied")
+    same(page.value("globalThis.copied"), BEFORE_ITS_END)
 
 
 def paper(page):

@@ -6,15 +6,18 @@ import os
 import tempfile
 import threading
 
-from pages import build, chromium, drawn, faults, firefox, gestures, lessons, sizes
+from pages import build, chromium, depths, drawn, exercises, faults, firefox, gestures, lessons, sharing, sizes
 from pages.live import Page
 from trials import Test
 
 ALL = {
     "gestures": ("first_screen", "lesson_by_clicks", "processes", "steps", "branches", "breaks", "keyboard", "files", "sessions", "typed",
                  "tower_limits", "copies", "paper"),
+    "depths": ("layers", "reasons", "square", "scale", "refusals", "two_towers", "counted_pages"),
     "drawn": ("documents", "walks"),
+    "exercises": ("solved_by_clicks", "wrong_choice", "goals_in_words"),
     "lessons": ("lessons", "exercises", "a_lesson_line_by_line", "policy"),
+    "sharing": ("links", "short_links", "one_file", "nothing_lost", "which_tower", "forty_files", "words", "room", "hostile_documents"),
     "faults": ("other_programs", "no_answer", "damaged_files", "damaged_answers"),
     "sizes": ("long_schedules", "large_documents"),
 }
@@ -23,9 +26,14 @@ IN_FIREFOX = {
     "gestures": ("first_screen", "lesson_by_clicks", "processes", "steps", "branches", "breaks", "sessions", "typed", "tower_limits",
                  "copies"),
     "drawn": ("documents",),
+    "exercises": ("solved_by_clicks", "wrong_choice"),
     "lessons": ("lessons", "a_lesson_line_by_line"),
+    "sharing": ("links", "nothing_lost", "which_tower", "forty_files"),
 }
-MODULES = {"gestures": gestures, "drawn": drawn, "lessons": lessons, "faults": faults, "sizes": sizes}
+MODULES = {
+    "gestures": gestures, "depths": depths, "drawn": drawn, "exercises": exercises, "lessons": lessons, "faults": faults,
+    "sharing": sharing, "sizes": sizes,
+}
 
 
 class File:

@@ -1,10 +1,12 @@
 """Lessons in the page, and the policy under which it runs."""
 import json
+import re
 
 import cases
 from pages.live import holds, same
 
 COMMENT, SOLUTION = "# ", "/your-own"
+DATA = re.compile(r"# (?:goal|ask|option)(?: \d+)?: ")
 VIOLATION = """new Promise((done) => {
   addEventListener("securitypolicyviolation", (event) => done(event.effectiveDirective), { once: true });
   setTimeout(() => done("nothing is refused"), 5000);
@@ -21,7 +23,8 @@ def first_caption(lines):
     for line in lines:
         if not line.startswith("#"):
             break
-        found.append(line[len(COMMENT):])
+        if not DATA.match(line):
+            found.append(line[len(COMMENT):])
     return " ".join(found)
 
 
@@ -65,11 +68,15 @@ def a_lesson_line_by_line(page):
     page.do("chooseOpen")
     page.click('#open-dialog [data-open="01-safe-bit/safe"]')
     page.until("!document.querySelector('#lesson').hidden")
-    played = []
+    played, captions = [], []
     for _ in lines:
         page.do("lessonNext")
         played.append((page.text("#played code"), page.text("#played pre")))
+        captions.append(page.text("#caption"))
     same([line for line, _ in played], lines)
+    # (a caption belongs to the lines below it)
+    at = lines.index("0 fork other 5 same")
+    holds(captions[at].startswith("The same read while 0") and captions[at - 1].startswith("The other answer"), captions)
     wanted = cases.read(f"{name}.expected").decode().splitlines()
     same([line for _, answer in played for line in answer.split("\n")], [it.strip() for it in wanted])
 

@@ -25,11 +25,7 @@ LANGUAGE = ["http://www.w3.org/2000/svg"]
 def drawn():
     """Returns the picture's bytes."""
     with tempfile.TemporaryDirectory() as room:
-        shutil.copytree(f"{TOP}/page", f"{room}/page")
-        shutil.copy(f"{TOP}/tests/pages/still.mjs", room)
-        # (so that node takes each file for a module)
-        with open(f"{room}/package.json", "w", encoding="ascii") as file:
-            file.write('{ "type": "module" }')
+        build.put_modules(room, "still.mjs")
         words = ["node", f"{room}/still.mjs", build.made_module(), f"{LESSON}.tower", f"{LESSON}.script"]
         done = subprocess.run(words, stdout=subprocess.PIPE, stderr=subprocess.PIPE, check=False)
     if done.returncode:

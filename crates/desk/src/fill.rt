@@ -52,7 +52,8 @@ where
     /// Stores runs (replayed segments) for segments that no stored run fits, in at most 64 rounds.
     /// A round has three parts: a plan lists jobs (segments to replay), and begins with the job of
     /// `branch` if there is one; the caller and up to `thieves` other threads (at most 4) run the
-    /// jobs without holding the turn; then the runs are installed. The fill ends early if a plan
+    /// jobs without holding the turn, or the caller alone if `thieves` is 0; then the runs are
+    /// installed. The fill ends early if a plan
     /// has no job, if all jobs of a round run out of memory, or if a later plan finds no such
     /// branch. The fill adds no call to the history. Afterwards the chair has seen at least the
     /// history that the first plan found. The report counts how the jobs ended.
@@ -232,6 +233,9 @@ where
     } = filling;
     if jobs.is_empty() {
         return Ok(Vec::new(*alloc));
+    }
+    if *thieves == 0 {
+        return Crew::run_alone(*rt, *alloc, jobs, *gate);
     }
     Crew::run(*rt, *alloc, jobs, *thieves, *gate)
 }

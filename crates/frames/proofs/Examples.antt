@@ -1,7 +1,10 @@
 -- Worked examples of definitions that claim that something exists: a case, and a near miss.
 use Rattle.std.specs.Prelude.{⊤}
-use Rattle.std.proofs.Common.{ℕ, zero, suc, ◌≡◌, ◌≤◌, ◌<◌, true, true≢false, List, [], ◌∷◌, Option, Some, None, is_some, unwrap_or, slice_index_or, ap, refl, sym, subst, arith}
-use Rattle.frames.specs.declared.types.Event.TheVariants.{Invoke, Got}
+use Rattle.safe_bit.specs.Memory.{Memory, no_cell}
+use Rattle.std.proofs.Common.{ℕ, zero, suc, ◌≡◌, ◌≤◌, ◌<◌, true, true≢false, List, [], ◌∷◌, Option, Some, None, is_some, unwrap_or, slice_index_or, get_or, ap, refl, sym, subst, ◌∙◌, inl, inr, max, arith}
+use Rattle.frames.specs.declared.types.Event.{Event}
+use Rattle.frames.specs.declared.types.Event.TheVariants.{Invoke, Got, Wrote, Refused}
+use Rattle.frames.specs.declared.types.Layer.TheVariants.{Matrix}
 use Rattle.frames.specs.declared.types.Op.{Op}
 use Rattle.frames.specs.declared.types.Op.TheVariants.{Write, Read}
 use Rattle.frames.specs.declared.types.Frame.{Frame}
@@ -11,16 +14,20 @@ use Rattle.frames.specs.declared.types.Next.{Next}
 use Rattle.frames.specs.declared.types.Next.TheVariants.{Pending, Done}
 use Rattle.frames.specs.declared.running.Running.{Running}
 use Rattle.frames.specs.declared.types.Step.TheVariants as step
-use Rattle.frames.specs.declared.types.Reason.TheVariants.{Idle}
 use Rattle.frames.specs.declared.safe.SafePoint.{SafePoint}
 use Rattle.frames.specs.declared.safe.SafePoint.TheVariants as at
-use Rattle.frames.specs.Behaviour.{Answers}
+use Rattle.frames.specs.declared.types.ActionKind.TheVariants.{ReadStart}
+use Rattle.frames.specs.Behaviour.{Behaviour, Answers}
 use Rattle.frames.specs.Flat.{HasFramesFrom, HasReached, IsReached, stack_of, outermost}
 use Rattle.frames.specs.SafeBit.{safe_behaviour, SafeReaches}
 use Rattle.frames.specs.Configuration.{Configuration, initial_configuration, running_at}
 use Rattle.frames.specs.correctness.Verdicts.{initially}
 use Rattle.frames.specs.correctness.Regularity.{Numbered}
-use Rattle.frames.specs.laws.Steps.{IsVoid}
+use Rattle.frames.specs.correctness.Ranks.{Ranking, at_first, HasRank, after_rank, Ranked, HasRanks}
+use Rattle.frames.specs.correctness.ReportedActions.{MakesItsAction}
+use Rattle.frames.proofs.Pointwise.{put, put_same, put_other}
+use Rattle.std.proofs.lemmas.Bool.{cases_eq}
+use Rattle.frames.specs.Voids.{IsVoid}
 
 abbrev start : Configuration ⊤ SafePoint
 start = initial_configuration safe_behaviour tt 0
@@ -53,13 +60,162 @@ Numbered-fails h =
     let none : old.0 ≡ 0 = is_first old.0 old.1.1.0.high old.1.1.0.value_of in
     omega (arith, one, none, next.1.0, old.1.0)
 
+-- Ranked: within a write of 1 with rank 1, a read gives 1, and has rank 1; its invocation needs none
+Ranked-holds : Ranked (at_first 0 0) ((0, Invoke 0 (Write 1)) ∷ (1, Invoke 1 Read) ∷ (2, Got 1 1) ∷ (3, Wrote 0) ∷ [])
+Ranked-holds = (Some 1, ((omega arith, refl), (None, (tt, (Some 1, ((omega arith, refl), (Some 1, (refl, tt))))))))
+
+-- HasRanks: these ranks, and rank 0 for the initial value
+HasRanks-holds : HasRanks 0 ((0, Invoke 0 (Write 1)) ∷ (1, Invoke 1 Read) ∷ (2, Got 1 1) ∷ (3, Wrote 0) ∷ [])
+HasRanks-holds = (0, Ranked-holds)
+
+no_value : (v : ℕ) → None ≡ Some v → ⊥
+no_value v e = cc
+
+abbrev some : ℕ → Option ℕ
+some v = Some v
+
+zero_is_not_one : some 0 ≡ some 1 → ⊥
+zero_is_not_one e = let f : 0 ≡ 1 = ap (λ o. unwrap_or o 0) e in omega (arith, f)
+
+-- the values by rank at first, and once a write of 1 with rank m has been invoked
+abbrev before : ℕ → ℕ → Option ℕ
+before first = put first (Some 0) (λ k. None)
+
+abbrev within : ℕ → ℕ → ℕ → Option ℕ
+within first m = put m (Some 1) (before first)
+
+before_is_zero : (first n v : ℕ) → before first n ≡ Some v → (n ≡ first) × (some 0 ≡ some v)
+before_is_zero first n v e = elim (cases_eq n first) [
+  | inl same ↦ (same, sym (ap (before first) same ∙ put_same first (Some 0) (λ k. None)) ∙ e)
+  | inr other ↦ absurd (no_value v (sym (put_other first n (Some 0) (λ k. None) other) ∙ e))
+]
+
+gives_one : (first m n : ℕ) → within first m n ≡ Some 1 → n ≡ m
+gives_one first m n e = elim (cases_eq n m) [
+  | inl same ↦ same
+  | inr other ↦ absurd (zero_is_not_one (before_is_zero first n 1 (sym (put_other m n (Some 1) (before first) other) ∙ e)).1)
+]
+
+gives_zero : (first m n : ℕ) → within first m n ≡ Some 0 → n ≡ first
+gives_zero first m n e = elim (cases_eq n m) [
+  | inl same ↦ absurd (zero_is_not_one (sym e ∙ ap (within first m) same ∙ put_same m (Some 1) (before first)))
+  | inr other ↦ (before_is_zero first n 0 (sym (put_other m n (Some 1) (before first) other) ∙ e)).0
+]
+
+-- Ranked fails: within a write of 1, process 1 reads 1, and then process 2 the older 0, whose rank is
+-- below that of the first read, whatever rank the initial value has
+Ranked-fails : (first : ℕ) → Ranked (at_first first 0) ((0, Invoke 0 (Write 1)) ∷ (1, Invoke 1 Read) ∷ (2, Got 1 1) ∷ (3, Invoke 2 Read) ∷ (4, Got 2 0) ∷ []) → ⊥
+Ranked-fails first h = write h.0 h.1
+  where
+    events : List (ℕ × Event)
+    events = (1, Invoke 1 Read) ∷ (2, Got 1 1) ∷ (3, Invoke 2 Read) ∷ (4, Got 2 0) ∷ []
+
+    later : List (ℕ × Event)
+    later = (3, Invoke 2 Read) ∷ (4, Got 2 0) ∷ []
+
+    -- what is known when the reads are invoked
+    written : ℕ → Ranking
+    written m = after_rank (after_rank (at_first first 0) (Invoke 0 (Write 1)) (Some m)) (Invoke 1 Read) None
+
+    read_again : ℕ → ℕ → Ranking
+    read_again m a = after_rank (after_rank (written m) (Got 1 1) (Some a)) (Invoke 2 Read) None
+
+    -- a write that takes no effect isn't read
+    none : (a : Option ℕ) → HasRank (after_rank (at_first first 0) (Invoke 0 (Write 1)) None) (Got 1 1) a → ⊥
+    none None k = k
+    none (Some a) k = zero_is_not_one (before_is_zero first a 1 k.1).1
+
+    second : (m a : ℕ) (b : Option ℕ) → first < m → a ≡ m → HasRank (read_again m a) (Got 2 0) b → ⊥
+    second m a None above same k = k
+    second m a (Some b) above same k =
+        let low : max first a ≤ b = k.0 in
+        let older : b ≡ first = gives_zero first m b k.1 in
+        omega (arith, above, same, low, older)
+
+    one : (m : ℕ) (a : Option ℕ) → first < m → HasRank (written m) (Got 1 1) a × Ranked (after_rank (written m) (Got 1 1) a) later → ⊥
+    one m None above k = k.0
+    one m (Some a) above k = second m a k.1.1.1.0 above (gives_one first m a k.0.1) k.1.1.1.1.0
+
+    write : (n : Option ℕ) → HasRank (at_first first 0) (Invoke 0 (Write 1)) n × Ranked (after_rank (at_first first 0) (Invoke 0 (Write 1)) n) events → ⊥
+    write None k = none k.1.1.1.0 k.1.1.1.1.0
+    write (Some m) k = one m k.1.1.1.0 k.0.0 k.1.1.1.1
+
+-- HasRanks fails of these events
+HasRanks-fails : HasRanks 0 ((0, Invoke 0 (Write 1)) ∷ (1, Invoke 1 Read) ∷ (2, Got 1 1) ∷ (3, Invoke 2 Read) ∷ (4, Got 2 0) ∷ []) → ⊥
+HasRanks-fails h = Ranked-fails h.0 h.1
+
+-- HasRanks fails: a write that was read is refused
+refused_was_read-fails : HasRanks 0 ((0, Invoke 0 (Write 1)) ∷ (1, Invoke 1 Read) ∷ (2, Got 1 1) ∷ (3, Refused 0 Matrix) ∷ []) → ⊥
+refused_was_read-fails h = write h.1.0 h.1.1
+  where
+    write : (n : Option ℕ) → HasRank (at_first h.0 0) (Invoke 0 (Write 1)) n
+        × Ranked (after_rank (at_first h.0 0) (Invoke 0 (Write 1)) n) ((1, Invoke 1 Read) ∷ (2, Got 1 1) ∷ (3, Refused 0 Matrix) ∷ []) → ⊥
+    write (Some m) k = read m k.1.1.1.0 k.1.1.1.1
+      where
+        read : (m : ℕ) (a : Option ℕ) → HasRank (after_rank (after_rank (at_first h.0 0) (Invoke 0 (Write 1)) (Some m)) (Invoke 1 Read) None) (Got 1 1) a
+            × Ranked (after_rank (after_rank (after_rank (at_first h.0 0) (Invoke 0 (Write 1)) (Some m)) (Invoke 1 Read) None) (Got 1 1) a) ((3, Refused 0 Matrix) ∷ []) → ⊥
+        read m None j = j.0
+        read m (Some a) j = no_value m (sym j.1.1.0)
+    write None k = read k.1.1.1.0 k.1.1.1.1.0
+      where
+        read : (a : Option ℕ) → HasRank (after_rank (at_first h.0 0) (Invoke 0 (Write 1)) None) (Got 1 1) a → ⊥
+        read None j = j
+        read (Some a) j = zero_is_not_one (before_is_zero h.0 a 1 j.1).1
+
+-- HasRanks fails: a later read gives the value before a returned write's
+lost_write-fails : HasRanks 0 ((0, Invoke 0 (Write 1)) ∷ (1, Wrote 0) ∷ (2, Invoke 1 Read) ∷ (3, Got 1 0) ∷ []) → ⊥
+lost_write-fails h = write h.1.0 h.1.1
+  where
+    later : List (ℕ × Event)
+    later = (2, Invoke 1 Read) ∷ (3, Got 1 0) ∷ []
+
+    begun : Option ℕ → Ranking
+    begun n = after_rank (at_first h.0 0) (Invoke 0 (Write 1)) n
+
+    got : (m b : ℕ) (a : Option ℕ) → h.0 < m → b ≡ m → HasRank (after_rank (after_rank (begun (Some m)) (Wrote 0) (Some b)) (Invoke 1 Read) None) (Got 1 0) a → ⊥
+    got m b None above same j = j
+    got m b (Some a) above same j =
+        let low : max h.0 b ≤ a = j.0 in
+        let older : a ≡ h.0 = gives_zero h.0 m a j.1 in
+        omega (arith, above, same, low, older)
+
+    wrote : (m : ℕ) (b : Option ℕ) → h.0 < m → HasRank (begun (Some m)) (Wrote 0) b → Ranked (after_rank (begun (Some m)) (Wrote 0) b) later → ⊥
+    wrote m None above j rest = j
+    wrote m (Some b) above j rest =
+        let same : m ≡ b = ap (λ (o : Option ℕ). unwrap_or o 0) j in
+        got m b rest.1.1.0 above (sym same) rest.1.1.1.0
+
+    lost : (b : Option ℕ) → HasRank (begun None) (Wrote 0) b → ⊥
+    lost None j = j
+    lost (Some b) j = no_value b j
+
+    write : (n : Option ℕ) → HasRank (at_first h.0 0) (Invoke 0 (Write 1)) n × Ranked (begun n) ((1, Wrote 0) ∷ later) → ⊥
+    write None k = lost k.1.0 k.1.1.0
+    write (Some m) k = wrote m k.1.0 k.0.0 k.1.1.0 k.1.1.1
+
 -- a bit action of a process that has nothing pending is void
 IsVoid-holds : IsVoid safe_behaviour start (step.Go 0 0)
-IsVoid-holds = record { leaves = refl; why = Idle; reported = refl }
+IsVoid-holds = record { leaves = refl; reported = refl }
 
 -- an invocation of a read isn't void: the read is pending after it
 IsVoid-fails : IsVoid safe_behaviour start (step.Read 1) → ⊥
 IsVoid-fails h = true≢false (ap (λ c. is_some (running_at 1 c)) h.leaves)
+
+-- a bit whose cell is 0 and idle
+abbrev zero_bit : Memory
+zero_bit = safe_behaviour.initial 0
+
+-- the start of a write of 1: the cell that it reports is then being written
+MakesItsAction-holds : MakesItsAction safe_behaviour (at.WriteStart true) true zero_bit
+MakesItsAction-holds = record { value = true; cells = refl; chosen = refl }
+
+-- a register that reports the start of each write as a read's start
+abbrev misreports : Behaviour SafePoint
+misreports = record safe_behaviour { acts = λ p. record { kind = ReadStart; cell = 0 } }
+
+-- the start of a write, reported as the start of a read: no read is in progress after it
+MakesItsAction-fails : MakesItsAction misreports (at.WriteStart true) true zero_bit → ⊥
+MakesItsAction-fails h = true≢false (sym (ap (λ cells. (get_or cells 0 no_cell).reading) h.cells))
 
 -- the frames of process 0 as it begins to write 1
 abbrev writing : List Frame

@@ -12,6 +12,7 @@ pub mod Accepted
 pub mod KnownAndSeen
 pub mod OneWriterPromises
 pub mod SafeIsSafe
+pub mod SafeReports
 pub mod NeverStray
 pub mod Frames
 mod Examples

@@ -1,11 +1,8 @@
 -- A function changed at one argument.
 use Rattle.std.proofs.Common.{◌≡◌, ℕ, refl, sym, ap, subst, ◌∙◌, inl, inr, eq-eqb}
-use Rattle.std.specs.Prelude.{◌==◌, if◌then◌else◌}
+use Rattle.std.specs.Prelude.{if◌then◌else◌}
 use Rattle.std.proofs.lemmas.Bool.{cases_eq, ne_eqb}
-
--- the function f with its value at i changed to x
-abbrev pub put : {A : Type 0} → ℕ → A → (ℕ → A) → ℕ → A
-put i x f k = if k == i then x else f k
+pub use Rattle.frames.specs.correctness.Ranks.{put}
 
 pub put_same : {A : Type 0} (i : ℕ) (x : A) (f : ℕ → A) → put i x f i ≡ x
 put_same i x f = ap (λ c. if c then x else f i) (eq-eqb i i refl)

@@ -1,5 +1,5 @@
 -- A register alone after a list of fitting steps, with what its history shows; and one more step.
-use Rattle.std.proofs.Common.{◌≡◌, ℕ, ◌<◌, List, [], ◌∷◌, ◌++◌, refl, ap, ◌∙◌, subst, arith, true, false, IsTrue}
+use Rattle.std.proofs.Common.{◌≡◌, ℕ, ◌<◌, List, [], ◌∷◌, ◌++◌, refl, ap, ◌∙◌, arith, true, false}
 use Rattle.std.specs.List.{AllByRecursion}
 use Rattle.std.proofs.lemmas.List.Elements.{All-append, All-cons}
 use Rattle.frames.specs.declared.types.Step.{Step}
@@ -7,8 +7,7 @@ use Rattle.frames.specs.declared.types.StepEvents.{StepEvents}
 use Rattle.frames.specs.Behaviour.{Behaviour}
 use Rattle.frames.specs.Configuration.{Configuration, stepped, events_of, fits_step, replayed, history}
 use Rattle.frames.specs.Recorded.{AllFit, Alone, first_configuration}
-use Rattle.frames.proofs.Seen.{Seen, Returned, opening, after_step, read_in, reads, seen, refuses, refuses_none, Always}
-use Rattle.frames.proofs.JoinedLists.{all_left, all_right, two_false}
+use Rattle.frames.proofs.Seen.{Seen, Returned, opening, after_step, read_in, seen, refuses}
 
 -- a list of fitting steps leads the register alone to c, and its history shows s
 pub record Reached {P : Type 0} (b : Behaviour P) (v : ℕ) (c : Alone P) (s : Seen) : Type 0 where
@@ -22,16 +21,7 @@ pub record IsFine (Good : Returned → Type 0) (s : Seen) (e : StepEvents) : Typ
   pub second : refuses e.second ≡ false
   pub reads : AllByRecursion Good (read_in e s)
 
-last_fine : (Good : Returned → Type 0) (s : Seen) (es : List StepEvents) (e : StepEvents) → IsTrue (refuses_none (es ++ e ∷ [])) → AllByRecursion Good (reads s (es ++ e ∷ []))
-    → IsFine Good (seen s es) e
-last_fine Good s [] e n h =
-    let t = two_false (refuses e.first) (refuses e.second) true n in
-    record { first = t.0; second = t.1.0; reads = all_left Good (read_in e s) [] h }
-last_fine Good s (d ∷ es) e n h =
-    let t = two_false (refuses d.first) (refuses d.second) (refuses_none (es ++ e ∷ [])) n in
-    last_fine Good (after_step d s) es e t.1.1 (all_right Good (read_in d s) (reads (after_step d s) (es ++ e ∷ [])) h)
-
-history-append : {R P : Type 0} (b : Behaviour P) (xs : List Step) (s : Step) (c : Configuration R P)
+pub history-append : {R P : Type 0} (b : Behaviour P) (xs : List Step) (s : Step) (c : Configuration R P)
     → history b c (xs ++ s ∷ []) ≡ history b c xs ++ events_of b (replayed b c xs) s ∷ []
 history-append b [] s c = refl
 history-append b (x ∷ xs) s c = ap (λ es. events_of b c x ∷ es) (history-append b xs s (stepped b c x))
@@ -48,7 +38,7 @@ seen-append s (d ∷ es) e = seen-append (after_step d s) es e
 one_fits : {P : Type 0} (b : Behaviour P) (s : Step) → fits_step b s ≡ true → AllFit b (s ∷ [])
 one_fits b s f = All-cons (λ s. fits_step b s ≡ true) s [] f (λ k d lt. absurd (omega (arith, lt)))
 
-fit-append : {P : Type 0} (b : Behaviour P) (xs : List Step) (s : Step) → AllFit b xs → fits_step b s ≡ true → AllFit b (xs ++ s ∷ [])
+pub fit-append : {P : Type 0} (b : Behaviour P) (xs : List Step) (s : Step) → AllFit b xs → fits_step b s ≡ true → AllFit b (xs ++ s ∷ [])
 fit-append b xs s h f = All-append (λ s. fits_step b s ≡ true) xs (s ∷ []) h (one_fits b s f)
 
 -- no steps lead to the first configuration
@@ -69,16 +59,3 @@ reached_more b v c s step h f =
           ∙ ap (λ x. after_step (events_of b x step) (seen (opening v) (history b first h.steps))) h.leads
           ∙ ap (after_step (events_of b c step)) h.reports;
     }
-
--- the events of one more fitting step are as the register promises
-pub reached_fine : {P : Type 0} (Good : Returned → Type 0) (b : Behaviour P) (v : ℕ) (c : Alone P) (s : Seen) (step : Step) → Always Good b → v < b.values
-    → Reached b v c s → fits_step b step ≡ true → IsFine Good s (events_of b c step)
-reached_fine Good b v c s step all l h f =
-    let first = first_configuration b v in
-    let a = all v (h.steps ++ step ∷ []) l (fit-append b h.steps step h.fit f) in
-    let e : StepEvents = events_of b (replayed b first h.steps) step in
-    let k = history-append b h.steps step first in
-    let w : IsFine Good (seen (opening v) (history b first h.steps)) e =
-    last_fine Good (opening v) (history b first h.steps) e (subst (λ es. IsTrue (refuses_none es)) k a.0) (subst (λ es. AllByRecursion Good (reads (opening v) es)) k a.1) in
-    subst (λ x. IsFine Good s (events_of b x step)) h.leads
-    (subst (λ z. IsFine Good z e) h.reports w)

@@ -27,7 +27,8 @@ use Rattle.frames.specs.OneWriter.{HasOneWriter, one_writer}
 use Rattle.frames.specs.Configuration.{running_at, is_stopped, stepped, events_of, fits_step, history, return_of, still_running, chosen_of, in_order}
 use Rattle.frames.specs.Recorded.{Alone, AllFit, first_configuration}
 use Rattle.frames.specs.correctness.Regularity.{IsSafe, FreshAlone}
-use Rattle.frames.specs.laws.Steps.{IsVoid, void_unless_enabled, stopped_is_void}
+use Rattle.frames.specs.Voids.{IsVoid, why_void}
+use Rattle.frames.specs.laws.Steps.{void_unless_enabled, stopped_is_void}
 use Rattle.frames.specs.laws.Safe.{safe_lawful, value_of_its_bit}
 use Rattle.frames.proofs.Seen.{Seen, opening, sees, now_last, IsFreshAlone, Always, Allowed}
 use Rattle.frames.proofs.Moves.{moves, StepsTo, step_begins, step_goes, step_stops}
@@ -146,7 +147,7 @@ to_good : (c : C) (u z : Seen) (s : Step) (who : ℕ) (o : Op) (event : Option E
 to_good c u z s who o event next m to told inv = (z, (subst (λ e. Told IsFreshAlone u e z) (sym to.events) told, subst (λ d. SafeInv d z) (sym to.after) inv))
 
 void_good : (c : C) (u : Seen) (s : Step) → IsVoid safe_behaviour c s → SafeInv c u → Good c u s
-void_good c u s v h = (u, (subst (λ e. Told IsFreshAlone u e u) (sym v.reported) (told_void IsFreshAlone u (process_of s) v.why), subst (λ d. SafeInv d u) (sym v.leaves) h))
+void_good c u s v h = (u, (subst (λ e. Told IsFreshAlone u e u) (sym v.reported) (told_void IsFreshAlone u (process_of s) (why_void c s)), subst (λ d. SafeInv d u) (sym v.leaves) h))
 
 begin_write : (v : ℕ) (c : C) (u : Seen) → running_at 0 c ≡ None → is_stopped 0 c ≡ false → v < 2 → SafeInv c u → Good c u (step.Write 0 v)
 begin_write v c u e awake l h =

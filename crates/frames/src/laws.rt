@@ -10,12 +10,15 @@ ghost use Rattle.frames.specs.declared.types.Step.{Step};
 ghost use Rattle.frames.specs.Configuration.{Configuration, fits_step, is_enabled, is_stopped, stepped, replayed};
 ghost use Rattle.frames.specs.Parked.{IsConfiguration};
 ghost use Rattle.frames.specs.correctness.Regularity.{IsAtomic, IsRegular, IsSafe, NeverStray};
-ghost use Rattle.frames.specs.laws.Steps.{IsVoid, StaysStopped};
+ghost use Rattle.frames.specs.correctness.ReportedActions.{ReportsActions};
+ghost use Rattle.frames.specs.Voids.{IsVoid, StaysStopped};
 
 use crate::register::{Behaves, Register};
 use crate::safe::Safe;
 
-/// A step that isn't enabled changes nothing, and records one event: a `Void` of its process.
+/// A step that isn't enabled changes nothing, and records one event: a `Void` of its process. The
+/// reason is Stopped if the process has stopped, else Busy for an invocation and Idle for a bit
+/// action.
 pub fn void_unless_enabled<R: Register>(register: &R)
     ensures { (c : Configuration R R.Pending) (s : Step) → is_enabled c s ≡ false
         → IsVoid (R.behaviour register.now) c s }
@@ -65,6 +68,14 @@ pub fn leaves_others<R: Register>(register: &R)
 /// no write gives the value of the last write before it (or the initial value, if there is none).
 pub fn safe(register: &Safe)
     ensures { IsSafe (⟦<Safe as Behaves>⟧.behaviour register.now) }
+{}
+
+/// The register of one safe bit reports its actions: an invocation changes no cell; the next action
+/// that it reports of a pending operation is what the operation's next step does to the cells; and
+/// the step reports a choice exactly if that action ends a hit read.
+pub fn reports_actions(register: &Safe)
+    ensures { ReportsActions (⟦<Safe as Behaves>⟧.behaviour register.now)
+        (⟦<Safe as Register>⟧.Holds register.now) (⟦<Safe as Register>⟧.Reaches register.now) }
 {}
 
 /// If a register is regular or atomic, none of its returned reads is stray: each gives the value of

@@ -1,6 +1,6 @@
 -- The law of layers: if each turn of a layer's programs keeps an invariant, and each part does as
 -- it promises, the invariant holds in each history of the layer.
-use Rattle.std.proofs.Common.{◌≡◌, ℕ, ◌+◌, ◌*◌, ◌<◌, List, [], ◌∷◌, ◌++◌, length, get_or, refl, ap, sym, ◌∙◌, arith, None}
+use Rattle.std.proofs.Common.{◌≡◌, ℕ, ◌+◌, ◌*◌, ◌<◌, List, [], ◌∷◌, ◌++◌, length, get_or, refl, ap, sym, ◌∙◌, arith, true, None}
 use Rattle.std.proofs.lemmas.List.{get_or-append-add}
 use Rattle.safe_bit.specs.Memory.{word_at}
 use Rattle.safe_bit.specs.Parts.{part, HasSize}
@@ -9,7 +9,7 @@ use Rattle.safe_bit.specs.laws.Windows.{window-append}
 use Rattle.frames.specs.declared.types.StepEvents.{StepEvents}
 use Rattle.frames.specs.declared.types.Step.{Step}
 use Rattle.layers.specs.declared.nested.Nested.{Nested}
-use Rattle.frames.specs.Configuration.{running_at, history}
+use Rattle.frames.specs.Configuration.{running_at, history, events_of, fits_step, replayed}
 use Rattle.frames.specs.Recorded.{Alone, AllFit, first_configuration}
 use Rattle.frames.proofs.Seen.{Seen, Returned, opening, Always, Allowed}
 use Rattle.frames.specs.OneWriter.{HasOneWriter}
@@ -24,12 +24,22 @@ use Rattle.layers.specs.laws.Nested.{row_fits}
 use Rattle.layers.specs.laws.Gathered.{length-gathered, window-gathered, get_or-gathered}
 use Rattle.layers.specs.laws.Layered.{layer_lawful}
 use Rattle.layers.specs.laws.Over.{LayerOver}
-use Rattle.layers.proofs.Law.{View, Watch, IsKept, IsUser}
+use Rattle.layers.proofs.Law.{View, Watch, Admission, IsKept, IsKeptUnder, IsUser, takes_all, kept_under}
+use Rattle.layers.proofs.Admitted.{AlwaysAdmits, always_admits}
 use Rattle.layers.proofs.Links.{below_of}
 pub use Rattle.frames.proofs.GoodHistories.{Told, told_begun, told_gone, told_void, told_stop, told_none, told_reads}
 use Rattle.frames.proofs.Pending.{none_at, awake_at, first_well}
 use Rattle.layers.proofs.Turns.{standing_of}
-use Rattle.layers.proofs.LayerSteps.{steps_joint}
+use Rattle.layers.proofs.LayerSteps.{Joint, steps_joint, step_joint, replayed_joint}
+
+-- what is known before step s, in which the layer's configuration is c, and after it
+pub record NextStep {Task P U : Type 0} (l : LayerOver Task P) (w : Watch Task U) (Up : U → StepEvents → U → Type 0) (c : Alone (Nested Task P)) (s : Step) : Type 0 where
+  pub u : U
+  pub j : View Task
+  pub inv : w.Inv u j
+  pub tasks : (q : ℕ) → j.tasks q ≡ standing_of (running_at q c)
+  pub z : U
+  pub up : Up u (events_of (layered l.table l.below) c s) z
 
 module _ {Task P : Type 0} (l : LayerOver Task P) (user : ℕ → ℕ → ℕ) (is_user : IsUser l.table l.MayBeAt user) where
   first_value : (v k : ℕ) → v < l.table.values → k < l.table.parts → l.table.first v k < l.below.values
@@ -57,16 +67,15 @@ module _ {Task P : Type 0} (l : LayerOver Task P) (user : ℕ → ℕ → ℕ) (
       ∙ get_or-append-add (gathered (λ j. (l.below.initial (l.table.first v j)).words) l.table.parts) (gathered (λ k. l.table.first_word v k ∷ []) l.table.words) i 0
       ∙ get_or-gathered (l.table.first_word v) l.table.words i li
 
-  pub layer_law : {U : Type 0} (w : Watch Task U) (first : ℕ → U) (Up : U → StepEvents → U → Type 0) → Always w.Good l.below → IsKept l.table l.MayBeAt w first Up
-      → (v : ℕ) (steps : List Step) → v < l.table.values → AllFit (layered l.table l.below) steps
-      → Allowed Up (first v) (history (layered l.table l.below) (first_configuration (layered l.table l.below) v) steps)
-  layer_law w first Up all K v steps lt f =
+  -- at first the view and the parts agree with the configuration
+  first_joint : {U : Type 0} (w : Watch Task U) (rule : Admission) (first : ℕ → U) (Up : U → StepEvents → U → Type 0) → IsKeptUnder rule l.table l.MayBeAt w first Up
+      → (v : ℕ) → v < l.table.values → Joint l user (l.table.first v) w (first_configuration (layered l.table l.below) v) (first v)
+  first_joint w rule first Up K v lt =
       let value : ℕ → ℕ = l.table.first v in
       let c : Alone (Nested Task P) = first_configuration (layered l.table l.below) v in
       let idle : (p : ℕ) → standing_of (running_at p c) ≡ None = λ p. ap standing_of (none_at l.table.processes p) in
       let j : View Task = record { words = λ i. word_at (own_words l.table l.below.size + i) c.memory; tasks = λ p. standing_of (running_at p c); parts = λ k. opening (value k) } in
-      steps_joint l user is_user value w first Up K all (λ k lk. first_value v k lt lk) steps c (first v) f
-      (record {
+      record {
         well = first_well (layered l.table l.below) (LayerHolds l.table l.below l.Holds) (LayerReaches l.table l.MayBeAt l.Reaches) (layer_lawful l) v lt;
         j = j;
         inv = K.initial v lt j (λ i li. first_word v i lt li) idle (λ k lk. refl);
@@ -80,7 +89,32 @@ module _ {Task P : Type 0} (l : LayerOver Task P) (user : ℕ → ℕ → ℕ) (
           stopped = λ q lq. awake_at l.below.processes q ∙ sym (awake_at l.table.processes (user k q));
           running = λ q lq. none_at l.below.processes q ∙ sym (ap (below_of l.table k q) (none_at l.table.processes (user k q)));
         };
-      })
+      }
+
+  -- the law of layers over parts that may refuse an operation as it is invoked
+  pub layer_law_under : {U : Type 0} (w : Watch Task U) (rule : Admission) (first : ℕ → U) (Up : U → StepEvents → U → Type 0) → AlwaysAdmits w.Good rule l.below → IsKeptUnder rule l.table l.MayBeAt w first Up
+      → (v : ℕ) (steps : List Step) → v < l.table.values → AllFit (layered l.table l.below) steps
+      → Allowed Up (first v) (history (layered l.table l.below) (first_configuration (layered l.table l.below) v) steps)
+  layer_law_under w rule first Up all K v steps lt f =
+      steps_joint l user is_user (l.table.first v) w rule first Up K all (λ k lk. first_value v k lt lk) steps (first_configuration (layered l.table l.below) v) (first v) f
+      (first_joint w rule first Up K v lt)
+
+  -- the invariant holds after any fitting steps, and one more fitting step goes on as the law says
+  pub layer_next_under : {U : Type 0} (w : Watch Task U) (rule : Admission) (first : ℕ → U) (Up : U → StepEvents → U → Type 0) → AlwaysAdmits w.Good rule l.below → IsKeptUnder rule l.table l.MayBeAt w first Up
+      → (v : ℕ) (steps : List Step) (s : Step) → v < l.table.values → AllFit (layered l.table l.below) steps → fits_step (layered l.table l.below) s ≡ true
+      → NextStep l w Up (replayed (layered l.table l.below) (first_configuration (layered l.table l.below) v) steps) s
+  layer_next_under w rule first Up all K v steps s lt f fs =
+      let vals : (k : ℕ) → k < l.table.parts → l.table.first v k < l.below.values = λ k lk. first_value v k lt lk in
+      let r = replayed_joint l user is_user (l.table.first v) w rule first Up K all vals steps (first_configuration (layered l.table l.below) v) (first v) f (first_joint w rule first Up K v lt) in
+      let z = step_joint l user is_user (l.table.first v) w rule first Up K all vals s (replayed (layered l.table l.below) (first_configuration (layered l.table l.below) v) steps) r.0 fs r.1 in
+      record { u = r.0; j = r.1.j; inv = r.1.inv; tasks = r.1.tasks; z = z.0; up = z.1.0 }
+
+  -- the law of layers over parts that refuse nothing
+  pub layer_law : {U : Type 0} (w : Watch Task U) (first : ℕ → U) (Up : U → StepEvents → U → Type 0) → Always w.Good l.below → IsKept l.table l.MayBeAt w first Up
+      → (v : ℕ) (steps : List Step) → v < l.table.values → AllFit (layered l.table l.below) steps
+      → Allowed Up (first v) (history (layered l.table l.below) (first_configuration (layered l.table l.below) v) steps)
+  layer_law w first Up all K v steps lt f =
+      layer_law_under w takes_all first Up (always_admits w.Good takes_all l.below (λ o s. tt) all) (kept_under l.table l.MayBeAt w first Up K) v steps lt f
 
   -- the law of layers for a claim about reads
   pub layer_always : (Good : Returned → Type 0) (w : Watch Task Seen) → Always w.Good l.below → IsKept l.table l.MayBeAt w opening (Told Good) → Always Good (layered l.table l.below)

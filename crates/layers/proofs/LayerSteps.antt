@@ -20,20 +20,22 @@ use Rattle.layers.specs.declared.nested.Nested.{Nested}
 use Rattle.frames.specs.Behaviour.{Behaviour, Begun, Moved}
 use Rattle.frames.specs.Fitting.{process_of}
 use Rattle.frames.specs.Flat.{IsReached}
-use Rattle.frames.specs.Configuration.{running_at, is_stopped, stepped, events_of, return_of, still_running, chosen_of, in_order, fits_step, history}
+use Rattle.frames.specs.Configuration.{running_at, is_stopped, stepped, events_of, return_of, still_running, chosen_of, in_order, fits_step, history, replayed}
 use Rattle.frames.specs.Parked.{IsConfiguration}
 use Rattle.frames.specs.Recorded.{Alone, AllFit}
-use Rattle.frames.specs.laws.Steps.{IsVoid, void_unless_enabled, stopped_is_void, step_keeps}
-use Rattle.frames.proofs.Seen.{Seen, after_step, sees, Always, Allowed, ended}
-use Rattle.frames.proofs.Reached.{Reached, IsFine, reached_more, reached_fine}
+use Rattle.frames.specs.Voids.{IsVoid, why_void}
+use Rattle.frames.specs.laws.Steps.{void_unless_enabled, stopped_is_void, step_keeps}
+use Rattle.frames.proofs.Seen.{Seen, after_step, sees, Allowed, ended}
+use Rattle.frames.proofs.Reached.{Reached, reached_more}
+use Rattle.layers.proofs.Admitted.{IsAdmitted, AlwaysAdmits, reached_admitted, gone_admitted}
 use Rattle.frames.proofs.Pointwise.{put, put_same, put_again, put_is}
 use Rattle.layers.specs.Nested.{part_place, own_words, after_part, advance, resume, layered}
 use Rattle.layers.specs.Sound.{LayerHolds, LayerReaches}
 use Rattle.layers.specs.laws.Nested.{asks_fit, holds_with_part}
 use Rattle.layers.specs.laws.Layered.{layer_lawful}
 use Rattle.layers.specs.laws.Over.{LayerOver}
-use Rattle.layers.proofs.Law.{Standing, View, Watch, IsKept, IsUser}
-use Rattle.layers.proofs.Links.{moves, StepsTo, step_begins, step_goes, step_stops, step_of, nested, below_of, below_of-same, below_of-other, Linked, word_behind, links_move, link_same, gone_seen, gone_reads}
+use Rattle.layers.proofs.Law.{Standing, View, Watch, Admission, IsKeptUnder, IsUser}
+use Rattle.layers.proofs.Links.{moves, StepsTo, step_begins, step_goes, step_stops, step_of, nested, below_of, below_of-same, below_of-other, Linked, word_behind, links_move, link_same, gone_seen}
 use Rattle.layers.proofs.Turns.{standing_of, Ran, run_on, behind_ran, stands_here}
 
 -- a configuration of the layer, its view, and each part alone agree, and the invariant holds
@@ -62,8 +64,8 @@ go_fits b who choice lw lc = grind (arith, nat_tests)
 pub stop_fits : {P : Type 0} (b : Behaviour P) (who : ℕ) → who < b.processes → fits_step b (step.Stop who) ≡ true
 stop_fits b who lw = grind (arith, nat_tests)
 
-module _ {Task P U : Type 0} (l : LayerOver Task P) (user : ℕ → ℕ → ℕ) (is_user : IsUser l.table l.MayBeAt user) (value : ℕ → ℕ) (w : Watch Task U) (first : ℕ → U) (Up : U → StepEvents → U → Type 0)
-    (K : IsKept l.table l.MayBeAt w first Up) (all : Always w.Good l.below) (vals : (k : ℕ) → k < l.table.parts → value k < l.below.values) where
+module _ {Task P U : Type 0} (l : LayerOver Task P) (user : ℕ → ℕ → ℕ) (is_user : IsUser l.table l.MayBeAt user) (value : ℕ → ℕ) (w : Watch Task U) (rule : Admission) (first : ℕ → U) (Up : U → StepEvents → U → Type 0)
+    (K : IsKeptUnder rule l.table l.MayBeAt w first Up) (all : AlwaysAdmits w.Good rule l.below) (vals : (k : ℕ) → k < l.table.parts → value k < l.below.values) where
   abbrev N : Type 0
   N = Nested Task P
 
@@ -78,7 +80,7 @@ module _ {Task P U : Type 0} (l : LayerOver Task P) (user : ℕ → ℕ → ℕ)
 
   -- a void step keeps the links
   void_joint : (s : Step) (c : Alone N) (u : U) → IsVoid L c s → J c u → Next_joint c u s
-  void_joint s c u v h = (u, (subst (λ e. Up u e u) (sym v.reported) (K.void u (process_of s) v.why), subst (λ d. J d u) (sym v.leaves) h))
+  void_joint s c u v h = (u, (subst (λ e. Up u e u) (sym v.reported) (K.void u (process_of s) (why_void c s)), subst (λ d. J d u) (sym v.leaves) h))
 
   -- the links hold again after p's turn has ended
   joined_ran : (p : ℕ) (o : Op) (s : Step) (event : Option Event) (begun : Begun N) (c : Alone N) (u : U)
@@ -113,7 +115,7 @@ module _ {Task P U : Type 0} (l : LayerOver Task P) (user : ℕ → ℕ → ℕ)
   invoke_joint : (p : ℕ) (o : Op) (c : Alone N) (u : U) → running_at p c ≡ None → is_stopped p c ≡ false → l.table.suits p o ≡ true → fits_step L (step_of p o) ≡ true → J c u → Next_joint c u (step_of p o)
   invoke_joint p o c u e awake s f h =
       let begun : Begun N = advance l.table l.below (l.table.program p o) c.memory in
-      let r = run_on l user value (λ q. is_stopped q c) w is_user all vals p o (λ e. Up u (in_order (Some (Invoke p o)) e)) (l.table.program p o) c.memory (λ q. running_at q c) h.j
+      let r = run_on l user value (λ q. is_stopped q c) w rule is_user all vals p o (λ e. Up u (in_order (Some (Invoke p o)) e)) (l.table.program p o) c.memory (λ q. running_at q c) h.j
       awake e (l.sound.begins_sound p o s)
       (record { holds = h.well.holds; words = h.words; tasks = λ q ne. h.tasks q; links = h.links })
       (K.begins u h.j p o h.inv (h.tasks p ∙ ap standing_of e) s) in
@@ -148,8 +150,8 @@ module _ {Task P U : Type 0} (l : LayerOver Task P) (user : ℕ → ℕ → ℕ)
       let fb : fits_step l.below (step.Go who choice) ≡ true = go_fits l.below who choice lw lc in
       let g = l.lawful.goes_well who aop r.point.below (choice == 1) own (h.well.holds.parts a la) can.below in
       let hs : HasSize l.below.size moved.memory = l.lawful.size_holds moved.memory g.holds in
-      let fine = gone_reads w.Good who moved.chosen (return_of who moved.next) (h.j.parts a)
-      (subst (IsFine w.Good (h.j.parts a)) to.events (reached_fine w.Good l.below (value a) link.c (h.j.parts a) (step.Go who choice) all (vals a la) link.reached fb)) in
+      let fine = gone_admitted w.Good rule who moved.chosen (return_of who moved.next) (h.j.parts a)
+      (subst (IsAdmitted w.Good rule (h.j.parts a)) to.events (reached_admitted w.Good rule l.below (value a) link.c (h.j.parts a) (step.Go who choice) all (vals a la) link.reached fb)) in
       let es : after_step (in_order (chosen_of who moved.chosen) (return_of who moved.next)) (h.j.parts a) ≡ sees (return_of who moved.next) (h.j.parts a) =
       gone_seen who moved.chosen (return_of who moved.next) (h.j.parts a) fine.0 in
       let whole = step_goes L p choice c r m e awake refl in
@@ -174,7 +176,7 @@ module _ {Task P U : Type 0} (l : LayerOver Task P) (user : ℕ → ℕ → ℕ)
       still
       (λ i. refl) tasks_same parts_same
       (λ outcome ans pass good mid.
-      run_on l user value (λ q. is_stopped q c) w is_user all vals p o Out (l.table.rest task outcome) new (put p None at)
+      run_on l user value (λ q. is_stopped q c) w rule is_user all vals p o Out (l.table.rest task outcome) new (put p None at)
       (record h.j { parts = put a (sees (Some (ended who outcome)) (h.j.parts a)) h.j.parts })
       awake (put_same p None at) (l.sound.rest_sound p o task outcome can.may_be_at ans pass) mid
       (K.goes u h.j p n chosen outcome h.inv mine can.may_be_at ans pass good)) in
@@ -281,7 +283,7 @@ module _ {Task P U : Type 0} (l : LayerOver Task P) (user : ℕ → ℕ → ℕ)
       going_joint p choice c u (running_at p c) refl awake (ltb-true p l.table.processes parts.0) (ltb-true choice 2 parts.1) f h
   awake_joint (step.Stop p) c u f awake h = stop_joint p c u awake (ltb-true p l.table.processes f) f h
 
-  step_joint : (s : Step) (c : Alone N) (u : U) → fits_step L s ≡ true → J c u → Next_joint c u s
+  pub step_joint : (s : Step) (c : Alone N) (u : U) → fits_step L s ≡ true → J c u → Next_joint c u s
   step_joint s c u f h = go (is_stopped (process_of s) c) refl
     where
       go : (k : Bool) → is_stopped (process_of s) c ≡ k → Next_joint c u s
@@ -293,3 +295,10 @@ module _ {Task P U : Type 0} (l : LayerOver Task P) (user : ℕ → ℕ → ℕ)
   steps_joint (s ∷ rest) c u f h =
       let z = step_joint s c u (All-head (λ x. fits_step L x ≡ true) s rest f) h in
       (z.0, (z.1.0, steps_joint rest (stepped L c s) z.0 (All-tail (λ x. fits_step L x ≡ true) s rest f) z.1.1))
+
+  -- after all steps of a list, the view and the parts agree with the configuration
+  pub replayed_joint : (list : List Step) (c : Alone N) (u : U) → AllFit L list → J c u → (z : U) × J (replayed L c list) z
+  replayed_joint [] c u f h = (u, h)
+  replayed_joint (s ∷ rest) c u f h =
+      let z = step_joint s c u (All-head (λ x. fits_step L x ≡ true) s rest f) h in
+      replayed_joint rest (stepped L c s) z.0 (All-tail (λ x. fits_step L x ≡ true) s rest f) z.1.1

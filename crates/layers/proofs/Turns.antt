@@ -17,14 +17,17 @@ use Rattle.frames.specs.declared.running.Running.{Running}
 use Rattle.layers.specs.declared.nested.Nested.{Nested}
 use Rattle.frames.specs.Behaviour.{Begun, ReachedOrAnswered, Answers}
 use Rattle.frames.specs.Configuration.{running_at, return_of, still_running, in_order, fits_step}
-use Rattle.frames.proofs.Seen.{Seen, sees, got, refuses, Always, ended, after_step}
-use Rattle.frames.proofs.Reached.{IsFine, reached_fine}
-use Rattle.frames.proofs.Pointwise.{put, put_same, put_other, put_is}
+use Rattle.frames.specs.declared.types.Event.TheVariants.{Refused}
+use Rattle.frames.specs.declared.types.Layer.{Layer}
+use Rattle.std.specs.Prelude.{if◌then◌else◌}
+use Rattle.frames.proofs.Seen.{Seen, sees, got, refuses, ended, after_step}
+use Rattle.frames.proofs.Pointwise.{put, put_same, put_other, put_is, put_again}
 use Rattle.layers.specs.Nested.{Program, Ends, Asks, Reads, Sets, part_place, own_words, after_part, advance}
 use Rattle.layers.specs.Sound.{LayerHolds, IsSound, IsNotSpent}
 use Rattle.layers.specs.laws.Nested.{asks_fit, holds_with_part, holds_with_word}
 use Rattle.layers.specs.laws.Over.{LayerOver}
-use Rattle.layers.proofs.Law.{Standing, View, Watch, Runs, IsUser}
+use Rattle.layers.proofs.Law.{Standing, View, Watch, Admission, RunsUnder, IsUser}
+use Rattle.layers.proofs.Admitted.{IsAdmitted, AlwaysAdmits, reached_admitted, spent_end}
 use Rattle.layers.proofs.Links.{step_of, fits_of, step_begins, StepsTo, nested, below_of, Linked, part-with_word, word_behind, links_move, link_same, begun_seen}
 
 abbrev pub standing_of : {Task P : Type 0} → Option (Running (Nested Task P)) → Option (Standing Task)
@@ -132,13 +135,72 @@ module _ {Task P U : Type 0} (l : LayerOver Task P) (user : ℕ → ℕ → ℕ)
       → ReachedOrAnswered (l.Reaches (l.table.asks task).who (l.table.asks task).op) (Answers l.table.inner_values (l.table.asks task).op) next
   stands_here task next h = subst (λ n. ReachedOrAnswered (l.Reaches (l.table.asks task).who (l.table.asks task).op) (Answers n (l.table.asks task).op) next) l.fit.same_values h
 
+  -- the part that is asked takes the operation, or refuses it at once
+  pub asked_ends : (rule : Admission) (p : ℕ) (o : Op) (task : Task) (m : Memory) (at : At) (j : View Task) (next : Next P) (Out : Option Event → U → Type 0) (go_on : Outcome → Memory → Begun (Nested Task P))
+      → at p ≡ None → LayerHolds l.table l.below l.Holds m
+      → ((i : ℕ) → i < l.table.words → j.words i ≡ word_at (own_words l.table l.below.size + i) m)
+      → ((q : ℕ) → (q ≡ p → ⊥) → j.tasks q ≡ standing_of (at q))
+      → ((k : ℕ) → k < l.table.parts → Linked l user value halted m (put p (still_running o (nested task next)) at) k
+      (put (l.table.asks task).part (after_step (in_order (Some (Invoke (l.table.asks task).who (l.table.asks task).op)) (return_of (l.table.asks task).who next)) (j.parts (l.table.asks task).part)) j.parts k))
+      → IsAdmitted w.Good rule (j.parts (l.table.asks task).part) (in_order (Some (Invoke (l.table.asks task).who (l.table.asks task).op)) (return_of (l.table.asks task).who next))
+      → ReachedOrAnswered (l.Reaches (l.table.asks task).who (l.table.asks task).op) (Answers l.table.inner_values (l.table.asks task).op) next
+      → (rule.Takes (l.table.asks task).op (j.parts (l.table.asks task).part) → (u : U) × (Out None u × w.Inv u (record j {
+        tasks = put p (Some (record { op = o; task = task })) j.tasks;
+        parts = put (l.table.asks task).part (sees (Some (Invoke (l.table.asks task).who (l.table.asks task).op)) (j.parts (l.table.asks task).part)) j.parts;
+      })))
+      → ((layer : Layer) → rule.Refuses (l.table.asks task).op (j.parts (l.table.asks task).part) → (u : U) × (Out (Some (Refused p layer)) u × w.Inv u (record j { tasks = put p None j.tasks })))
+      → ((outcome : Outcome) → rule.Takes (l.table.asks task).op (j.parts (l.table.asks task).part) → Answers l.table.inner_values (l.table.asks task).op outcome → IsNotSpent outcome
+      → AllByRecursion w.Good (got (Some (ended (l.table.asks task).who outcome)) (sees (Some (Invoke (l.table.asks task).who (l.table.asks task).op)) (j.parts (l.table.asks task).part)))
+      → Mid l user value halted w m (put p None at) p (record j { parts = put (l.table.asks task).part (sees (Some (ended (l.table.asks task).who outcome)) (sees (Some (Invoke (l.table.asks task).who (l.table.asks task).op)) (j.parts (l.table.asks task).part))) j.parts })
+      → RanTo p o Out (go_on outcome m) (put p None at))
+      → RanTo p o Out (after_part go_on task next m) at
+  asked_ends rule p o task m at j next Out go_on idle lh words tasks moved fine ans pending spent more = by_end (refuses (return_of (l.table.asks task).who next)) refl
+    where
+      by_end : (b : Bool) → refuses (return_of (l.table.asks task).who next) ≡ b → RanTo p o Out (after_part go_on task next m) at
+      by_end false e =
+          let a : ℕ = (l.table.asks task).part in
+          let who : ℕ = (l.table.asks task).who in
+          let aop : Op = (l.table.asks task).op in
+          let z : Seen = sees (Some (Invoke who aop)) (j.parts a) in
+          let t : rule.Takes aop (j.parts a) = fine.taken e in
+          let es : after_step (in_order (Some (Invoke who aop)) (return_of who next)) (j.parts a) ≡ sees (return_of who next) z = begun_seen who aop (return_of who next) (j.parts a) e in
+          behind_ran p o task m at j (record j { tasks = put p (Some (record { op = o; task = task })) j.tasks; parts = put a z j.parts }) z next Out go_on
+          lh words tasks
+          (λ k lk. subst (λ y. Linked l user value halted m (put p (still_running o (nested task next)) at) k (put a y j.parts k)) es (moved k lk))
+          e fine.reads ans (pending t)
+          (λ i. refl) (λ q. refl) (λ k. refl)
+          (λ outcome ans2 pass good mid2. more outcome t ans2 pass good mid2)
+      by_end true e =
+          let a : ℕ = (l.table.asks task).part in
+          let who : ℕ = (l.table.asks task).who in
+          let aop : Op = (l.table.asks task).op in
+          let s = spent_end who next e in
+          let r = spent s.0 (fine.refused e) in
+          let es : after_step (in_order (Some (Invoke who aop)) (return_of who next)) (j.parts a) ≡ j.parts a =
+          ap (λ b. if b then j.parts a else sees (return_of who next) (sees (Some (Invoke who aop)) (j.parts a))) e in
+          let end : Next P = Done (Spent s.0) in
+          subst (λ x. RanTo p o Out (after_part go_on task x m) at) (sym s.1) (record {
+            u = r.0;
+            out = r.1.0;
+            j = record j { tasks = put p None j.tasks };
+            inv = r.1.1;
+            to = put p None at;
+            others = λ q ne. put_other p q None at ne;
+            mine = put_same p None at;
+            words = words;
+            tasks = λ q. tasks_put p q None j.tasks at tasks;
+            links = λ k lt. subst (λ y. Linked l user value halted m (put p None at) k y) (sym (put_again a k j.parts))
+                (subst (λ y. Linked l user value halted m (put p None at) k (put a y j.parts k)) es (subst (λ x. Linked l user value halted m (put p (still_running o (nested task x)) at) k
+                (put a (after_step (in_order (Some (Invoke who aop)) (return_of who next)) (j.parts a)) j.parts k)) s.1 (moved k lt)));
+          })
+
   -- a turn of p that runs this program keeps the invariant and the links
-  pub run_on : IsUser l.table l.MayBeAt user → Always w.Good l.below → ((k : ℕ) → k < l.table.parts → value k < l.below.values)
+  pub run_on : (rule : Admission) → IsUser l.table l.MayBeAt user → AlwaysAdmits w.Good rule l.below → ((k : ℕ) → k < l.table.parts → value k < l.below.values)
       → (p : ℕ) (o : Op) (Out : Option Event → U → Type 0) (prog : Program Task) (m : Memory) (at : At) (j : View Task)
       → halted p ≡ false → at p ≡ None → IsSound l.table (l.MayBeAt p o) (Answers l.table.values o) prog
-      → Mid l user value halted w m at p j → Runs l.table w p o Out prog j
+      → Mid l user value halted w m at p j → RunsUnder rule l.table w p o Out prog j
       → RanTo p o Out (advance l.table l.below prog m) at
-  run_on is_user all vals p o Out (Ends outcome) m at j awake idle sound mid r = record {
+  run_on rule is_user all vals p o Out (Ends outcome) m at j awake idle sound mid r = record {
     u = r.0;
     out = subst (λ e. Out e r.0) (sym (return_done (Nested Task P) p outcome)) r.1.0;
     j = record j { tasks = put p None j.tasks };
@@ -150,13 +212,13 @@ module _ {Task P U : Type 0} (l : LayerOver Task P) (user : ℕ → ℕ → ℕ)
     tasks = λ q. tasks_put p q None j.tasks at mid.tasks;
     links = λ k lt. link_same l user value halted m m at (put p None at) k (j.parts k) (j.parts k) (λ q. put_is p q None at idle) refl refl (mid.links k lt);
   }
-  run_on is_user all vals p o Out (Reads i rest) m at j awake idle sound mid r =
+  run_on rule is_user all vals p o Out (Reads i rest) m at j awake idle sound mid r =
       let x : ℕ = word_at (own_words l.table l.below.size + i) m in
-      run_on is_user all vals p o Out (rest x) m at j awake idle (sound.1 x (mid.holds.words i sound.0)) mid (subst (λ y. Runs l.table w p o Out (rest y) j) (mid.words i sound.0) r)
-  run_on is_user all vals p o Out (Sets i x rest) m at j awake idle sound mid r =
+      run_on rule is_user all vals p o Out (rest x) m at j awake idle (sound.1 x (mid.holds.words i sound.0)) mid (subst (λ y. RunsUnder rule l.table w p o Out (rest y) j) (mid.words i sound.0) r)
+  run_on rule is_user all vals p o Out (Sets i x rest) m at j awake idle sound mid r =
       let new : Memory = with_word (own_words l.table l.below.size + i) x m in
       let there : own_words l.table l.below.size + i < length m.words = (let h = mid.holds.size.words in let lt = sound.0 in omega arith) in
-      run_on is_user all vals p o Out rest new at (record j { words = put i x j.words }) awake idle sound.1.1
+      run_on rule is_user all vals p o Out rest new at (record j { words = put i x j.words }) awake idle sound.1.1
       (record {
         holds = holds_with_word l i x m sound.0 sound.1.0 mid.holds;
         words = λ k lk. elim (cases_eq k i) as (λ _. put i x j.words k ≡ word_at (own_words l.table l.below.size + k) new) [
@@ -170,7 +232,7 @@ module _ {Task P U : Type 0} (l : LayerOver Task P) (user : ℕ → ℕ → ℕ)
         tasks = mid.tasks;
         links = λ k lk. link_same l user value halted m new at at k (j.parts k) (j.parts k) (λ q. refl) (sym (part-with_word l m i x k mid.holds lk)) refl (mid.links k lk);
       }) r
-  run_on is_user all vals p o Out (Asks task rest) m at j awake idle sound mid r =
+  run_on rule is_user all vals p o Out (Asks task rest) m at j awake idle sound mid r =
       let a : ℕ = (l.table.asks task).part in
       let who : ℕ = (l.table.asks task).who in
       let aop : Op = (l.table.asks task).op in
@@ -188,26 +250,17 @@ module _ {Task P U : Type 0} (l : LayerOver Task P) (user : ℕ → ℕ → ℕ)
       let f : fits_step l.below (step_of who aop) ≡ true = fits_of l.below who aop fit.1 in
       let g = l.lawful.begins_well who aop own (mid.holds.parts a la) fit.1 in
       let hs : HasSize l.below.size begun.memory = l.lawful.size_holds begun.memory g.holds in
-      let fine : IsFine w.Good (j.parts a) (in_order (Some (Invoke who aop)) (return_of who begun.next)) =
-      subst (IsFine w.Good (j.parts a)) to.events (reached_fine w.Good l.below (value a) link.c (j.parts a) (step_of who aop) all (vals a la) link.reached f) in
+      let fine : IsAdmitted w.Good rule (j.parts a) (in_order (Some (Invoke who aop)) (return_of who begun.next)) =
+      subst (IsAdmitted w.Good rule (j.parts a)) to.events (reached_admitted w.Good rule l.below (value a) link.c (j.parts a) (step_of who aop) all (vals a la) link.reached f) in
       let z : Seen = sees (Some (Invoke who aop)) (j.parts a) in
-      let es : after_step (in_order (Some (Invoke who aop)) (return_of who begun.next)) (j.parts a) ≡ sees (return_of who begun.next) z =
-      begun_seen who aop (return_of who begun.next) (j.parts a) fine.second in
       let lh : LayerHolds l.table l.below l.Holds new = holds_with_part l a begun.memory m la g.holds mid.holds in
-      behind_ran p o task new at j (record j { tasks = put p (Some (record { op = o; task = task })) j.tasks; parts = put a z j.parts }) z begun.next Out (λ outcome n. advance l.table l.below (rest outcome) n)
-      lh
-      (λ i lt. mid.words i lt ∙ sym (word_behind l begun.memory m a i mid.holds la hs))
-      mid.tasks
-      (λ k lk. subst (λ y. Linked l user value halted new (put p (still_running o (nested task begun.next)) at) k (put a y j.parts k)) es
-      (links_move l user value halted m at j.parts p o task (Some (Invoke who aop)) begun.next begun.memory (step_of who aop) mid.holds mid.links la lw u
-      (λ k q ne. ap (below_of l.table k q) idle) link f to hs k lk))
-      fine.second
-      fine.reads
-      (stands_here task begun.next g.may_be_at)
-      r.0
-      (λ i. refl) (λ q. refl) (λ k. refl)
-      (λ outcome ans pass good mid2.
-      run_on is_user all vals p o Out (rest outcome) new (put p None at) (record j { parts = put a (sees (Some (ended who outcome)) z) j.parts })
+      let words : (i : ℕ) → i < l.table.words → j.words i ≡ word_at (own_words l.table l.below.size + i) new = λ i lt. mid.words i lt ∙ sym (word_behind l begun.memory m a i mid.holds la hs) in
+      let moved : (k : ℕ) → k < l.table.parts → Linked l user value halted new (put p (still_running o (nested task begun.next)) at) k (put a (after_step (in_order (Some (Invoke who aop)) (return_of who begun.next)) (j.parts a)) j.parts k) =
+      links_move l user value halted m at j.parts p o task (Some (Invoke who aop)) begun.next begun.memory (step_of who aop) mid.holds mid.links la lw u
+      (λ k q ne. ap (below_of l.table k q) idle) link f to hs in
+      asked_ends rule p o task new at j begun.next Out (λ outcome n. advance l.table l.below (rest outcome) n) idle lh words mid.tasks moved fine (stands_here task begun.next g.may_be_at) r.0 r.1.1
+      (λ outcome takes ans pass good mid2.
+      run_on rule is_user all vals p o Out (rest outcome) new (put p None at) (record j { parts = put a (sees (Some (ended who outcome)) z) j.parts })
       awake (put_same p None at)
       (subst (λ q. IsSound l.table (l.MayBeAt p o) (Answers l.table.values o) q) (sym (sound.1 outcome)) (l.sound.rest_sound p o task outcome sound.0 ans pass))
-      mid2 (r.1 outcome ans pass good))
+      mid2 (r.1.0 outcome takes ans pass good))

@@ -1,5 +1,6 @@
 -- Whether a layer can be built on a register, and if not, why.
-use Rattle.std.specs.Prelude.{ℕ, ◌+◌, ◌*◌, Bool, ◌&&◌, ◌==◌, nat_le, nat_lt, Option, Some, None, if◌then◌else◌}
+use Rattle.std.specs.Prelude.{ℕ, ◌+◌, ◌*◌, List, ◌∷◌, ◌++◌, codes, Bool, ◌&&◌, ◌==◌, nat_le, nat_lt, Option, Some, None, if◌then◌else◌}
+use Rattle.std.specs.Fmt.{decimal}
 use Rattle.layers.specs.declared.fit.LayerError.{LayerError}
 use Rattle.layers.specs.declared.fit.LayerError.TheVariants.{BadSize, TooManyBits}
 use Rattle.frames.specs.Behaviour.{Behaviour}
@@ -26,7 +27,15 @@ size_fits t b = nat_le (t.parts * b.size.cell) MOST_CELLS && nat_le (t.parts * b
 abbrev pub refusal_below : {Task P : Type 0} → Table Task → Behaviour P → Option LayerError
 refusal_below t b = if limits_hold t && kind_fits t b then (if size_fits t b then None else Some TooManyBits) else Some BadSize
 
+-- the number of each refusal, and its name, which is spelled like the variant
+abbrev pub error_number_and_name : LayerError → ℕ × List ℕ
+error_number_and_name BadSize = (1, codes "BadSize")
+error_number_and_name TooManyBits = (2, codes "TooManyBits")
+
 -- the number of each refusal: 1 for `BadSize`, 2 for `TooManyBits`
 abbrev pub layer_error_number : LayerError → ℕ
-layer_error_number BadSize = 1
-layer_error_number TooManyBits = 2
+layer_error_number e = (error_number_and_name e).0
+
+-- what a refusal prints: its number, a space and its name
+abbrev pub layer_error_display : LayerError → List ℕ
+layer_error_display e = decimal (layer_error_number e) ++ 32 ∷ (error_number_and_name e).1

@@ -2,12 +2,13 @@
 
 ghost use Rattle.std.specs.Prelude.{◌≡◌, ◌*◌, ◌<◌, ◌≤◌, MatchResult, OnOk, Some, None};
 ghost use Rattle.layers.specs.Sound.{FitsBelow};
-ghost use Rattle.layers.specs.Fit.{refusal_below, layer_error_number};
+ghost use Rattle.layers.specs.Fit.{refusal_below, error_number_and_name, layer_error_number, layer_error_display};
 
 use crate::construction::Construction;
 use frames::limits::{LEAST_PROCESSES, LEAST_VALUES, MOST_PROCESSES};
 use frames::register::{MOST_CELLS, MOST_WORDS, Register};
 use frames::types::STACK_FRAMES;
+use std::fmt;
 use thiserror::Error;
 
 /// Why a layer can't be built on the register below.
@@ -16,10 +17,8 @@ pub enum LayerError {
     /// One of the layer's numbers (of values, of processes and so on) is outside its limits; or the
     /// register below doesn't have the values and processes that the parts need; or the register
     /// below has depth 8, so that no frame is left for the layer.
-    #[error("1 BadSize")]
     BadSize,
     /// The layer would have more than 4,096 cells or 65,536 words.
-    #[error("2 TooManyBits")]
     TooManyBits,
 }
 
@@ -28,10 +27,29 @@ impl LayerError {
     pub fn number(self) -> u32
         ensures { result ≡ layer_error_number self }
     {
+        self.number_and_name().0
+    }
+
+    /// The refusal's number and its name, which is spelled like the variant.
+    fn number_and_name(self) -> (u32, &'static str)
+        ensures number { result.0 ≡ (error_number_and_name self).0 }
+        ensures name { result.1.now ≡ (error_number_and_name self).1 }
+    {
         match self {
-            LayerError::BadSize => 1,
-            LayerError::TooManyBits => 2,
+            LayerError::BadSize => (1, "BadSize"),
+            LayerError::TooManyBits => (2, "TooManyBits"),
         }
+    }
+}
+
+impl fmt::Display for LayerError {
+    ghost use Rattle.std.specs.Prelude.{Some};
+
+    ghost output = { λ e. Some (layer_error_display e) };
+
+    fn fmt<W: fmt::Write>(&self, f: &mut fmt::Formatter<W>) -> fmt::Result {
+        let (number, name) = self.number_and_name();
+        write!(f, "{number} {name}")
     }
 }
 

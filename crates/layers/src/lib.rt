@@ -5,6 +5,7 @@
 pub mod construction;
 mod drive;
 pub mod fit;
+pub mod laws;
 pub mod layered;
 pub mod nested;
 pub mod prelude;

@@ -3,3 +3,4 @@ pub mod Limits
 pub mod Bounds
 pub mod Sound
 pub mod Turns
+pub mod Rows

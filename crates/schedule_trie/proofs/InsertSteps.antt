@@ -12,7 +12,7 @@ use Rattle.schedule_trie.specs.declared.slot.Slot.{Slot}
 use Rattle.schedule_trie.specs.declared.segment.Segment.{Segment}
 use Rattle.schedule_trie.specs.declared.trie.Trie.TheInside.{Inside}
 use Rattle.schedule_trie.specs.Forest.{slot, cell_of, slots_in, cell_in, only_in, put_last, put_before, everywhere, inserted}
-use Rattle.schedule_trie.specs.Cut.{Cut, Piece, piece, piece_at, slots_of, note_of, forest, branches_on, keys_in, has, has_cell, Once, IsSpotInPath, IsSegment, IsSoundCut, IsWithin, IsWhole, HoldsCellAt, CanGrowAt, IsPushed, IsPutBefore, IsInserted, divided_strand, HasChanged}
+use Rattle.schedule_trie.specs.Cut.{Cut, Piece, piece, piece_at, slots_of, note_of, forest, branches_on, keys_in, has, has_cell, Once, IsSpotInPath, IsSegment, IsSoundCut, IsWithin, IsWhole, HoldsCellAt, MayGrowAt, IsPushed, IsPutBefore, IsInserted, divided_strand, HasChanged, IsExtended}
 use Rattle.schedule_trie.specs.declared.limits.Limits.{Limits}
 use Rattle.schedule_trie.specs.Tries.{piece_of, strands_of, names_of, cut_of, IsHeldCut}
 use Rattle.schedule_trie.proofs.Strands.{strands-divided}
@@ -138,10 +138,17 @@ module _ {T : Type 0} (old new : Cut T) (index place key offset : ℕ) (step : S
     limits = put.limits;
     notes = λ name found.
         let here = holds_cell old name place index key offset found stands in
-        notes_but old new key (HoldsCellAt old name place) (CanGrowAt old name place) put.notes (λ k h. one_holder old name place k key sound h here) (inl here);
+        notes_but old new key (HoldsCellAt old name place) (MayGrowAt old new name place step) put.notes (λ k h. one_holder old name place k key sound h here) (inl here);
     unchanged = unchanged_kept old new put.notes.notes (λ k e. subst (HasChanged old new) (sym (put.notes.only k e)) put.changed);
     cut = put.cut;
   }
+
+-- a segment that gets a cell has changed
+extended_changed : {T : Type 0} (old new : Cut T) (step : Step) (key : ℕ) → IsExtended old new step key → HasChanged old new key
+extended_changed old new step key extended same =
+    let one_more = length-append (slots_of (piece_at old.pieces key)) (slot old.made step ∷ []) in
+    let as_long = ap length (sym same ∙ extended) in
+    omega (arith, one_more, as_long)
 
 -- an insert at the end of a branch
 module _ {T : Type 0} (old new : Cut T) (index place : ℕ) (step : Step) (all : length (slots_in (forest old).branches index) ≡ place)
@@ -161,10 +168,10 @@ module _ {T : Type 0} (old new : Cut T) (index place : ℕ) (step : Step) (all :
       each = λ k h. absurd (none_at_end old name index place found all k h);
       only = λ k e. inr (
         ap (option_map (λ i. length (slots_in (forest old).branches i))) found ∙ ap Some all,
-        ends_before old name index found k place (pushed.notes.only k e).0 all,
+        (ends_before old name index found k place (pushed.notes.only k e).0 all, (pushed.notes.only k e).1),
       );
     };
-    unchanged = unchanged_kept old new pushed.notes.notes (λ k e. (pushed.notes.only k e).1);
+    unchanged = unchanged_kept old new pushed.notes.notes (λ k e. extended_changed old new step k (pushed.notes.only k e).1);
     cut = pushed.cut;
   }
 

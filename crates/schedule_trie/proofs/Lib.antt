@@ -54,5 +54,6 @@ pub mod MarkSteps
 pub mod LimbFromMarks
 pub mod LimbsSaved
 pub mod LimbLimits
+pub mod LawfulLimbs
 mod Examples
 pub mod WrongEdits

@@ -7,7 +7,7 @@ use Rattle.frames.specs.declared.types.Step.{Step}
 use Rattle.schedule_trie.specs.declared.segment.Segment.{Segment}
 use Rattle.schedule_trie.specs.declared.trie.Trie.TheInside.{Inside}
 use Rattle.schedule_trie.specs.Forest.{slot}
-use Rattle.schedule_trie.specs.Cut.{piece, piece_at, slots_of, note_of, line, keys_in, set_keys, has, Linked, SharesAbove, IsChangedEnd, IsPushed}
+use Rattle.schedule_trie.specs.Cut.{piece, piece_at, slots_of, note_of, line, keys_in, set_keys, has, Linked, SharesAbove, IsExtendedEnd, IsPushed}
 use Rattle.schedule_trie.specs.Tries.{piece_of, strands_of, names_of, cut_of, IsHeldCut}
 use Rattle.schedule_trie.proofs.NoRepeats.{has_not_from}
 use Rattle.schedule_trie.proofs.Changes.{Changes}
@@ -101,4 +101,4 @@ module _ {T : Type 0} (t grown : Inside T) (index key : ℕ) (s : Segment T) (st
   pub segment_pushed : IsPushed (cut_of t) (cut_of grown) index step
   segment_pushed = is_pushed (cut_of t) (cut_of grown) index key step (keys_in (cut_of t).strands index) (piece s.slots.items s.note) held.whole room change note slots few made limits strands index_in was
       (λ k h. has_front k key (keys_in (cut_of t).strands index) h) (λ k h. h) (lacked index) (λ j ne. lacked j) shares
-      (notes_beside (cut_of t) (cut_of grown) key change.others (ap note_of change.here ∙ note) (IsChangedEnd (cut_of t) (cut_of grown) index) none)
+      (notes_beside (cut_of t) (cut_of grown) key change.others (ap note_of change.here ∙ note) (IsExtendedEnd (cut_of t) (cut_of grown) index step) none)

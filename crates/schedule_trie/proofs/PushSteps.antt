@@ -1,15 +1,14 @@
 -- A push, in terms of the fields.
-use Rattle.std.proofs.Common.{◌≡◌, ℕ, ◌+◌, ◌<◌, true, false, ◌||◌, List, [], ◌∷◌, ◌++◌, length, Some, None, IsSome, Result, Ok, Err, refl, sym, ap, subst, ◌∙◌, append-nil, arith}
+use Rattle.std.proofs.Common.{◌≡◌, ℕ, ◌+◌, ◌<◌, true, false, ◌||◌, List, [], ◌∷◌, ◌++◌, length, Some, None, IsSome, Result, Ok, Err, refl, sym, ap, subst, ◌∙◌, append-nil}
 use Rattle.std.specs.Map.{keys_of}
 use Rattle.std.specs.Result.{OnErr}
 use Rattle.std.proofs.Math.Seq.{map-set_same}
-use Rattle.std.proofs.lemmas.List.{length_push}
 use Rattle.lineage.specs.Family.{item_at, with_item, path_in, last_of, EndsAlone}
 use Rattle.frames.specs.declared.types.Step.{Step}
 use Rattle.schedule_trie.specs.declared.segment.Segment.{Segment}
 use Rattle.schedule_trie.specs.declared.trie.Trie.TheInside.{Inside}
 use Rattle.schedule_trie.specs.Forest.{slot}
-use Rattle.schedule_trie.specs.Cut.{Cut, forest, piece, piece_at, slots_of, note_of, line, keys_in, set_keys, has, Once, IsOwnEnd, IsChangedEnd, Nowhere, HasChanged, IsPushed, IsWhole}
+use Rattle.schedule_trie.specs.Cut.{Cut, forest, piece, piece_at, slots_of, note_of, line, keys_in, set_keys, has, Once, IsOwnEnd, IsExtendedEnd, Nowhere, IsPushed, IsWhole}
 use Rattle.schedule_trie.specs.Tries.{piece_of, pieces_of, strands_of, cut_of, AreLengths, AreNames, IsHeldCut, IsKept}
 use Rattle.schedule_trie.proofs.NoRepeats.{has-append, Once-from_linked, has-in, once_before}
 use Rattle.schedule_trie.proofs.Changes.{Changes, piece_at_set}
@@ -110,12 +109,6 @@ module _ {T : Type 0} (t : Inside T) (index key : ℕ) (held : IsHeldCut t) (end
       in_front : (k : ℕ) → has k end.front ≡ true → has k (keys_in (cut_of t).strands index) ≡ true
       in_front k h = subst (λ l. has k l ≡ true) (sym end.last) (has_front k key end.front h)
 
-      changed : HasChanged (cut_of t) (cut_of after) key
-      changed e =
-          let longer : length w.slots.items ≡ length (slots_of (piece_at (cut_of t).pieces key)) + 1 = ap length slots ∙ length_push (slots_of (piece_at (cut_of t).pieces key)) (slot t.made step) in
-          let as_long : length w.slots.items ≡ length (slots_of (piece_at (cut_of t).pieces key)) = ap length (sym (ap slots_of change.here) ∙ e) in
-          omega arith
-
       pub in_held : IsHeldCut after
       in_held = record {
         whole = whole_pushed (cut_of t) (cut_of after) index key step end.front (piece w.slots.items w.note) held.whole room change note slots end.room refl refl strands index_in was kept in_front fresh end.own held.whole.sound.shares;
@@ -124,8 +117,8 @@ module _ {T : Type 0} (t : Inside T) (index key : ℕ) (held : IsHeldCut t) (end
 
       pub in_pushed : IsPushed (cut_of t) (cut_of after) index step
       in_pushed = is_pushed (cut_of t) (cut_of after) index key step end.front (piece w.slots.items w.note) held.whole room change note slots end.room refl refl strands index_in was kept in_front fresh end.own held.whole.sound.shares
-          (notes_but (cut_of t) (cut_of after) key Nowhere (IsChangedEnd (cut_of t) (cut_of after) index) (notes_at (cut_of t) (cut_of after) key change.others (ap note_of change.here ∙ note))
-          (λ k h. absurd h) (record { front = end.front; last = end.last; some = some_slots t.made (piece_at (cut_of t).pieces key) (subst IsSome (sym seen) refl) (held.whole.sound.segments key) }, changed))
+          (notes_but (cut_of t) (cut_of after) key Nowhere (IsExtendedEnd (cut_of t) (cut_of after) index step) (notes_at (cut_of t) (cut_of after) key change.others (ap note_of change.here ∙ note))
+          (λ k h. absurd h) (record { front = end.front; last = end.last; some = some_slots t.made (piece_at (cut_of t).pieces key) (subst IsSome (sym seen) refl) (held.whole.sound.segments key) }, ap slots_of change.here ∙ slots))
 
 -- the last segment of a branch, which no other branch has
 pub own_told : {T : Type 0} (t : Inside T) (index key : ℕ) → IsHeldCut t → last_of (path_in t.segments index) ≡ Some key → EndsAlone t.segments index

@@ -5,7 +5,7 @@ use Rattle.std.proofs.lemmas.Bool.{eqb-true, eqb-false}
 use Rattle.std.proofs.lemmas.List.{map-append, length-append}
 use Rattle.frames.specs.declared.types.Step.{Step}
 use Rattle.schedule_trie.specs.Forest.{slot, cell_of, only_in, put_last}
-use Rattle.schedule_trie.specs.Cut.{Cut, Piece, piece_at, slots_of, line, forest, branches_on, keys_in, set_keys, has, has_cell, Once, SharesAbove, IsSegment, IsSoundCut, IsWhole, KeepsNotesBut, Nowhere, IsChangedEnd, IsPushed, LackedByOthers}
+use Rattle.schedule_trie.specs.Cut.{Cut, Piece, piece_at, slots_of, line, forest, branches_on, keys_in, set_keys, has, has_cell, Once, SharesAbove, IsSegment, IsSoundCut, IsWhole, KeepsNotesBut, Nowhere, IsExtendedEnd, IsPushed, LackedByOthers}
 use Rattle.schedule_trie.proofs.NoRepeats.{has-append, has_not_from, has_cases, Once-append, has-in}
 use Rattle.schedule_trie.proofs.Changes.{Changes}
 use Rattle.schedule_trie.proofs.StepSet.{cut_from_sound}
@@ -127,5 +127,5 @@ module _ {T : Type 0} (c d : Cut T) (index key : ℕ) (step : Step) (front : Lis
       ∙ only_pushed (piece_at c.pieces) (piece_at d.pieces) key q change c.strands index (front ++ key ∷ []) (slot c.made step) inside lacked
       (line_pushed (piece_at c.pieces) (piece_at d.pieces) key q change front (slot c.made step) fresh slots ∙ ap (put_last (slot c.made step)) (sym was))
 
-  pub is_pushed : KeepsNotesBut c d Nowhere (IsChangedEnd c d index) → IsPushed c d index step
+  pub is_pushed : KeepsNotesBut c d Nowhere (IsExtendedEnd c d index step) → IsPushed c d index step
   is_pushed notes = record { branches = branches; made = made; count = count; limits = limits; notes = notes; cut = cut_from_sound d d.made sound }

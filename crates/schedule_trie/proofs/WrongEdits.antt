@@ -68,6 +68,29 @@ cut_anew e = first (λ t. second (λ u. let same : ◌≡◌ {A = Option ℕ} (S
       | inr gone ↦ let none = gone.0 in cc
     ]
 
+-- `main` and `a` share a segment of two cells, with the note 7
+abbrev both : Cut ℕ
+both = cut (strand main (0 ∷ []) ∷ strand a (0 ∷ []) ∷ []) (Some (piece (slot 0 read ∷ slot 1 go ∷ []) (Some 7)) ∷ []) 2
+
+-- the shared segment is cut in two, and its note is gone; a new cell of `main` is in a segment of
+-- its own
+abbrev divided : Cut ℕ
+divided = cut (strand main (1 ∷ 0 ∷ 2 ∷ []) ∷ strand a (1 ∷ 0 ∷ []) ∷ [])
+    (Some (piece (slot 1 go ∷ []) None) ∷ Some (piece (slot 0 read ∷ []) None) ∷ Some (piece (slot 2 (Write 0 1) ∷ []) None) ∷ []) 3
+
+-- append-cuts-a-shared-end: the shared segment is touched, and doesn't get the new cell
+pub append_cuts : IsEdited both divided (Insert main 2 (Write 0 1)) → ⊥
+append_cuts e = touched (λ t. elim (e.notes.0.only 0 t) [
+  | inl held ↦ let none : ◌≡◌ {A = Option ℕ} None (Some held.cell) = held.there in cc
+  | inr end ↦ let long : ◌≡◌ {A = ℕ} 1 3 = ap length end.1.1 in omega (arith, long)
+])
+  where
+    touched : (e.notes.0.notes.touched ≡ Some 0 → ⊥) → ⊥
+    touched ne = elim (e.notes.0.notes.kept 0 ne refl) [
+      | inl same ↦ let long : ◌≡◌ {A = ℕ} 1 2 = ap (λ o. length (slots_of o)) same in omega (arith, long)
+      | inr gone ↦ let none = gone.0 in cc
+    ]
+
 abbrev three : List Slot
 three = slot 0 read ∷ slot 1 go ∷ slot 2 go ∷ []
 

@@ -236,10 +236,18 @@ pub record IsParted {T : Type 0} (c : Cut T) (name : List ℕ) (place key : ℕ)
   pub above : HoldsCellBefore c name place key
   pub below : HoldsCellAt c name place key
 
--- the segment at `key` may receive a new cell at `place` of the branch with this name: the segment
--- has the cell at `place`; or it has the branch's last cell, and `place` is the branch's length
-abbrev pub CanGrowAt : {T : Type 0} → Cut T → List ℕ → ℕ → ℕ → Type 0
-CanGrowAt c name place key = HoldsCellAt c name place key ⊎ ((len_of (forest c) name ≡ Some place) × HoldsCellBefore c name place key)
+-- from cut `old` to cut `new`, the segment at `key` gets a new cell with this step after its other
+-- cells, which stay as they were
+abbrev pub IsExtended : {T : Type 0} → Cut T → Cut T → Step → ℕ → Type 0
+IsExtended old new step key = slots_of (piece_at new.pieces key) ≡ slots_of (piece_at old.pieces key) ++ slot old.made step ∷ []
+
+-- From cut `old` to cut `new`, an insert of this step at `place` of the branch with this name may
+-- touch the segment at `key`. Either the segment has the cell at `place`; or `place` is the
+-- branch's length, the segment has the branch's last cell, and it gets the new cell after its other
+-- cells, which stay as they were.
+abbrev pub MayGrowAt : {T : Type 0} → Cut T → Cut T → List ℕ → ℕ → Step → ℕ → Type 0
+MayGrowAt old new name place step key =
+    HoldsCellAt old name place key ⊎ ((len_of (forest old) name ≡ Some place) × (HoldsCellBefore old name place key × IsExtended old new step key))
 
 -- from cut `old` to cut `new`, each segment of `old` keeps its cells and its note; or it is gone,
 -- and none of its cells is on a branch of `new`. Segments that are only in `new` have no note
@@ -284,20 +292,20 @@ pub record IsEnd {T : Type 0} (c : Cut T) (index key : ℕ) : Type 0 where
   pub last : keys_in c.strands index ≡ front ++ key ∷ []
   pub some : 0 < length (slots_of (piece_at c.pieces key))
 
--- the segment at `key` is the last of the branch at `index` in cut `old`, and has other cells in
--- cut `new`
-abbrev pub IsChangedEnd : {T : Type 0} → Cut T → Cut T → ℕ → ℕ → Type 0
-IsChangedEnd old new index key = IsEnd old index key × HasChanged old new key
+-- the segment at `key` is the last of the branch at `index` in cut `old`, and gets a new cell with
+-- this step in cut `new`, after its other cells, which stay as they were
+abbrev pub IsExtendedEnd : {T : Type 0} → Cut T → Cut T → ℕ → Step → ℕ → Type 0
+IsExtendedEnd old new index step key = IsEnd old index key × IsExtended old new step key
 
 -- from cut `old` to cut `new`, a new cell with this step is added at the end of the branch at
 -- `index`, in that branch alone; only the segment that was this branch's last may lose its note,
--- and only if its cells change
+-- and only if it gets the new cell
 pub record IsPushed {T : Type 0} (old new : Cut T) (index : ℕ) (step : Step) : Type 0 where
   pub branches : (forest new).branches ≡ only_in index (put_last (slot old.made step)) (forest old).branches
   pub made : new.made ≡ old.made + 1
   pub count : length new.strands ≡ length old.strands
   pub limits : new.limits ≡ old.limits
-  pub notes : KeepsNotesBut old new Nowhere (IsChangedEnd old new index)
+  pub notes : KeepsNotesBut old new Nowhere (IsExtendedEnd old new index step)
   pub cut : IsCut new
 
 -- from cut `old` to cut `new`, new cells with these steps are added at the end of the branch at
@@ -325,12 +333,12 @@ pub record IsPutBefore {T : Type 0} (old new : Cut T) (key offset : ℕ) (step :
 
 -- from cut `old` to cut `new`, a new cell with this step is inserted at `place` of the branch at
 -- `index`. The segment with the cell at `place` loses its note. If `place` is the branch's length,
--- the segment with the last cell may lose its note, but only if its cells change. Other segments
--- keep their notes.
+-- the segment with the last cell may lose its note, but only if it gets the new cell. Other
+-- segments keep their notes.
 pub record IsInserted {T : Type 0} (old new : Cut T) (index place : ℕ) (step : Step) : Type 0 where
   pub forest_is : forest new ≡ inserted (forest old) index place step
   pub limits : new.limits ≡ old.limits
-  pub notes : (name : List ℕ) → index_of (forest old).branches name ≡ Some index → KeepsNotesBut old new (HoldsCellAt old name place) (CanGrowAt old name place)
+  pub notes : (name : List ℕ) → index_of (forest old).branches name ≡ Some index → KeepsNotesBut old new (HoldsCellAt old name place) (MayGrowAt old new name place step)
   pub unchanged : KeepsUnchanged old new
   pub cut : IsCut new
 

@@ -6,7 +6,7 @@ use Rattle.schedule_trie.specs.declared.edit.Edit.TheVariants as borrowed
 use Rattle.schedule_trie.specs.declared.refusal.Refusal.{Refusal}
 use Rattle.schedule_trie.specs.declared.limits.Limits.{Limits}
 use Rattle.schedule_trie.specs.Forest.{Forest, insert, remove_cell, replace_step, fork, detach, drop_branch, IsRefused}
-use Rattle.schedule_trie.specs.Cut.{Cut, forest, IsCut, KeepsNotesBut, KeepsNotesOff, KeepsUnchanged, KeepsAllNotes, HoldsCellAt, CanGrowAt, IsParted}
+use Rattle.schedule_trie.specs.Cut.{Cut, forest, IsCut, KeepsNotesBut, KeepsNotesOff, KeepsUnchanged, KeepsAllNotes, HoldsCellAt, MayGrowAt, IsParted}
 
 -- an edit of the branch with the first name. `Insert` a new cell at a place; `Remove` the cell at a
 -- place; `Replace` the step of the cell at a place; `Fork`: add a branch, with the second name,
@@ -44,11 +44,12 @@ edited limits f (Detach name) = detach limits f name
 edited limits f (Drop name) = drop_branch f name
 
 -- An edit touches at most one segment, which has no note afterwards: the one with the cell at the
--- edit's place, or the one that a fork cuts. An insert at the branch's length may touch the
--- branch's last segment. No insert touches a segment whose cells don't change. Detach and drop
--- touch no segment. The other segments that remain keep their notes, and new ones have none.
+-- edit's place, or the one that a fork cuts. An insert at the branch's length touches the branch's
+-- last segment only to add its cell to it. No insert touches a segment whose cells don't change.
+-- Detach and drop touch no segment. The other segments that remain keep their notes, and new ones
+-- have none.
 abbrev pub KeepsNotesBy : {T : Type 0} → Edit → Cut T → Cut T → Type 0
-KeepsNotesBy (Insert name place step) old new = KeepsNotesBut old new (HoldsCellAt old name place) (CanGrowAt old name place) × KeepsUnchanged old new
+KeepsNotesBy (Insert name place step) old new = KeepsNotesBut old new (HoldsCellAt old name place) (MayGrowAt old new name place step) × KeepsUnchanged old new
 KeepsNotesBy (Remove name place) old new = KeepsNotesOff old new (HoldsCellAt old name place)
 KeepsNotesBy (Replace name place step) old new = KeepsNotesOff old new (HoldsCellAt old name place)
 KeepsNotesBy (Fork name place made) old new = KeepsNotesOff old new (IsParted old name place)

@@ -1,5 +1,6 @@
 -- The refusals, by number and name.
-use Rattle.std.specs.Prelude.{ℕ, List, codes}
+use Rattle.std.specs.Prelude.{ℕ, List, ◌∷◌, ◌++◌, codes}
+use Rattle.std.specs.Fmt.{decimal}
 use Rattle.schedule_trie.specs.declared.refusal.Refusal.{Refusal}
 use Rattle.schedule_trie.specs.declared.refusal.Refusal.TheVariants.{NoBranch, NameTaken, BadName, NoPlace, Full, LastBranch, TooManyBranches, BadStep, Occupied, NoBreak, NoSession, Newer, LogFull, BadLine, Memory}
 
@@ -28,3 +29,7 @@ refusal_number r = (number_and_name r).0
 -- a refusal's name, which is spelled like the variant
 abbrev pub refusal_name : Refusal → List ℕ
 refusal_name r = (number_and_name r).1
+
+-- what a refusal prints: its number, a space and its name
+abbrev pub refusal_display : Refusal → List ℕ
+refusal_display r = decimal (refusal_number r) ++ 32 ∷ refusal_name r

@@ -96,7 +96,12 @@ impl From<AllocError> for Refusal {
 }
 
 impl fmt::Display for Refusal {
+    ghost use Rattle.std.specs.Prelude.{Some};
+
+    ghost output = { λ r. Some (spec.refusal_display r) };
+
     fn fmt<W: fmt::Write>(&self, f: &mut fmt::Formatter<W>) -> fmt::Result {
-        write!(f, "{} {}", self.number(), self.name())
+        let (number, name) = self.number_and_name();
+        write!(f, "{number} {name}")
     }
 }

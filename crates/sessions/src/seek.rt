@@ -6,6 +6,7 @@ ghost use Rattle.std.specs.Option.{option_or};
 ghost use Rattle.frames.specs.Recorded.{AllFit};
 ghost use Rattle.schedule_trie.specs.Cut.{forest};
 ghost use Rattle.cutoff.specs.Fitting.{counted, part_of};
+ghost use Rattle.cutoff.specs.Settles.{KeepsOrFills};
 ghost use Rattle.pages.specs.Breaks as breaks_spec;
 ghost use Rattle.views.specs.Looks.{IsChartKept, steps_in};
 ghost use Rattle.sessions.specs.Bounds.{IsPlace};
@@ -241,7 +242,8 @@ fn along_runs<R: Register>(
 /// The first place of a branch, from `search.from` in the search's direction, at which one of the
 /// breaks is met; `search.from` itself doesn't count. `None` if there is no such place. A branch
 /// that doesn't exist is searched like one without steps. With or without an error, nothing in the
-/// chart changes, except that missing runs are stored.
+/// chart changes, except that runs may be stored for segments of the branch that no stored run
+/// fitted.
 ///
 /// # Errors
 ///
@@ -260,6 +262,8 @@ pub fn next_hit<R: Register>(
         (steps_in (forest chart.old.cut) branch.now) search.now.breaks.now in
         IfOk result (λ place. place ≡ next_place search.now.way search.now.from all) }
     ensures kept { IsChartKept chart.old chart.new }
+    ensures keeps { KeepsOrFills R.PartialEq.eq R.behaviour chart.old chart.new branch.now
+        (length (steps_in (forest chart.old.cut) branch.now)) }
 {
     let runs = settled(alloc, chart, branch)?;
     let first = chart.initial().copy(alloc)?;
@@ -280,6 +284,8 @@ fn settled<R: Register>(
         ≡ length (steps_in (forest chart.old.cut) branch.now)) }
     ensures room { IfOk result (λ runs. IsPlace (counted runs)) }
     ensures kept { IsChartKept chart.old chart.new }
+    ensures keeps { KeepsOrFills R.PartialEq.eq R.behaviour chart.old chart.new branch.now
+        (length (steps_in (forest chart.old.cut) branch.now)) }
 {
     let Some(len) = chart.len(branch) else {
         return Ok(Runs::new(Vec::new(alloc)));

@@ -70,7 +70,7 @@ after_write v c = record c { value = put (c.begun + 1) v c.value; begun = (c.beg
 same_code : (V v n : ℕ) (c : Counted) → n ≤ c.begun → code_of V c n ≡ code_of V (after_write v c) n
 same_code V v n c l = ap (λ x. n * V + x) (sym (put_other (c.begun + 1) n v c.value (λ e. omega (arith, e, l))))
 
-stamps_invoke : (V v p q : ℕ) (c : Counted) (s : Seen) (stamp best : ℕ) → Stamps V c s stamp best → s.writing ≡ None → v < V
+pub stamps_invoke : (V v p q : ℕ) (c : Counted) (s : Seen) (stamp best : ℕ) → Stamps V c s stamp best → s.writing ≡ None → v < V
     → Stamps V (after_write v c) (sees (Some (Invoke q (Write ((stamp + 1) * V + v)))) s) (stamp + 1) best
 stamps_invoke V v p q c s stamp best h idle lv =
     let d : Counted = after_write v c in
@@ -108,7 +108,7 @@ last_now : (V : ℕ) (c : Counted) (w : Option ℕ) (last : ℕ) → WriteSays V
 last_now V c None last w l = l ∙ ap (code_of V c) w
 last_now V c (Some y) last w l = w
 
-stamps_wrote : (V q : ℕ) (c : Counted) (s : Seen) (stamp best : ℕ) → Stamps V c s stamp best → Stamps V (record c { done = c.begun }) (sees (Some (Wrote q)) s) stamp best
+pub stamps_wrote : (V q : ℕ) (c : Counted) (s : Seen) (stamp best : ℕ) → Stamps V c s stamp best → Stamps V (record c { done = c.begun }) (sees (Some (Wrote q)) s) stamp best
 stamps_wrote V q c s stamp best h =
     let hl : c.low ≤ c.done = h.low in
     let hd : c.done ≤ c.begun = h.done in
@@ -133,7 +133,7 @@ begun_since V c (Some x) y w m = go (x == y) refl m
     go true e k = sym (eqb-true x y e) ∙ w
     go false e k = let n : ⊥ = cc in absurd n
 
-stamps_read : (V : ℕ) (c : Counted) (s : Seen) (stamp best : ℕ) → Stamps V c s stamp best → Stamps V (record c { low = c.done }) (sees (Some (Invoke 1 Read)) s) stamp best
+pub stamps_read : (V : ℕ) (c : Counted) (s : Seen) (stamp best : ℕ) → Stamps V c s stamp best → Stamps V (record c { low = c.done }) (sees (Some (Invoke 1 Read)) s) stamp best
 stamps_read V c s stamp best h = record {
   small = h.small;
   stamped = h.stamped;
@@ -148,7 +148,7 @@ stamps_read V c s stamp best h = record {
 }
 
 -- the register below gives the code of a write that the read may return
-read_since : (V x : ℕ) (c : Counted) (s : Seen) (stamp best : ℕ) → Stamps V c s stamp best → IsNotStray (record { reader = 1; value = x; fresh = s.fresh 1; overlaps = s.overlaps 1 }) → Since V c x
+pub read_since : (V x : ℕ) (c : Counted) (s : Seen) (stamp best : ℕ) → Stamps V c s stamp best → IsNotStray (record { reader = 1; value = x; fresh = s.fresh 1; overlaps = s.overlaps 1 }) → Since V c x
 read_since V x c s stamp best h g =
     let y : Returned = record { reader = 1; value = x; fresh = s.fresh 1; overlaps = s.overlaps 1 } in
     let hl : c.low ≤ c.done = h.low in
@@ -162,7 +162,7 @@ code_less : (V n m a b : ℕ) → n < m → a < V → n * V + a ≤ m * V + b
 code_less V n m a b l la = let e : suc n * V ≤ m * V = mul-le-mul_right V (omega (arith, l)) in omega (arith, e, suc-mul n V, la)
 
 -- the greater code is that of the write with the greater number
-greater : (V x : ℕ) (c : Counted) (s : Seen) (stamp best : ℕ) → Stamps V c s stamp best → Since V c x
+pub greater : (V x : ℕ) (c : Counted) (s : Seen) (stamp best : ℕ) → Stamps V c s stamp best → Since V c x
     → (n : ℕ) × ((c.low ≤ n) × ((n ≤ c.begun) × ((c.floor ≤ n) × (max best x ≡ code_of V c n))))
 greater V x c s stamp best h y =
     let n : ℕ = y.0 in

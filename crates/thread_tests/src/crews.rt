@@ -313,8 +313,20 @@ fn run_letters<R: Threads + Wait + Sync>(
     Ok((all, gate.each_once()))
 }
 
-/// The outcomes are the same with any number of thieves, and each job is offered once. A job that
-/// runs out of memory keeps its place among the others.
+/// The outcomes of the letters' jobs if the caller runs them alone, and whether each job was
+/// offered once.
+fn run_letters_alone<R: Wait>(
+    rt: &R,
+    alloc: Global,
+) -> Result<(Vec<Done<char, u64>>, bool), AllocError> {
+    let jobs = letters(alloc)?;
+    let gate = Counts::new(alloc, jobs.len())?;
+    let all = Crew::run_alone(rt, alloc, jobs, &gate)?;
+    Ok((all, gate.each_once()))
+}
+
+/// The outcomes are the same with any number of thieves and for the caller alone, and each job is
+/// offered once. A job that runs out of memory keeps its place among the others.
 #[test]
 fn any_number_of_thieves(rt: HostRuntime) -> Result<(), Fail> {
     let expected = squared_letters(rt.alloc())?;
@@ -322,6 +334,8 @@ fn any_number_of_thieves(rt: HostRuntime) -> Result<(), Fail> {
         let (all, each_once) = run_letters(&rt, rt.alloc(), thieves)?;
         assert!(rt; each_once && all.as_slice() == expected.as_slice());
     }
+    let (all, each_once) = run_letters_alone(&rt, rt.alloc())?;
+    assert!(rt; each_once && all.as_slice() == expected.as_slice());
     Ok(())
 }
 

@@ -196,8 +196,7 @@ pub fn parse_bench(alloc: Global, bytes: &[u8]) -> Result<BenchFile, FileFault>
     ensures fault { IfErr result (λ e. e.kind ≢ Memory
         → (b : Bench) → SpellsBench bytes.now b → ⊥) }
     // Memory is reported only on line 0, only if no byte is foreign, and only if a prefix of the
-    // bytes spells a bench file. One such prefix is the lines up to and including the one that
-    // needed memory.
+    // bytes spells a bench file: so lines 1 to 3 have no fault. Any later line may have one.
     ensures memory { IfErr result (λ e. e.kind ≡ Memory → (e.line ≡ 0) × SpellsFront bytes.now) }
 {
     bench_of(alloc, bytes)

@@ -9,6 +9,7 @@ mod fault;
 mod opening;
 mod program;
 mod running;
+mod saved_file;
 mod saving;
 mod seat;
 mod serving;

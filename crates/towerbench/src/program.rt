@@ -16,7 +16,7 @@ use crate::ending::Ending;
 use crate::fault::{Fault, ProgramFault};
 use crate::opening::{Fate, Reporting, Setup};
 use crate::running::run_setup;
-use crate::saving::save_at;
+use crate::saved_file::save_at;
 use crate::tower_source::read_file;
 use command_line::{Invocation, Options, parse_words};
 use conversation::streams::write_whole;

@@ -1,6 +1,6 @@
 //! A run of the program that saves the branches that its script left.
 
-ghost use Rattle.std.specs.Prelude.{◌≡◌, ◌⊎◌, OnOk, OnErr, IfErr};
+ghost use Rattle.std.specs.Prelude.{◌≡◌, OnOk, OnErr, IfErr};
 ghost use Rattle.std.specs.Option.{option_map};
 ghost use Rattle.std.specs.Io.KnownBytes.{Appends};
 ghost use Rattle.conversation.specs.Conversations.{WroteFront};
@@ -15,9 +15,7 @@ use crate::running::run_setup;
 use command_line::Options;
 use conversation::streams::write_whole;
 use std::alloc::Global;
-use std::fs;
-use std::io::{ErrorKind, Read, Write};
-use std::rt::Files;
+use std::io::{Read, Write};
 use std::sync::Wait;
 use std::thread::Threads;
 
@@ -63,18 +61,6 @@ pub fn run_saving<H: Threads + Wait + Sync, R: Read, W: Write, S: Write>(
     match run_setup(rt, alloc, setup, Reporting::Branches, reader, writer) {
         Ok(bytes) => save(saver, &bytes),
         Err(fault) => Err(fault),
-    }
-}
-
-/// Creates the file at a path, or empties it if it exists, and writes `bytes` to it. The fault is
-/// Memory if memory runs out while the file is created or emptied, and otherwise Save.
-pub(crate) fn save_at<F: Files>(files: &F, path: &str, bytes: &[u8]) -> Result<(), Fault>
-    ensures { IfErr result (λ e. (e ≡ Fault.Save) ⊎ (e ≡ Fault.Memory)) }
-{
-    match fs::create(files, path) {
-        Ok(mut file) => save(&mut file, bytes),
-        Err(e) if e.kind() == ErrorKind::OutOfMemory => Err(Fault::Memory),
-        Err(_) => Err(Fault::Save),
     }
 }
 

@@ -27,8 +27,9 @@ use std::thread::Threads;
 /// whole lines (those with a line end) that have been read are answered before the next read. If
 /// the chair holds all 16 shares, the first line finds the world after the history of logged calls
 /// that the chair has seen; and if the result is then `Ok`, the answers to all lines of the script
-/// were written. At most 4 `thieves` (threads that take jobs) help with fills; no answer depends on
-/// their number. The desk and the chair are dropped.
+/// were written. At most 4 `thieves` (threads that take jobs) help with fills; if the result is
+/// `Ok`, and no line was refused memory, the answers don't depend on their number. The desk and the
+/// chair are dropped.
 ///
 /// # Errors
 ///

@@ -1,1 +1,2 @@
 mod OneWriters
+pub mod Matrices

@@ -1,15 +1,21 @@
-//! The laws of four towers (copies, regular bit, unary number and stamped register), on every
-//! schedule. A read is stray if it gives neither the value written last before it (the initial
-//! value, if none was) nor the value of a write that overlaps it.
+//! The laws of five towers (copies, regular bit, unary number, stamped register and matrix), on
+//! every schedule, and a law of all six: they report their actions. A read is stray if it gives
+//! neither the value written last before it (the initial value, if none was) nor the value of a
+//! write that overlaps it.
 
+ghost use Rattle.frames.specs.correctness.Ranks.{IsAtomicForMany};
 ghost use Rattle.frames.specs.correctness.Regularity.{NeverStray};
 ghost use Rattle.frames.specs.correctness.Regularity.{IsAtomic, IsRegular, IsSafe};
+ghost use Rattle.frames.specs.correctness.ReportedActions.{ReportsActions};
+ghost use Rattle.matrix.specs.Rows.{RefusesNoRow};
 ghost use Rattle.unary_number.specs.Scans.{AlwaysFinds};
 ghost use Rattle.views.specs.Looks.{NeverShowsStray};
 
-use crate::{CopiesTower, RegularTower, StampedTower, UnaryTower};
+use crate::{CopiesTower, MatrixTower, RegularTower, StampedTower, UnaryTower};
 use frames::laws::{never_stray, safe};
-use frames::register::Behaves;
+use frames::register::{Behaves, Register};
+use matrix::Matrix;
+use stamped::Stamped;
 use views::laws::never_shows_stray;
 
 /// Copies of a safe bit are safe: a read that no write overlaps gives the value written last before
@@ -59,6 +65,28 @@ pub fn stamped_is_atomic(register: &StampedTower)
     never_stray(register);
 }
 
+/// A matrix over stamped registers over a regular register is atomic for many processes, which is
+/// linearizable: on every schedule the returned operations and some of the pending writes take
+/// effect in one order. An operation that returned before another was invoked comes before it, and
+/// each read gives the value of the last write before it, or the initial value. Refused operations
+/// take no effect: a write at the last tag, or an operation at a process's last stamp. No operation
+/// is refused while it writes its row.
+pub fn matrix_over_stamped<S: Register>(register: &Matrix<Stamped<S>>)
+    requires { IsRegular (S.behaviour register.now.below.below) }
+    ensures atomic { IsAtomicForMany (⟦<Matrix<Stamped<S>> as Behaves>⟧.behaviour register.now) }
+    ensures rows { RefusesNoRow (⟦<Matrix<Stamped<S>> as Behaves>⟧.behaviour register.now) }
+{}
+
+/// A matrix tower is atomic for many processes, and none of its rows is refused in its midst, as
+/// `matrix_over_stamped` says.
+pub fn matrix_is_atomic(register: &MatrixTower)
+    ensures atomic { IsAtomicForMany (⟦<MatrixTower as Behaves>⟧.behaviour register.now) }
+    ensures rows { RefusesNoRow (⟦<MatrixTower as Behaves>⟧.behaviour register.now) }
+{
+    unary_is_regular(&register.below.below);
+    matrix_over_stamped(register);
+}
+
 /// If each step of each branch fits the tower, then from any initial value no page of a regular,
 /// unary or stamped tower shows a stray read: a read that gives neither the value written last
 /// before it nor the value of a write that overlaps it.
@@ -73,4 +101,56 @@ pub fn pages_show_no_stray(bit: &RegularTower, number: &UnaryTower, register: &S
     never_shows_stray(number);
     stamped_is_atomic(register);
     never_shows_stray(register);
+}
+
+/// Copies of a safe bit report their actions: an invocation changes no cell; the next action that
+/// they report of a pending operation is what the operation's next step does to the cells; and the
+/// step reports a choice exactly if that action ends a hit read.
+pub fn copies_report(register: &CopiesTower)
+    ensures { ReportsActions (⟦<CopiesTower as Behaves>⟧.behaviour register.now)
+        (⟦<CopiesTower as Register>⟧.Holds register.now)
+        (⟦<CopiesTower as Register>⟧.Reaches register.now) }
+{
+    frames::laws::reports_actions(&register.below);
+    layers::laws::reports_actions(register);
+}
+
+/// A regular bit over copies reports its actions, as copies do.
+pub fn regular_reports(register: &RegularTower)
+    ensures { ReportsActions (⟦<RegularTower as Behaves>⟧.behaviour register.now)
+        (⟦<RegularTower as Register>⟧.Holds register.now)
+        (⟦<RegularTower as Register>⟧.Reaches register.now) }
+{
+    copies_report(&register.below);
+    layers::laws::reports_actions(register);
+}
+
+/// A unary number over regular bits reports its actions, as copies do.
+pub fn unary_reports(register: &UnaryTower)
+    ensures { ReportsActions (⟦<UnaryTower as Behaves>⟧.behaviour register.now)
+        (⟦<UnaryTower as Register>⟧.Holds register.now)
+        (⟦<UnaryTower as Register>⟧.Reaches register.now) }
+{
+    regular_reports(&register.layers.below);
+    layers::laws::reports_actions(&register.layers);
+}
+
+/// A stamped register over a unary number reports its actions, as copies do.
+pub fn stamped_reports(register: &StampedTower)
+    ensures { ReportsActions (⟦<StampedTower as Behaves>⟧.behaviour register.now)
+        (⟦<StampedTower as Register>⟧.Holds register.now)
+        (⟦<StampedTower as Register>⟧.Reaches register.now) }
+{
+    unary_reports(&register.below);
+    layers::laws::reports_actions(register);
+}
+
+/// A matrix of stamped registers reports its actions, as copies do.
+pub fn matrix_reports(register: &MatrixTower)
+    ensures { ReportsActions (⟦<MatrixTower as Behaves>⟧.behaviour register.now)
+        (⟦<MatrixTower as Register>⟧.Holds register.now)
+        (⟦<MatrixTower as Register>⟧.Reaches register.now) }
+{
+    stamped_reports(&register.below);
+    layers::laws::reports_actions(register);
 }

@@ -2,11 +2,11 @@
 
 ghost use Rattle.std.specs.Prelude.{◌≡◌};
 
+use std::fmt;
 use thiserror::Error;
 
 /// Why `Turn::close` is refused: the chair lacks at least one of the turn's 16 shares.
 #[derive(Clone, Copy, Debug, PartialEq, Eq, Error)]
-#[error("50 ChairsOut")]
 pub struct ChairsOut;
 
 impl ChairsOut {
@@ -15,5 +15,16 @@ impl ChairsOut {
         ensures { result ≡ 50 }
     {
         50
+    }
+}
+
+impl fmt::Display for ChairsOut {
+    ghost use Rattle.std.specs.Prelude.{Some, ◌++◌, codes};
+    ghost use Rattle.std.specs.Fmt.{decimal};
+
+    ghost output = { λ _. Some (decimal 50 ++ codes " ChairsOut") };
+
+    fn fmt<W: fmt::Write>(&self, f: &mut fmt::Formatter<W>) -> fmt::Result {
+        write!(f, "{} ChairsOut", self.number())
     }
 }

@@ -16,7 +16,8 @@ use Rattle.lru.specs.LruCache.{LruCache, lru_cache, promoted, put_entries}
 use Rattle.lru.proofs.CallerLemmas.{Contains-lookup, Contains-promoted, Contains-put_entries}
 use Rattle.pages.specs.declared.query.PlaceKind.{PlaceKind}
 use Rattle.pages.specs.declared.page.head.Head.{Head}
-use Rattle.views.specs.Lenses.{MatchTheirKeys}
+use Rattle.views.specs.declared.lens.TheConstants.{PLACES}
+use Rattle.views.specs.Lenses.{MatchTheirKeys, IsLens}
 use Rattle.pages.specs.Pages.{page_at}
 use Rattle.views.specs.Spots.{IsAlike, part_end}
 use Rattle.views.specs.laws.PlaceLaws.{SamePlace, same_place, place_decides}
@@ -88,10 +89,14 @@ module _ {R P : Type 0} (is : R → Behaviour P) where
           let at = Contains-lookup (same_place E F place) places.entries c told in
           like_trans c (part_end is at.0) (part_end is place) (all (at.0, c) at.1) (like_symm (part_end is place) (part_end is at.0) (ends_alike place at.0 ((place_decides E F d place at.0).0 at.2)))
 
-      pub still_true : (test : RunPart R P → Bool) → MatchTheirKeys is (lru_cache (promoted test places.entries) places.cap)
+      still_true : (test : RunPart R P → Bool) → MatchTheirKeys is (lru_cache (promoted test places.entries) places.cap)
       still_true test e among = all e (Contains-promoted test places.entries e among)
 
-      pub put_true : (place : RunPart R P) (c : Configuration R P) → IsAlike is c (part_end is place) → MatchTheirKeys is (lru_cache (put_entries (same_place E F) places place c) places.cap)
+      -- a lens stays one if it is only read
+      pub read_lens : (test : RunPart R P → Bool) → places.cap ≡ PLACES → IsLens is (lru_cache (promoted test places.entries) places.cap)
+      read_lens test most = (still_true test, most)
+
+      put_true : (place : RunPart R P) (c : Configuration R P) → IsAlike is c (part_end is place) → MatchTheirKeys is (lru_cache (put_entries (same_place E F) places place c) places.cap)
       put_true place c like e among = elim (Contains-put_entries (same_place E F) places place c e among) [
         | inl old ↦ all e old
         | inr new ↦ elim new.1 [
@@ -102,10 +107,11 @@ module _ {R P : Type 0} (is : R → Behaviour P) where
         ]
       ]
 
-      pub put_kept : {X Y : Type 0} (place : RunPart R P) (c : Configuration R P) (new : LruCache (RunPart R P) (Configuration R P)) (result : Result X Y) → IsAlike is c (part_end is place)
-          → OnOk result (new ≡ lru_cache (put_entries (same_place E F) places place c) places.cap) → OnErr result (new ≡ places) → MatchTheirKeys is new
-      put_kept place c new (Ok x) like ok err = subst (MatchTheirKeys is) (sym ok) (put_true place c like)
-      put_kept place c new (Err x) like ok err = subst (MatchTheirKeys is) (sym err) all
+      -- and if a true configuration is put into it
+      pub put_lens : {X Y : Type 0} (place : RunPart R P) (c : Configuration R P) (new : LruCache (RunPart R P) (Configuration R P)) (result : Result X Y) → places.cap ≡ PLACES → IsAlike is c (part_end is place)
+          → OnOk result (new ≡ lru_cache (put_entries (same_place E F) places place c) places.cap) → OnErr result (new ≡ places) → IsLens is new
+      put_lens place c new (Ok x) most like ok err = subst (IsLens is) (sym ok) (put_true place c like, most)
+      put_lens place c new (Err x) most like ok err = subst (IsLens is) (sym err) (all, most)
 
   -- configurations that are alike have the same pages
   pub like_page : (kind : PlaceKind) (head : Head) (c d : Configuration R P) (events : List (ℕ × Event)) → IsAlike is c d

@@ -25,10 +25,10 @@ const PLACES: usize = 32;
 /// no steps.
 const STRETCH: u32 = 16;
 
-/// A cache of the configurations at the places used most recently. A place is a run and a number:
-/// how many of the run's steps precede the place. Two places are the same if equally many steps
-/// precede them, and their runs have the same steps and begin from equal configurations. Branches
-/// make no difference, so one lens serves all branches.
+/// A cache of the configurations at the places used most recently, at most 32. A place is a run and
+/// a number: how many of the run's steps precede the place. Two places are the same if equally many
+/// steps precede them, and their runs have the same steps and begin from equal configurations.
+/// Branches make no difference, so one lens serves all branches.
 #[derive(Drop)]
 pub struct Lens<R: Register> {
     places: LruCache<RunPlace<R>, Config<R>>,
@@ -38,18 +38,17 @@ impl<R: Register> Model for Lens<R> {
     ghost use Rattle.lru.specs.LruCache.{LruCache};
     ghost use Rattle.frames.specs.Configuration.{Configuration};
     ghost use Rattle.cutoff.specs.Fitting.{RunPart};
-    ghost use Rattle.views.specs.Lenses.{MatchTheirKeys};
+    ghost use Rattle.views.specs.Lenses.{IsLens};
 
     ghost Value = { LruCache (RunPart R R.Pending) (Configuration R R.Pending) };
 
     ghost view = { λ l. l.places };
 
-    ghost invariant = { λ l. MatchTheirKeys R.behaviour l.places };
+    ghost invariant = { λ l. IsLens R.behaviour l.places };
 }
 
 impl<R: Register> Lens<R> {
-    /// Returns an empty lens, which will keep at most 32 configurations. Fails only if memory runs
-    /// out.
+    /// Returns an empty lens. Fails only if memory runs out.
     pub fn new(alloc: Global) -> Result<Lens<R>, AllocError>
         ensures { IfOk result (λ lens. lens ≡ lru_cache [] PLACES) }
     {

@@ -2,6 +2,7 @@
 //! deque. In particular, a crew can run the jobs of a chart's plan, which are segments to replay.
 #![tactic(auto)]
 
+mod alone;
 mod crew;
 pub mod gate;
 mod hand;

@@ -6,6 +6,7 @@ ghost use Rattle.frames.specs.correctness.Regularity.{IsRegular};
 
 use frames::{Behaves, Safe, laws};
 use layers::LayerError;
+use matrix::{Matrix, NewMatrix};
 use reader_copies::{Copies, NewCopies};
 use regular_bit::{NewRegularBit, RegularBit};
 use stamped::{NewStamped, Stamped};
@@ -52,5 +53,15 @@ fn stamped_register_is_atomic(rt: HostRuntime) -> Result<(), Fail> {
     let register = Stamped::new(bit, 2, 0)?;
     stamped::laws::atomic(&register);
     assert_eq!(rt; register.below, bit);
+    Ok(())
+}
+
+#[test]
+fn matrix_is_atomic_for_many(rt: HostRuntime) -> Result<(), Fail> {
+    let number = Unary::new(regular()?, 4)?;
+    unary_number::laws::regular(&number);
+    let register = Matrix::new(number, 2, 2, 0)?;
+    matrix::laws::atomic(&register);
+    assert_eq!(rt; register.below, number);
     Ok(())
 }

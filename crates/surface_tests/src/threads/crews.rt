@@ -52,6 +52,13 @@ where
     Ok(all.len() == 1 && all.iter().all(has_run))
 }
 
+/// Runs the jobs of `plan_of_one` in this thread. Returns whether there is just one, and it ran.
+fn one_runs_alone<R: Abort + Wait>(rt: &R, alloc: Global) -> Result<bool, Refusal> {
+    let jobs = plan_of_one(rt, alloc)?;
+    let all = Crew::run_alone(rt, alloc, jobs, &NoGate)?;
+    Ok(all.len() == 1 && all.iter().all(has_run))
+}
+
 #[test]
 fn crew_runs_each_job(rt: HostRuntime) -> Result<(), Fail> {
     let offers = Offers {
@@ -60,5 +67,6 @@ fn crew_runs_each_job(rt: HostRuntime) -> Result<(), Fail> {
     assert!(rt; one_runs(&rt, rt.alloc(), 2, &offers)?);
     assert_eq!(rt; offers.count.load(Ordering::SeqCst), 1);
     assert!(rt; one_runs(&rt, rt.alloc(), 0, &NoGate)?);
+    assert!(rt; one_runs_alone(&rt, rt.alloc())?);
     Ok(())
 }

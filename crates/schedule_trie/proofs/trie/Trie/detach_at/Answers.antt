@@ -1,5 +1,5 @@
 use Rattle.schedule_trie.specs.Tries.{cut_of}
-use Rattle.std.proofs.Common.{◌≡◌, ◌+◌, ◌<◌, ◌≤◌, length, refl, sym, subst, ◌∙◌}
+use Rattle.std.proofs.Common.{◌≡◌, ◌+◌, ◌<◌, ◌≤◌, length, refl, sym, subst}
 use Rattle.schedule_trie.specs.Forest.{slots_in}
 use Rattle.schedule_trie.specs.Cut.{forest, piece_at, keys_in}
 use Rattle.schedule_trie.specs.Copies.{AreCopies}

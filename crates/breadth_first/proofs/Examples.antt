@@ -1,0 +1,91 @@
+-- Worked examples of definitions that claim that something exists: a case, and a near miss.
+use Rattle.std.proofs.Common.{◌≡◌, ℕ, zero, suc, ◌<◌, ◌≤◌, List, [], ◌∷◌, Option, Some, None, true, true≢false, nat_eq, length, slice_get, refl, sym, ap, ◌∙◌, arith}
+use Rattle.std.specs.List.{IsDistinct}
+use Rattle.std.proofs.lemmas.Option.{none-some, same_Some}
+use Rattle.breadth_first.specs.declared.mark.Mark.{Mark}
+use Rattle.breadth_first.specs.Paths.{mark_of_start, depth_at, Moves, Reaches, LeadsBy, IsFound, AreTooMany}
+
+-- a graph whose one label leads from 0 to 1, and nowhere from any other node
+abbrev move : ℕ → ℕ → Option ℕ
+move zero l = Some 1
+move (suc n) l = None
+
+-- its search from 0
+abbrev keys : List ℕ
+keys = 0 ∷ 1 ∷ []
+
+abbrev marks : List Mark
+marks = mark_of_start ∷ record { parent = 0; label = 0; depth = 1 } ∷ []
+
+-- label 0 leads from 0 to 1
+Moves-holds : Moves 1 move 0 1
+Moves-holds = (0, (omega arith, refl))
+
+-- no label leads on from 1
+Moves-fails : Moves 1 move 1 2 → ⊥
+Moves-fails h = none-some 2 h.1.1
+
+-- one move leads from 0 to 1
+Reaches-holds : Reaches 1 move 0 1 1
+Reaches-holds = (0, (refl, (0, (omega arith, refl))))
+
+-- two moves lead nowhere from 0
+Reaches-fails : Reaches 1 move 0 2 1 → ⊥
+Reaches-fails h = from h.0 h.1.0 h.1.1.1.1
+  where
+    from : (x : ℕ) → Reaches 1 move 0 1 x → move x h.1.1.0 ≡ Some 1 → ⊥
+    from zero r e = let one : 1 ≡ 0 = same_Some 1 0 (ap (λ n. move n r.1.1.0) (sym r.1.0) ∙ r.1.1.1.1) in absurd (omega (arith, one))
+    from (suc x) r e = none-some 1 e
+
+-- the mark of node 1 leads from 0 to 1
+LeadsBy-holds : LeadsBy 1 move keys 0 (record { parent = 0; label = 0; depth = 1 } ∷ []) 1
+LeadsBy-holds = (1, ((refl, (omega arith, refl)), refl))
+
+-- a mark whose parent is node 1 doesn't lead from 0
+LeadsBy-fails : LeadsBy 1 move keys 0 (record { parent = 1; label = 0; depth = 1 } ∷ []) 1 → ⊥
+LeadsBy-fails h = let other : 1 ≡ 0 = same_Some 1 0 h.1.0.0 in absurd (omega (arith, other))
+
+-- node 1 is found one move from 0
+IsFound-holds : IsFound 1 move nat_eq keys marks 1 1
+IsFound-holds = record { index = 1; key = 1; stored = refl; same = refl; within = omega arith }
+
+not_at_once : (i k : ℕ) → slice_get keys i ≡ Some k → nat_eq 1 k ≡ true → depth_at marks i ≤ 0 → ⊥
+not_at_once zero k s e w = true≢false (sym e ∙ ap (nat_eq 1) (sym (same_Some 0 k s)))
+not_at_once (suc zero) k s e w = absurd (omega (arith, w))
+not_at_once (suc (suc i)) k s e w = none-some k s
+
+-- node 1 isn't found without a move
+IsFound-fails : IsFound 1 move nat_eq keys marks 1 0 → ⊥
+IsFound-fails h = not_at_once h.index h.key h.stored h.same h.within
+
+two_reached : (i k : ℕ) → slice_get keys i ≡ Some k → (n : ℕ) × Reaches 1 move 0 n k
+two_reached zero k s = (0, sym (same_Some 0 k s))
+two_reached (suc zero) k s = (1, (0, (refl, (0, (omega arith, s)))))
+two_reached (suc (suc i)) k s = absurd (none-some k s)
+
+two_distinct : IsDistinct nat_eq keys
+unfolding IsDistinct
+two_distinct = ((refl, tt), (tt, tt))
+
+-- two nodes are reachable from 0, more than the one that is allowed
+AreTooMany-holds : AreTooMany 1 move nat_eq 0 1
+AreTooMany-holds = record { nodes = keys; distinct = two_distinct; reached = two_reached; many = omega arith }
+
+only_start : (n y : ℕ) → Reaches 0 move 0 n y → y ≡ 0
+only_start zero y h = h
+only_start (suc n) y h = absurd (omega (arith, h.1.1.1.0))
+
+one_start : (nodes : List ℕ) → IsDistinct nat_eq nodes → ((i k : ℕ) → slice_get nodes i ≡ Some k → (n : ℕ) × Reaches 0 move 0 n k) → 1 < length nodes → ⊥
+unfolding IsDistinct
+one_start [] d r m = absurd (omega (arith, m))
+one_start (x ∷ []) d r m = absurd (omega (arith, m))
+one_start (x ∷ y ∷ nodes) d r m =
+    let a = r 0 x refl in
+    let b = r 1 y refl in
+    let first : x ≡ 0 = only_start a.0 x a.1 in
+    let second : y ≡ 0 = only_start b.0 y b.1 in
+    true≢false (sym (ap (λ n. nat_eq n y) first ∙ ap (nat_eq 0) second) ∙ d.0.0)
+
+-- without labels one node is reachable, which is allowed
+AreTooMany-fails : AreTooMany 0 move nat_eq 0 1 → ⊥
+AreTooMany-fails h = one_start h.nodes h.distinct h.reached h.many

@@ -1,0 +1,6 @@
+pub mod Pushed
+pub mod Served
+pub mod Followed
+pub mod Started
+pub mod Traced
+mod Examples

@@ -1,0 +1,283 @@
+-- What a search keeps while it follows the moves from one node.
+use Rattle.std.proofs.Common.{◌≡◌, ℕ, zero, suc, ◌+◌, ◌<◌, ◌≤◌, ◌⊎◌, inl, inr, List, [], ◌∷◌, ◌++◌, Option, Some, length, slice_get, Bool, true, false, refl, sym, ap, subst, ◌∙◌, add-one, arith}
+use Rattle.std.proofs.lemmas.Bool.{cases_lt}
+use Rattle.std.proofs.lemmas.Option.{slice_get_within, same_Some}
+use Rattle.std.proofs.lemmas.List.{get_or_append_left, get_or_push, length_push}
+use Rattle.std.proofs.lemmas.Map.Keys.{IsDistinct-push}
+use Rattle.std.specs.List.{IsDistinct, list_any}
+use Rattle.std.specs.Cmp.{IsEquivalence}
+use Rattle.breadth_first.specs.declared.mark.Mark.{Mark}
+use Rattle.breadth_first.specs.Paths.{mark_of_start, noted_mark, depth_at, Moves, Reaches, IsMade, IsTrail, IsFound, IsServing, IsFollowed, IsAllReached, AreTooMany}
+use Rattle.breadth_first.proofs.Pushed.{stays, added, old_or_new, place_of}
+
+pub mark_stays : (marks : List Mark) (m : Mark) (i : ℕ) → i < length marks → noted_mark (marks ++ m ∷ []) i ≡ noted_mark marks i
+mark_stays marks m i h = get_or_append_left marks (m ∷ []) mark_of_start i h
+
+pub mark_added : (marks : List Mark) (m : Mark) (i : ℕ) → length marks ≡ i → noted_mark (marks ++ m ∷ []) i ≡ m
+mark_added marks m i h = get_or_push marks m mark_of_start i h
+
+pub depth_stays : (marks : List Mark) (m : Mark) (i : ℕ) → i < length marks → depth_at (marks ++ m ∷ []) i ≡ depth_at marks i
+depth_stays marks m i h = ap (λ n. n.depth) (mark_stays marks m i h)
+
+pub depth_added : (marks : List Mark) (m : Mark) (i : ℕ) → length marks ≡ i → depth_at (marks ++ m ∷ []) i ≡ m.depth
+depth_added marks m i h = ap (λ n. n.depth) (mark_added marks m i h)
+
+distinct_none : {N : Type 0} (eq : N → N → Bool) → IsDistinct eq []
+unfolding IsDistinct
+distinct_none eq = tt
+
+module _ {N : Type 0} (labels : ℕ) (move : N → ℕ → Option N) where
+  module _ (keys : List N) (marks : List Mark) (m : Mark) (y : N) (t : IsTrail labels move keys marks) where
+    made_stays : (i : ℕ) (k : N) → i < length keys → IsMade labels move keys marks i k → IsMade labels move (keys ++ y ∷ []) (marks ++ m ∷ []) i k
+    made_stays i k lt h =
+        let here : i < length marks = omega (arith, t.marked) in
+        let e : noted_mark (marks ++ m ∷ []) i ≡ noted_mark marks i = mark_stays marks m i here in
+        let before : (noted_mark marks i).parent < length marks = omega (arith, h.earlier) in
+        let up : (noted_mark (marks ++ m ∷ []) i).parent ≡ (noted_mark marks i).parent = ap (λ n. n.parent) e in
+        record {
+          parent = h.parent;
+          earlier = subst (λ (n : Mark). n.parent < i) (sym e) h.earlier;
+          stored = subst (λ (n : Mark). slice_get (keys ++ y ∷ []) n.parent ≡ Some h.parent) (sym e) (stays keys y (noted_mark marks i).parent h.parent h.stored);
+          labelled = subst (λ (n : Mark). n.label < labels) (sym e) h.labelled;
+          made = subst (λ (n : Mark). move h.parent n.label ≡ Some k) (sym e) h.made;
+          deeper = ap (λ n. n.depth) e ∙ (h.deeper ∙ ap (λ d. d + 1) (sym (ap (depth_at (marks ++ m ∷ [])) up ∙ depth_stays marks m (noted_mark marks i).parent before)));
+        }
+
+    -- a trail stays one if a node is added with a mark that says how it was made
+    pub trail_added : (x : N) → slice_get keys m.parent ≡ Some x → m.label < labels → move x m.label ≡ Some y
+        → m.depth ≡ depth_at marks m.parent + 1 → 0 < length keys → IsTrail labels move (keys ++ y ∷ []) (marks ++ m ∷ [])
+    trail_added x at lab moves deep some = record {
+      marked = omega (arith, t.marked, length_push keys y, length_push marks m);
+      first = depth_stays marks m 0 (omega (arith, t.marked)) ∙ t.first;
+      made = λ i k pos h. elim (old_or_new keys y i k h) [
+        | inl p ↦ made_stays i k (slice_get_within keys i k p) (t.made i k pos p)
+        | inr q ↦ new i k q.0 q.1
+      ];
+    }
+      where
+        new : (i : ℕ) (k : N) → i ≡ length keys → k ≡ y → IsMade labels move (keys ++ y ∷ []) (marks ++ m ∷ []) i k
+        new i k e f =
+            let last : length marks ≡ i = omega (arith, t.marked) in
+            let g : noted_mark (marks ++ m ∷ []) i ≡ m = mark_added marks m i last in
+            let low : m.parent < length keys = slice_get_within keys m.parent x at in
+            let before : m.parent < length marks = omega (arith, t.marked) in
+            record {
+              parent = x;
+              earlier = subst (λ (n : Mark). n.parent < i) (sym g) (omega arith);
+              stored = subst (λ (n : Mark). slice_get (keys ++ y ∷ []) n.parent ≡ Some x) (sym g) (stays keys y m.parent x at);
+              labelled = subst (λ (n : Mark). n.label < labels) (sym g) lab;
+              made = subst (λ (n : Mark). move x n.label ≡ Some k) (sym g) (moves ∙ ap Some (sym f));
+              deeper = ap (λ n. n.depth) g ∙ (deep ∙ ap (λ d. d + 1) (sym (ap (λ n. depth_at (marks ++ m ∷ []) n.parent) g ∙ depth_stays marks m m.parent before)));
+            }
+
+  module _ (eq : N → N → Bool) where
+    -- what is found stays found
+    pub found_stays : (keys : List N) (marks : List Mark) (m : Mark) (y z : N) (d : ℕ) → length marks ≡ length keys
+        → IsFound labels move eq keys marks z d → IsFound labels move eq (keys ++ y ∷ []) (marks ++ m ∷ []) z d
+    found_stays keys marks m y z d len f =
+        let inside : f.index < length keys = slice_get_within keys f.index f.key f.stored in
+        let e : depth_at (marks ++ m ∷ []) f.index ≡ depth_at marks f.index = depth_stays marks m f.index (omega arith) in
+        record { index = f.index; key = f.key; stored = stays keys y f.index f.key f.stored; same = f.same; within = omega (arith, f.within) }
+
+    -- the node that is added is found
+    pub found_added : IsEquivalence eq → (keys : List N) (marks : List Mark) (m : Mark) (y : N) → length marks ≡ length keys
+        → IsFound labels move eq (keys ++ y ∷ []) (marks ++ m ∷ []) y m.depth
+    found_added laws keys marks m y len =
+        let e : depth_at (marks ++ m ∷ []) (length keys) ≡ m.depth = depth_added marks m (length keys) len in
+        record { index = length keys; key = y; stored = added keys y; same = laws.refl y; within = omega arith }
+
+    -- a node that is there is found, no deeper than one more than the node whose moves are followed
+    pub found_there : (keys : List N) (marks : List Mark) (at : ℕ) (y : N) → IsServing labels move eq keys marks at → at < length keys
+        → list_any (eq y) keys ≡ true → IsFound labels move eq keys marks y (depth_at marks at + 1)
+    found_there keys marks at y s lt h =
+        let p = place_of (eq y) keys h in
+        record { index = p.0; key = p.1.0; stored = p.1.1.0; same = p.1.1.1; within = s.near p.0 lt (slice_get_within keys p.0 p.1.0 p.1.1.0) }
+
+    -- a node is added, made from the node at `at`
+    module _ (keys : List N) (marks : List Mark) (m : Mark) (y x : N) (s : IsServing labels move eq keys marks m.parent)
+        (at : slice_get keys m.parent ≡ Some x) (deep : m.depth ≡ depth_at marks m.parent + 1) where
+      -- an index is an old one, whose depth stays, or the new one, which is one deeper than `at`
+      abbrev Place : ℕ → Type 0
+      Place j = ((j < length keys) × (depth_at (marks ++ m ∷ []) j ≡ depth_at marks j))
+          ⊎ ((j ≡ length keys) × (depth_at (marks ++ m ∷ []) j ≡ depth_at marks m.parent + 1))
+
+      place : (j : ℕ) → j < length (keys ++ y ∷ []) → Place j
+      place j lt = elim (cases_lt j (length keys)) [
+        | inl low ↦ inl (low, depth_stays marks m j (omega (arith, s.trail.marked, low)))
+        | inr high ↦ last (omega (arith, high, length_push keys y))
+      ]
+        where
+          last : j ≡ length keys → Place j
+          last e = inr (e, depth_added marks m j (omega (arith, s.trail.marked)) ∙ deep)
+
+      sorted_at : (i j : ℕ) → i ≤ j → Place i → Place j → depth_at (marks ++ m ∷ []) i ≤ depth_at (marks ++ m ∷ []) j
+      sorted_at i j le (inl a) (inl b) = let h = s.sorted i j le b.0 in omega (arith, a.1, b.1)
+      sorted_at i j le (inl a) (inr b) = let h = s.near i (slice_get_within keys m.parent x at) a.0 in omega (arith, a.1, b.1)
+      sorted_at i j le (inr a) (inl b) = absurd (omega (arith, a.0, b.0))
+      sorted_at i j le (inr a) (inr b) = omega (arith, a.1, b.1)
+
+      near_at : (j : ℕ) → Place j → depth_at (marks ++ m ∷ []) m.parent ≡ depth_at marks m.parent → depth_at (marks ++ m ∷ []) j ≤ depth_at (marks ++ m ∷ []) m.parent + 1
+      near_at j (inl a) here = let h = s.near j (slice_get_within keys m.parent x at) a.0 in omega (arith, a.1)
+      near_at j (inr a) here = omega (arith, a.1)
+
+      served_at : (i : ℕ) (k z : N) → i < m.parent → slice_get (keys ++ y ∷ []) i ≡ Some k → Moves labels move k z
+          → IsFound labels move eq (keys ++ y ∷ []) (marks ++ m ∷ []) z (depth_at (marks ++ m ∷ []) i + 1)
+      served_at i k z lt h mv = elim (old_or_new keys y i k h) [
+        | inl p ↦ subst (IsFound labels move eq (keys ++ y ∷ []) (marks ++ m ∷ []) z)
+            (ap (λ d. d + 1) (sym (depth_stays marks m i (omega (arith, s.trail.marked, slice_get_within keys i k p)))))
+            (found_stays keys marks m y z (depth_at marks i + 1) s.trail.marked (s.served i k lt p z mv))
+        | inr q ↦ absurd (omega (arith, lt, q.0, slice_get_within keys m.parent x at))
+      ]
+
+      pub serving_added : IsEquivalence eq → m.label < labels → move x m.label ≡ Some y → list_any (eq y) keys ≡ false
+          → IsServing labels move eq (keys ++ y ∷ []) (marks ++ m ∷ []) m.parent
+      serving_added laws lab moves new =
+          let low : m.parent < length keys = slice_get_within keys m.parent x at in
+          let here : depth_at (marks ++ m ∷ []) m.parent ≡ depth_at marks m.parent = depth_stays marks m m.parent (omega (arith, s.trail.marked)) in
+          record {
+            trail = trail_added keys marks m y s.trail x at lab moves deep (omega arith);
+            distinct = IsDistinct-push laws keys y s.distinct new;
+            sorted = λ i j le lt. sorted_at i j le (place i (omega arith)) (place j lt);
+            near = λ j _ lt. near_at j (place j lt) here;
+            served = λ i k lt h z mv. served_at i k z lt h mv;
+          }
+
+  -- a node is no deeper than its index
+  pub depth_low : (keys : List N) (marks : List Mark) → IsTrail labels move keys marks → (f i : ℕ) (k : N) → i < f → slice_get keys i ≡ Some k → depth_at marks i ≤ i
+  depth_low keys marks t zero i k lt h = absurd (omega (arith, lt))
+  depth_low keys marks t (suc f) zero k lt h = omega (arith, t.first)
+  depth_low keys marks t (suc f) (suc i) k lt h =
+      let m = t.made (suc i) k (omega arith) h in
+      let r = depth_low keys marks t f (noted_mark marks (suc i)).parent m.parent (omega (arith, lt, m.earlier)) m.stored in
+      omega (arith, m.deeper, m.earlier, r)
+
+  -- each node on a trail is reached by as many moves as are noted
+  pub reached_along : (start : N) (keys : List N) (marks : List Mark) → IsTrail labels move keys marks → slice_get keys 0 ≡ Some start
+      → (f i : ℕ) (k : N) → i < f → slice_get keys i ≡ Some k → Reaches labels move start (depth_at marks i) k
+  reached_along start keys marks t s zero i k lt h = absurd (omega (arith, lt))
+  reached_along start keys marks t s (suc f) zero k lt h =
+      subst (λ d. Reaches labels move start d k) (sym t.first) (same_Some k start (sym h ∙ s))
+  reached_along start keys marks t s (suc f) (suc i) k lt h =
+      let m = t.made (suc i) k (omega arith) h in
+      let r = reached_along start keys marks t s f (noted_mark marks (suc i)).parent m.parent (omega (arith, lt, m.earlier)) m.stored in
+      let mv : Moves labels move m.parent k = ((noted_mark marks (suc i)).label, (m.labelled, m.made)) in
+      let both : Reaches labels move start (suc (depth_at marks (noted_mark marks (suc i)).parent)) k = (m.parent, (r, mv)) in
+      subst (λ d. Reaches labels move start d k) (sym (m.deeper ∙ add-one (depth_at marks (noted_mark marks (suc i)).parent))) both
+
+  module _ (eq : N → N → Bool) (laws : IsEquivalence eq)
+      (alike : (x y : N) → eq x y ≡ true → (l : ℕ) (z : N) → move x l ≡ Some z → (w : N) × ((move y l ≡ Some w) × (eq z w ≡ true))) where
+    -- whatever is reached is found, once all moves are followed
+    pub found_all : (start : N) (keys : List N) (marks : List Mark) (at : ℕ) → IsServing labels move eq keys marks at → length keys ≤ at
+        → slice_get keys 0 ≡ Some start → (n : ℕ) (y : N) → Reaches labels move start n y → IsFound labels move eq keys marks y n
+    found_all start keys marks at s all first zero y e =
+        record { index = 0; key = start; stored = first; same = subst (λ z. eq z start ≡ true) (sym e) (laws.refl start); within = omega (arith, s.trail.first) }
+    found_all start keys marks at s all first (suc n) y r =
+        let f = found_all start keys marks at s all first n r.0 r.1.0 in
+        let a = alike r.0 f.key f.same r.1.1.0 y r.1.1.1.1 in
+        let mv : Moves labels move f.key a.0 = (r.1.1.0, (r.1.1.1.0, a.1.0)) in
+        let g = s.served f.index f.key (omega (arith, all, slice_get_within keys f.index f.key f.stored)) f.stored a.0 mv in
+        record { index = g.index; key = g.key; stored = g.stored; same = laws.congr y a.0 g.key a.1.1 ∙ g.same; within = omega (arith, g.within, f.within) }
+
+    -- once all moves are followed, all is found
+    pub all_reached : (start : N) (keys : List N) (marks : List Mark) (at : ℕ) → IsServing labels move eq keys marks at → length keys ≤ at
+        → slice_get keys 0 ≡ Some start → IsAllReached labels move eq start keys marks
+    all_reached start keys marks at s all first = record {
+      starts = first;
+      trail = s.trail;
+      distinct = s.distinct;
+      sorted = s.sorted;
+      sound = λ i k h. reached_along start keys marks s.trail first (suc i) i k (omega arith) h;
+      complete = found_all start keys marks at s all first;
+    }
+
+    -- one more node is too many
+    pub too_many : (start : N) (keys : List N) (marks : List Mark) (at l : ℕ) (x y : N) (most : ℕ) → IsServing labels move eq keys marks at
+        → slice_get keys 0 ≡ Some start → slice_get keys at ≡ Some x → l < labels → move x l ≡ Some y → list_any (eq y) keys ≡ false → most ≤ length keys
+        → AreTooMany labels move eq start most
+    too_many start keys marks at l x y most s first here lt moves new full = record {
+      nodes = keys ++ y ∷ [];
+      distinct = IsDistinct-push laws keys y s.distinct new;
+      reached = λ i k h. elim (old_or_new keys y i k h) [
+        | inl p ↦ (depth_at marks i, reached_along start keys marks s.trail first (suc i) i k (omega arith) p)
+        | inr q ↦ last k q.1 (reached_along start keys marks s.trail first (suc at) at x (omega arith) here)
+      ];
+      many = omega (arith, length_push keys y, full);
+    }
+      where
+        last : (k : N) → k ≡ y → Reaches labels move start (depth_at marks at) x → (n : ℕ) × Reaches labels move start n k
+        last k e r = (suc (depth_at marks at), (x, (r, (l, (lt, moves ∙ ap Some (sym e))))))
+
+    -- what one node makes too many
+    pub none_allowed : (start : N) (most : ℕ) → most ≤ 0 → AreTooMany labels move eq start most
+    none_allowed start most none = record {
+      nodes = start ∷ [];
+      distinct = IsDistinct-push laws [] start (distinct_none eq) refl;
+      reached = λ i k h. elim (old_or_new [] start i k h) [ inl p ↦ absurd (omega (arith, slice_get_within {A = N} [] i k p)) | inr q ↦ (0, q.1) ];
+      many = omega (arith, none);
+    }
+
+    -- a search begins with the start alone
+    pub serving_first : (start : N) → IsServing labels move eq (start ∷ []) (mark_of_start ∷ []) 0
+    serving_first start = record {
+      trail = record { marked = refl; first = refl; made = λ i k pos h. absurd (omega (arith, slice_get_within (start ∷ []) i k h, pos)) };
+      distinct = IsDistinct-push laws [] start (distinct_none eq) refl;
+      sorted = λ i j le lt. ap_le i j (omega (arith, le, lt)) (omega (arith, lt));
+      near = λ j _ lt. low j (omega (arith, lt));
+      served = λ i k lt. absurd (omega (arith, lt));
+    }
+      where
+        ap_le : (i j : ℕ) → i ≡ 0 → j ≡ 0 → depth_at (mark_of_start ∷ []) i ≤ depth_at (mark_of_start ∷ []) j
+        ap_le i j e f = let a : depth_at (mark_of_start ∷ []) i ≡ depth_at (mark_of_start ∷ []) 0 = ap (depth_at (mark_of_start ∷ [])) e in let b : depth_at (mark_of_start ∷ []) j ≡ depth_at (mark_of_start ∷ []) 0 = ap (depth_at (mark_of_start ∷ [])) f in omega (arith, a, b)
+
+        low : (j : ℕ) → j ≡ 0 → depth_at (mark_of_start ∷ []) j ≤ depth_at (mark_of_start ∷ []) 0 + 1
+        low j e = let a : depth_at (mark_of_start ∷ []) j ≡ depth_at (mark_of_start ∷ []) 0 = ap (depth_at (mark_of_start ∷ [])) e in omega (arith, a)
+
+    -- a node is noted, or an equal one was there
+    module _ (keys : List N) (marks : List Mark) (at l d : ℕ) (x y : N) (s : IsServing labels move eq keys marks at) where
+      followed_there : slice_get keys at ≡ Some x → move x l ≡ Some y → list_any (eq y) keys ≡ true
+          → IsFollowed labels move eq keys marks keys marks at l
+      followed_there here moves there = record {
+        serving = s;
+        grown = λ i z h. h;
+        kept = λ z n f. f;
+        depth = refl;
+        met = λ z w h mv. found_same z w h mv (found_there eq keys marks at y s (slice_get_within keys at x here) there);
+      }
+        where
+          found_same : (z w : N) → slice_get keys at ≡ Some z → move z l ≡ Some w → IsFound labels move eq keys marks y (depth_at marks at + 1)
+              → IsFound labels move eq keys marks w (depth_at marks at + 1)
+          found_same z w h mv f =
+              let e : z ≡ x = same_Some z x (sym h ∙ here) in
+              let k : w ≡ y = same_Some w y (sym mv ∙ (ap (λ n. move n l) e ∙ moves)) in
+              subst (λ n. IsFound labels move eq keys marks n (depth_at marks at + 1)) (sym k) f
+
+      followed_new : slice_get keys at ≡ Some x → l < labels → move x l ≡ Some y → d ≡ depth_at marks at + 1 → list_any (eq y) keys ≡ false
+          → IsFollowed labels move eq keys marks (keys ++ y ∷ []) (marks ++ (record { parent = at; label = l; depth = d }) ∷ []) at l
+      followed_new here lab moves deep new =
+          let m : Mark = record { parent = at; label = l; depth = d } in
+          record {
+            serving = serving_added eq keys marks m y x s here deep laws lab moves new;
+            grown = λ i z h. stays keys y i z h;
+            kept = λ z n f. found_stays eq keys marks m y z n s.trail.marked f;
+            depth = depth_stays marks m at (omega (arith, s.trail.marked, slice_get_within keys at x here));
+            met = λ z w h mv. found_same z w h mv (found_added eq laws keys marks m y s.trail.marked);
+          }
+        where
+          found_same : (z w : N) → slice_get keys at ≡ Some z → move z l ≡ Some w
+              → IsFound labels move eq (keys ++ y ∷ []) (marks ++ (record { parent = at; label = l; depth = d }) ∷ []) y d
+              → IsFound labels move eq (keys ++ y ∷ []) (marks ++ (record { parent = at; label = l; depth = d }) ∷ []) w (depth_at marks at + 1)
+          found_same z w h mv f =
+              let e : z ≡ x = same_Some z x (sym h ∙ here) in
+              let k : w ≡ y = same_Some w y (sym mv ∙ (ap (λ n. move n l) e ∙ moves)) in
+              record { index = f.index; key = f.key; stored = f.stored; same = subst (λ n. eq n f.key ≡ true) (sym k) f.same; within = omega (arith, f.within, deep) }
+
+      pub followed_noted : (new_keys : List N) (new_marks : List Mark) (most : ℕ) → slice_get keys at ≡ Some x → l < labels → move x l ≡ Some y → d ≡ depth_at marks at + 1
+          → ((list_any (eq y) keys ≡ true) × ((new_keys ≡ keys) × (new_marks ≡ marks)))
+          ⊎ ((list_any (eq y) keys ≡ false) × ((new_keys ≡ keys ++ y ∷ []) × ((new_marks ≡ marks ++ (record { parent = at; label = l; depth = d }) ∷ []) × (length keys < most))))
+          → IsFollowed labels move eq keys marks new_keys new_marks at l
+      followed_noted ks ms most here lab moves deep (inl a) =
+          subst (λ (k : List N). IsFollowed labels move eq keys marks k ms at l) (sym a.1.0)
+          (subst (λ (m : List Mark). IsFollowed labels move eq keys marks keys m at l) (sym a.1.1) (followed_there here moves a.0))
+      followed_noted ks ms most here lab moves deep (inr a) =
+          subst (λ (k : List N). IsFollowed labels move eq keys marks k ms at l) (sym a.1.0)
+          (subst (λ (m : List Mark). IsFollowed labels move eq keys marks (keys ++ y ∷ []) m at l) (sym a.1.1.0) (followed_new here lab moves deep a.0))

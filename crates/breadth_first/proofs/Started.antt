@@ -1,0 +1,46 @@
+-- How a search begins.
+use Rattle.std.proofs.Common.{◌≡◌, ℕ, ◌<◌, ◌≤◌, ◌⊎◌, inl, inr, List, [], ◌∷◌, ◌++◌, Option, Some, length, slice_get, Bool, true, false, sym, ap, subst, ◌∙◌, true≢false, arith}
+use Rattle.std.specs.List.{list_any}
+use Rattle.std.specs.Cmp.{IsEquivalence}
+use Rattle.breadth_first.specs.declared.mark.Mark.{Mark}
+use Rattle.breadth_first.specs.Paths.{mark_of_start, IsServing, IsAllReached, AreTooMany}
+use Rattle.breadth_first.proofs.Served.{serving_first}
+use Rattle.breadth_first.proofs.Pushed.{place_of}
+use Rattle.std.proofs.lemmas.Map.Keys.{any_passes_from_place}
+use Rattle.std.proofs.lemmas.Map.Made.{length-le_from_is_member}
+
+module _ {N : Type 0} (labels : ℕ) (move : N → ℕ → Option N) (eq : N → N → Bool) (laws : IsEquivalence eq)
+    (alike : (x y : N) → eq x y ≡ true → (l : ℕ) (z : N) → move x l ≡ Some z → (w : N) × ((move y l ≡ Some w) × (eq z w ≡ true))) where
+  -- what a search keeps
+  pub record HasBegun (start : N) (keys : List N) (marks : List Mark) (most : ℕ) : Type 0 where
+    pub serving : IsServing labels move eq keys marks 0
+    pub first : slice_get keys 0 ≡ Some start
+    pub fits : length keys ≤ most
+
+  pub begun : (start : N) (none keys : List N) (no_marks marks : List Mark) (most : ℕ) → none ≡ [] → no_marks ≡ []
+      → ((list_any (eq start) none ≡ true) × ((keys ≡ none) × (marks ≡ no_marks)))
+      ⊎ ((list_any (eq start) none ≡ false) × ((keys ≡ none ++ start ∷ []) × ((marks ≡ no_marks ++ mark_of_start ∷ []) × (length none < most))))
+      → HasBegun start keys marks most
+  begun start none keys no_marks marks most e f (inl a) = absurd (true≢false (sym a.0 ∙ ap (list_any (eq start)) e))
+  begun start none keys no_marks marks most e f (inr a) =
+      let k : keys ≡ start ∷ [] = a.1.0 ∙ ap (λ (n : List N). n ++ start ∷ []) e in
+      let m : marks ≡ mark_of_start ∷ [] = a.1.1.0 ∙ ap (λ (n : List Mark). n ++ mark_of_start ∷ []) f in
+      record {
+        serving = subst (λ (ks : List N). IsServing labels move eq ks marks 0) (sym k) (subst (λ (ms : List Mark). IsServing labels move eq (start ∷ []) ms 0) (sym m) (serving_first labels move eq laws alike start));
+        first = ap (λ (ks : List N). slice_get ks 0) k;
+        fits = omega (arith, ap length k, ap length e, a.1.1.1);
+      }
+
+  -- once all is found among at most `most` nodes, more aren't reachable
+  pub no_more : (start : N) (keys : List N) (marks : List Mark) (most : ℕ) → IsAllReached labels move eq start keys marks → length keys ≤ most
+      → AreTooMany labels move eq start most → ⊥
+  no_more start keys marks most all fits t =
+      let le = length-le_from_is_member {eq = eq} laws t.nodes keys t.distinct member in
+      omega (arith, le, t.many, fits)
+    where
+      member : (q : N) → list_any (eq q) t.nodes ≡ true → list_any (eq q) keys ≡ true
+      member q h =
+          let p = place_of (eq q) t.nodes h in
+          let r = t.reached p.0 p.1.0 p.1.1.0 in
+          let f = all.complete r.0 p.1.0 r.1 in
+          any_passes_from_place (eq q) keys f.index f.key f.stored (laws.congr q p.1.0 f.key p.1.1.1 ∙ f.same)

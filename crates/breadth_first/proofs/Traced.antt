@@ -1,0 +1,73 @@
+-- A path is traced back along the parents.
+use Rattle.std.proofs.Common.{◌≡◌, ℕ, zero, suc, ◌+◌, ◌<◌, ◌≤◌, inl, inr, List, [], ◌∷◌, ◌++◌, Option, Some, length, slice_get, refl, sym, ap, subst, ◌∙◌, arith}
+use Rattle.std.specs.Prelude.{reverse}
+use Rattle.std.proofs.lemmas.Option.{same_Some, slice_get_cases}
+use Rattle.std.proofs.lemmas.List.{reverse-append, length-reverse, length_push}
+use Rattle.breadth_first.specs.declared.mark.Mark.{Mark}
+use Rattle.breadth_first.specs.Paths.{noted_mark, depth_at, IsTrail, LeadsBy}
+
+module _ {N : Type 0} (labels : ℕ) (move : N → ℕ → Option N) (keys : List N) (marks : List Mark) where
+  -- the marks on the way back from the node at `index` to the one at `at`, the last first
+  pub record IsTraced (index at made : ℕ) (path : List Mark) : Type 0 where
+    pub there : at < length keys
+    pub depth : depth_at marks at + made ≡ depth_at marks index
+    pub long : length path ≡ made
+    pub leads : (x key : N) → slice_get keys at ≡ Some x → slice_get keys index ≡ Some key → LeadsBy labels move keys x (reverse path) key
+
+  pub traced_none : (index : ℕ) → index < length keys → IsTraced index index 0 []
+  traced_none index lt = record {
+    there = lt;
+    depth = omega arith;
+    long = refl;
+    leads = λ x key h k. same_Some key x (sym k ∙ h);
+  }
+
+  module _ (t : IsTrail labels move keys marks) where
+    -- a node deeper than the start isn't the start
+    not_first : (at : ℕ) → 0 < depth_at marks at → 0 < at
+    not_first zero deep = let first = t.first in omega (arith, first, deep)
+    not_first (suc at) deep = omega arith
+
+    pub traced_more : (index at made : ℕ) (path : List Mark) (m : Mark) → IsTraced index at made path → made < depth_at marks index → m ≡ noted_mark marks at
+        → IsTraced index m.parent (made + 1) (path ++ m ∷ [])
+    traced_more index at made path m d more is = elim ((slice_get_cases keys at).1) [
+      | inl a ↦ step a.0 a.2
+      | inr b ↦ absurd (omega (arith, d.there, b.0))
+    ]
+      where
+        step : (x : N) → slice_get keys at ≡ Some x → IsTraced index m.parent (made + 1) (path ++ m ∷ [])
+        step x here =
+            let h = t.made at x (not_first at (omega (arith, d.depth, more))) here in
+            let parent : m.parent ≡ (noted_mark marks at).parent = ap (λ n. n.parent) is in
+            let label : m.label ≡ (noted_mark marks at).label = ap (λ n. n.label) is in
+            let deep : depth_at marks m.parent ≡ depth_at marks (noted_mark marks at).parent = ap (depth_at marks) parent in
+            let low = h.earlier in
+            let deeper = h.deeper in
+            let labelled = h.labelled in
+            record {
+              there = omega (arith, d.there, low, parent);
+              depth = omega (arith, d.depth, deeper, deep);
+              long = length_push path m ∙ ap (λ n. n + 1) d.long;
+              leads = λ y key g k.
+                  let same : y ≡ h.parent = same_Some y h.parent (sym g ∙ (ap (slice_get keys) parent ∙ h.stored)) in
+                  let made_x : move y m.label ≡ Some x = (λ i. move (same i) (label i)) ∙ h.made in
+                  subst (λ l. LeadsBy labels move keys y l key) (sym (reverse-append path (m ∷ [])))
+                  (x, ((g, (omega (arith, labelled, label), made_x)), d.leads x key here k));
+            }
+
+    at_first : (at : ℕ) → at < length keys → depth_at marks at ≡ 0 → at ≡ 0
+    at_first zero lt none = refl
+    at_first (suc at) lt none = elim ((slice_get_cases keys (suc at)).1) [
+      | inl a ↦ let deeper = (t.made (suc at) a.0 (omega arith) a.2).deeper in absurd (omega (arith, deeper, none))
+      | inr b ↦ absurd (omega (arith, lt, b.0))
+    ]
+
+    -- all the way back
+    pub traced_all : (index at made : ℕ) (path : List Mark) → IsTraced index at made path → depth_at marks index ≤ made
+        → (start key : N) → slice_get keys 0 ≡ Some start → slice_get keys index ≡ Some key → LeadsBy labels move keys start (reverse path) key
+    traced_all index at made path d all start key s k =
+        let first : at ≡ 0 = at_first at d.there (omega (arith, d.depth, all)) in
+        d.leads start key (ap (slice_get keys) first ∙ s) k
+
+    pub traced_length : (index at made : ℕ) (path : List Mark) → IsTraced index at made path → depth_at marks index ≤ made → length (reverse path) ≡ depth_at marks index
+    traced_length index at made path d all = length-reverse path ∙ (d.long ∙ omega (arith, d.depth, all))

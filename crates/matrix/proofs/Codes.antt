@@ -1,0 +1,60 @@
+-- What is known of a matrix's history, with the code that each write has taken; and the arithmetic of codes.
+use Rattle.std.proofs.Common.{◌≡◌, ℕ, zero, suc, ◌+◌, ◌*◌, ◌%◌, ◌<◌, ◌≤◌, max, Bool, true, false, Option, Some, None, inl, inr, refl, sym, ap, subst, ◌∙◌, arith}
+use Rattle.std.specs.Prelude.{◌/◌, ◌⊎◌, ⊤}
+use Rattle.std.proofs.lemmas.Nat.{mul-add-lt, div-mul-add, mod-mul-add}
+use Rattle.std.proofs.lemmas.Bool.{cases_eq, cases_lt}
+use Rattle.frames.proofs.Pointwise.{put, put_same, put_other}
+
+-- `top` is the greatest code of an operation that has returned, at first the initial value. Of each
+-- process, `count` is how many writes it has invoked; `floor` what `top` was when it invoked its
+-- last operation; `value` the value of its last write; and `code` gives each of its writes, by
+-- number, the code that it has taken, if any; and `writing` whether it is in a write. `held` is the code that it last wrote to its whole
+-- row, `rows` how often it has written its whole row (and `limit` says after how many writes a part takes
+-- one more), and `snap` what `held` was, for every process, when it invoked its last operation.
+pub record Coded : Type 0 where
+  pub initial : ℕ
+  pub top : ℕ
+  pub count : ℕ → ℕ
+  pub floor : ℕ → ℕ
+  pub value : ℕ → ℕ
+  pub code : ℕ → ℕ → Option ℕ
+  pub writing : ℕ → Bool
+  pub limit : ℕ → Bool
+  pub rows : ℕ → ℕ
+  pub held : ℕ → ℕ
+  pub snap : ℕ → ℕ → ℕ
+
+-- x is the initial value, or the code of a write
+abbrev pub Known : Coded → ℕ → Type 0
+Known c x = (x ≡ c.initial) ⊎ ((q : ℕ) × ((k : ℕ) × (c.code q k ≡ Some x)))
+
+-- x is what a column has given so far: 0 before its first read
+abbrev pub Heard : Coded → ℕ → Type 0
+Heard c x = (x ≡ 0) ⊎ Known c x
+
+pub heard_more : (c : Coded) (g x : ℕ) → Heard c g → Known c x → Known c (max g x)
+heard_more c g x h k = elim (cases_lt x g) [
+  | inr le ↦ subst (Known c) (let e : x ≡ max g x = omega (arith, le) in e) k
+  | inl lt ↦ elim h [
+    | inl e ↦ absurd (omega (arith, lt, e))
+    | inr known ↦ subst (Known c) (let e : g ≡ max g x = omega (arith, lt) in e) known
+  ]
+]
+
+-- the process that a code names
+abbrev pub writer_of : ℕ → ℕ → ℕ → ℕ
+writer_of n V x = (x / V) % n
+
+abbrev pub made : ℕ → ℕ → ℕ → ℕ → ℕ → ℕ
+made n V tag p v = (tag * n + p) * V + v
+
+pub writer_made : (n V tag p v : ℕ) → p < n → v < V → writer_of n V (made n V tag p v) ≡ p
+writer_made n V tag p v lp lv = ap (λ x. x % n) (div-mul-add (tag * n + p) V v lv) ∙ mod-mul-add tag n p lp
+
+pub value_made : (n V tag p v : ℕ) → v < V → made n V tag p v % V ≡ v
+value_made n V tag p v lv = mod-mul-add (tag * n + p) V v lv
+
+-- cells of different rows or columns are different parts
+pub cells_apart : (n a b d e : ℕ) → b < n → e < n → (a ≡ d → b ≡ e → ⊥) → a * n + b ≡ d * n + e → ⊥
+cells_apart n a b d e lb le ne same =
+    ne (sym (div-mul-add a n b lb) ∙ ap (λ x. x / n) same ∙ div-mul-add d n e le) (sym (mod-mul-add a n b lb) ∙ ap (λ x. x % n) same ∙ mod-mul-add d n e le)

@@ -1,0 +1,7 @@
+pub mod Codes
+pub mod Phases
+pub mod PhaseSteps
+pub mod Moves
+pub mod Ledger
+pub mod Extract
+pub mod Kept

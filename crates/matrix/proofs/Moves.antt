@@ -1,0 +1,313 @@
+-- The ends of a column and of a row, and the invocation of an operation, keep the invariant.
+use Rattle.std.proofs.Common.{◌≡◌, ℕ, zero, suc, ◌+◌, ◌*◌, ◌<◌, ◌≤◌, ◌==◌, max, Bool, true, false, ◌∷◌, List, Option, Some, None, IsTrue, inl, inr, refl, sym, ap, subst, ◌∙◌, arith, eq-eqb, eqb-true, lt-ltb, ltb-true, ltb-false, ne_eqb}
+use Rattle.std.specs.Prelude.{◌/◌, ◌⊎◌, ⊤, nat_lt, if◌then◌else◌, length}
+use Rattle.std.proofs.lemmas.Bool.{cases_eq, cases_lt}
+use Rattle.std.proofs.Math.Nat.{lt-div-mul-add}
+use Rattle.frames.specs.declared.types.Op.{Op}
+use Rattle.frames.specs.declared.types.Op.TheVariants.{Read, Write}
+use Rattle.frames.proofs.Seen.{Seen}
+use Rattle.frames.proofs.Pointwise.{put, put_same, put_other, put_all}
+use Rattle.matrix.proofs.Codes.{Coded, Known, writer_of, made, writer_made, value_made}
+use Rattle.matrix.proofs.Phases.{Phase, Rests, Climbs, Looks, Holds, Puts, row_last, row_writing, row_count, InRow, Open, Took, Climbing, Looking, Rowing, Works, Invariant, Later, later_same, More, more_same, works_later}
+use Rattle.matrix.proofs.PhaseSteps.{Moves, invariant_after}
+
+-- p has written x to its whole row, and its operation returns with code x
+abbrev pub returned : ℕ → ℕ → Coded → Coded
+returned p x c = record c { top = max c.top x; held = put p x c.held; writing = put p false c.writing; rows = put p (c.rows p + 1) c.rows }
+
+rises : (p x : ℕ) (c : Coded) → c.held p ≤ x → (a : ℕ) → c.held a ≤ put p x c.held a
+rises p x c le = put_all (λ a y. c.held a ≤ y) p x c.held le (λ a ne. omega arith)
+
+pub row_done : (n V p : ℕ) (c : Coded) (o : Op) (x : ℕ) (f : ℕ → Phase) (parts : ℕ → Seen) → p < n → f p ≡ Holds o n x → Invariant n V c f parts
+    → Invariant n V (returned p x c) (put p Rests f) parts
+row_done n V p c o x f parts lp is h =
+    let w : Rowing c p o x = subst (Works n c p parts) is (h.works p lp) in
+    let le : c.held p ≤ x = w.held in
+    let d : Coded = returned p x c in
+    let mine : d.held p ≡ x = put_same p x c.held in
+    invariant_after n V p c d Rests f parts parts lp h (record {
+      last = λ b lb. h.last p b lp lb ∙ ap (λ z. row_last (c.held p) z b) is ∙ ap (λ z. if z then x else c.held p) (lt-ltb b n lb) ∙ sym mine;
+      writing = λ b lb. h.writing p b lp lb ∙ ap (λ z. row_writing z b) is;
+      other_last = λ a b la lb ne. refl;
+      other_writing = λ a b la lb ne. refl;
+      counted = λ b lb. h.counts p b lp lb ∙ ap (λ z. row_count (c.rows p) z b) is ∙ ap (λ z. if z then c.rows p + 1 else c.rows p) (lt-ltb b n lb) ∙ sym (put_same p (c.rows p + 1) c.rows);
+      other_counted = λ a b la lb ne. refl;
+      top = elim (cases_lt x c.top) [
+        | inl lt ↦ (let t = h.top in let r : c.held t.0 ≤ d.held t.0 = rises p x c le t.0 in let u : c.top ≤ c.held t.0 = t.1.1 in (t.0, (t.1.0, omega (arith, lt, r, u))))
+        | inr ge ↦ (p, (lp, omega (arith, ge, mine)))
+      ];
+      known = subst (Known c) (sym mine) w.known;
+      taken = λ i y e.
+          (let t = h.taken p i y e in
+          let u : (y ≤ c.held p) ⊎ (x ≡ y) = subst (λ z. (y ≤ c.held p) ⊎ InRow z y) is t.1.1 in
+          (t.1.0, elim u [ inl r ↦ inl (omega (arith, r, le, mine)) | inr r ↦ inl (omega (arith, r, mine)) ]));
+      below = λ a la. (let r : c.held a ≤ d.held a = rises p x c le a in let u : c.snap p a ≤ c.held a = h.below p a la in omega (arith, r, u));
+      none = h.later p;
+      others = λ q ne. record {
+        held = λ a la. rises p x c le a;
+        own = sym (put_other p q x c.held ne);
+        snap = λ a. refl;
+        floor = refl;
+        value = refl;
+        count = refl;
+        code = λ k. refl;
+        writing = sym (put_other p q false c.writing ne);
+        limit = refl;
+        rows = sym (put_other p q (c.rows p + 1) c.rows ne);
+        known = λ y k. k;
+      };
+      more = λ q a lq la ne. more_same d q a (parts (a * n + q));
+      works = tt;
+    })
+
+-- p invokes an operation
+abbrev pub invoked : ℕ → Op → Coded → Coded
+invoked p (Write v) c = record c { count = put p (c.count p + 1) c.count; floor = put p c.top c.floor; value = put p v c.value; snap = put p c.held c.snap; writing = put p true c.writing }
+invoked p Read c = record c { floor = put p c.top c.floor; snap = put p c.held c.snap; writing = put p false c.writing }
+
+pub invokes : (n V p : ℕ) (c : Coded) (o : Op) (f : ℕ → Phase) (parts : ℕ → Seen) → p < n → f p ≡ Rests → Invariant n V c f parts
+    → Invariant n V (invoked p o c) (put p (Climbs o 0 0) f) parts
+invokes n V p c (Write v) f parts lp is h =
+    let d : Coded = invoked p (Write v) c in
+    let at : (a : ℕ) → d.snap p a ≡ c.held a = λ a. ap (λ (g : ℕ → ℕ). g a) (put_same p c.held c.snap) in
+    let more : d.count p ≡ c.count p + 1 = put_same p (c.count p + 1) c.count in
+    invariant_after n V p c d (Climbs (Write v) 0 0) f parts parts lp h (record {
+      last = λ b lb. h.last p b lp lb ∙ ap (λ z. row_last (c.held p) z b) is;
+      writing = λ b lb. h.writing p b lp lb ∙ ap (λ z. row_writing z b) is;
+      other_last = λ a b la lb ne. refl;
+      other_writing = λ a b la lb ne. refl;
+      counted = λ b lb. h.counts p b lp lb ∙ ap (λ z. row_count (c.rows p) z b) is;
+      other_counted = λ a b la lb ne. refl;
+      top = h.top;
+      known = h.known p lp;
+      taken = λ i y e. (let t = h.taken p i y e in (t.1.0, subst (λ z. (y ≤ c.held p) ⊎ InRow z y) is t.1.1));
+      below = λ a la. (let e : d.snap p a ≡ c.held a = at a in omega (arith, e));
+      none = λ k lt. h.later p k (omega (arith, more, lt));
+      others = λ q ne. record {
+        held = λ a la. omega arith;
+        own = refl;
+        snap = λ a. ap (λ (g : ℕ → ℕ). g a) (sym (put_other p q c.held c.snap ne));
+        floor = sym (put_other p q c.top c.floor ne);
+        value = sym (put_other p q v c.value ne);
+        count = sym (put_other p q (c.count p + 1) c.count ne);
+        code = λ k. refl;
+        writing = sym (put_other p q true c.writing ne);
+        limit = refl;
+        rows = refl;
+        known = λ y k. k;
+      };
+      more = λ q a lq la ne. more_same d q a (parts (a * n + q));
+      works = record {
+        own = at p;
+        witness = (let t = h.top in let u : c.top ≤ c.held t.0 = t.1.1 in let e : d.snap p t.0 ≡ c.held t.0 = at t.0 in let r : d.floor p ≡ c.top = put_same p c.top c.floor in (t.0, (t.1.0, omega (arith, u, e, r))));
+        climbed = λ a la. absurd (omega (arith, la));
+        heard = inl (refl, refl);
+        free = (ap (c.code p) more ∙ h.later p (c.count p + 1) (omega arith), put_same p v c.value, put_same p true c.writing);
+      };
+    })
+invokes n V p c Read f parts lp is h =
+    let d : Coded = invoked p Read c in
+    let at : (a : ℕ) → d.snap p a ≡ c.held a = λ a. ap (λ (g : ℕ → ℕ). g a) (put_same p c.held c.snap) in
+    invariant_after n V p c d (Climbs Read 0 0) f parts parts lp h (record {
+      last = λ b lb. h.last p b lp lb ∙ ap (λ z. row_last (c.held p) z b) is;
+      writing = λ b lb. h.writing p b lp lb ∙ ap (λ z. row_writing z b) is;
+      other_last = λ a b la lb ne. refl;
+      other_writing = λ a b la lb ne. refl;
+      counted = λ b lb. h.counts p b lp lb ∙ ap (λ z. row_count (c.rows p) z b) is;
+      other_counted = λ a b la lb ne. refl;
+      top = h.top;
+      known = h.known p lp;
+      taken = λ i y e. (let t = h.taken p i y e in (t.1.0, subst (λ z. (y ≤ c.held p) ⊎ InRow z y) is t.1.1));
+      below = λ a la. (let e : d.snap p a ≡ c.held a = at a in omega (arith, e));
+      none = h.later p;
+      others = λ q ne. record {
+        held = λ a la. omega arith;
+        own = refl;
+        snap = λ a. ap (λ (g : ℕ → ℕ). g a) (sym (put_other p q c.held c.snap ne));
+        floor = sym (put_other p q c.top c.floor ne);
+        value = refl;
+        count = refl;
+        code = λ k. refl;
+        writing = sym (put_other p q false c.writing ne);
+        limit = refl;
+        rows = refl;
+        known = λ y k. k;
+      };
+      more = λ q a lq la ne. more_same d q a (parts (a * n + q));
+      works = record {
+        own = at p;
+        witness = (let t = h.top in let u : c.top ≤ c.held t.0 = t.1.1 in let e : d.snap p t.0 ≡ c.held t.0 = at t.0 in let r : d.floor p ≡ c.top = put_same p c.top c.floor in (t.0, (t.1.0, omega (arith, u, e, r))));
+        climbed = λ a la. absurd (omega (arith, la));
+        heard = inl (refl, refl);
+        free = put_same p false c.writing;
+      };
+    })
+
+-- before part 0 of a row is written, the row is as it was
+nothing_yet : (h x b : ℕ) → h ≡ (if nat_lt b 0 then x else h)
+nothing_yet h x b = go (nat_lt b 0) refl
+  where
+    go : (u : Bool) → nat_lt b 0 ≡ u → h ≡ (if u then x else h)
+    go true e = absurd (let p = ltb-true b 0 e in omega (arith, p))
+    go false e = refl
+
+found : (n j g : ℕ) (c : Coded) → 1 ≤ n → j ≡ n → ((j ≡ 0) × (g ≡ 0)) ⊎ Known c g → Known c g
+found n j g c some e h = elim h [ inl z ↦ absurd (let r : j ≡ 0 = z.0 in omega (arith, some, e, r)) | inr k ↦ k ]
+
+-- g, the greatest code in the column, is no lower than what had returned, and than what p held
+pub floor_found : (n p g : ℕ) (c : Coded) (o : Op) → Climbing n c p o n g → c.floor p ≤ g
+floor_found n p g c o w = let t = w.witness in let u : c.floor p ≤ c.snap p t.0 = t.1.1 in let v : c.snap p t.0 ≤ g = w.climbed t.0 t.1.0 in omega (arith, u, v)
+
+pub held_found : (n p g : ℕ) (c : Coded) (o : Op) → p < n → Climbing n c p o n g → c.held p ≤ g
+held_found n p g c o lp w = let u : c.snap p p ≡ c.held p = w.own in let v : c.snap p p ≤ g = w.climbed p lp in omega (arith, u, v)
+
+-- a read has read its whole column
+pub read_chosen : (n V p : ℕ) (c : Coded) (g : ℕ) (f : ℕ → Phase) (parts : ℕ → Seen) → p < n → f p ≡ Climbs Read n g → c.limit (c.rows p) ≡ true → Invariant n V c f parts → Invariant n V c (put p (Holds Read 0 g) f) parts
+read_chosen n V p c g f parts lp is room h =
+    let w : Climbing n c p Read n g = subst (Works n c p parts) is (h.works p lp) in
+    invariant_after n V p c c (Holds Read 0 g) f parts parts lp h (record {
+      last = λ b lb. h.last p b lp lb ∙ ap (λ z. row_last (c.held p) z b) is ∙ nothing_yet (c.held p) g b;
+      writing = λ b lb. h.writing p b lp lb ∙ ap (λ z. row_writing z b) is;
+      other_last = λ a b la lb ne. refl;
+      other_writing = λ a b la lb ne. refl;
+      counted = λ b lb. h.counts p b lp lb ∙ ap (λ z. row_count (c.rows p) z b) is ∙ nothing_yet (c.rows p) (c.rows p + 1) b;
+      other_counted = λ a b la lb ne. refl;
+      top = h.top;
+      known = h.known p lp;
+      taken = λ i y e. (let t = h.taken p i y e in let u : (y ≤ c.held p) ⊎ ⊥ = subst (λ z. (y ≤ c.held p) ⊎ InRow z y) is t.1.1 in (t.1.0, elim u [ inl r ↦ inl r | inr r ↦ absurd r ]));
+      below = h.below p;
+      none = h.later p;
+      others = λ q ne. later_same n q c;
+      more = λ q a lq la ne. more_same c q a (parts (a * n + q));
+      works = record { held = held_found n p g c Read lp w; floor = floor_found n p g c Read w; known = found n n g c (omega (arith, lp)) refl w.heard; took = w.free; room = room };
+    })
+
+-- an operation is refused once it has read its column
+abbrev pub closed : ℕ → Coded → Coded
+closed p c = record c { writing = put p false c.writing }
+
+pub refused : (n V p : ℕ) (c : Coded) (o : Op) (j g : ℕ) (f : ℕ → Phase) (parts : ℕ → Seen) → p < n → f p ≡ Climbs o j g → Invariant n V c f parts → Invariant n V (closed p c) (put p Rests f) parts
+refused n V p c o j g f parts lp is h =
+    invariant_after n V p c (closed p c) Rests f parts parts lp h (record {
+      last = λ b lb. h.last p b lp lb ∙ ap (λ z. row_last (c.held p) z b) is;
+      writing = λ b lb. h.writing p b lp lb ∙ ap (λ z. row_writing z b) is;
+      other_last = λ a b la lb ne. refl;
+      other_writing = λ a b la lb ne. refl;
+      counted = λ b lb. h.counts p b lp lb ∙ ap (λ z. row_count (c.rows p) z b) is;
+      other_counted = λ a b la lb ne. refl;
+      top = h.top;
+      known = h.known p lp;
+      taken = λ i y e. (let t = h.taken p i y e in (t.1.0, subst (λ z. (y ≤ c.held p) ⊎ InRow z y) is t.1.1));
+      below = h.below p;
+      none = h.later p;
+      others = λ q ne. record {
+        held = λ a la. omega arith;
+        own = refl;
+        snap = λ a. refl;
+        floor = refl;
+        value = refl;
+        count = refl;
+        code = λ k. refl;
+        writing = sym (put_other p q false c.writing ne);
+        limit = refl;
+        rows = refl;
+        known = λ y k. k;
+      };
+      more = λ q a lq la ne. more_same (closed p c) q a (parts (a * n + q));
+      works = tt;
+    })
+
+-- p's write takes code z
+abbrev pub took_code : ℕ → ℕ → Coded → Coded
+took_code p z c = record c { code = put p (put (c.count p) (Some z) (c.code p)) c.code }
+
+pub took_at : (p z : ℕ) (c : Coded) → (took_code p z c).code p (c.count p) ≡ Some z
+took_at p z c = ap (λ (g : ℕ → Option ℕ). g (c.count p)) (put_same p (put (c.count p) (Some z) (c.code p)) c.code) ∙ put_same (c.count p) (Some z) (c.code p)
+
+pub took_else : (p z k : ℕ) (c : Coded) → (k ≡ c.count p → ⊥) → (took_code p z c).code p k ≡ c.code p k
+took_else p z k c ne = ap (λ (g : ℕ → Option ℕ). g k) (put_same p (put (c.count p) (Some z) (c.code p)) c.code) ∙ put_other (c.count p) k (Some z) (c.code p) ne
+
+pub took_others : (p z q k : ℕ) (c : Coded) → (q ≡ p → ⊥) → (took_code p z c).code q k ≡ c.code q k
+took_others p z q k c ne = ap (λ (g : ℕ → Option ℕ). g k) (put_other p q (put (c.count p) (Some z) (c.code p)) c.code ne)
+
+pub known_took : (p z : ℕ) (c : Coded) → c.code p (c.count p) ≡ None → (y : ℕ) → Known c y → Known (took_code p z c) y
+known_took p z c free y h = elim h [
+  | inl e ↦ inl e
+  | inr k ↦ inr (
+    k.0,
+    (
+      k.1.0,
+      elim (cases_eq k.0 p) [
+        | inr ne ↦ took_others p z k.0 k.1.0 c ne ∙ k.1.1
+        | inl e ↦ elim (cases_eq k.1.0 (c.count p)) [
+          | inr ne ↦ ap (λ q. (took_code p z c).code q k.1.0) e ∙ took_else p z k.1.0 c ne ∙ ap (λ q. c.code q k.1.0) (sym e) ∙ k.1.1
+          | inl i ↦ absurd (let u : None ≡ Some y = sym free ∙ sym (ap (c.code p) i) ∙ ap (λ q. c.code q k.1.0) (sym e) ∙ k.1.1 in cc)
+        ]
+      ],
+    ),
+  )
+]
+
+-- a write of v has read its whole column, and g isn't of the last tag
+pub write_chosen : (n V p : ℕ) (c : Coded) (v g z : ℕ) (f : ℕ → Phase) (parts : ℕ → Seen) → p < n → f p ≡ Climbs (Write v) n g → g < z → writer_of n V z ≡ p → c.limit (c.rows p) ≡ true → Invariant n V c f parts
+    → Invariant n V (took_code p z c) (put p (Holds (Write v) 0 z) f) parts
+write_chosen n V p c v g z f parts lp is above names room h =
+    let w : Climbing n c p (Write v) n g = subst (Works n c p parts) is (h.works p lp) in
+    let d : Coded = took_code p z c in
+    let low : c.held p ≤ g = held_found n p g c (Write v) lp w in
+    let base : c.floor p ≤ g = floor_found n p g c (Write v) w in
+    let lift : (y : ℕ) → Known c y → Known d y = known_took p z c w.free.0 in
+    invariant_after n V p c d (Holds (Write v) 0 z) f parts parts lp h (record {
+      last = λ b lb. h.last p b lp lb ∙ ap (λ z. row_last (c.held p) z b) is ∙ nothing_yet (c.held p) z b;
+      writing = λ b lb. h.writing p b lp lb ∙ ap (λ z. row_writing z b) is;
+      other_last = λ a b la lb ne. refl;
+      other_writing = λ a b la lb ne. refl;
+      counted = λ b lb. h.counts p b lp lb ∙ ap (λ z. row_count (c.rows p) z b) is ∙ nothing_yet (c.rows p) (c.rows p + 1) b;
+      other_counted = λ a b la lb ne. refl;
+      top = h.top;
+      known = lift (c.held p) (h.known p lp);
+      taken = λ k y e. elim (cases_eq k (c.count p)) [
+        | inl i ↦
+            (let same : z ≡ y = some_same z y (sym (took_at p z c) ∙ ap (d.code p) (sym i) ∙ e) in
+            (ap (writer_of n V) (sym same) ∙ names, inr same))
+        | inr ne ↦ (let t = h.taken p k y (sym (took_else p z k c ne) ∙ e) in let u : (y ≤ c.held p) ⊎ ⊥ = subst (λ z. (y ≤ c.held p) ⊎ InRow z y) is t.1.1 in (t.1.0, elim u [ inl r ↦ inl r | inr r ↦ absurd r ]))
+      ];
+      below = h.below p;
+      none = λ k lt. took_else p z k c (λ e. omega (arith, e, lt)) ∙ h.later p k lt;
+      others = λ q ne. record {
+        held = λ a la. omega arith;
+        own = refl;
+        snap = λ a. refl;
+        floor = refl;
+        value = refl;
+        count = refl;
+        code = λ k. sym (took_others p z q k c ne);
+        writing = refl;
+        limit = refl;
+        rows = refl;
+        known = lift;
+      };
+      more = λ q a lq la ne. more_same d q a (parts (a * n + q));
+      works = record { held = omega (arith, low, above); floor = omega (arith, base, above); known = inr (p, (c.count p, took_at p z c)); took = (took_at p z c, w.free.2); room = room };
+    })
+  where
+    some_same : (x y : ℕ) → (let s : Option ℕ = Some x in s) ≡ Some y → x ≡ y
+    some_same x y e = cc
+
+-- no other write has taken this code
+pub code_new : (n V p : ℕ) (c : Coded) (v g z : ℕ) (f : ℕ → Phase) (parts : ℕ → Seen) → p < n → f p ≡ Climbs (Write v) n g → g < z → writer_of n V z ≡ p → Invariant n V c f parts
+    → (q k : ℕ) → c.code q k ≡ Some z → ⊥
+code_new n V p c v g z f parts lp is above names h q k e =
+    let w : Climbing n c p (Write v) n g = subst (Works n c p parts) is (h.works p lp) in
+    let low : c.held p ≤ g = held_found n p g c (Write v) lp w in
+    let t = h.taken q k z e in
+    let same : q ≡ p = sym t.1.0 ∙ names in
+    let u : (z ≤ c.held p) ⊎ ⊥ = subst (λ x. (z ≤ c.held p) ⊎ InRow x z) is (subst (λ q. (z ≤ c.held q) ⊎ InRow (f q) z) same t.1.1) in
+    elim u [ inl r ↦ omega (arith, r, low, above) | inr r ↦ r ]
+
+-- the code that a write makes from the greatest code of its column is greater
+pub code_above : (n V p v g : ℕ) → 0 < n * V → g < made n V (g / (n * V) + 1) p v
+code_above n V p v g pos =
+    let l : g < g / (n * V) * (n * V) + n * V = lt-div-mul-add pos in
+    let e : made n V (g / (n * V) + 1) p v ≡ g / (n * V) * (n * V) + n * V + (p * V + v) = omega arith in
+    omega (arith, l, e)

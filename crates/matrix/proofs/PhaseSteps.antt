@@ -1,0 +1,280 @@
+-- Each step of a matrix's program keeps the invariant.
+use Rattle.std.proofs.Common.{◌≡◌, ℕ, zero, suc, ◌+◌, ◌*◌, ◌<◌, ◌≤◌, ◌==◌, max, Bool, true, false, ◌∷◌, List, Option, Some, None, IsTrue, inl, inr, refl, sym, ap, subst, ◌∙◌, arith, eq-eqb, eqb-true, lt-ltb, ltb-true, ltb-false, ne_eqb}
+use Rattle.std.specs.Prelude.{◌⊎◌, ⊤, ◌||◌, nat_lt, if◌then◌else◌, length}
+use Rattle.std.proofs.lemmas.Bool.{cases_eq, cases_lt}
+use Rattle.frames.specs.declared.types.Op.{Op}
+use Rattle.frames.specs.declared.types.Op.TheVariants.{Read, Write}
+use Rattle.frames.specs.declared.types.Event.TheVariants.{Invoke, Got, Wrote}
+use Rattle.frames.specs.correctness.Regularity.{in_progress}
+use Rattle.frames.proofs.Seen.{Seen, among, sees, now_last, IsNotStray}
+use Rattle.frames.proofs.VerdictFacts.{not_stray_is}
+use Rattle.frames.proofs.Pointwise.{put, put_same, put_other, put_all}
+use Rattle.matrix.proofs.Codes.{Coded, Known, heard_more, writer_of, cells_apart}
+use Rattle.matrix.proofs.Phases.{Phase, Rests, Climbs, Looks, Holds, Puts, row_last, row_writing, row_count, InRow, Open, Took, Climbing, Looking, Rowing, Works, Invariant, Later, later_same, More, more_same, works_later}
+
+-- Process p enters phase x. Its row, its codes and its work are as x says, and the others keep
+-- theirs.
+pub record Moves (n V p : ℕ) (c d : Coded) (x : Phase) (parts to : ℕ → Seen) : Type 0 where
+  pub last : (b : ℕ) → b < n → (to (p * n + b)).last ≡ row_last (d.held p) x b
+  pub writing : (b : ℕ) → b < n → (to (p * n + b)).writing ≡ row_writing x b
+  pub other_last : (a b : ℕ) → a < n → b < n → (a ≡ p → ⊥) → (to (a * n + b)).last ≡ (parts (a * n + b)).last
+  pub other_writing : (a b : ℕ) → a < n → b < n → (a ≡ p → ⊥) → (to (a * n + b)).writing ≡ (parts (a * n + b)).writing
+  pub counted : (b : ℕ) → b < n → length ((to (p * n + b)).overlaps 0) ≡ row_count (d.rows p) x b
+  pub other_counted : (a b : ℕ) → a < n → b < n → (a ≡ p → ⊥) → length ((to (a * n + b)).overlaps 0) ≡ length ((parts (a * n + b)).overlaps 0)
+  pub top : (a : ℕ) × ((a < n) × (d.top ≤ d.held a))
+  pub known : Known d (d.held p)
+  pub taken : (k y : ℕ) → d.code p k ≡ Some y → (writer_of n V y ≡ p) × ((y ≤ d.held p) ⊎ InRow x y)
+  pub below : (a : ℕ) → a < n → d.snap p a ≤ d.held a
+  pub none : (k : ℕ) → d.count p < k → d.code p k ≡ None
+  pub others : (q : ℕ) → (q ≡ p → ⊥) → Later n q c d
+  pub more : (q a : ℕ) → q < n → a < n → (q ≡ p → ⊥) → More d q a (parts (a * n + q)) (to (a * n + q))
+  pub works : Works n d p to x
+
+pub invariant_after : (n V p : ℕ) (c d : Coded) (x : Phase) (f : ℕ → Phase) (parts to : ℕ → Seen) → p < n → Invariant n V c f parts → Moves n V p c d x parts to → Invariant n V d (put p x f) to
+invariant_after n V p c d x f parts to lp h m = record {
+  last = λ a b la lb. put_all (λ a y. a < n → (to (a * n + b)).last ≡ row_last (d.held a) y b) p x f (λ l. m.last b lb)
+      (λ a ne l. m.other_last a b l lb ne ∙ h.last a b l lb ∙ ap (λ z. row_last z (f a) b) (m.others a ne).own) a la;
+  writing = λ a b la lb. put_all (λ a y. a < n → (to (a * n + b)).writing ≡ row_writing y b) p x f (λ l. m.writing b lb)
+      (λ a ne l. m.other_writing a b l lb ne ∙ h.writing a b l lb) a la;
+  counts = λ a b la lb. put_all (λ a y. a < n → length ((to (a * n + b)).overlaps 0) ≡ row_count (d.rows a) y b) p x f (λ l. m.counted b lb)
+      (λ a ne l. m.other_counted a b l lb ne ∙ h.counts a b l lb ∙ ap (λ z. row_count z (f a) b) (m.others a ne).rows) a la;
+  top = m.top;
+  known = λ a la. elim (cases_eq a p) [
+    | inl e ↦ subst (λ a. Known d (d.held a)) (sym e) m.known
+    | inr ne ↦ subst (Known d) (m.others a ne).own ((m.others a ne).known (c.held a) (h.known a la))
+  ];
+  taken = λ q k y. put_all (λ q z. d.code q k ≡ Some y → (q < n) × ((writer_of n V y ≡ q) × ((y ≤ d.held q) ⊎ InRow z y))) p x f
+      (λ e. (lp, m.taken k y e))
+      (λ q ne e. let t = h.taken q k y ((m.others q ne).code k ∙ e) in
+      (t.0, (t.1.0, subst (λ z. (y ≤ z) ⊎ InRow (f q) y) (m.others q ne).own t.1.1))) q;
+  below = λ q a la. elim (cases_eq q p) [
+    | inl e ↦ subst (λ q. d.snap q a ≤ d.held a) (sym e) (m.below a la)
+    | inr ne ↦ (let l = m.others q ne in let u : c.snap q a ≡ d.snap q a = l.snap a in let v : c.held a ≤ d.held a = l.held a la in let w : c.snap q a ≤ c.held a = h.below q a la in omega (arith, u, v, w))
+  ];
+  later = λ q k lt. elim (cases_eq q p) [
+    | inl e ↦ ap (λ q. d.code q k) e ∙ m.none k (let s = ap d.count e in omega (arith, s, lt))
+    | inr ne ↦ sym ((m.others q ne).code k) ∙ h.later q k (let s = (m.others q ne).count in omega (arith, s, lt))
+  ];
+  works = λ q lq. put_all (λ q z. q < n → Works n d q to z) p x f (λ l. m.works)
+      (λ q ne l. works_later n q c d parts to l (m.others q ne) (λ a la. m.more q a l la ne) (f q) (h.works q l)) q lq;
+}
+
+-- process p invokes the read of part j of its column
+pub column_asked : (n V p : ℕ) (c : Coded) (o : Op) (j g : ℕ) (f : ℕ → Phase) (parts : ℕ → Seen) → p < n → j < n → f p ≡ Climbs o j g → Invariant n V c f parts
+    → Invariant n V c (put p (Looks o j g) f) (put (j * n + p) (sees (Some (Invoke 1 Read)) (parts (j * n + p))) parts)
+column_asked n V p c o j g f parts lp lj is h =
+    let k : ℕ = j * n + p in
+    let s : Seen = sees (Some (Invoke 1 Read)) (parts k) in
+    let to : ℕ → Seen = put k s parts in
+    let same_last : (i : ℕ) → (to i).last ≡ (parts i).last = put_all (λ i t. t.last ≡ (parts i).last) k s parts refl (λ i ne. refl) in
+    let same_writing : (i : ℕ) → (to i).writing ≡ (parts i).writing = put_all (λ i t. t.writing ≡ (parts i).writing) k s parts refl (λ i ne. refl) in
+    let same_count : (i : ℕ) → length ((to i).overlaps 0) ≡ length ((parts i).overlaps 0) = put_all (λ i t. length (t.overlaps 0) ≡ length ((parts i).overlaps 0)) k s parts refl (λ i ne. refl) in
+    let climbing : Climbing n c p o j g = subst (Works n c p parts) is (h.works p lp) in
+    let low : c.snap p j ≤ c.held j = h.below p j lj in
+    invariant_after n V p c c (Looks o j g) f parts to lp h (record {
+      last = λ b lb. same_last (p * n + b) ∙ h.last p b lp lb ∙ ap (λ z. row_last (c.held p) z b) is;
+      writing = λ b lb. same_writing (p * n + b) ∙ h.writing p b lp lb ∙ ap (λ z. row_writing z b) is;
+      other_last = λ a b la lb ne. same_last (a * n + b);
+      other_writing = λ a b la lb ne. same_writing (a * n + b);
+      counted = λ b lb. same_count (p * n + b) ∙ h.counts p b lp lb ∙ ap (λ z. row_count (c.rows p) z b) is;
+      other_counted = λ a b la lb ne. same_count (a * n + b);
+      top = h.top;
+      known = h.known p lp;
+      taken = λ i y e. (let t = h.taken p i y e in (t.1.0, subst (λ z. (y ≤ c.held p) ⊎ InRow z y) is t.1.1));
+      below = h.below p;
+      none = h.later p;
+      others = λ q ne. later_same n q c;
+      more = λ q a lq la ne. subst (More c q a (parts (a * n + q))) (sym (put_other k (a * n + q) s parts (cells_apart n a q j p lq lp (λ e d. ne d)))) (more_same c q a (parts (a * n + q)));
+      works = (
+        climbing,
+        subst (Looking n c p j) (sym (put_same k s parts)) (record {
+          part = lj;
+          fresh = fresh_known (f j) low (h.last j p lj lp) refl;
+          overlaps = λ y m. over_known (f j) y low (h.writing j p lj lp) refl m;
+        }),
+      );
+    })
+  where
+    -- what was last written to this part is no lower than what its writer held
+    fresh_known : (x : Phase) → c.snap p j ≤ c.held j → (parts (j * n + p)).last ≡ row_last (c.held j) (f j) p → f j ≡ x → (c.snap p j ≤ (parts (j * n + p)).last) × Known c ((parts (j * n + p)).last)
+    fresh_known x low e ex = go x (e ∙ ap (λ z. row_last (c.held j) z p) ex) (subst (Works n c j parts) ex (h.works j lj))
+      where
+        as_held : (parts (j * n + p)).last ≡ c.held j → (c.snap p j ≤ (parts (j * n + p)).last) × Known c ((parts (j * n + p)).last)
+        as_held e = (omega (arith, low, e), subst (Known c) (sym e) (h.known j lj))
+
+        as_row : (i y : ℕ) (b : Bool) → c.held j ≤ y → Known c y → (parts (j * n + p)).last ≡ (if b then y else c.held j) → (c.snap p j ≤ (parts (j * n + p)).last) × Known c ((parts (j * n + p)).last)
+        as_row i y true u r e = (omega (arith, low, u, e), subst (Known c) (sym e) r)
+        as_row i y false u r e = as_held e
+
+        go : (x : Phase) → (parts (j * n + p)).last ≡ row_last (c.held j) x p → Works n c j parts x → (c.snap p j ≤ (parts (j * n + p)).last) × Known c ((parts (j * n + p)).last)
+        go Rests e w = as_held e
+        go (Climbs q i z) e w = as_held e
+        go (Looks q i z) e w = as_held e
+        go (Holds q i y) e w = as_row i y (nat_lt p i) w.held w.known e
+        go (Puts q i y) e w = as_row i y (nat_lt p i) w.held w.known e
+
+    over_known : (x : Phase) (y : ℕ) → c.snap p j ≤ c.held j → (parts (j * n + p)).writing ≡ row_writing (f j) p → f j ≡ x → IsTrue (among y (in_progress (parts (j * n + p)).writing)) → (c.snap p j ≤ y) × Known c y
+    over_known x y low e ex m = go x (e ∙ ap (λ z. row_writing z p) ex) (subst (Works n c j parts) ex (h.works j lj))
+      where
+        nothing : (parts (j * n + p)).writing ≡ None → (c.snap p j ≤ y) × Known c y
+        nothing e = absurd (let u : IsTrue (among y (in_progress None)) = subst (λ w. IsTrue (among y (in_progress w))) e m in cc)
+
+        one : (z : ℕ) → c.held j ≤ z → Known c z → IsTrue (among y (in_progress (Some z))) → (c.snap p j ≤ y) × Known c y
+        one z u k m = by (z == y) refl m
+          where
+            by : (b : Bool) → (z == y) ≡ b → IsTrue (b || false) → (c.snap p j ≤ y) × Known c y
+            by true e m = (let s : z ≡ y = eqb-true z y e in (omega (arith, low, u, s), subst (Known c) s k))
+            by false e m = absurd (cc m)
+
+        some : (z : ℕ) (b : Bool) → c.held j ≤ z → Known c z → (parts (j * n + p)).writing ≡ (if b then Some z else None) → (c.snap p j ≤ y) × Known c y
+        some z true u k e = one z u k (subst (λ w. IsTrue (among y (in_progress w))) e m)
+        some z false u k e = nothing e
+
+        go : (x : Phase) → (parts (j * n + p)).writing ≡ row_writing x p → Works n c j parts x → (c.snap p j ≤ y) × Known c y
+        go Rests e w = nothing e
+        go (Climbs q i z) e w = nothing e
+        go (Looks q i z) e w = nothing e
+        go (Holds q i z) e w = nothing e
+        go (Puts q i z) e w = some z (p == i) w.held w.known e
+
+-- the read of part j gives x
+pub column_given : (n V p : ℕ) (c : Coded) (o : Op) (j g x : ℕ) (f : ℕ → Phase) (parts : ℕ → Seen) → p < n → f p ≡ Looks o j g → Invariant n V c f parts
+    → IsNotStray (record { reader = 1; value = x; fresh = (parts (j * n + p)).fresh 1; overlaps = (parts (j * n + p)).overlaps 1 })
+    → Invariant n V c (put p (Climbs o (j + 1) (max g x)) f) parts
+column_given n V p c o j g x f parts lp is h good =
+    let w : Climbing n c p o j g × Looking n c p j (parts (j * n + p)) = subst (Works n c p parts) is (h.works p lp) in
+    let u : (c.snap p j ≤ x) × Known c x = given w.1 in
+    let seen : c.snap p j ≤ x = u.0 in
+    invariant_after n V p c c (Climbs o (j + 1) (max g x)) f parts parts lp h (record {
+      last = λ b lb. h.last p b lp lb ∙ ap (λ z. row_last (c.held p) z b) is;
+      writing = λ b lb. h.writing p b lp lb ∙ ap (λ z. row_writing z b) is;
+      other_last = λ a b la lb ne. refl;
+      other_writing = λ a b la lb ne. refl;
+      counted = λ b lb. h.counts p b lp lb ∙ ap (λ z. row_count (c.rows p) z b) is;
+      other_counted = λ a b la lb ne. refl;
+      top = h.top;
+      known = h.known p lp;
+      taken = λ i y e. (let t = h.taken p i y e in (t.1.0, subst (λ z. (y ≤ c.held p) ⊎ InRow z y) is t.1.1));
+      below = h.below p;
+      none = h.later p;
+      others = λ q ne. later_same n q c;
+      more = λ q a lq la ne. more_same c q a (parts (a * n + q));
+      works = record {
+        own = w.0.own;
+        witness = w.0.witness;
+        climbed = λ a la. elim (cases_eq a j) [
+          | inl e ↦ (let s : c.snap p a ≡ c.snap p j = ap (c.snap p) e in omega (arith, s, seen))
+          | inr ne ↦ (let s : c.snap p a ≤ g = w.0.climbed a (omega (arith, la, ne)) in omega (arith, s))
+        ];
+        heard = inr (heard_more c g x (elim (w.0.heard) [ inl z ↦ inl z.1 | inr k ↦ inr k ]) u.1);
+        free = w.0.free;
+      };
+    })
+  where
+    given : Looking n c p j (parts (j * n + p)) → (c.snap p j ≤ x) × Known c x
+    given l = elim (not_stray_is (record { reader = 1; value = x; fresh = (parts (j * n + p)).fresh 1; overlaps = (parts (j * n + p)).overlaps 1 }) good) [
+      | inl e ↦ (let r : c.snap p j ≤ (parts (j * n + p)).fresh 1 = l.fresh.0 in (omega (arith, e, r), subst (Known c) (sym e) l.fresh.1))
+      | inr m ↦ l.overlaps x m
+    ]
+
+-- what was last written to a row, once part j is written too
+one_more : (h j x b : ℕ) → (b ≡ j → ⊥) → (if nat_lt b j then x else h) ≡ (if nat_lt b (j + 1) then x else h)
+one_more h j x b ne = go (nat_lt b j) refl (nat_lt b (j + 1)) refl
+  where
+    go : (u : Bool) → nat_lt b j ≡ u → (v : Bool) → nat_lt b (j + 1) ≡ v → (if u then x else h) ≡ (if v then x else h)
+    go true e true i = refl
+    go false e false i = refl
+    go true e false i = absurd (let p = ltb-true b j e in let q = ltb-false b (j + 1) i in omega (arith, p, q))
+    go false e true i = absurd (let p = ltb-false b j e in let q = ltb-true b (j + 1) i in omega (arith, p, q, ne))
+
+pub same_part : (h j x : ℕ) → (if nat_lt j j then x else h) ≡ h
+same_part h j x = go (nat_lt j j) refl
+  where
+    go : (u : Bool) → nat_lt j j ≡ u → (if u then x else h) ≡ h
+    go true e = absurd (let p = ltb-true j j e in omega (arith, p))
+    go false e = refl
+
+-- process p invokes the write of x to part j of its row
+pub row_asked : (n V p : ℕ) (c : Coded) (o : Op) (j x : ℕ) (f : ℕ → Phase) (parts : ℕ → Seen) → p < n → j < n → f p ≡ Holds o j x → Invariant n V c f parts
+    → Invariant n V c (put p (Puts o j x) f) (put (p * n + j) (sees (Some (Invoke 0 (Write x))) (parts (p * n + j))) parts)
+row_asked n V p c o j x f parts lp lj is h =
+    let k : ℕ = p * n + j in
+    let s : Seen = sees (Some (Invoke 0 (Write x))) (parts k) in
+    let to : ℕ → Seen = put k s parts in
+    let same_last : (i : ℕ) → (to i).last ≡ (parts i).last = put_all (λ i t. t.last ≡ (parts i).last) k s parts refl (λ i ne. refl) in
+    let w : Rowing c p o x = subst (Works n c p parts) is (h.works p lp) in
+    invariant_after n V p c c (Puts o j x) f parts to lp h (record {
+      last = λ b lb. same_last (p * n + b) ∙ h.last p b lp lb ∙ ap (λ z. row_last (c.held p) z b) is;
+      writing = λ b lb. elim (cases_eq b j) as (λ _. (to (p * n + b)).writing ≡ row_writing (Puts o j x) b) [
+        | inl e ↦ ap (λ i. (to (p * n + i)).writing) e ∙ ap (λ t. t.writing) (put_same k s parts) ∙ sym (ap (λ z. if z then Some x else None) (eq-eqb b j e))
+        | inr ne ↦ ap (λ t. t.writing) (put_other k (p * n + b) s parts (cells_apart n p b p j lb lj (λ d e. ne e))) ∙ h.writing p b lp lb ∙ ap (λ z. row_writing z b) is
+            ∙ sym (ap (λ z. if z then Some x else None) (ne_eqb b j ne))
+      ];
+      other_last = λ a b la lb ne. same_last (a * n + b);
+      counted = λ b lb. elim (cases_eq b j) as (λ _. length ((to (p * n + b)).overlaps 0) ≡ row_count (c.rows p) (Puts o j x) b) [
+        | inl e ↦ ap (λ i. length ((to (p * n + i)).overlaps 0)) e ∙ ap (λ t. length (t.overlaps 0)) (put_same k s parts)
+            ∙ ap suc (h.counts p j lp lj ∙ ap (λ z. row_count (c.rows p) z j) is ∙ same_part (c.rows p) j (c.rows p + 1))
+            ∙ (let q : suc (c.rows p) ≡ c.rows p + 1 = omega arith in q) ∙ sym (ap (λ z. if z then c.rows p + 1 else c.rows p) (lt-ltb b (j + 1) (omega (arith, e))))
+        | inr ne ↦ ap (λ t. length (t.overlaps 0)) (put_other k (p * n + b) s parts (cells_apart n p b p j lb lj (λ d e. ne e))) ∙ h.counts p b lp lb ∙ ap (λ z. row_count (c.rows p) z b) is
+            ∙ one_more (c.rows p) j (c.rows p + 1) b ne
+      ];
+      other_counted = λ a b la lb ne. ap (λ t. length (t.overlaps 0)) (put_other k (a * n + b) s parts (cells_apart n a b p j lb lj (λ d e. ne d)));
+      other_writing = λ a b la lb ne. ap (λ t. t.writing) (put_other k (a * n + b) s parts (cells_apart n a b p j lb lj (λ d e. ne d)));
+      top = h.top;
+      known = h.known p lp;
+      taken = λ i y e. (let t = h.taken p i y e in (t.1.0, subst (λ z. (y ≤ c.held p) ⊎ InRow z y) is t.1.1));
+      below = h.below p;
+      none = h.later p;
+      others = λ q ne. later_same n q c;
+      more = λ q a lq la ne. put_all (λ i t. i ≡ a * n + q → More c q a (parts i) t) k s parts
+          (λ e. over q a lq la e w) (λ i d e. more_same c q a (parts i)) (a * n + q) refl;
+      works = w;
+    })
+  where
+    over : (q a : ℕ) → q < n → a < n → p * n + j ≡ a * n + q → Rowing c p o x → More c q a (parts (p * n + j)) (sees (Some (Invoke 0 (Write x))) (parts (p * n + j)))
+    over q a lq la e w = record { fresh = refl; overlaps = λ y m. by y (x == y) refl m }
+      where
+        by : (y : ℕ) (b : Bool) → (x == y) ≡ b → IsTrue (b || among y ((parts (p * n + j)).overlaps 1)) → IsTrue (among y ((parts (p * n + j)).overlaps 1)) ⊎ ((c.snap q a ≤ y) × Known c y)
+        by y false i m = inl m
+        by y true i m =
+            let same : x ≡ y = eqb-true x y i in
+            let row : a ≡ p = elim (cases_eq a p) [ inl r ↦ r | inr r ↦ absurd (cells_apart n a q p j lq lj (λ u v. r u) (sym e)) ] in
+            let low : c.snap q a ≤ c.held a = h.below q a la in
+            let u : c.held p ≤ x = w.held in
+            let v : c.held a ≡ c.held p = ap c.held row in
+            inr (omega (arith, low, u, v, same), subst (Known c) same w.known)
+
+-- the write of x to part j has returned
+pub row_given : (n V p : ℕ) (c : Coded) (o : Op) (j x : ℕ) (f : ℕ → Phase) (parts : ℕ → Seen) → p < n → j < n → f p ≡ Puts o j x → Invariant n V c f parts
+    → Invariant n V c (put p (Holds o (j + 1) x) f) (put (p * n + j) (sees (Some (Wrote 0)) (parts (p * n + j))) parts)
+row_given n V p c o j x f parts lp lj is h =
+    let k : ℕ = p * n + j in
+    let s : Seen = sees (Some (Wrote 0)) (parts k) in
+    let to : ℕ → Seen = put k s parts in
+    let w : Rowing c p o x = subst (Works n c p parts) is (h.works p lp) in
+    let was : (parts k).writing ≡ Some x = h.writing p j lp lj ∙ ap (λ z. row_writing z j) is ∙ ap (λ z. if z then Some x else None) (eq-eqb j j refl) in
+    invariant_after n V p c c (Holds o (j + 1) x) f parts to lp h (record {
+      last = λ b lb. elim (cases_eq b j) as (λ _. (to (p * n + b)).last ≡ row_last (c.held p) (Holds o (j + 1) x) b) [
+        | inl e ↦ ap (λ i. (to (p * n + i)).last) e ∙ ap (λ t. t.last) (put_same k s parts) ∙ ap (λ z. now_last z (parts k).last) was
+            ∙ sym (ap (λ z. if z then x else c.held p) (lt-ltb b (j + 1) (omega (arith, e))))
+        | inr ne ↦ ap (λ t. t.last) (put_other k (p * n + b) s parts (cells_apart n p b p j lb lj (λ d e. ne e))) ∙ h.last p b lp lb ∙ ap (λ z. row_last (c.held p) z b) is
+            ∙ one_more (c.held p) j x b ne
+      ];
+      writing = λ b lb. elim (cases_eq b j) as (λ _. (to (p * n + b)).writing ≡ None) [
+        | inl e ↦ ap (λ i. (to (p * n + i)).writing) e ∙ ap (λ t. t.writing) (put_same k s parts)
+        | inr ne ↦ ap (λ t. t.writing) (put_other k (p * n + b) s parts (cells_apart n p b p j lb lj (λ d e. ne e))) ∙ h.writing p b lp lb ∙ ap (λ z. row_writing z b) is
+            ∙ ap (λ z. if z then Some x else None) (ne_eqb b j ne)
+      ];
+      counted = λ b lb. put_all (λ i t. length (t.overlaps 0) ≡ length ((parts i).overlaps 0)) k s parts refl (λ i ne. refl) (p * n + b) ∙ h.counts p b lp lb ∙ ap (λ z. row_count (c.rows p) z b) is;
+      other_counted = λ a b la lb ne. put_all (λ i t. length (t.overlaps 0) ≡ length ((parts i).overlaps 0)) k s parts refl (λ i ne. refl) (a * n + b);
+      other_last = λ a b la lb ne. ap (λ t. t.last) (put_other k (a * n + b) s parts (cells_apart n a b p j lb lj (λ d e. ne d)));
+      other_writing = λ a b la lb ne. ap (λ t. t.writing) (put_other k (a * n + b) s parts (cells_apart n a b p j lb lj (λ d e. ne d)));
+      top = h.top;
+      known = h.known p lp;
+      taken = λ i y e. (let t = h.taken p i y e in (t.1.0, subst (λ z. (y ≤ c.held p) ⊎ InRow z y) is t.1.1));
+      below = h.below p;
+      none = h.later p;
+      others = λ q ne. later_same n q c;
+      more = λ q a lq la ne. put_all (λ i t. More c q a (parts i) t) k s parts (record { fresh = refl; overlaps = λ y m. inl m }) (λ i d. more_same c q a (parts i)) (a * n + q);
+      works = w;
+    })

@@ -1,0 +1,180 @@
+-- The phase that each process of a matrix is in, and what holds of its row, its column and its codes.
+use Rattle.std.proofs.Common.{◌≡◌, ℕ, ◌+◌, ◌*◌, ◌<◌, ◌≤◌, ◌==◌, max, Bool, true, false, List, Option, Some, None, IsTrue, inl, inr, refl, sym, ap, subst, ◌∙◌, arith}
+use Rattle.std.specs.Prelude.{◌⊎◌, ⊤, nat_lt, if◌then◌else◌, length}
+use Rattle.std.proofs.lemmas.Bool.{cases_eq, cases_lt}
+use Rattle.frames.specs.declared.types.Op.{Op}
+use Rattle.frames.specs.declared.types.Op.TheVariants.{Read, Write}
+use Rattle.frames.proofs.Seen.{Seen, among}
+use Rattle.matrix.proofs.Codes.{Coded, Known, writer_of}
+
+-- A process rests; or it is about to read part j of its column, or reads it, and has found g to be
+-- the greatest code so far; or it is about to write x to part j of its row, or writes it.
+pub data Phase : Type 0 where
+  Rests : Phase
+  Climbs : Op → ℕ → ℕ → Phase
+  Looks : Op → ℕ → ℕ → Phase
+  Holds : Op → ℕ → ℕ → Phase
+  Puts : Op → ℕ → ℕ → Phase
+
+-- what was last written to part b of the row of a process in this phase, which last wrote h to its
+-- whole row
+abbrev pub row_last : ℕ → Phase → ℕ → ℕ
+row_last h (Holds o j x) b = if nat_lt b j then x else h
+row_last h (Puts o j x) b = if nat_lt b j then x else h
+row_last h Rests b = h
+row_last h (Climbs o j g) b = h
+row_last h (Looks o j g) b = h
+
+-- what is being written to part b of its row
+abbrev pub row_writing : Phase → ℕ → Option ℕ
+row_writing (Puts o j x) b = if b == j then Some x else None
+row_writing Rests b = None
+row_writing (Climbs o j g) b = None
+row_writing (Looks o j g) b = None
+row_writing (Holds o j x) b = None
+
+-- how many writes have been invoked on part b of its row, if m have been on each before
+abbrev pub row_count : ℕ → Phase → ℕ → ℕ
+row_count m (Holds o j x) b = if nat_lt b j then m + 1 else m
+row_count m (Puts o j x) b = if nat_lt b (j + 1) then m + 1 else m
+row_count m Rests b = m
+row_count m (Climbs o j g) b = m
+row_count m (Looks o j g) b = m
+
+-- the process writes x to its row
+abbrev pub InRow : Phase → ℕ → Type 0
+InRow (Holds o j x) y = x ≡ y
+InRow (Puts o j x) y = x ≡ y
+InRow Rests y = ⊥
+InRow (Climbs o j g) y = ⊥
+InRow (Looks o j g) y = ⊥
+
+-- a write in progress has no code yet
+abbrev pub Open : Coded → ℕ → Op → Type 0
+Open c p (Write v) = (c.code p (c.count p) ≡ None) × (c.value p ≡ v) × (c.writing p ≡ true)
+Open c p Read = c.writing p ≡ false
+
+-- a write in progress has taken code x
+abbrev pub Took : Coded → ℕ → Op → ℕ → Type 0
+Took c p (Write v) x = (c.code p (c.count p) ≡ Some x) × (c.writing p ≡ true)
+Took c p Read x = c.writing p ≡ false
+
+-- what process p knows from its column's first j parts, if g is their greatest code
+pub record Climbing (n : ℕ) (c : Coded) (p : ℕ) (o : Op) (j g : ℕ) : Type 0 where
+  pub own : c.snap p p ≡ c.held p
+  pub witness : (a : ℕ) × ((a < n) × (c.floor p ≤ c.snap p a))
+  pub climbed : (a : ℕ) → a < j → c.snap p a ≤ g
+  pub heard : ((j ≡ 0) × (g ≡ 0)) ⊎ Known c g
+  pub free : Open c p o
+
+-- the read of part j of p's column may give no code below what the part's writer held when p's
+-- operation began
+pub record Looking (n : ℕ) (c : Coded) (p j : ℕ) (s : Seen) : Type 0 where
+  pub part : j < n
+  pub fresh : (c.snap p j ≤ s.fresh 1) × Known c (s.fresh 1)
+  pub overlaps : (y : ℕ) → IsTrue (among y (s.overlaps 1)) → (c.snap p j ≤ y) × Known c y
+
+-- p writes x to its row
+pub record Rowing (c : Coded) (p : ℕ) (o : Op) (x : ℕ) : Type 0 where
+  pub held : c.held p ≤ x
+  pub floor : c.floor p ≤ x
+  pub known : Known c x
+  pub took : Took c p o x
+  pub room : c.limit (c.rows p) ≡ true
+
+abbrev pub Works : ℕ → Coded → ℕ → (ℕ → Seen) → Phase → Type 0
+Works n c p parts Rests = ⊤
+Works n c p parts (Climbs o j g) = Climbing n c p o j g
+Works n c p parts (Looks o j g) = Climbing n c p o j g × Looking n c p j (parts (j * n + p))
+Works n c p parts (Holds o j x) = Rowing c p o x
+Works n c p parts (Puts o j x) = Rowing c p o x
+
+-- the matrix's invariant
+pub record Invariant (n V : ℕ) (c : Coded) (f : ℕ → Phase) (parts : ℕ → Seen) : Type 0 where
+  pub last : (a b : ℕ) → a < n → b < n → (parts (a * n + b)).last ≡ row_last (c.held a) (f a) b
+  pub writing : (a b : ℕ) → a < n → b < n → (parts (a * n + b)).writing ≡ row_writing (f a) b
+  pub counts : (a b : ℕ) → a < n → b < n → length ((parts (a * n + b)).overlaps 0) ≡ row_count (c.rows a) (f a) b
+  pub top : (a : ℕ) × ((a < n) × (c.top ≤ c.held a))
+  pub known : (a : ℕ) → a < n → Known c (c.held a)
+  pub taken : (q k x : ℕ) → c.code q k ≡ Some x → (q < n) × ((writer_of n V x ≡ q) × ((x ≤ c.held q) ⊎ InRow (f q) x))
+  pub below : (q a : ℕ) → a < n → c.snap q a ≤ c.held a
+  pub later : (q k : ℕ) → c.count q < k → c.code q k ≡ None
+  pub works : (p : ℕ) → p < n → Works n c p parts (f p)
+
+-- what others do leaves what process q relies on: what it took itself is the same, all rows have
+-- risen, and known codes stay known
+pub record Later (n q : ℕ) (c d : Coded) : Type 0 where
+  pub held : (a : ℕ) → a < n → c.held a ≤ d.held a
+  pub own : c.held q ≡ d.held q
+  pub snap : (a : ℕ) → c.snap q a ≡ d.snap q a
+  pub floor : c.floor q ≡ d.floor q
+  pub value : c.value q ≡ d.value q
+  pub count : c.count q ≡ d.count q
+  pub code : (k : ℕ) → c.code q k ≡ d.code q k
+  pub writing : c.writing q ≡ d.writing q
+  pub limit : c.limit ≡ d.limit
+  pub rows : c.rows q ≡ d.rows q
+  pub known : (x : ℕ) → Known c x → Known d x
+
+pub later_same : (n q : ℕ) (c : Coded) → Later n q c c
+later_same n q c = record { held = λ a la. omega arith; own = refl; snap = λ a. refl; floor = refl; value = refl; count = refl; code = λ k. refl; writing = refl; limit = refl; rows = refl; known = λ x k. k }
+
+pub later_current : (n q : ℕ) (c d : Coded) → Later n q c d → c.code q (c.count q) ≡ d.code q (d.count q)
+later_current n q c d l = l.code (c.count q) ∙ ap (d.code q) l.count
+
+-- a part of q's column shows the same to q's read, and at most codes more that are no lower
+pub record More (c : Coded) (q a : ℕ) (s t : Seen) : Type 0 where
+  pub fresh : s.fresh 1 ≡ t.fresh 1
+  pub overlaps : (y : ℕ) → IsTrue (among y (t.overlaps 1)) → IsTrue (among y (s.overlaps 1)) ⊎ ((c.snap q a ≤ y) × Known c y)
+
+pub more_same : (c : Coded) (q a : ℕ) (s : Seen) → More c q a s s
+more_same c q a s = record { fresh = refl; overlaps = λ y m. inl m }
+
+climbing_later : (n q : ℕ) (c d : Coded) (o : Op) (j g : ℕ) → q < n → Later n q c d → Climbing n c q o j g → Climbing n d q o j g
+climbing_later n q c d o j g lq l h = record {
+  own = sym (l.snap q) ∙ h.own ∙ l.own;
+  witness =
+      (let w = h.witness in let e : c.snap q w.0 ≡ d.snap q w.0 = l.snap w.0 in let r : c.floor q ≤ c.snap q w.0 = w.1.1 in
+      (w.0, (w.1.0, omega (arith, e, r, l.floor))));
+  climbed = λ a la. (let e : c.snap q a ≡ d.snap q a = l.snap a in let r : c.snap q a ≤ g = h.climbed a la in omega (arith, e, r));
+  heard = elim (h.heard) [ inl e ↦ inl e | inr k ↦ inr (l.known g k) ];
+  free = opens o h.free;
+}
+  where
+    opens : (o : Op) → Open c q o → Open d q o
+    opens (Write v) h = (sym (later_current n q c d l) ∙ h.0, sym l.value ∙ h.1, sym l.writing ∙ h.2)
+    opens Read h = sym l.writing ∙ h
+
+looking_later : (n q : ℕ) (c d : Coded) (j : ℕ) (s t : Seen) → Later n q c d → More d q j s t → Looking n c q j s → Looking n d q j t
+looking_later n q c d j s t l m h = record {
+  part = h.part;
+  fresh = (let e : c.snap q j ≡ d.snap q j = l.snap j in let r : c.snap q j ≤ s.fresh 1 = h.fresh.0 in
+      (omega (arith, e, r, m.fresh), subst (Known d) m.fresh (l.known (s.fresh 1) h.fresh.1)));
+  overlaps = λ y i. elim (m.overlaps y i) [
+    | inl o ↦ (let e : c.snap q j ≡ d.snap q j = l.snap j in let r : c.snap q j ≤ y = (h.overlaps y o).0 in (omega (arith, e, r), l.known y (h.overlaps y o).1))
+    | inr k ↦ k
+  ];
+}
+
+rowing_later : (n q : ℕ) (c d : Coded) (o : Op) (x : ℕ) → Later n q c d → Rowing c q o x → Rowing d q o x
+rowing_later n q c d o x l h = record {
+  held = (let r : c.held q ≤ x = h.held in omega (arith, r, l.own));
+  floor = (let r : c.floor q ≤ x = h.floor in omega (arith, r, l.floor));
+  known = l.known x h.known;
+  took = tooks o h.took;
+  room = sym (λ i. l.limit i (l.rows i)) ∙ h.room;
+}
+  where
+    tooks : (o : Op) → Took c q o x → Took d q o x
+    tooks (Write v) h = (sym (later_current n q c d l) ∙ h.0, sym l.writing ∙ h.1)
+    tooks Read h = sym l.writing ∙ h
+
+-- what holds of process q still holds after a step of another process
+pub works_later : (n q : ℕ) (c d : Coded) (parts to : ℕ → Seen) → q < n → Later n q c d → ((a : ℕ) → a < n → More d q a (parts (a * n + q)) (to (a * n + q)))
+    → (x : Phase) → Works n c q parts x → Works n d q to x
+works_later n q c d parts to lq l m Rests h = tt
+works_later n q c d parts to lq l m (Climbs o j g) h = climbing_later n q c d o j g lq l h
+works_later n q c d parts to lq l m (Looks o j g) h =
+    (climbing_later n q c d o j g lq l h.0, looking_later n q c d j (parts (j * n + q)) (to (j * n + q)) l (m j h.1.part) h.1)
+works_later n q c d parts to lq l m (Holds o j x) h = rowing_later n q c d o x l h
+works_later n q c d parts to lq l m (Puts o j x) h = rowing_later n q c d o x l h

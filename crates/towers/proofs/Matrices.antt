@@ -1,0 +1,37 @@
+-- A matrix over stamped registers over a regular register is atomic for many processes, and none of
+-- its rows is refused in its midst.
+use Rattle.std.proofs.Common.{ℕ}
+use Rattle.safe_bit.specs.Memory.{Memory}
+use Rattle.frames.specs.declared.types.Op.{Op}
+use Rattle.frames.specs.Behaviour.{Behaviour, IsLawful}
+use Rattle.frames.specs.correctness.Regularity.{IsRegular}
+use Rattle.frames.specs.correctness.Ranks.{IsAtomicForMany}
+use Rattle.layers.specs.Nested.{layered}
+use Rattle.layers.specs.Sound.{IsSoundTable, FitsBelow, LayerHolds, LayerReaches}
+use Rattle.layers.specs.laws.Over.{over}
+use Rattle.layers.specs.laws.Layered.{layer_lawful}
+use Rattle.matrix.specs.declared.task.MatrixTask.{MatrixTask}
+use Rattle.matrix.specs.Program.{matrix_table, MatrixMayBeAt}
+use Rattle.matrix.specs.Rows.{RefusesNoRow}
+use Rattle.matrix.proofs.Kept.{matrix_over_counted, rows_are_whole}
+use Rattle.stamped.specs.declared.task.StampedTask.{StampedTask}
+use Rattle.stamped.specs.Program.{stamped_table, StampedMayBeAt}
+use Rattle.stamped.proofs.ByCount.{under, stamped_admits}
+
+pub matrix_over_stamped : {P : Type 0} (b : Behaviour P) (Keeps : Memory → Type 0) (Reaches : ℕ → Op → P → Type 0) (n V tags codes last : ℕ) (left : MatrixTask → ℕ) (stamped_left : StampedTask → ℕ)
+    → IsLawful b Keeps Reaches
+    → IsSoundTable (stamped_table codes last) (StampedMayBeAt codes last) stamped_left → FitsBelow (stamped_table codes last) b
+    → IsSoundTable (matrix_table n V tags) (MatrixMayBeAt n V tags) left → FitsBelow (matrix_table n V tags) (layered (stamped_table codes last) b)
+    → IsRegular b → IsAtomicForMany (layered (matrix_table n V tags) (layered (stamped_table codes last) b))
+matrix_over_stamped b Keeps Reaches n V tags codes last left stamped_left lawful sound_below fit_below sound fit regular =
+    matrix_over_counted (layered (stamped_table codes last) b) (LayerHolds (stamped_table codes last) b Keeps) (LayerReaches (stamped_table codes last) (StampedMayBeAt codes last) Reaches) (under last) n V tags left
+    (layer_lawful (over lawful sound_below fit_below)) sound fit (stamped_admits b Keeps Reaches codes last stamped_left lawful sound_below fit_below regular)
+
+pub rows_over_stamped : {P : Type 0} (b : Behaviour P) (Keeps : Memory → Type 0) (Reaches : ℕ → Op → P → Type 0) (n V tags codes last : ℕ) (left : MatrixTask → ℕ) (stamped_left : StampedTask → ℕ)
+    → IsLawful b Keeps Reaches
+    → IsSoundTable (stamped_table codes last) (StampedMayBeAt codes last) stamped_left → FitsBelow (stamped_table codes last) b
+    → IsSoundTable (matrix_table n V tags) (MatrixMayBeAt n V tags) left → FitsBelow (matrix_table n V tags) (layered (stamped_table codes last) b)
+    → IsRegular b → RefusesNoRow (layered (matrix_table n V tags) (layered (stamped_table codes last) b))
+rows_over_stamped b Keeps Reaches n V tags codes last left stamped_left lawful sound_below fit_below sound fit regular =
+    rows_are_whole (layered (stamped_table codes last) b) (LayerHolds (stamped_table codes last) b Keeps) (LayerReaches (stamped_table codes last) (StampedMayBeAt codes last) Reaches) (under last) n V tags left
+    (layer_lawful (over lawful sound_below fit_below)) sound fit (stamped_admits b Keeps Reaches codes last stamped_left lawful sound_below fit_below regular)

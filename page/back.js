@@ -1,0 +1,50 @@
+// What another document takes the place of: Undo then reads Back and takes it up again, and the
+// dialog Open lists the last ones.
+import { keepDocumentOf } from "./kept.js";
+import { isUntouched, taskOf } from "./tasks.js";
+import { now, one } from "./state.js";
+
+const left = [];
+let opened = { tower: "", script: "" };
+function titleOf({ lesson, model, document: { lines } }) {
+  const named = taskOf(lines).exercise.split(" ").slice(2).join(" ");
+  const many = lines.filter((it) => it && !it.startsWith("#")).length;
+  return `${lesson?.title || named || model.tower}${many > 1 ? `, ${many} lines` : ""}`;
+}
+// whether somebody changed the document since it was opened
+function isChanged() {
+  const { document: { tower, script } } = now;
+  return tower !== opened.tower || script.trim() !== opened.script.trim();
+}
+// Returns what keeps the document, if there is work in it, once another one is opened.
+export function leaving(next) {
+  const { document, model, lesson, who } = now, title = model ? titleOf(now) : "";
+  const isWork = model && (!isUntouched(document.lines) || document.tower !== opened.tower);
+  return () => {
+    opened = next;
+    if (!isWork) return;
+    left.push({ document, lesson, who, title });
+    keepDocumentOf({ tower: document.tower, script: document.script, title, when: Date.now() });
+  };
+}
+// what was left last, if Undo takes it up: if nothing was done here yet
+export function backTo() {
+  const isHere = now.document.lastGesture > 0 && (!left.length || isChanged());
+  return isHere ? null : left.at(-1) || null;
+}
+export function takeBack() {
+  const was = backTo();
+  if (was) left.pop();
+  return was;
+}
+export function putUndo() {
+  const was = backTo();
+  one("#undo").textContent = was ? "\u21b6 Back" : "\u21b6 Undo";
+  one("#undo").title = was ? `back to ${was.title} (Ctrl+Z)`
+    : "takes the last lines off the script (Ctrl+Z)";
+  if (was) one("#undo").disabled = false;
+}
+export function forgetLeft() {
+  left.length = 0;
+  putUndo();
+}

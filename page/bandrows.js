@@ -1,0 +1,80 @@
+// Rows of a tower's numbers, each foldable to its bits, and of what processes remember.
+import { numberRuns, scanRuns, wordRuns } from "./bands.js";
+import { numberLabels, tagWords } from "./labels.js";
+import { fitting, rounded, shape, stacked, textAt, titled, widthOf } from "./shapes.js";
+
+export const ROW = 30;
+const BAND = ROW - 10, BAND_SIZE = 13, MORE_EVERY = 700, FEW_REGISTERS = 4;
+// For each register its name, the strip that is shown while it is folded, and the one below it.
+// `bits` makes the strip of the rows of a register's bits.
+export function registerRows(drawing, reading, bits, shared) {
+  const { codes } = drawing, { facts } = reading, isMatrix = codes.kind === "matrix";
+  const isUsed = (it) => codes.registers.length <= FEW_REGISTERS
+    || numberRuns(facts, it).length > 1 || scanRuns(facts, it).length > 0;
+  return codes.registers.filter(isUsed).map((register) => {
+    const number = bandOf(register.name, numberRuns(facts, register), codes);
+    number.scans = scanRuns(facts, register);
+    const memory = codes.kind === "unary" ? [] : memoryBands(facts, codes, register);
+    const strip = (bands, kind) => bandStrip(drawing, reading, bands, kind, shared);
+    const fold = strip([number, ...(isMatrix ? [] : memory.slice(0, 1))], "fold decoded");
+    const below = memory.slice(isMatrix ? 0 : 1), ownBits = bits(register);
+    const rows = below.length ? stacked(ownBits, strip(below, "memory")) : ownBits;
+    return { name: register.name, fold, rows };
+  });
+}
+function bandOf(name, runs, codes) {
+  const words = (code, isWritten) => numberLabels(codes, code, isWritten);
+  return { name, kind: "band", runs: runs.map(([from, to, code, written]) => ({ from, to,
+    isWritten: written !== null, words: words(written ?? code, written !== null) })) };
+}
+function memoryBands(facts, codes, register) {
+  const { reader, writer } = register, words = (runs, labels) =>
+    runs.map(([from, to, value]) => ({ from, to, words: value === null ? ["?"] : labels(value) }));
+  const best = (code) => (codes.kind === "matrix"
+    ? [tagWords(codes, codes.parts(code).inner), `${code}`] : numberLabels(codes, code, false));
+  return [
+    { name: `p${reader} remembers`, kind: "band memory",
+      runs: words(wordRuns(facts, register, "best"), best) },
+    { name: `p${writer}'s stamp`, kind: "band",
+      runs: words(wordRuns(facts, register, "stamp"), (stamp) => [`${stamp}`]) }];
+}
+function bandStrip(drawing, reading, bands, kind, shared) {
+  const height = bands.length * ROW + 2;
+  const labels = bands.map(({ name }, at) => textAt(name, 26, at * ROW + 16, "bit-name"));
+  const drawn = bands.map((it, at) => shape("g", { "data-row": it.name },
+    it.runs.map((run) => boxOf(drawing, reading, run, it.kind, at * ROW)),
+    (it.scans || []).map((scan) => scanLine(drawing, reading, scan, at * ROW + ROW - 5))));
+  const veil = drawing.veil(reading.from, shared, height);
+  return drawing.strip(`rows ${kind}`, labels, [...drawn, ...veil], height);
+}
+// a box with words, hatched while the number changes
+function boxOf(drawing, reading, { from, to, isWritten, words }, kind, y) {
+  const [x, right] = drawing.reach(reading, from, to), width = right - x;
+  const found = fitting(words, width, BAND_SIZE);
+  const box = shape("rect", { class: isWritten ? "written" : kind, x, y, width, height: BAND });
+  const given = { class: "box", "data-from": from, "data-to": to };
+  if (!found) return shape("g", given, titled(words[0]), box);
+  if (isWritten) {
+    const plate = Math.min(width - 4, widthOf(found, BAND_SIZE) + 2);
+    return shape("g", given, titled(words[0]), box,
+      shape("rect", { class: "plate", x: x + 3, y: y + 2, width: plate, height: BAND - 4 }),
+      textAt(found, x + 5, y + 15, "on-hatch"));
+  }
+  const many = Math.max(1, Math.floor(width / MORE_EVERY)), texts = [];
+  for (let at = 0; at < many; at++)
+    texts.push(textAt(found, x + 5 + at * (width / many), y + 15, "in begins"));
+  return shape("g", given, titled(words[0]), box, texts);
+}
+// a bit's read below the number's row: a line, or teeth if it was hit
+function scanLine(drawing, reading, [from, to, kind], low) {
+  const x = drawing.left(from) + 2;
+  const right = Math.max(x + 2, Math.min(drawing.left(to + 1) - 2, drawing.left(reading.to)));
+  const line = { class: "read-line", d: `M${rounded(x)} ${low}H${rounded(right)}` };
+  const hit = { class: "hit", d: `M${rounded(x)} ${low}${teeth(right - x)}` };
+  return shape("path", { ...(kind === "h" ? hit : line), "data-from": from, "data-to": to });
+}
+// (stretched a little, so that they end where the read does)
+export function teeth(width) {
+  const many = Math.max(1, Math.round(width / 10)), half = rounded(width / many / 2 * 100) / 100;
+  return `l${half} -5l${half} 5`.repeat(many);
+}

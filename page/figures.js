@@ -1,0 +1,86 @@
+// A time line of a lesson as a picture that can be played, step by step.
+import { answer } from "./engine.js";
+import { Document, EMPTY_TOWER } from "./document.js";
+import { LABEL, MARGIN } from "./drawing.js";
+import { Model } from "./model.js";
+import { looksOf, stillRows } from "./still.js";
+import { partOf } from "./exercises.js";
+import { element, mounted } from "./state.js";
+
+const LONG_SCHEDULE = 60, LEAST_WIDTH = 560, EDGES = 30, PLAY_PAUSE = 900;
+const COLUMN = { least: 34, most: 104 };
+// a branch up to a place, in rows that are as wide as there is room
+async function picture(model, branch, place, room) {
+  const { length } = branch, fitting = Math.floor((room - LABEL - MARGIN) / Math.max(1, length));
+  const column = Math.max(COLUMN.least, Math.min(COLUMN.most, fitting));
+  const many = Math.max(4, Math.min(length, Math.floor((room - LABEL - MARGIN) / column)));
+  await model.look(looksOf(branch, 0, place));
+  return stillRows(model, [branch], { most: place, column, many }).map(({ svg }) => mounted(svg));
+}
+class Figure {
+  constructor(target, model, branch) {
+    Object.assign(this, { target, model, branch, place: branch.length, playing: 0, turn: 0 });
+    const { length } = branch, button = (label, sign, onclick) =>
+      element("button", { onclick, "aria-label": label, title: label }, sign);
+    this.drawn = element("div", { class: "drawn-here" });
+    this.at = element("b", { class: "at-place" });
+    this.play = element("button", { class: "big", "data-figure": "play",
+      onclick: () => this.playOrPause() });
+    this.range = element("input", { type: "range", min: 0, max: length, "aria-label": "place",
+      oninput: () => { this.pause(); this.put(Number(this.range.value)); } });
+    this.row = element("div", { class: "play" }, element("code", {}, model.tower), this.play,
+      button("a step back", "\u25c0", () => this.by(-1)), this.range,
+      button("a step on", "\u25b6", () => this.by(1)), this.at);
+    this.pause();
+  }
+  async put(place) {
+    const { range, at, drawn, target, model, branch } = this, { length } = branch;
+    const wide = (target.closest("article")?.clientWidth || 0) - EDGES, turn = ++this.turn;
+    this.place = Math.max(0, Math.min(length, place));
+    range.value = this.place;
+    at.textContent = this.place === length ? `all ${length} steps`
+      : `place ${this.place} of ${length}, before ${branch.step(this.place)}`;
+    const rows = await picture(model, branch, this.place, Math.max(LEAST_WIDTH, wide));
+    if (turn !== this.turn) return;
+    drawn.replaceChildren(...rows);
+    // (if there is less room, the place stays in sight)
+    drawn.scrollLeft = drawn.scrollWidth;
+  }
+  by(many) {
+    this.pause();
+    return this.put(this.place + many);
+  }
+  pause() {
+    clearInterval(this.playing);
+    this.playing = 0;
+    this.play.textContent = "\u25b6 Play";
+  }
+  playOrPause() {
+    if (this.playing) return this.pause();
+    if (this.place === this.branch.length) this.put(0);
+    this.play.textContent = "\u2016 Pause";
+    this.playing = setInterval(() => this.next(), PLAY_PAUSE);
+    return null;
+  }
+  next() {
+    if (this.place >= this.branch.length || !this.target.isConnected) this.pause();
+    else this.put(this.place + 1);
+  }
+}
+// makes the picture of a time line; `enter` opens the lesson's script in the workbench
+export async function putFigure(target, lesson, enter) {
+  const { part, branch: name } = target.dataset, { tower, script } = partOf(lesson, part);
+  const text = target.querySelector("pre"), written = name === "main" ? "" : script;
+  const model = await Model.of(Document.of(tower || EMPTY_TOWER, written), answer);
+  const branch = model.branch(name), figure = new Figure(target, model, branch);
+  const title = "play the lesson's script line by line", onclick = () => enter(part);
+  const open = element("button", { "data-play": part, onclick, title }, "Play its script");
+  figure.row.append(element("span", { class: "gap" }), open);
+  const fold = (words, ...its) => element("details", {}, element("summary", {}, words), ...its);
+  // (of a long schedule the text says more at a glance)
+  if (branch.length > LONG_SCHEDULE)
+    target.replaceChildren(text,
+      fold(`as a picture, ${branch.length} steps`, figure.row, figure.drawn));
+  else target.replaceChildren(figure.row, figure.drawn, fold("as text", text));
+  await figure.put(branch.length);
+}

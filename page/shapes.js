@@ -1,0 +1,23 @@
+// The elements of which a picture is made, as data.
+
+export const rounded = (value) => (typeof value === "number" ? Math.round(value * 10) / 10 : value);
+// an element: its name, its attributes and what it holds, which are elements and texts
+export function shape(name, given = {}, ...children) {
+  const attributes = {};
+  for (const [key, value] of Object.entries(given))
+    if (value !== null && value !== undefined && value !== false) attributes[key] = rounded(value);
+  return { name, attributes, children: children.flat().filter(Boolean) };
+}
+export const textAt = (words, x, y, kind, given) =>
+  shape("text", { x, y, class: kind, ...given }, String(words));
+export const titled = (words) => shape("title", {}, words);
+export const widthOf = (words, size = 15) => words.length * size * 0.62;
+// the first of several words that fits a width, in letters of a size
+export const fitting = (all, width, size) =>
+  all.find((it) => widthOf(it, size * 0.92) + 7 <= width);
+// one strip's content below another's, under the first one's name
+export function stacked(above, below) {
+  const under = (shapes) => shape("g", { transform: `translate(0 ${above.height})` }, shapes);
+  return { ...above, label: [...above.label, under(below.label)],
+    drawn: [...above.drawn, under(below.drawn)], height: above.height + below.height };
+}

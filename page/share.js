@@ -1,0 +1,122 @@
+// A question that travels: as a link, or as this page itself with the document inside.
+import { packedData, pageSource } from "./engine.js";
+import { fileName, save } from "./files.js";
+import { goalIn, isMet, looksFor } from "./goals.js";
+import { inWords } from "./goalwords.js";
+import { remember, remembered } from "./kept.js";
+import { hashFor } from "./links.js";
+import { headOf, isData, isUntouched, taskOf } from "./tasks.js";
+import { element, here, now, one } from "./state.js";
+
+const field = (name) => one(`#share-${name}`), valueOf = (name) => field(name).value.trim();
+const GOAL = /^(?:# ?)?goal(?: [0-9]+)?: (.*)$/;
+const isAsked = (it) => /^# (goal|ask|option)\b/.test(it);
+const rows = (text) => text.split("\n").map((it) => it.trim()).filter(Boolean);
+// the address of the page on the web, which is typed once
+function baseAddress() {
+  const here_ = location.protocol === "file:" ? "" : location.href.split("#")[0];
+  return remembered("base") || packedData().base || here_;
+}
+// the page with a document inside, which opens by a double click
+export function pageWith(document, base) {
+  const data = JSON.stringify({ ...packedData(), document, base }).replace(/</g, "\\u003c");
+  const place = /(<script type="application\/json" id="data">)[^]*?(<\/script>)/;
+  return pageSource.replace(place, (_, begin, end) => begin + data + end);
+}
+// a script with this question; `isBare`: without what anybody did or answered
+function scriptWith({ text, data, name }, lines, isBare) {
+  const head = headOf(lines), begin = lines.slice(0, head), rest = lines.slice(head);
+  const kept = (kind) => begin.filter((it) => it.startsWith(`# ${kind}`));
+  const asked = rows(text).map((it) => `# ${it}`);
+  const goals = rows(data).map((it) => `# ${it.replace(/^# ?/, "")}`);
+  const answered = isBare ? [] : [...kept("predicted"), ...(name ? [`# student: ${name}`] : [])];
+  const done = isBare ? ["0 join"] : rest.filter((it) => !isData(it));
+  return `${[...kept("exercise"), ...asked, ...goals, ...answered, ...done].join("\n")}\n`;
+}
+const fields = () => ({ text: valueOf("text"), data: valueOf("data"), name: valueOf("name") });
+const isBare = () => one("[name=share-start]:checked").value === "bare";
+function made() {
+  const { tower, lines } = now.document;
+  return { tower, script: scriptWith(fields(), lines, isBare()) };
+}
+// goals that the cursor's branch meets, each of which a click adds
+async function ideas(model, name) {
+  const { length } = model.branch(name);
+  const looks = ["verdict", "history"].map((kind) => [kind, name, length]);
+  await model.look(looks);
+  const [verdicts, events] = looks.map((it) => model.page(...it)?.lines || []);
+  const said = verdicts.map((it) => it.split(" ").slice(1).join(" "));
+  const reads = said.filter((it) => / (fresh|overlap|stray)$/.test(it)).slice(-6);
+  const has = (word) => events.some((it) => it.includes(` ${word} `));
+  return [...[...new Set(reads)].map((it) => `verdict has "${it}"`),
+    reads.length > 1 && `verdict has ${reads.map((it) => `"${it}"`).join(" then ")}`,
+    `history has ${has("chosen") ? "" : "no "}"chosen"`, has("refused") && 'history has "refused"']
+    .filter(Boolean).map((it) => `goal: some: ${it}`);
+}
+// what is typed, judged at once
+async function check() {
+  const { model } = now, base = valueOf("base");
+  const goals = rows(valueOf("data")).map((it) => GOAL.exec(it)?.[1]).filter(Boolean).map(goalIn);
+  await model.look(looksFor(goals, model));
+  const metWords = (it) => (isMet(it, model) ? "\u2713 met now:" : "\u25cb not met now:");
+  const signOf = (it) => (it.fault ? "!" : metWords(it));
+  field("goals").replaceChildren(...goals.map((it) => element("li",
+    { class: it.fault ? "wrong" : isMet(it, model) && "met" }, `${signOf(it)} ${inWords(it)}`)));
+  const link = base.split("#")[0] + await hashFor(made());
+  field("link").value = link;
+  field("size").textContent = base ? `${link.length} characters`
+    : "A link needs the address of this page on the web. Without one, save one file.";
+  field("copy").disabled = !base;
+}
+async function copyLink() {
+  const link = field("link");
+  try {
+    await navigator.clipboard.writeText(link.value);
+    field("said").textContent = "The link is copied.";
+  } catch {
+    link.select();
+    field("said").textContent = "Copy the selected link by Ctrl+C.";
+  }
+}
+function saveFile() {
+  const document = { name: "exercise", ...made() }, page = pageWith(document, valueOf("base"));
+  const name = fileName("html", taskOf(document.script.split("\n")));
+  save(name, page, "text/html");
+  const size = Math.round(page.length / 1000);
+  field("said").textContent = `${name}, ${size} kB: it opens by a double click.`;
+}
+// `take` gives the page a script with what was typed
+function watch(dialog, take) {
+  const keep = () => {
+    remember("base", valueOf("base"));
+    remember("student", valueOf("name"));
+    take(scriptWith(fields(), now.document.lines, false));
+  };
+  for (const it of dialog.querySelectorAll("input, textarea:not([readonly])")) it.oninput = check;
+  field("copy").onclick = async () => { await copyLink(); keep(); };
+  field("save").onclick = () => { saveFile(); keep(); };
+  field("keep").onclick = () => { keep(); dialog.close(); };
+}
+function ideaButton(it) {
+  const add = () => {
+    field("data").value = [...rows(valueOf("data")), it].join("\n");
+    check();
+  };
+  const given = { type: "button", class: "line", onclick: add };
+  return element("button", given, it.replace("goal: some:", "+"));
+}
+export async function openShare(take) {
+  const dialog = one("#share-dialog"), { lines } = now.document, found = taskOf(lines);
+  field("text").value = found.text.join("\n");
+  field("data").value = lines.filter(isAsked).map((it) => it.slice(2)).join("\n");
+  field("name").value = found.student || remembered("student");
+  field("base").value = baseAddress();
+  const start = found.isTask && !isUntouched(lines) ? "mine" : "bare";
+  one(`[name=share-start][value=${start}]`).checked = true;
+  field("said").textContent = "";
+  watch(dialog, take);
+  const suggested = await ideas(now.model, here().name);
+  field("ideas").replaceChildren("What holds now: ", ...suggested.map(ideaButton));
+  await check();
+  dialog.showModal();
+}

@@ -1,0 +1,74 @@
+// Why a read gave its value, by what it read inside: a sentence, and what it names.
+import { codeWords, tagWords } from "./labels.js";
+
+// Returns `words`, the sentence on a read; `parts`, the inner operations that it names, and `rows`,
+// the names of the rows. `root` is the read's outermost inner operation.
+export function storyOf(facts, root) {
+  if (!root || root.isWrite || root.isCut) return { words: "", parts: [], rows: [] };
+  if (root.layer === "matrix") return storyOfMatrix(facts, root);
+  if (root.layer === "stamped") return storyOfStamped(facts, root);
+  return root.layer === "unary" ? storyOfNumber(facts, root) : storyOfBit(facts, root);
+}
+function storyOfBit(facts, root) {
+  const got = facts.bitOf(root), { readers } = facts.codes;
+  const name = got && (readers > 1 ? `Its copy, bit ${got.cell},` : `Bit ${got.cell}`);
+  const words = !got ? "" : got.isHit
+    ? `${name} was being written, so it was given the choice ${got.value}.`
+    : `${name} was ${got.value}.`;
+  return { words, parts: [], rows: got ? [`bit ${got.cell}`] : [] };
+}
+// the bits that a scan read, neighbours that gave the same as one
+function scanWords(facts, scan) {
+  const runs = [];
+  for (const it of scan.inner) {
+    const got = facts.bitOf(it), last = runs.at(-1), at = it.within.index;
+    if (!got) continue;
+    if (last && !got.isHit && !last.isHit && last.value === got.value) last.to = at;
+    else runs.push({ ...got, from: at, to: at });
+  }
+  const words = ({ from, to, value, isHit }) => {
+    if (isHit) return `bit ${from}, hit, chosen ${value}`;
+    return from === to ? `bit ${from} = ${value}` : `bits ${from} to ${to} = ${value}`;
+  };
+  return `Its scan read ${runs.map(words).join("; ") || "nothing"}`;
+}
+function storyOfNumber(facts, root) {
+  const found = facts.found(root), words = scanWords(facts, root);
+  const end = found === null ? ", so far" : `: the first 1 that it found is bit ${found}`;
+  return { words: `${words}${end}.`, parts: root.inner, rows: ["number"] };
+}
+function storyOfStamped(facts, root) {
+  const { codes } = facts, [register] = codes.registers, [scan] = facts.layers.of("unary", root);
+  if (!scan) return { words: "", parts: [], rows: [] };
+  const named = { parts: [scan, ...scan.inner], rows: ["register", `p${root.process} remembers`] };
+  const found = facts.found(root), words = scanWords(facts, scan);
+  if (found === null) return { ...named, words: `${words}, so far.` };
+  const before = facts.best(register, root.from), after = facts.best(register, root.to + 1);
+  const code = (it) => `code ${it} = ${codeWords(codes, it).long}`, who = `p${root.process}`;
+  const first = `${words}: so it found ${code(found)}.`;
+  if (after !== found)
+    return { ...named, words: `${first} But ${who} remembered ${code(after)}, which is greater, `
+      + `and gives that one's value, ${codes.parts(after).value}.` };
+  return { ...named, words: `${first} ${who} ${before === found ? "remembered that code already"
+    : `remembers it now, as it is greater than ${before}`}.` };
+}
+function storyOfMatrix(facts, root) {
+  const { codes } = facts, { phase, code } = root.last;
+  const inPhase = (wanted) => root.inner.filter((it) => it.within.phase === wanted);
+  const nameOf = (it) => facts.registerOf(it)?.name || "a register";
+  const column = inPhase("read"), row = inPhase("write").map(nameOf), rows = column.map(nameOf);
+  const words = column.map((it) => partWords(facts, it, nameOf(it))), parts = column;
+  const first = `It read its column: ${words.join("; ")}.`;
+  if (phase === "read") return { words: first, parts, rows };
+  const { value } = codes.parts(code), last = root.isEnded ? "wrote" : "writes";
+  return { parts, rows, words: `${first} The greatest is ${tagWords(codes, code)}: it ${last} that `
+    + `to its row, ${row.join(" and ")}, and gives its value, ${value}.` };
+}
+// what a read of a register of the column gave
+function partWords(facts, it, name) {
+  const { codes } = facts, register = facts.registerOf(it), found = facts.found(it);
+  const best = it.isEnded && register ? facts.best(register, it.to + 1) : null;
+  if (best === null) return `${name} is being read`;
+  const words = `${name}: ${tagWords(codes, codes.parts(best).inner)}`;
+  return found === best ? words : `${words} (remembered; its scan found code ${found})`;
+}

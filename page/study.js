@@ -1,0 +1,120 @@
+// A whole lesson in the page: its text, which tools/page takes from the lesson's Markdown, with
+// pictures that can be played, a prediction before them, and exercises with a button to begin each.
+import { EMPTY_TOWER } from "./document.js";
+import { exerciseDocument, isSolved, lessonsOf, partOf } from "./exercises.js";
+import { putFigure } from "./figures.js";
+import { remember, remembered } from "./kept.js";
+import { withWords } from "./words.js";
+import { element, one, say } from "./state.js";
+
+let studied = "";
+export const isStudying = () => studied !== "";
+function answersOf(article) {
+  return [...article.children].find((it) => it.localName === "details");
+}
+function uncover(article, words) {
+  const answers = answersOf(article);
+  article.classList.remove("covered");
+  answers?.querySelector(".predicted")?.remove();
+  if (!words) return;
+  const made = [element("b", {}, "You predicted: "), words];
+  answers?.querySelector("summary").after(element("p", { class: "predicted" }, made));
+}
+// what the reader predicts; until then the pictures hide what reads give
+function prediction(article, folder) {
+  const key = `predicted ${folder}`, kept = remembered(key);
+  const box = element("textarea", { rows: 2, id: "prediction", maxlength: 600,
+    placeholder: "Your prediction, in a few words", "aria-label": "your prediction" });
+  const look = element("button", { class: "big", "data-look": "", onclick: () => {
+    remember(key, box.value.trim());
+    uncover(article, box.value.trim());
+    row.classList.add("done");
+  } }, "Now look");
+  const about = element("small", {}, "The pictures hide what reads give until then.");
+  const row = element("div", { class: "predict" }, box, look, about);
+  box.value = kept;
+  article.classList.add("covered");
+  if (kept) {
+    uncover(article, kept);
+    row.classList.add("done");
+  }
+  return row;
+}
+function exerciseRow(lesson, exercise, begin) {
+  const order = (it) => lesson.parts.findIndex(({ name }) => name === it.name);
+  const parts = [...exercise.parts].sort((a, b) => order(a) - order(b));
+  const onWhich = ({ name }) => {
+    const { tower } = partOf(lesson, name), [kind, line] = (tower || EMPTY_TOWER).split("\n");
+    return kind.startsWith("bench") ? " on the saved branches" : ` on ${line}`;
+  };
+  const button = (part) => {
+    const { tower, script } = exerciseDocument(lesson, exercise, part);
+    const given = { "data-begin": `${lesson.folder} ${exercise.number} ${part.name}` };
+    return element("button", { class: "big", ...given, onclick: () => begin(tower, script, null) },
+      `Begin${parts.length > 1 ? onWhich(part) : ""}`);
+  };
+  const solved = isSolved(lesson, exercise) && element("b", { class: "met" }, "\u2713 solved");
+  return element("div", { class: "begin" }, parts.map(button), solved);
+}
+function listOf(lessons, folder) {
+  const sign = (it) => (it.exercises.every((each) => isSolved(it, each)) ? " \u2713" : "");
+  const current = (it) => it.folder === folder && "page";
+  const given = (it) => ({ "data-study": it.folder, "aria-current": current(it) });
+  return [element("h2", {}, "Lessons"),
+    ...lessons.map((it) => element("button", given(it), it.title + sign(it)))];
+}
+function textOf(lesson, begin) {
+  const article = one("#study-text"), template = one(`#text-${lesson.folder}`);
+  article.replaceChildren(template.content.cloneNode(true));
+  const isQuestion = (it) => it.firstChild?.textContent === "Question.";
+  const question = [...article.querySelectorAll("p")].find(isQuestion);
+  question?.classList.add("question");
+  question?.after(prediction(article, lesson.folder));
+  for (const it of article.querySelectorAll("em")) it.replaceChildren(...withWords(it.textContent));
+  const list = [...article.children].find((it) => it.localName === "ol");
+  if (!list) return article;
+  [...list.children].forEach((it, at) =>
+    it.append(exerciseRow(lesson, lesson.exercises[at], begin)));
+  list.before(element("h2", {}, "Exercises"));
+  return article;
+}
+function lastRow(lessons, lesson) {
+  const next = lessons[lessons.indexOf(lesson) + 1];
+  const button = next && element("button", { class: "big", "data-study": next.folder },
+    `Next lesson: ${next.title} \u25b6`);
+  return element("p", { class: "next-lesson" }, button || "This is the last lesson.");
+}
+// (`data-drawn`: nothing moves any more)
+async function putFigures(article, put) {
+  const figures = [...article.querySelectorAll("figure")];
+  delete article.dataset.drawn;
+  await Promise.all(figures.map((it) => put(it).catch((fault) => say(fault.message, "refusal"))));
+  if (figures.every((it) => it.isConnected)) article.dataset.drawn = "";
+}
+// shows a lesson; `begin` makes a document of a tower file, a script and a lesson's lines
+export function putStudy(folder, begin, { isAnswered = false } = {}) {
+  const lessons = lessonsOf(), lesson = lessons.find((it) => it.folder === folder);
+  if (!lesson) return;
+  studied = folder;
+  const article = textOf(lesson, begin), answers = answersOf(article);
+  one("#study-list").replaceChildren(...listOf(lessons, folder));
+  article.append(lastRow(lessons, lesson));
+  document.body.classList.add("studying");
+  one("#study").hidden = false;
+  one("#study-scroll").scrollTop = 0;
+  scrollTo(0, 0);
+  const enter = (part) => {
+    const { tower, script } = partOf(lesson, part), lines = script.replace(/\n+$/, "").split("\n");
+    const title = lesson.parts.length > 2 ? `${lesson.title} (${part})` : lesson.title;
+    begin(tower || EMPTY_TOWER, "", { title, lines });
+  };
+  putFigures(article, (it) => putFigure(it, lesson, enter));
+  if (!isAnswered || !answers) return;
+  answers.open = true;
+  answers.scrollIntoView({ block: "start" });
+}
+export function leaveStudy() {
+  studied = "";
+  document.body.classList.remove("studying");
+  one("#study").hidden = true;
+}

@@ -1,0 +1,110 @@
+// The exercise that a document's comments ask: its text, what is predicted, and each goal, met or
+// not, at every change. `does` are gestures: line, predict, begin, again, study.
+import { answer } from "./engine.js";
+import { Document } from "./document.js";
+import { Model } from "./model.js";
+import { isMet, looksFor, metGoals } from "./goals.js";
+import { inWords } from "./goalwords.js";
+import { isPredicted, taskOf } from "./tasks.js";
+import { exerciseAfter, exerciseNamed, lessonAfter, markSolved } from "./exercises.js";
+import { withWords } from "./words.js";
+import { element, now, one, putIfChanged } from "./state.js";
+
+const COMMAND = /^[0-9]+ ([a-z]+ ?.*)$/, SIGN = { met: "\u2713", open: "\u25cb", not: "\u2717" };
+let decided = { key: "", right: [] };
+export const task = () => taskOf(now.document.lines);
+export const goalLooks = () => (now.model ? looksFor(task().goals, now.model) : []);
+// which options are right: the program decides on the tower file alone, once something is predicted
+async function decide({ asks }, tower) {
+  const key = JSON.stringify([tower, asks]);
+  if (key === decided.key) return;
+  const model = await Model.of(Document.of(tower, ""), answer);
+  const none = { scope: "", groups: [] };
+  const of = ({ options }) => metGoals(options.map((it) => it.goal || none), model);
+  decided = { key, right: await Promise.all(asks.map(of)) };
+}
+function optionRow({ number }, { words }, mark, made, does) {
+  const given = { type: "radio", name: `ask${number}`, value: words, checked: words === made && "",
+    disabled: made && "", onchange: () => does.predict(number, words) };
+  return element("label", { class: mark === SIGN.met && "met" }, element("input", given),
+    ` ${words} ${mark}`);
+}
+function typedRow({ number }, made, does) {
+  const onchange = ({ target }) => target.value.trim() && does.predict(number, target.value);
+  return element("input", { value: made || "", disabled: made && "", maxlength: 300,
+    "aria-label": "your prediction", onchange });
+}
+function question(ask, right, { predicted }, does) {
+  const made = predicted.get(ask.number), isDecided = Boolean(made && right);
+  const signOf = ({ words, goal }, at) => {
+    if (!isDecided || !goal) return "";
+    return right[at] ? SIGN.met : words === made ? SIGN.not : "";
+  };
+  const rows = ask.options.map((it, at) => optionRow(ask, it, signOf(it, at), made, does));
+  if (!rows.length) rows.push(typedRow(ask, made, does));
+  const isRight = isDecided && right[ask.options.findIndex((it) => it.words === made)];
+  const said = isRight ? " As you predicted." : " Not as you predicted: see why in the picture.";
+  const isAnswered = isDecided && ask.options.some((it) => it.goal);
+  const legend = element("legend", {}, element("b", {}, "Predict: "), ask.text);
+  return element("fieldset", {}, legend, rows, isAnswered && element("b", {}, said));
+}
+function goalRow(goal, isMetNow) {
+  const sign = goal.fault ? "!" : isMetNow ? SIGN.met : SIGN.open;
+  const look = { class: goal.fault ? "wrong" : isMetNow && "met", "data-met": String(isMetNow) };
+  return element("li", { ...look, title: goal.text }, element("b", {}, `${sign} `),
+    withWords(inWords(goal)));
+}
+// (a text has what is typed in backquotes: a command is a button that adds it to the script)
+export function withCommands(text, does) {
+  return text.split("`").flatMap((it, index) => {
+    const [, command] = (index % 2 && COMMAND.exec(it)) || [];
+    if (!command) return index % 2 ? [element("code", {}, it)] : withWords(it);
+    const onclick = () => does.line(command), title = "add this line to the script";
+    return [element("button", { class: "line", "data-line-of": command, onclick, title }, it)];
+  });
+}
+function asked(found, of) {
+  const { lesson, exercise } = of || {};
+  const title = exercise ? `${lesson.title.split(".")[0]}.${exercise.number} ${exercise.title}`
+    : found.exercise || (found.isTask ? "Question" : "");
+  const whose = found.student && element("small", {}, ` ${found.student}`);
+  return [title && element("b", {}, title), whose];
+}
+function buttons({ of, isDone }, does) {
+  const next = isDone && of && exerciseAfter(of), { folder } = of?.lesson || {};
+  const button = (words, onclick, given) => element("button", { onclick, ...given }, words);
+  const begin = () => does.begin(next.tower, next.script), big = { class: "big", "data-next": "" };
+  const goOn = () => does.study(lessonAfter(of.lesson));
+  return [isDone && element("b", { class: "met", role: "status" }, `${SIGN.met} Done`),
+    next && button(`Next: ${next.title} \u25b6`, begin, big),
+    isDone && of && !next && button("Next lesson \u25b6", goOn, big),
+    button("Start again", does.again, { "data-again": "" }),
+    of && button("Answer", () => does.study(folder, { isAnswered: true }), { "data-answer": "" }),
+    of && button("\u25c0 Lesson", () => does.study(folder), { "data-lesson": "" }),
+    button("\u25b4", null, { "data-fold": "task", class: "fold-it", "aria-label": "the text" })];
+}
+function parts(found, state, does) {
+  const { met, of } = state, goals = isPredicted(found) ? found.goals : [];
+  const left = found.left > 0 && element("p", { class: "wrong" },
+    `${found.left} more lines of goals, questions and options are left out: there are too many.`);
+  return [element("div", { class: "asked" }, asked(found, of),
+    found.text.map((it) => element("p", {}, withCommands(it, does)))),
+  element("div", {}, found.asks.map((it, at) => question(it, decided.right[at], found, does)),
+    element("ul", { class: "goals" }, goals.map((it, at) => goalRow(it, met[at]))), left),
+  element("div", { class: "play" }, buttons(state, does))];
+}
+// puts the strip, and returns whether what reads give is covered
+export async function putTask(does) {
+  const found = task(), { document: { tower }, model, lesson } = now, target = one("#task");
+  const isShown = found.isTask || (found.text.length > 0 && !lesson), isOpen = isPredicted(found);
+  target.hidden = !isShown;
+  if (!isShown) return false;
+  if (found.asks.length && isOpen) await decide(found, tower);
+  const met = found.goals.map((it) => isMet(it, model)), of = exerciseNamed(found.exercise);
+  const isDone = found.isTask && isOpen && met.every(Boolean);
+  if (isDone && of) markSolved(of);
+  const held = [found.text, found.exercise, found.asks, [...found.predicted], met, found.goals,
+    decided.key, isDone, found.student];
+  putIfChanged(target, JSON.stringify(held), () => parts(found, { met, of, isDone }, does));
+  return !isOpen;
+}

@@ -1,0 +1,118 @@
+"""The exercises of the lessons: goals and questions, as comments of scripts (page/tasks.js).
+
+Each lesson has exercises 1 to 3, each with goals or a question. The code that the page uses decides
+under node, on what the program answers: the goals of an exercise aren't all met at the start, the
+script meets them, and of a question's options just one holds at the start. The attempts of
+tests/attempts.txt say which further ones are right, and at least two that are wrong, each without
+a refused line.
+"""
+import functools
+import json
+import os
+import re
+import shutil
+import subprocess
+import tempfile
+import threading
+
+import quotes
+from trials import Test
+
+TOP = os.path.dirname(os.path.dirname(os.path.realpath(__file__)))
+NUMBERS, FEWEST_WRONG = {1, 2, 3}, 2
+OF_EXERCISE = re.compile(r"^(\S+) (\d)$")
+ATTEMPT = re.compile(r"^  (wrong|right): (.+)$")
+NO_TOWER = "tower 2\nsafe 0\n"
+
+
+def text_of(path):
+    with open(f"{TOP}/{path}", encoding="ascii") as file:
+        return file.read()
+
+
+def attempts():
+    """Returns of each script and number its attempts: whether it is right, what it is, and lines."""
+    found, its = {}, []
+    for line in text_of("tests/attempts.txt").partition("\n\n")[2].splitlines():
+        exercise, attempt = OF_EXERCISE.match(line), ATTEMPT.match(line)
+        if exercise:
+            its = found.setdefault((exercise[1], int(exercise[2])), [])
+        elif attempt:
+            its.append((attempt[1] == "right", attempt[2], []))
+        else:
+            its[-1][2].extend(quotes.written_out(line.strip()))
+    return found
+
+
+def file_of(name):
+    kinds = [it for it in ("tower", "bench") if os.path.exists(f"{TOP}/{name}.{it}")]
+    return text_of(f"{name}.{kinds[0]}") if kinds else NO_TOWER
+
+
+def scripts():
+    """Returns the names of the scripts of lessons that have a goal or a question."""
+    found = sorted(f"lessons/{folder}/{it[:-len('.script')]}" for folder in quotes.lessons()
+                   for it in os.listdir(f"{TOP}/lessons/{folder}") if it.endswith(".script"))
+    return [it for it in found if re.search(r"^# (?:goal|ask)\b", text_of(f"{it}.script"), re.M)]
+
+
+def judged(program, names, tried):
+    """Returns what page/goals.js finds of each script and its attempts, by the script's name."""
+    asked = []
+    for name in names:
+        its = [(number, *it) for (of, number), each in tried.items() if of == name for it in each]
+        made = [{"number": number, "isRight": is_right, "what": what, "lines": lines}
+                for number, is_right, what, lines in its]
+        asked.append({"name": name, "tower": file_of(name), "script": text_of(f"{name}.script"), "attempts": made})
+    with tempfile.TemporaryDirectory() as room:
+        shutil.copytree(f"{TOP}/page", f"{room}/page")
+        shutil.copy(f"{TOP}/tests/pages/goals.mjs", room)
+        # (so that node takes each file for a module)
+        with open(f"{room}/package.json", "w", encoding="ascii") as file:
+            file.write('{ "type": "module" }')
+        done = subprocess.run(["node", f"{room}/goals.mjs", os.path.abspath(program), room], input=json.dumps(asked),
+                              capture_output=True, text=True, check=False)
+    if done.returncode:
+        raise ValueError(f"node ended with status {done.returncode}: {done.stderr.strip()[-600:]}")
+    return {it["name"]: it for it in map(json.loads, done.stdout.splitlines())}
+
+
+def faults_of_lesson(folder, names, tried, found):
+    """Yields what is wrong with the exercises of a lesson."""
+    numbers, its = set(), [it for it in names if it.split("/")[1] == folder]
+    for name in its:
+        yield from (f"{name}: {it}" for it in found[name]["faults"])
+        numbers.update(found[name]["exercises"])
+        for number in sorted(set(found[name]["goals"])):
+            wrong = [it for it in tried.get((name, number), []) if not it[0]]
+            if len(wrong) < FEWEST_WRONG:
+                yield f"{name}: exercise {number} has {len(wrong)} wrong attempts, fewer than {FEWEST_WRONG}"
+    if numbers != NUMBERS:
+        yield f"of its exercises {sorted(numbers)} have a goal or a question"
+
+
+class Judged:
+    """All scripts and attempts, which are judged once, when the first lesson asks."""
+
+    def __init__(self, program):
+        self.program, self.found, self.turn = program, None, threading.Lock()
+
+    def every(self):
+        with self.turn:
+            if not self.found:
+                names, tried = scripts(), attempts()
+                strange = [it for it, _ in tried if it not in names]
+                if strange:
+                    raise ValueError(f"tests/attempts.txt has {strange[0]}, which has no goal")
+                self.found = names, tried, judged(self.program, names, tried)
+            return self.found
+
+    def fault_of(self, folder):
+        return "; ".join(faults_of_lesson(folder, *self.every())) or None
+
+
+def tests(program):
+    if not shutil.which("node"):
+        return [Test("exercises: node isn't here", None)]
+    its = Judged(program)
+    return [Test(f"exercises of lessons/{it}", functools.partial(its.fault_of, it)) for it in quotes.lessons()]

@@ -1,0 +1,150 @@
+"""The exercises of the lessons in the page: each is begun, predicted and solved by clicks, as its script solves it."""
+import json
+import re
+
+import cases
+from pages.live import holds, same
+
+STEP = re.compile(r"(insert|replace) (\w+) (\d+) (.+)")
+MET = "[...document.querySelectorAll('#task [data-met]')].map((it) => it.dataset.met)"
+DRAWN = "'drawn' in document.querySelector('#study-text').dataset"
+DONE = "document.querySelector('#task [role=status]')"
+
+
+def to(page, branch, place):
+    """Moves to a place of a branch."""
+    if not page.place().startswith(f"{branch},"):
+        page.click(f'.panel[data-branch="{branch}"] h2 [data-select]')
+    page.fill("#place", str(place))
+    holds(page.place().startswith(f"{branch}, place {place} "), f"{page.place()} isn't {branch} {place}")
+
+
+def insert(page, branch, place, step):
+    to(page, branch, place)
+    process = step.split(" ")[1]
+    page.click(f'.actor[data-process="{process}"] [data-action="{step}"]')
+
+
+def replace(page, branch, place, step):
+    to(page, branch, place)
+    # (a click on the step itself, even if it is scrolled away)
+    chip = json.dumps(f'.panel[data-branch="{branch}"] .chip[data-step="{place}"]')
+    page.until(f"document.querySelector({chip})")
+    page.value(f"document.querySelector({chip}).dispatchEvent(new MouseEvent('click', {{ bubbles: true }}))")
+    page.until("!document.querySelector('#menu').hidden", f"step {place} opens no menu")
+    page.fill("#menu input", step)
+    page.click("#menu form button")
+
+
+def do(page, command):
+    """Does by clicks what a line of a script does; a look is what the page shows anyway."""
+    name, *words = command.split(" ")
+    step = STEP.fullmatch(command)
+    if step:
+        kind, branch, place, text = step.groups()
+        (insert if kind == "insert" else replace)(page, branch, int(place), text)
+    elif name == "fork":
+        to(page, words[0], int(words[1]))
+        page.button(f"fork {words[0]}")
+        page.fork(words[2])
+    elif name == "detach":
+        page.button(command)
+    elif name == "break":
+        page.fill('[data-key="break"]', command[len("break "):])
+    elif name == "seek":
+        page.button("seek")
+    elif name == "go":
+        to(page, words[0], int(words[1]))
+
+
+def commands(path):
+    lines = cases.read(path).decode().splitlines()
+    return [it.partition(" ")[2] for it in lines if it and not it.startswith("#")]
+
+
+def to_lesson(page):
+    """Goes to the lesson of what is open, once its pictures are drawn."""
+    page.do("study")
+    page.until(f"document.body.classList.contains('studying') && {DRAWN}", "the lesson isn't shown")
+
+
+def predict(page, begin):
+    """Chooses the first option of each question; the program then marks the one that is right."""
+    for number in range(page.count("#task fieldset")):
+        page.value(f"document.querySelectorAll('#task fieldset')[{number}].querySelector('input').click()")
+        page.wait()
+        same(page.value(f"document.querySelectorAll('#task fieldset')[{number}].querySelectorAll('.met').length"), 1, begin)
+
+
+def solve(page, folder, begin):
+    """Begins an exercise, and does by clicks what its script does."""
+    name = begin.split()[2]
+    page.click(f'[data-begin="{begin}"]')
+    page.until("!document.body.classList.contains('studying')", f"{begin} isn't begun")
+    page.wait()
+    predict(page, begin)
+    goals = page.value(MET)
+    holds(not goals or "false" in goals, f"{begin} is solved at its start")
+    for command in commands(f"lessons/{folder}/{name}.script") if goals else []:
+        # (a break stops before what the script does then)
+        do(page, command)
+        if page.value(f"Boolean({DONE})"):
+            break
+    holds(page.value(f"Boolean({DONE})"), f"{begin} isn't solved: {page.value(MET)}")
+    holds(all(it == "true" for it in page.value(MET)), f"{begin} is done with goals unmet")
+
+
+def solved_by_clicks(page):
+    """Each exercise is unmet at its start, and done once it is solved by clicks; its lesson then says so."""
+    page.open()
+    to_lesson(page)
+    folders = page.value("[...document.querySelectorAll('#study-list [data-study]')].map((it) => it.dataset.study)")
+    same(len(folders), 10)
+    for folder in folders:
+        page.click(f'#study-list [data-study="{folder}"]')
+        page.until(f"{DRAWN} && document.querySelector('#study-list [data-study=\\'{folder}\\'][aria-current]')")
+        begins = page.value("[...document.querySelectorAll('[data-begin]')].map((it) => it.dataset.begin)")
+        same(sorted({it.split()[1] for it in begins}), ["1", "2", "3"], folder)
+        for begin in begins:
+            solve(page, folder, begin)
+            to_lesson(page)
+        same(page.count(".begin .met"), 3, folder)
+
+
+def wrong_choice(page):
+    """A prediction that isn't right is marked, with the one that is; until then what reads give is covered."""
+    page.open()
+    to_lesson(page)
+    page.until("document.querySelector('article.covered .verdict')", "a lesson's picture isn't covered")
+    same(page.value("getComputedStyle(document.querySelector('article .verdict')).visibility"), "hidden")
+    page.fill("#prediction", "0 or 1")
+    page.click("[data-look]")
+    same(page.count("article.covered"), 0)
+    holds("0 or 1" in page.text(".predicted"), "the prediction isn't next to the answers")
+    page.click('[data-begin="01-safe-bit 1 safe"]')
+    page.until("document.body.classList.contains('covered')")
+    page.value("document.querySelector('#task fieldset input').click()")
+    page.until("!document.body.classList.contains('covered')")
+    page.wait()
+    holds("Not as you predicted" in page.text("#task fieldset"), page.text("#task"))
+    same(page.count("#task fieldset .met"), 1)
+    for command in ("join", "break chosen", "seek"):
+        page.click(f'#task [data-line-of="{command}"]')
+    page.until(DONE)
+    page.click("#task [data-again]")
+    page.until("document.querySelector('#task fieldset input:not(:disabled)')")
+    page.wait()
+    page.click("#task [data-answer]")
+    holds(page.value("document.querySelector('article > details').open"), "the answers aren't open")
+
+
+def goals_in_words(page):
+    """No goal of a lesson is shown as words of a page."""
+    page.open()
+    texts = page.value("JSON.parse(document.querySelector('#data').textContent).lessons.flatMap((it) => "
+                       "it.exercises.flatMap((each) => each.parts.flatMap((part) => part.lines)))")
+    goals = [it for it in texts if it.startswith("# goal")]
+    holds(len(goals) >= 23, f"there are only {len(goals)} goals")
+    page.open("tower 2\nsafe 0\n", "\n".join([*goals[:30], "0 join"]) + "\n")
+    same(page.count("#task .goals li"), len(goals[:30]))
+    same([it for it in page.texts("#task .goals li") if "the page " in it or "can't be read" in it], [])
