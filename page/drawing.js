@@ -37,7 +37,8 @@ export class Drawing {
   strip(kind, label, drawn, height) { return { kind, label, drawn, height }; }
   ruler(longest) {
     const steps = this.numbered(between(this.from, Math.min(this.to, longest)));
-    return this.strip("ruler", [textAt("step", 10, 20, "role")], steps.map((it) => textAt(it, this.middle(it), 20, "number")), 28);
+    const numbers = steps.map((it) => textAt(it, this.middle(it), 20, "number"));
+    return this.strip("ruler", [textAt("step", 10, 20, "role")], numbers, 28);
   }
   // the steps that have room for their number
   numbered(steps) {
@@ -79,7 +80,8 @@ export class Drawing {
   verdict(read, words, right, y, height) {
     const width = widthOf(words) + 10;
     return shape("g", { class: `verdict ${read.verdict}`, "data-verdict": read.verdict || null },
-      shape("rect", { x: right - width, y, width, height, rx: 4 }), textAt(words, right - width / 2, y + height - 6));
+      shape("rect", { x: right - width, y, width, height, rx: 4 }),
+      textAt(words, right - width / 2, y + height - 6));
   }
   // the steps as chips; `shared` is how many of them other branches hold too, `differing` are those to mark
   chips(reading, { shared = 0, differing = [] } = {}) {
@@ -133,7 +135,8 @@ export class Drawing {
     if (!reading.isCut) put("end", `M${this.left(to)} 0V${height}`);
     for (const [process, top] of tops) {
       const roles = [this.tower.writes(process) && "writes", this.tower.reads(process) && "reads"].filter(Boolean);
-      labels.push(textAt(`p${process}`, 10, top + 22, "process"), textAt(roles.join(", "), 42, top + 21, "role"));
+      labels.push(textAt(`p${process}`, 10, top + 22, "process"));
+      labels.push(textAt(roles.join(", "), 42, top + 21, "role"));
       const stop = Math.min(this.left(to), this.left(run.stops.get(process) ?? to));
       put("lane", `M${this.left(from)} ${top + BAR / 2}H${Math.max(stop, this.left(from))}`);
     }
@@ -200,7 +203,8 @@ export class Drawing {
     const words = `refused: ${it.refusal}`, near = it.ended - Math.ceil(widthOf(words, 13) / this.column);
     const isSaid = reading.operations.some((each) => each.process === it.process && each.refusal === it.refusal &&
       each.ended >= near && each.ended < it.ended);
-    return isSaid ? [] : [textAt(words, Math.max(end, this.left(this.from) + widthOf(words, 13)), top - 6, "refusal")];
+    const right = Math.max(end, this.left(this.from) + widthOf(words, 13));
+    return isSaid ? [] : [textAt(words, right, top - 6, "refusal")];
   }
   // where a bar ends, and the bar, which stays open if the operation is pending at the branch's end
   bar(reading, it, begin, top) {
@@ -225,7 +229,8 @@ export class Drawing {
     const given = { class: "tick", "data-action": `${action} ${bit}`, "data-step": step };
     if (this.axis.isElastic || this.width(step) < TICK_WORDS)
       return shape("g", given, shape("path", { d: `M${x} ${y + 1}v5` }));
-    const below = this.hasLong(process) ? { x, dy: LONG_BITS } : {}, tspan = { class: "bit", ...below };
+    const below = this.hasLong(process) ? { x, dy: LONG_BITS } : {};
+    const tspan = { class: "bit", ...below };
     const hasNest = this.nestHeight(process) > 0;
     const number = !this.hasBits(process) && shape("tspan", tspan, String(bit));
     return shape("g", given, shape("path", { d: hasNest ? `M${x} ${y}v5` : `M${x} ${y - 6}v10` }),
@@ -239,7 +244,8 @@ export class Drawing {
   mark(run, { kind, step, process, words }, top) {
     const isNested = kind === "chosen" && this.hasBits(process);
     const row = this.layersAt(process).indexOf("regular"), middle = top + BAR / 2;
-    const x = this.middle(step), y = isNested ? top + BAR + 3 + row * NEST + (NEST - 4) / 2 : middle;
+    const x = this.middle(step);
+    const y = isNested ? top + BAR + 3 + row * NEST + (NEST - 4) / 2 : middle;
     const cross = shape("path", { d: `M${x - 11} ${y - 11}l22 22m0 -22l-22 22` });
     const r = Math.max(2.5, Math.min(7, this.width(step) * 0.4));
     const circle = { cx: x, cy: kind === "refused" ? y + BAR / 2 : y, r };
@@ -297,7 +303,9 @@ export class Drawing {
     return { name: "words", fold, rows: this.rows(reading, named, "words", shared) };
   }
   rows(reading, named, kind, shared) {
-    const height = named.length * ROW + 2, labels = named.map(([name, , label = name], index) => textAt(label, 26, index * ROW + 16, "bit-name"));
+    const height = named.length * ROW + 2;
+    const words = named.map(([name, , label = name]) => label);
+    const labels = words.map((it, index) => textAt(it, 26, index * ROW + 16, "bit-name"));
     const drawn = named.flatMap(([name, runs], index) => shape("g", { "data-row": name }, this.row(reading, runs, index * ROW, kind)));
     return this.strip(`rows ${kind}`, labels, named.length ? [...drawn, ...this.veil(reading.from, shared, height)] : [], height);
   }
@@ -313,8 +321,12 @@ export class Drawing {
       const [x, right] = this.reach(reading, begin, end), [value, written] = words.split(" ");
       const look = written !== "-" ? "written" : kind === "words" ? "word" : { "": "word", 0: "zero", 1: "one" }[value];
       drawn.push(shape("rect", { class: look, x, y, width: right - x, height: ROW - 10 }));
-      if (look === "written") drawn.push(value && right - x > TICK_WORDS && textAt(`${value}\u2192${written}`, (x + right) / 2, y + 15, "value"));
-      else for (let at = x + 6; at + 10 <= right; at += TEXT_EVERY * this.column) drawn.push(value && textAt(value, at, y + 15, `of-${look}`));
+      const change = `${value}\u2192${written}`, every = TEXT_EVERY * this.column;
+      const hasRoom = right - x > TICK_WORDS;
+      if (look === "written")
+        drawn.push(value && hasRoom && textAt(change, (x + right) / 2, y + 15, "value"));
+      else for (let at = x + 6; at + 10 <= right; at += every)
+        drawn.push(value && textAt(value, at, y + 15, `of-${look}`));
     }
     for (const [begin, end, read] of reads) {
       const [x, right] = this.reach(reading, begin, end), low = y + ROW - 5;

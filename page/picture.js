@@ -82,7 +82,8 @@ function readAll(tree, panels, range) {
   }
   for (const it of panels) {
     const [from, to] = cut(range, it), was = before.get(it.name), kinds = kindsOf(it).join(" ");
-    const isSame = was && was.branch === it && was.from === from && was.to === to && was.kinds === kinds;
+    const isSame = was && was.branch === it && was.from === from && was.to === to
+      && was.kinds === kinds;
     const reading = isSame ? was : readInside(model, it, from, to);
     now.readings.set(it.name, Object.assign(reading, { kinds }));
   }
@@ -154,7 +155,8 @@ export function putPicture(asked) {
   const drawing = new Drawing(range, model.shape, { depthOf, codes: model.codes });
   const x = drawing.left(range.from), whole = range.axis.left(lengthOf(model.branches)) + MARGIN;
   const width = Math.min(whole, drawing.left(range.to) + MARGIN) - x, { key } = range.axis;
-  const frame = { x, width, whole: whole + LABEL, axis: key }, inSight = drawn.filter((it) => now.inSight.has(it));
+  const frame = { x, width, whole: whole + LABEL, axis: key };
+  const inSight = drawn.filter((it) => now.inSight.has(it));
   const groups = drawing.groups(inSight.map((it) => readings.get(it.name)));
   one("#inner").style.width = `${frame.whole}px`;
   scroll.style.setProperty("--room", `${scroll.clientWidth}px`);

@@ -20,8 +20,11 @@ function putPages() {
   putIfChanged(one("#here"), JSON.stringify([name, place, branch.length, events, pages, notes]), () => [
     memoryCard(name, place),
     place && element("h3", {}, `step ${place - 1}, just made: ${branch.step(place - 1)}`), element("pre", {}, events.join("\n")),
-    programPages(pages.map(([kind, lines, was]) => [element("h3", {}, `${kind} ${name} ${place} of ${branch.length}`),
-      element("pre", { class: lines.join("").length > LONG && "long", "data-page": kind }, lines.flatMap(changed(was)))])),
+    programPages(pages.map(([kind, lines, was]) => {
+      const given = { class: lines.join("").length > LONG && "long", "data-page": kind };
+      return [element("h3", {}, `${kind} ${name} ${place} of ${branch.length}`),
+        element("pre", given, lines.flatMap(changed(was)))];
+    })),
     ...notes.map((it) => element("p", { class: "wrong" }, it))]);
 }
 // (of a tower of many bits the program's pages are folded, until somebody unfolds them)

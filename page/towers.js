@@ -19,9 +19,11 @@ export const TOWERS = {
     bits: (values, last) => (last + 1) * values,
     promise: "A number with a stamp, and a reader that remembers. Atomic for its one reader, up to LAST writes." },
   matrix: { fields: [field("N", "processes, each of which reads and writes", 2, 4, 2), VALUES,
-    field("TAG", "the last tag", 0, 511, 2), field("INNER", "the last stamp of each register", 0, 511, 3)],
+    field("TAG", "the last tag", 0, 511, 2),
+    field("INNER", "the last stamp of each register", 0, 511, 3)],
     bits: (n, values, tag, inner) => n * n * (inner + 1) * (tag + 1) * n * values,
-    promise: "Stamped registers between N processes. Atomic for them all; TAG and INNER bound how many operations succeed." },
+    promise: "Stamped registers between N processes. Atomic for them all; "
+      + "TAG and INNER bound how many operations succeed." },
 };
 export function sizeFault(kind, numbers) {
   const { fields, bits } = TOWERS[kind];
