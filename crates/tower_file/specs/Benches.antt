@@ -1,5 +1,5 @@
 -- The contents of a bench file.
-use Rattle.std.specs.Prelude.{◌≡◌, ◌^◌, Bool, true, false, ◌&&◌, nat_lt, List, [], ◌∷◌}
+use Rattle.std.specs.Prelude.{◌≡◌, ◌^◌, Bool, true, false, ◌&&◌, nat_lt, List, [], ◌∷◌, Option, Some, None, if◌then◌else◌}
 use Rattle.std.specs.List.{list_all}
 use Rattle.schedule_trie.specs.declared.limb.Limb.{Limb}
 use Rattle.schedule_trie.specs.Limbs.{are_lawful_after}
@@ -40,3 +40,7 @@ is_lawful_bench b = (is_lawful_tower b.spec && is_some b.limbs) && are_lawful b.
 -- tower can have these limbs.
 abbrev pub IsLawfulBench : Bench → Type 0
 IsLawfulBench b = is_lawful_bench b ≡ true
+
+-- the bench with this tower and these limbs; `None` if that bench isn't lawful
+abbrev pub checked_bench : TowerSpec → List Limb → Option Bench
+checked_bench t limbs = if is_lawful_bench (bench_of t limbs) then Some (bench_of t limbs) else None

@@ -1,32 +1,37 @@
 -- The faults: each has a number and a name.
-use Rattle.std.specs.Prelude.{◌≡◌, ℕ, List, Result, Ok, Err, IfErr, codes}
+use Rattle.std.specs.Prelude.{◌≡◌, ℕ, List, ◌∷◌, ◌++◌, Result, Ok, Err, IfErr, codes}
+use Rattle.std.specs.Fmt.{decimal}
 use Rattle.tower_file.specs.declared.fault.FaultKind.{FaultKind}
 use Rattle.tower_file.specs.declared.fault.FaultKind.TheVariants.{NotAscii, BadHeader, UnknownTower, BadField, BadStep, BadSize, BadBranch, Tangled, Memory}
 use Rattle.tower_file.specs.declared.fault.FileFault.{FileFault}
 
+-- a fault's number, and its name, which is spelled like the variant
+abbrev pub number_and_name : FaultKind → ℕ × List ℕ
+number_and_name NotAscii = (10, codes "NotAscii")
+number_and_name BadHeader = (11, codes "BadHeader")
+number_and_name UnknownTower = (12, codes "UnknownTower")
+number_and_name BadField = (13, codes "BadField")
+number_and_name BadStep = (14, codes "BadStep")
+number_and_name BadSize = (15, codes "BadSize")
+number_and_name BadBranch = (16, codes "BadBranch")
+number_and_name Tangled = (17, codes "Tangled")
+number_and_name Memory = (40, codes "Memory")
+
 -- a fault's number
 abbrev pub fault_number : FaultKind → ℕ
-fault_number NotAscii = 10
-fault_number BadHeader = 11
-fault_number UnknownTower = 12
-fault_number BadField = 13
-fault_number BadStep = 14
-fault_number BadSize = 15
-fault_number BadBranch = 16
-fault_number Tangled = 17
-fault_number Memory = 40
+fault_number kind = (number_and_name kind).0
 
 -- a fault's name
 abbrev pub fault_name : FaultKind → List ℕ
-fault_name NotAscii = codes "NotAscii"
-fault_name BadHeader = codes "BadHeader"
-fault_name UnknownTower = codes "UnknownTower"
-fault_name BadField = codes "BadField"
-fault_name BadStep = codes "BadStep"
-fault_name BadSize = codes "BadSize"
-fault_name BadBranch = codes "BadBranch"
-fault_name Tangled = codes "Tangled"
-fault_name Memory = codes "Memory"
+fault_name kind = (number_and_name kind).1
+
+-- what a kind of fault prints: its number, a space and its name
+abbrev pub kind_display : FaultKind → List ℕ
+kind_display kind = decimal (fault_number kind) ++ 32 ∷ fault_name kind
+
+-- what a file's fault prints: the word `line`, the line's number, a colon, and the kind
+abbrev pub fault_display : FileFault → List ℕ
+fault_display e = codes "line " ++ decimal e.line ++ codes ": " ++ kind_display e.kind
 
 -- the fault of this kind on this line
 abbrev pub fault : FaultKind → ℕ → FileFault

@@ -1,10 +1,13 @@
 //! The contents of a bench file.
 
-ghost use Rattle.tower_file.specs.Benches.{IsLawfulBench, bench_of};
+ghost use Rattle.std.specs.Prelude.{◌≡◌};
+ghost use Rattle.std.specs.List.{list_all};
+ghost use Rattle.tower_file.specs.Benches as spec;
+ghost use Rattle.tower_file.specs.Benches.{IsLawfulBench, bench_of, has_fit};
 
 use crate::tower::TowerSpec;
 use schedule_trie::Limbs;
-use schedule_trie::limb::Limb;
+use schedule_trie::limb::{Limb, are_lawful};
 
 /// What a bench file says: a lawful tower, and at least one limb (a branch as a file stores it).
 /// Each limb has a well-formed name that no earlier limb has. Each limb's `from` and `shared` are
@@ -21,8 +24,23 @@ pub struct BenchFile {
 
 impl BenchFile {
     ghost use Rattle.std.specs.Prelude.{◌≡◌};
-    ghost use Rattle.tower_file.specs.Benches.{IsLawfulBench, bench_of};
+    ghost use Rattle.std.specs.Option.{option_map};
+    ghost use Rattle.tower_file.specs.Benches.{IsLawfulBench, bench_of, checked_bench};
     ghost use Rattle.tower_file.specs.Said.{as_bench};
+
+    /// Returns the file with this tower and these limbs. Returns `None` if the tower isn't lawful,
+    /// there is no limb, the limbs aren't lawful (`schedule_trie::limb::are_lawful`), or some limb
+    /// has a `from` or `shared` of 10^9 or more or a step that doesn't fit the tower.
+    pub fn new(spec: TowerSpec, limbs: Vec<Limb>) -> Option<BenchFile>
+        ensures { option_map as_bench result ≡ checked_bench spec limbs.items }
+    {
+        let is_lawful = spec.is_lawful() && !limbs.is_empty();
+        if is_lawful && are_lawful(&limbs) && all_fit(&spec, &limbs) {
+            Some(BenchFile::of_lawful(spec, limbs))
+        } else {
+            None
+        }
+    }
 
     /// The file with this tower and these limbs. The tower must be lawful. There must be at least
     /// one limb. Each limb must have a new name and satisfy `may_share`, given the limbs before it;
@@ -36,4 +54,19 @@ impl BenchFile {
             limbs: Limbs::new(limbs),
         }
     }
+}
+
+/// Whether each limb's `from` and `shared` are below 10^9, and its steps fit the tower.
+fn all_fit(tower: &TowerSpec, limbs: &[Limb]) -> bool
+    ensures { result ≡ list_all (has_fit tower.now) limbs.now }
+{
+    limbs.iter().all(|limb| has_fit(tower, limb))
+}
+
+/// Whether a limb's `from` and `shared` are below 10^9, and its steps fit the tower.
+fn has_fit(tower: &TowerSpec, limb: &Limb) -> bool
+    ensures { result ≡ spec.has_fit tower.now limb.now }
+{
+    let is_short = limb.from < 1_000_000_000 && limb.shared < 1_000_000_000;
+    is_short && limb.steps.as_slice().iter().all(|step| tower.fits(*step))
 }

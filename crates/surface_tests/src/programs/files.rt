@@ -2,7 +2,7 @@
 
 use crate::branches::shown::is_text;
 use std::test::Fail;
-use tower_file::{FaultKind, FileFault, parse, parse_bench, print, print_bench};
+use tower_file::{BenchFile, FaultKind, FileFault, parse, parse_bench, print, print_bench};
 
 const TOWER: &[u8] = b"tower 2\nsafe 0\nr 1\nx 1\n";
 
@@ -26,5 +26,6 @@ fn bench_is_read_and_printed(rt: HostRuntime) -> Result<(), Fail> {
     let file = parse_bench(rt.alloc(), BENCH)?;
     assert_eq!(rt; file.limbs.as_slice().len(), 2);
     assert!(rt; is_text(&print_bench(rt.alloc(), &file), BENCH));
+    assert!(rt; BenchFile::new(file.spec, Vec::new(rt.alloc())).is_none());
     Ok(())
 }
