@@ -1,11 +1,13 @@
 //! The contents of a bench file.
 
-ghost use Rattle.std.specs.Prelude.{◌≡◌};
+ghost use Rattle.std.specs.Prelude.{◌≡◌, ◌^◌, nat_lt};
 ghost use Rattle.std.specs.List.{list_all};
 ghost use Rattle.tower_file.specs.Benches as spec;
 ghost use Rattle.tower_file.specs.Benches.{IsLawfulBench, bench_of, has_fit};
+ghost use Rattle.tower_file.specs.Towers.{fits};
 
 use crate::tower::TowerSpec;
+use frames::types::Step;
 use schedule_trie::Limbs;
 use schedule_trie::limb::{Limb, are_lawful};
 
@@ -67,6 +69,19 @@ fn all_fit(tower: &TowerSpec, limbs: &[Limb]) -> bool
 fn has_fit(tower: &TowerSpec, limb: &Limb) -> bool
     ensures { result ≡ spec.has_fit tower.now limb.now }
 {
-    let is_short = limb.from < 1_000_000_000 && limb.shared < 1_000_000_000;
-    is_short && limb.steps.as_slice().iter().all(|step| tower.fits(*step))
+    is_short(limb.from) && is_short(limb.shared) && steps_fit(tower, limb.steps.as_slice())
+}
+
+/// Whether a number has at most 9 digits.
+fn is_short(number: u32) -> bool
+    ensures { result ≡ nat_lt number (10 ^ 9) }
+{
+    number < 1_000_000_000
+}
+
+/// Whether steps fit the tower.
+fn steps_fit(tower: &TowerSpec, steps: &[Step]) -> bool
+    ensures { result ≡ list_all (fits tower.now) steps.now }
+{
+    steps.iter().all(|step| tower.fits(*step))
 }
