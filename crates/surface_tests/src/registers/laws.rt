@@ -38,19 +38,12 @@ fn regular_bit_is_regular(rt: HostRuntime) -> Result<(), Fail> {
     Ok(())
 }
 
-/// A unary number of the values 0 to 3 over a regular bit. Its law says that it is regular.
-fn regular_number() -> Result<Unary<RegularBit<Safe>>, LayerError>
-    ensures { IfOk result
-        (λ number. IsRegular (⟦<Unary<RegularBit<Safe>> as Behaves>⟧.behaviour number)) }
-{
-    let number = Unary::new(regular()?, 4)?;
-    unary_number::laws::regular(&number);
-    Ok(number)
-}
-
 #[test]
 fn unary_number_is_regular(rt: HostRuntime) -> Result<(), Fail> {
-    assert_eq!(rt; regular_number()?.below, regular()?);
+    let bit = regular()?;
+    let number = Unary::new(bit, 4)?;
+    unary_number::laws::regular(&number);
+    assert_eq!(rt; number.below, bit);
     Ok(())
 }
 
@@ -65,8 +58,11 @@ fn stamped_register_is_atomic(rt: HostRuntime) -> Result<(), Fail> {
 
 #[test]
 fn matrix_is_atomic_for_many(rt: HostRuntime) -> Result<(), Fail> {
-    let number = regular_number()?;
+    let number = Unary::new(RegularBit::new(Safe)?, 4)?;
     let register = Matrix::new(number, 2, 2, 0)?;
+    laws::safe(&register.below.below.below);
+    regular_bit::laws::regular(&register.below.below);
+    unary_number::laws::regular(&register.below);
     matrix::laws::atomic(&register);
     assert_eq!(rt; register.below, number);
     Ok(())
