@@ -2,7 +2,8 @@
 // dialog Open lists the last ones.
 import { keepDocumentOf } from "./kept.js";
 import { isUntouched, taskOf } from "./tasks.js";
-import { now, one } from "./state.js";
+import { one } from "./elements.js";
+import { now } from "./state.js";
 
 const left = [];
 let opened = { tower: "", script: "" };

@@ -7,8 +7,10 @@ import { metGoals } from "./goals.js";
 import { inWords } from "./goalwords.js";
 import { documentsOf } from "./opened.js";
 import { taskOf } from "./tasks.js";
-import { SIGNS } from "./drawing.js";
-import { element, now, one, say } from "./state.js";
+import { SIGNS } from "./labels.js";
+import { say } from "./acting.js";
+import { element, one } from "./elements.js";
+import { now } from "./state.js";
 
 export const FEW_FILES = 2;
 const MOST_BRANCHES = 8, MOST_VERDICTS = 12, MET = "\u2713", UNMET = "\u25cb";

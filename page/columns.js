@@ -1,11 +1,12 @@
 // Which columns are drawn, and how wide each step is.
 import { Axis } from "./axis.js";
 import { depthOf } from "./depths.js";
-import { FEW_CELLS, MARGIN } from "./drawing.js";
 import { Layers, layersOf } from "./layers.js";
+import { FEW_CELLS, MARGIN } from "./measures.js";
 import { between } from "./pages.js";
 import { Reading } from "./reading.js";
-import { now, one } from "./state.js";
+import { one } from "./elements.js";
+import { now } from "./state.js";
 
 const EQUAL_WIDTHS = [104, 76, 52, 44], SCALES = [8, 12, 16, 22, 28, 36, 44, 52, 76, 104, 140];
 const AROUND_SIGHT = 20, MOST_PAGE_LINES = 200000, MOST_ELASTIC = 2000;

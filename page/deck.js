@@ -1,5 +1,5 @@
-// What can be done next: for each process its buttons, the breaks, the sessions, and what can be done with a step.
-// `does` are the gestures; each button says which step it adds to the script.
+// What can be done next: buttons of each process, breaks, sessions, and what can be done with a
+// step. `does` are the gestures; each button says which step it adds to the script.
 import { flipped } from "./document.js";
 import { between } from "./pages.js";
 import { reasonOf } from "./reading.js";
@@ -7,7 +7,9 @@ import { refusalReason } from "./refused.js";
 import { comparison } from "./picture.js";
 import { pickedRead, storyOfRead } from "./whys.js";
 import { withWords } from "./words.js";
-import { element, here, isSaying, now, one, putIfChanged, runHere, say } from "./state.js";
+import { isSaying, say } from "./acting.js";
+import { element, one, putIfChanged } from "./elements.js";
+import { here, now, runHere, setView } from "./state.js";
 
 export const FEW_VALUES = 8;
 const STEP_WORDS = "A step is w P V (process P writes V), r P (P reads), g P C (P's next action, " +
@@ -16,7 +18,8 @@ const STEP_PATTERN = "w [0-9] [0-9]+|r [0-9]|g [0-9] [01]|x [0-9]";
 export const ACTIONS = { ws: "starts to write bit", we: "ends its write of bit",
   rs: "starts to read bit", re: "ends its read of bit" };
 // a button; its key finds it again when all is made again, so that it keeps the focus
-const button = (key, words, onclick, given = {}) => element("button", { "data-key": key, onclick, ...given }, words);
+const button = (key, words, onclick, given = {}) =>
+  element("button", { "data-key": key, onclick, ...given }, words);
 const number = (label, value, max, given = {}) =>
   element("input", { type: "number", min: 0, max, value, "aria-label": label, ...given });
 function form(given, done, ...parts) {
@@ -25,7 +28,8 @@ function form(given, done, ...parts) {
 }
 // each process at the cursor: what it does there, and whether the read that it ends next is hit
 export function processesHere() {
-  const { name, place } = here(), [state, bits] = ["state", "bits"].map((kind) => now.model.page(kind, name, place));
+  const { name, place } = here();
+  const [state, bits] = ["state", "bits"].map((kind) => now.model.page(kind, name, place));
   const isHit = ({ action, bit }) => action === "re" && Boolean(bits?.cells[bit]?.endsWith("h"));
   return (state ? state.processes : []).map((it) => ({ ...it, isHit: isHit(it) }));
 }
@@ -35,40 +39,51 @@ function doing({ kind, value, isStopped, action, bit, isHit }) {
   return action ? `${words}: ${ACTIONS[action]} ${bit}${isHit ? ", hit by a write" : ""}` : words;
 }
 function writeButtons(p, step, does) {
-  const { shape: { values } } = now.model, isAwaited = now.view.awaiting === "w" && now.view.process === p;
+  const { shape: { values } } = now.model;
+  const isAwaited = now.view.awaiting === "w" && now.view.process === p;
   const few = between(0, Math.min(values, FEW_VALUES)), look = { class: isAwaited && "await" };
-  if (few.length === values) return few.map((value) => step(`write ${value}`, `w ${p} ${value}`, look));
-  const label = `value that p${p} writes, 0 to ${values - 1}`, write = () => does.put(p, `w ${p} ${Number(input.value)}`);
+  if (few.length === values)
+    return few.map((value) => step(`write ${value}`, `w ${p} ${value}`, look));
+  const label = `value that p${p} writes, 0 to ${values - 1}`;
+  const write = () => does.put(p, `w ${p} ${Number(input.value)}`);
   const onkeydown = (event) => { if (event.key === "Enter") write(); };
   const input = number(label, 1, values - 1, { "data-key": `p${p} value`, onkeydown });
   return [input, button(`p${p} w`, "write", write)];
 }
+const STOP_TITLE = "it stops for good, in the middle of what it does (x)";
+const END_TITLE = "steps to the end of the operation, or up to its first choice (e)";
+function stepButtons(it, does) {
+  const p = it.number, { shape } = now.model, isIdle = it.kind === "idle", buttons = [];
+  const step = (words, command, given) => button(`p${p} ${command}`, words,
+    () => does.put(p, command), { title: `the step ${command}`, "data-action": command, ...given });
+  const give = (choice) => step(`give ${choice}`, `g ${p} ${choice}`, { class: "give" });
+  const end = () => button(`p${p} end`, "run to its end", () => does.end(p), { title: END_TITLE });
+  if (isIdle && shape.writes(p)) buttons.push(...writeButtons(p, step, does));
+  if (isIdle && shape.reads(p)) buttons.push(step("read", `r ${p}`));
+  if (it.isHit) buttons.push(give(0), give(1));
+  else if (it.action) buttons.push(step("step", `g ${p} 0`), end());
+  // (at the far end, so that it never lies where another button was a moment ago)
+  return [...buttons, step("stop", `x ${p}`, { title: STOP_TITLE, class: "stop-it" })];
+}
 function row(it, does) {
-  const p = it.number, { shape } = now.model, isActive = now.view.process === p;
-  const step = (words, command, given) => button(`p${p} ${command}`, words, () => does.put(p, command),
-    { title: `the step ${command}`, "data-action": command, ...given });
+  const p = it.number, isActive = now.view.process === p;
   const look = { "aria-pressed": String(isActive), title: `keys go to p${p} (${p})` };
-  const buttons = [button(`p${p} process`, `p${p}`, () => does.choose(p), look), element("span", { class: "does" }, doing(it))];
-  if (!it.isStopped) {
-    if (it.kind === "idle" && shape.writes(p)) buttons.push(...writeButtons(p, step, does));
-    if (it.kind === "idle" && shape.reads(p)) buttons.push(step("read", `r ${p}`));
-    const give = (choice) => step(`give ${choice}`, `g ${p} ${choice}`, { class: "give" });
-    if (it.isHit) buttons.push(give(0), give(1));
-    else if (it.action) buttons.push(step("step", `g ${p} 0`), button(`p${p} end`, "run to its end", () => does.end(p),
-      { title: "steps to the end of the operation, or up to its first choice (e)" }));
-    // (at the far end, so that it never lies where another button was a moment ago)
-    buttons.push(step("stop", `x ${p}`, { title: "it stops for good, in the middle of what it does (x)", class: "stop-it" }));
-  }
-  return element("div", { class: `actor${isActive ? " active" : ""}${it.isHit ? " hit" : ""}`, "data-process": p }, buttons);
+  const kinds = `actor${isActive ? " active" : ""}${it.isHit ? " hit" : ""}`;
+  return element("div", { class: kinds, "data-process": p },
+    button(`p${p} process`, `p${p}`, () => does.choose(p), look),
+    element("span", { class: "does" }, doing(it)), it.isStopped ? [] : stepButtons(it, does));
 }
 function breakAdder(processes, does) {
-  const kinds = ["chosen", "void", "refused", ...processes.map((it) => `returns ${it.number}`), "bit"];
-  const options = [["", "+ break\u2026"], ...kinds.map((it) => [it, it === "bit" ? "bit \u2026 is \u2026" : it])];
+  const returns = processes.map((it) => `returns ${it.number}`);
+  const wordsOf = (kind) => (kind === "bit" ? "bit \u2026 is \u2026" : kind);
+  const kinds = ["chosen", "void", "refused", ...returns, "bit"];
+  const options = [["", "+ break\u2026"], ...kinds.map((it) => [it, wordsOf(it)])];
   const add = element("select", { "aria-label": "set a break", "data-key": "break" },
     options.map(([value, words]) => element("option", { value }, words)));
   const inputs = [number("bit", 0, now.model.shape.cells - 1), number("value", 1, 1)];
   const set = () => does.edit(`break bit ${inputs.map((it) => Number(it.value)).join(" ")}`);
-  const bit = form({ hidden: "" }, set, "bit ", inputs[0], " is ", inputs[1], " ", element("button", {}, "set"));
+  const bit = form({ hidden: "" }, set, "bit ", inputs[0], " is ", inputs[1], " ",
+    element("button", {}, "set"));
   add.onchange = () => {
     if (add.value === "bit") bit.hidden = !(add.hidden = true);
     else does.edit(`break ${add.value}`);
@@ -77,15 +92,20 @@ function breakAdder(processes, does) {
 }
 function breakButtons(processes, does) {
   const { breaks } = here(), disabled = breaks.length ? null : "";
-  return [button("back", "\u25c0 break", () => does.edit("back"), { title: "back to the last break (b)", disabled }),
-    button("seek", "break \u25b6", () => does.edit("seek"), { title: "on to the next break (n)", disabled }),
-    ...breaks.map((it) => button(`clear ${it}`, `${it} \u00d7`, () => does.edit(`clear ${it}`), { title: "clear it" })),
-    ...breakAdder(processes, does)];
+  const back = { title: "back to the last break (b)", disabled };
+  const seek = { title: "on to the next break (n)", disabled };
+  const clear = (it) =>
+    button(`clear ${it}`, `${it} \u00d7`, () => does.edit(`clear ${it}`), { title: "clear it" });
+  return [button("back", "\u25c0 break", () => does.edit("back"), back),
+    button("seek", "break \u25b6", () => does.edit("seek"), seek),
+    ...breaks.map(clear), ...breakAdder(processes, does)];
 }
 function putSessions(does) {
   const { model: { cursors }, who } = now;
-  const words = (it, index) => `session ${index}${it && index !== who ? `: ${it.name} ${it.place}` : ""}`;
-  putIfChanged(one("#session"), JSON.stringify([who, cursors.map((it) => it && [it.name, it.place])]), () =>
+  const at = (it) => (it ? `: ${it.name} ${it.place}` : "");
+  const words = (it, index) => `session ${index}${index === who ? "" : at(it)}`;
+  const held = JSON.stringify([who, cursors.map((it) => it && [it.name, it.place])]);
+  putIfChanged(one("#session"), held, () =>
     cursors.map((it, index) => element("option", { value: index }, words(it, index))));
   one("#session").value = String(who);
   one("#leave").hidden = !here().isJoined || cursors.filter(Boolean).length < 2;
@@ -97,11 +117,14 @@ function sayWhatIs(hit, does) {
   const events = run.eventsAt(place - 1);
   const compared = comparison();
   if (compared && !picked) return say(compared, "why");
-  const asked = hit.map((it) => `A write overlaps p${it.number}'s read of bit ${it.bit}. Give 0 or 1?`);
+  const asked = hit.map(({ number: p, bit }) =>
+    `A write overlaps p${p}'s read of bit ${bit}. Give 0 or 1?`);
   if (hit.length && !picked) return say(asked.join(" "), "asks");
   const read = picked || run.operations.find((it) => it.kind === "read" && it.ended === place - 1);
-  const isChosen = events.some((it) => it.includes(" chosen ")), other = isChosen && flipped(branch.step(place - 1)).at(-1);
-  const more = other ? [" ", button("other", `Try ${other} on a branch`, () => does.tryOther(place - 1))] : [];
+  const isChosen = events.some((it) => it.includes(" chosen "));
+  const other = isChosen && flipped(branch.step(place - 1)).at(-1);
+  const tryOther = () => does.tryOther(place - 1);
+  const more = other ? [" ", button("other", `Try ${other} on a branch`, tryOther)] : [];
   const gave = read?.ending === "returned" ? ` returned ${read.value}` : "";
   const reason = read && reasonOf(picked ? now.readings.get(now.view.picked.name).run : run, read);
   const refused = picked?.refusal ? picked
@@ -115,20 +138,24 @@ function sayWhatIs(hit, does) {
 }
 function nextWords() {
   const { place, branch } = here();
-  if (place >= branch.length) return place ? "at the end" : "no steps yet: choose what a process does";
-  const others = now.model.sharers(branch, place).map((it) => it.name);
-  return `steps go in before ${branch.step(place)}${others.length ? `, on ${others.join(", ")} too` : ""}`;
+  const { length } = branch;
+  if (place >= length) return place ? "at the end" : "no steps yet: choose what a process does";
+  const others = now.model.sharers(branch, place).map((it) => it.name).join(", ");
+  return `steps go in before ${branch.step(place)}${others && `, on ${others} too`}`;
 }
 export function putDeck(does) {
-  const { view, model, document: { lastGesture, undone } } = now, { name, place, branch } = here(), found = processesHere();
+  const { view, model, document: { lastGesture, undone } } = now;
+  const { name, place, branch } = here(), found = processesHere();
   const held = document.activeElement?.dataset?.key;
-  if (!found.some((it) => it.number === view.process)) view.process = found[0]?.number || 0;
+  if (!found.some((it) => it.number === view.process))
+    setView({ process: found[0]?.number || 0 });
   one("#at").textContent = `${name}, place ${place} of ${branch.length}`;
   Object.assign(one("#place"), { max: branch.length, value: place });
   one("#next").textContent = nextWords();
   if (!isSaying("message", "refusal", "awaits")) sayWhatIs(found.filter((it) => it.isHit), does);
   // (a number that is being typed stays)
-  const typed = [...one("#processes").querySelectorAll("input")].map((it) => [it.dataset.key, it.value]);
+  const inputs = [...one("#processes").querySelectorAll("input")];
+  const typed = inputs.map((it) => [it.dataset.key, it.value]);
   one("#processes").replaceChildren(...found.map((it) => row(it, does)));
   for (const [key, value] of typed) (one(`[data-key="${key}"]`) || {}).value = value;
   one("#breaks").replaceChildren(...breakButtons(found, does));
@@ -136,26 +163,33 @@ export function putDeck(does) {
   one("#tower-line").textContent = model.tower;
   one("#undo").disabled = !lastGesture;
   one("#redo").disabled = !undone.length;
-  const instead = [`[data-key="${held}"]:enabled`, `[data-key="${held?.split(" ")[0]} process"]`, "#scroll"];
+  const ofProcess = `[data-key="${held?.split(" ")[0]} process"]`;
+  const instead = [`[data-key="${held}"]:enabled`, ofProcess, "#scroll"];
   if (held) instead.map(one).find(Boolean).focus({ preventScroll: true });
 }
 function menu(index, does) {
   const { branch } = here(), step = branch.step(index), events = runHere().eventsAt(index);
   const isChoice = step.startsWith("g"), isChosen = events.some((it) => it.includes(" chosen "));
-  const others = now.model.sharers(branch, index).map((it) => it.name), said = (words) => element("small", {}, words);
+  const others = now.model.sharers(branch, index).map((it) => it.name).join(", ");
+  const said = (words) => element("small", {}, words);
   const input = element("input", { value: step, "aria-label": "another step", pattern: STEP_PATTERN,
     oninvalid: ({ target }) => target.setCustomValidity(STEP_WORDS),
     oninput: ({ target }) => target.setCustomValidity("") });
   const done = (gesture) => () => { closeMenu(); gesture(); };
-  const choose = (key, words, gesture) => button(key, words, done(gesture), { "data-step-action": key });
-  const replace = done(() => does.replace(index, input.value));
-  return [element("b", {}, `Step ${index} of ${branch.name}: ${step}`), element("pre", {}, events.join("\n")),
+  const choose = (key, words, gesture) =>
+    button(key, words, done(gesture), { "data-step-action": key });
+  const replace = done(() => does.replace(index, input.value)), other = flipped(step);
+  const choices = () => [
+    choose("try", `Try the other choice, ${other}, on a branch`, () => does.tryOther(index)),
+    choose("flip", `Flip the choice: ${other}`, () => does.replace(index, other))];
+  return [element("b", {}, `Step ${index} of ${branch.name}: ${step}`),
+    element("pre", {}, events.join("\n")),
     isChoice && !isChosen ? said("No hit read ends here, so its choice has no effect.") : "",
-    others.length ? said(`Shared with ${others.join(", ")}: a change here changes them too.`) : "",
-    ...(isChoice ? [choose("try", `Try the other choice, ${flipped(step)}, on a branch`, () => does.tryOther(index)),
-      choose("flip", `Flip the choice: ${flipped(step)}`, () => does.replace(index, flipped(step)))] : []),
+    others ? said(`Shared with ${others}: a change here changes them too.`) : "",
+    ...(isChoice ? choices() : []),
     form({ "data-form": "replace" }, replace, input, element("button", {}, "Replace")),
-    choose("remove", "Remove it", () => does.remove(index)), choose("before", "Insert before it", () => does.before(index)),
+    choose("remove", "Remove it", () => does.remove(index)),
+    choose("before", "Insert before it", () => does.before(index)),
     choose("fork", "Fork before it\u2026", () => does.fork(index))];
 }
 const MENU_SIZE = { width: 350, height: 360 };

@@ -1,7 +1,8 @@
 // How deep the picture goes: how many layers are drawn below operations, and which rows unfolded.
-import { FEW_CELLS } from "./drawing.js";
 import { layersOf } from "./layers.js";
-import { element, now, one, putIfChanged } from "./state.js";
+import { FEW_CELLS } from "./measures.js";
+import { element, one, putIfChanged } from "./elements.js";
+import { now } from "./state.js";
 
 const DEPTH_NAMES = { stamped: "+ registers", unary: "+ numbers", regular: "+ bits",
   copies: "+ copies" };

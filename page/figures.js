@@ -1,11 +1,11 @@
 // A time line of a lesson as a picture that can be played, step by step.
 import { answer } from "./engine.js";
 import { Document, EMPTY_TOWER } from "./document.js";
-import { LABEL, MARGIN } from "./drawing.js";
+import { LABEL, MARGIN } from "./measures.js";
 import { Model } from "./model.js";
 import { looksOf, stillRows } from "./still.js";
 import { partOf } from "./exercises.js";
-import { element, mounted } from "./state.js";
+import { element, mounted } from "./elements.js";
 
 const LONG_SCHEDULE = 60, LEAST_WIDTH = 560, EDGES = 30, PLAY_PAUSE = 900;
 const COLUMN = { least: 34, most: 104 };

@@ -1,6 +1,9 @@
 // What is written on the bars of inner operations, and on the bands of numbers: words in several
 // lengths, the longest first, of which a drawing takes the first that fits.
 
+// the signs of verdicts
+export const SIGNS = { fresh: "\u25cf", overlap: "\u25d0", stray: "\u25b2" };
+export const counted = (many, thing) => `${many} ${thing}${many === 1 ? "" : "s"}`;
 // a code in words: what it is of, and the same in short
 export function codeWords(codes, code) {
   const { stamp, inner, value } = codes.parts(code);

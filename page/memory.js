@@ -1,7 +1,8 @@
 // What a tower's numbers hold at the cursor's place: a card, or of a matrix a square of N by N.
 import { codeWords, tagWords } from "./labels.js";
 import { between } from "./pages.js";
-import { element, now } from "./state.js";
+import { element } from "./elements.js";
+import { now } from "./state.js";
 
 const SMALL_SIDE = 2;
 // who has a number in work at a place: the process, the number, and its frames

@@ -1,7 +1,9 @@
-// What the program says of a document: its answer to each line, the branches, the cursors, and pages as they are wanted.
+// What the program says of a document: its answer to each line, the branches, the cursors, and
+// pages as they are wanted.
 import { placeOf } from "./document.js";
 import { Codes } from "./layers.js";
-import { LOOK, answersIn, between, cursorIn, firstDifference, forestIn, pageIn, pairedAnswers, sharedCells } from "./pages.js";
+import { LOOK, answersIn, between, cursorIn, firstDifference, forestIn } from "./pages.js";
+import { pageIn, pairedAnswers, sharedCells } from "./pages.js";
 import { faultInWords, refusalOf } from "./refusals.js";
 import { shapeOf } from "./towers.js";
 
@@ -19,21 +21,24 @@ async function answered(ask, tower, script) {
 }
 const linesOf = (lines) => lines.map((line) => `${line}\n`).join("");
 export class Model {
-  // The answers to a document; a fault of the file, or of the whole run, is thrown. What `before` has of it stays.
+  // The answers to a document; a fault of the file, or of the whole run, is thrown. What `before`
+  // has of it stays.
   static async of(document, ask, before) {
     const cursors = SESSIONS.map((who) => `${who} cursor`);
     const asked = [...document.lines, ...cursors, `${LOOK} branches`];
     const made = await answered(ask, document.tower, linesOf(asked));
-    const isSame = before && before.bench === made.bench;
-    const model = new Model(document, ask, made.bench, isSame ? before : forestIn(made.bench), isSame ? before.pages : new Map());
+    const { bench } = made, isSame = before && before.bench === bench;
+    const forest = isSame ? before : forestIn(bench), pages = isSame ? before.pages : new Map();
+    const model = new Model(document, ask, bench, forest, pages);
     model.understand(pairedAnswers(asked, answersIn(made.output)));
     if (before && !isSame) model.keep(before);
     return model;
   }
   constructor(document, ask, bench, { tower, branches }, pages) {
-    Object.assign(this, { document, ask, bench, tower, branches, pages, shape: shapeOf(tower), notes: [] });
-    // (how many pages this model has asked for)
-    Object.assign(this, { codes: new Codes(this.shape), asked: 0 });
+    const shape = shapeOf(tower), codes = new Codes(shape);
+    // (`asked`: how many pages this model has asked for)
+    Object.assign(this, { document, ask, bench, tower, branches, pages, shape, codes });
+    Object.assign(this, { notes: [], asked: 0 });
     this.byName = new Map(branches.map((it) => [it.name, it]));
   }
   understand(found) {
@@ -43,7 +48,9 @@ export class Model {
     // (the page branches: what its first line says, and each branch)
     const { first = "", lines = [] } = found[many + SESSIONS.length] || {};
     this.branchLines = [first.replace(/^[0-9]+: /, ""), ...lines];
-    const refused = this.answers.map((it, index) => ({ line: index + 1, words: it && refusalOf(it.first, document.lines[index]) }));
+    const wordsOf = (it, index) => it && refusalOf(it.first, document.lines[index]);
+    const refused = this.answers.map((it, index) =>
+      ({ line: index + 1, words: wordsOf(it, index) }));
     this.refusals = refused.filter((it) => it.words);
   }
   cursorOf(found) {
@@ -51,18 +58,30 @@ export class Model {
     return branch && cursor.place <= branch.length ? cursor : null;
   }
   branch(name) { return this.byName.get(name); }
-  // where a session is: at the place that the last line is about, at its cursor, or at the end of the first branch
+  // where a session is: at the place that the last line is about, at its cursor, or at the end of
+  // the first branch
   placeOf(who) {
-    const { lines } = this.document, cursor = this.cursors[who], [first] = this.branches;
-    const line = placeOf(lines.findLast((it) => it && it[0] !== "#")), isRefused = this.refusals.at(-1)?.line === lines.length;
-    const branch = line && line.who === who && !isRefused && this.branch(line.name), atEnd = { name: first.name, place: first.length };
-    const at = branch ? { name: branch.name, place: Math.min(line.place, branch.length) } : cursor || atEnd;
-    return { ...at, branch: this.branch(at.name), breaks: cursor ? cursor.breaks : [], isJoined: Boolean(cursor),
-      isAtCursor: Boolean(cursor) && cursor.name === at.name && cursor.place === at.place };
+    const cursor = this.cursors[who], [first] = this.branches;
+    const at = this.placeOfLastLine(who) || cursor || { name: first.name, place: first.length };
+    const isAtCursor = Boolean(cursor) && cursor.name === at.name && cursor.place === at.place;
+    return { ...at, branch: this.branch(at.name), breaks: cursor ? cursor.breaks : [],
+      isJoined: Boolean(cursor), isAtCursor };
   }
-  sharers(branch, index) { return this.branches.filter((it) => it !== branch && sharedCells(it, branch) > index); }
+  // the place that the last line is about, if it is a session's own and isn't refused
+  placeOfLastLine(who) {
+    const { lines } = this.document, line = placeOf(lines.findLast((it) => it && it[0] !== "#"));
+    const isRefused = this.refusals.at(-1)?.line === lines.length;
+    const branch = line && line.who === who && !isRefused && this.branch(line.name);
+    return branch && { name: branch.name, place: Math.min(line.place, branch.length) };
+  }
+  othersThan(branch) { return this.branches.filter((it) => it !== branch); }
+  sharers(branch, index) {
+    return this.othersThan(branch).filter((it) => sharedCells(it, branch) > index);
+  }
   // how many of a branch's first steps other branches hold too
-  sharedSteps(branch) { return Math.max(0, ...this.branches.map((it) => (it === branch ? 0 : sharedCells(it, branch)))); }
+  sharedSteps(branch) {
+    return Math.max(0, ...this.othersThan(branch).map((it) => sharedCells(it, branch)));
+  }
   // a page depends on the steps up to its place alone, so those of equal steps stay
   keep(before) {
     if (before.tower !== this.tower) return;
@@ -72,31 +91,38 @@ export class Model {
       if (Number(place) <= equal.get(name)) this.pages.set(key, page);
     }
   }
-  equalSteps(old) { return this.branch(old.name) ? firstDifference(old, this.branch(old.name), 0) : -1; }
+  equalSteps(old) {
+    const branch = this.branch(old.name);
+    return branch ? firstDifference(old, branch, 0) : -1;
+  }
   // (what branches share has one page)
   key(kind, name, place) { return `${kind} ${this.branch(name).owner(place).name} ${place}`; }
   page(kind, name, place) { return this.pages.get(this.key(kind, name, place)); }
   // gets those of these pages that aren't there yet; each is a kind, a branch's name and a place
   async look(looks) {
-    const keys = new Set(looks.map((it) => this.key(...it))), wanted = [...keys].filter((it) => !this.pages.has(it));
+    const keys = new Set(looks.map((it) => this.key(...it)));
+    const wanted = [...keys].filter((it) => !this.pages.has(it));
     const kept = [...this.pages.values()].reduce((sum, { lines }) => sum + lines.length, 0);
     if (kept > MOST_KEPT)
       for (const key of this.pages.keys()) if (!keys.has(key)) this.pages.delete(key);
     this.asked += wanted.length;
     if (!wanted.length) return;
-    const made = await answered(this.ask, this.bench, linesOf(wanted.map((it) => `${LOOK} ${it}`)));
-    const found = answersIn(made.output);
+    const script = linesOf(wanted.map((it) => `${LOOK} ${it}`));
+    const found = answersIn((await answered(this.ask, this.bench, script)).output);
     wanted.forEach((look, index) => {
       const { first, lines } = found[index] || { first: "nothing", lines: [] };
-      if (first.startsWith(`${LOOK}: ${look} of `)) this.pages.set(look, pageIn(look.split(" ")[0], lines));
+      const isAnswer = first.startsWith(`${LOOK}: ${look} of `), [kind] = look.split(" ");
+      if (isAnswer) this.pages.set(look, pageIn(kind, lines));
       else this.notes.push(`To the look ${look} the program answered ${first.slice(0, 60)}`);
     });
   }
 }
-// How many of these steps a process needs to the end of its operation, or to a choice; null if neither comes.
+// How many of these steps a process needs to the end of its operation, or to a choice; null if
+// neither comes.
 export async function stepsToEnd({ ask, bench }, commands, at, process, many) {
   // (an edit takes a session that can join)
-  const lines = [...commands.map((it) => `0 ${it}`), `${LOOK} history ${at.name} ${at.place + many}`];
+  const end = `${LOOK} history ${at.name} ${at.place + many}`;
+  const lines = [...commands.map((it) => `0 ${it}`), end];
   const found = answersIn((await answered(ask, bench, linesOf(lines))).output).at(-1);
   for (const { step, process: who, words } of pageIn("history", found ? found.lines : []).events) {
     if (step < at.place || who !== process) continue;

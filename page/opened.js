@@ -3,7 +3,9 @@ import { Document } from "./document.js";
 import { forgetLeft } from "./back.js";
 import { forget, keptDocuments } from "./kept.js";
 import { taskOf, towerIn } from "./tasks.js";
-import { element, now, one, say } from "./state.js";
+import { say } from "./acting.js";
+import { element, one } from "./elements.js";
+import { now } from "./state.js";
 
 const INSIDE = /<script type="application\/json" id="data">([^]*?)<\/script>/;
 const isPage = ({ name }) => /\.html?$/i.test(name);

@@ -1,13 +1,17 @@
-// What the program's answers say, as data. Nothing is worked out that no page says; a line that isn't known is noted.
+// What the program's answers say, as data. Nothing is worked out that no page says; a line that
+// isn't known is noted.
 import { framesIn } from "./frames.js";
 
 // the session that asks for pages: none that can join
 export const LOOK = 999999999;
 const NUMBER = "(?:0|[1-9][0-9]{0,8})";
 const whole = (pattern) => new RegExp(`^(?:${pattern})$`);
-const PROCESS = whole(`p([0-9]) (idle|read|write (${NUMBER}))(?: (stopped)| next (ws|we|rs|re) (${NUMBER}))?`);
-const EVENT = whole(`(${NUMBER}) p([0-9]) (invoke read|invoke write ${NUMBER}|return ${NUMBER}|return written|stop|` +
-  `void (?:busy|idle|stopped)|chosen bit ${NUMBER} value [01]|refused spent (?:stamped|matrix))`);
+const NEXT_ACTION = `next (ws|we|rs|re) (${NUMBER})`;
+const PROCESS = whole(`p([0-9]) (idle|read|write (${NUMBER}))(?: (stopped)| ${NEXT_ACTION})?`);
+const HAPPENS = ["invoke read", `invoke write ${NUMBER}`, `return ${NUMBER}`, "return written",
+  "stop", "void (?:busy|idle|stopped)", `chosen bit ${NUMBER} value [01]`,
+  "refused spent (?:stamped|matrix)"];
+const EVENT = whole(`(${NUMBER}) p([0-9]) (${HAPPENS.join("|")})`);
 const CELL = whole(`(${NUMBER}) ([01]) ([01-]) ([rh-])`);
 const WORDS = whole(`words (?:-|${NUMBER}(?: ${NUMBER})*)`);
 const BITS = /^bits [01]+$/;
@@ -16,7 +20,8 @@ const UNDEFINED = "undefined for matrix";
 const STEP = whole(`w [0-9] ${NUMBER}|r [0-9]|g [0-9] [01]|x [0-9]`);
 const BRANCH = whole(`branch ([a-z][a-z0-9]{0,15}) (${NUMBER}) (${NUMBER})`);
 const CURSOR = whole(`${NUMBER}: cursor (\\S+) (${NUMBER}) breaks ${NUMBER}`);
-export const between = (from, to) => [...Array(Math.max(0, to - from)).keys()].map((it) => it + from);
+export const between = (from, to) =>
+  [...Array(Math.max(0, to - from)).keys()].map((it) => it + from);
 // each answer, its first line and the others; a last line that is cut off isn't one
 export function answersIn(output) {
   const found = [];
@@ -36,10 +41,18 @@ export function cursorIn({ first, lines }) {
 }
 // A branch: the first cells of its parent, which both share, and then cells of its own.
 class Branch {
-  constructor(name, parent, shared, index) { Object.assign(this, { name, parent, shared, index, own: [] }); }
+  constructor(name, parent, shared, index) {
+    Object.assign(this, { name, parent, shared, index, own: [] });
+  }
   get length() { return this.shared + this.own.length; }
-  step(index) { return index < this.shared ? this.parent.step(index) : this.own[index - this.shared]; }
-  get steps() { return [...(this.parent ? this.parent.steps.slice(0, this.shared) : []), ...this.own]; }
+  step(index) {
+    const { parent, shared, own } = this;
+    return index < shared ? parent.step(index) : own[index - shared];
+  }
+  get steps() {
+    const { parent, shared, own } = this;
+    return [...(parent ? parent.steps.slice(0, shared) : []), ...own];
+  }
   // the branch that had the first cells, up to a place, before all others
   owner(place) { return this.shared && place <= this.shared ? this.parent.owner(place) : this; }
 }
@@ -47,18 +60,20 @@ class Branch {
 export function forestIn(bench) {
   const [, tower = "", ...lines] = bench.split("\n").slice(0, -1), branches = [];
   for (const line of lines) {
-    const match = line.startsWith("b") && BRANCH.exec(line);
+    const match = line.startsWith("b") && BRANCH.exec(line), begin = line.slice(0, 60);
     if (match) {
-      const parent = Number(match[3]) ? branches[match[2]] : null, shared = Number(match[3]);
-      if (shared > (parent ? parent.length : 0)) throw new Error(`A branch shares steps that aren't there: ${line.slice(0, 60)}`);
+      const shared = Number(match[3]), parent = shared ? branches[match[2]] : null;
+      if (shared > (parent ? parent.length : 0))
+        throw new Error(`A branch shares steps that aren't there: ${begin}`);
       branches.push(new Branch(match[1], parent, shared, branches.length));
     } else if (STEP.test(line) && branches.length) branches.at(-1).own.push(line);
-    else throw new Error(`The saved branches have a line that isn't known: ${line.slice(0, 60)}`);
+    else throw new Error(`The saved branches have a line that isn't known: ${begin}`);
   }
   if (!branches.length) throw new Error("The program saved no branches.");
   return { tower, branches };
 }
-// how many cells two branches share: the later one begins with cells of its parent, and shares no others
+// how many cells two branches share: the later one begins with cells of its parent, and shares no
+// others
 export function sharedCells(a, b) {
   if (a === b) return a.length;
   const [earlier, later] = a.index < b.index ? [a, b] : [b, a];
@@ -72,8 +87,9 @@ export function firstDifference(a, b, at = sharedCells(a, b)) {
 function processIn(line) {
   const match = PROCESS.exec(line);
   if (!match) return null;
-  const [, number, doing, value, stopped, action, bit] = match, kind = doing.split(" ")[0];
-  return { number: Number(number), kind, doing, value, isStopped: Boolean(stopped), action, bit: bit && Number(bit) };
+  const [, number, doing, value, stopped, action, bit] = match, [kind] = doing.split(" ");
+  return { number: Number(number), kind, doing, value, isStopped: Boolean(stopped), action,
+    bit: bit && Number(bit) };
 }
 // (equal texts are the same text, so that comparing them takes no time)
 const CELLS = new Map();
@@ -91,13 +107,14 @@ const PAGES = {
   }],
   // `cells` has for each bit its value, what is being written and whether it is read, as `0 1 h`
   bits: [() => ({ cells: [] }), (page, line) => {
-    const space = line.indexOf(" "), isNext = Number(line.slice(0, space)) === page.cells.length && CELL.test(line);
+    const space = line.indexOf(" "), number = Number(line.slice(0, space));
+    const isNext = number === page.cells.length && CELL.test(line);
     if (isNext) page.cells.push(oneText(line.slice(space + 1)));
     return isNext || WORDS.test(line);
   }],
   history: [() => ({ events: [] }), (page, line) => {
-    const match = EVENT.exec(line);
-    if (match) page.events.push({ step: Number(match[1]), process: Number(match[2]), words: match[3], line });
+    const match = EVENT.exec(line), [, step, process, words] = match || [];
+    if (match) page.events.push({ step: Number(step), process: Number(process), words, line });
     return match || line === "none";
   }],
   verdict: [() => ({ verdicts: new Map(), isUndefined: false }), (page, line) => {

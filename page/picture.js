@@ -1,13 +1,16 @@
-// The picture in the page: which branches and columns are in sight, the pages that these take, and what is drawn.
+// The picture in the page: which branches and columns are in sight, the pages that these take, and
+// what is drawn.
 import { between, firstDifference, sharedCells } from "./pages.js";
 import { axisLooks, findColumns, lengthOf, putScale } from "./columns.js";
 import { depthKey, depthOf, isFoldOpen, putDepths } from "./depths.js";
-import { Drawing, FEW_CELLS, LABEL, MARGIN } from "./drawing.js";
+import { Drawing } from "./drawing.js";
 import { layersOf } from "./layers.js";
+import { FEW_CELLS, LABEL, MARGIN } from "./measures.js";
 import { Reading, overlappedWrites } from "./reading.js";
 import { aboutBranch, hatch, looksOf, readInside } from "./still.js";
 import { lookIntoRead, pickedRead, storyOfRead } from "./whys.js";
-import { all, element, here, mounted, now, one, putIfChanged, putParts } from "./state.js";
+import { all, element, mounted, one, putIfChanged, putParts } from "./elements.js";
+import { here, now, setNow, setView } from "./state.js";
 
 const SIGHT = 300, MOST_TREE = 12, TREE_ROW = 27, LEAST_ROOM = 300;
 const scroll = one("#scroll"), heights = new Map();
@@ -17,7 +20,7 @@ export function shown() {
   const { model, view } = now, [kind, ...names] = view.show.split(" ");
   const found = names.map((it) => model.branch(it));
   if (kind !== "all" && found.every(Boolean) && names.includes(here().name)) return found;
-  view.show = "all";
+  setView({ show: "all" });
   return model.branches;
 }
 const isComparing = () => now.view.show.startsWith("compare ");
@@ -43,7 +46,10 @@ function heightOf(branch) {
   const { cells, processes } = now.model.shape;
   return heights.get(branch.name) || 90 + processes * 84 + 30 * Math.min(cells, FEW_CELLS);
 }
-const isInSight = (top, bottom) => bottom > scroll.scrollTop - SIGHT && top < scroll.scrollTop + scroll.clientHeight + SIGHT;
+function isInSight(top, bottom) {
+  const { scrollTop, clientHeight } = scroll;
+  return bottom > scrollTop - SIGHT && top < scrollTop + clientHeight + SIGHT;
+}
 // those whose panels are in sight, and that of the cursor
 function panelsInSight(drawn) {
   let top = one("#panels").offsetTop;
@@ -65,27 +71,30 @@ export async function look(isFollowing) {
   await model.look(axisLooks(shown(), roomOf()));
   const panels = panelsInSight(shown()), range = findRange(shown(), panels.length, isFollowing);
   const looks = panels.flatMap((it) => looksOf(it, ...cut(range, it), kindsOf(it)));
-  for (const it of tree) looks.push(...["history", "verdict"].map((kind) => [kind, it.name, cut(range, it)[1]]));
-  for (const kind of ["state", "pending", "bits"]) looks.push([kind, name, place], [kind, name, Math.max(0, place - 1)]);
+  for (const it of tree) {
+    const [, to] = cut(range, it);
+    looks.push(["history", it.name, to], ["verdict", it.name, to]);
+  }
+  for (const kind of ["state", "pending", "bits"])
+    looks.push([kind, name, place], [kind, name, Math.max(0, place - 1)]);
   await model.look(looks);
   readAll(tree, panels, range);
   await lookIntoRead();
-  now.range = range;
-  now.inSight = new Set(panels);
+  setNow({ range, inSight: new Set(panels) });
 }
 function readAll(tree, panels, range) {
-  const { model, readings: before } = now;
-  now.readings = new Map();
+  const { model, readings: before } = now, readings = new Map();
+  setNow({ readings });
   for (const it of tree) {
     const [, to] = cut(range, it);
-    now.readings.set(it.name, new Reading(it, to, to, (kind, at) => model.page(kind, it.name, at)));
+    readings.set(it.name, new Reading(it, to, to, (kind, at) => model.page(kind, it.name, at)));
   }
   for (const it of panels) {
     const [from, to] = cut(range, it), was = before.get(it.name), kinds = kindsOf(it).join(" ");
     const isSame = was && was.branch === it && was.from === from && was.to === to
       && was.kinds === kinds;
     const reading = isSame ? was : readInside(model, it, from, to);
-    now.readings.set(it.name, Object.assign(reading, { kinds }));
+    readings.set(it.name, Object.assign(reading, { kinds }));
   }
 }
 export function isMissing() {
@@ -96,40 +105,53 @@ export function isMissing() {
   return branchesOfTree().some((it) => !now.readings.has(it.name));
 }
 export function stripNode({ kind, label, drawn, height }, { x, width, whole }) {
-  const svg = (given, shapes) => mounted({ name: "svg", attributes: { height, ...given }, children: shapes });
+  const svg = (given, children) =>
+    mounted({ name: "svg", attributes: { height, ...given }, children });
   const picture = svg({ width, viewBox: `${x} 0 ${width} ${height}`, class: "drawn" }, drawn);
   picture.style.marginLeft = `${x}px`;
-  const made = element("div", { class: `strip ${kind}` }, element("span", { class: "label" }, svg({ width: LABEL }, label)), picture);
+  const made = element("div", { class: `strip ${kind}` },
+    element("span", { class: "label" }, svg({ width: LABEL }, label)), picture);
   made.style.width = `${whole}px`;
   return made;
 }
-const stripPart = (key, strip, frame) => ({ key, held: JSON.stringify([strip, frame]), make: () => stripNode(strip, frame) });
+const stripPart = (key, strip, frame) =>
+  ({ key, held: JSON.stringify([strip, frame]), make: () => stripNode(strip, frame) });
 // a register's bits, or the words, which are drawn once they are unfolded
 function foldPart(branch, { name, fold, rows }, frame) {
   const key = `${branch.name} ${name}`, isOpen = isFoldOpen(key);
   if (!rows.drawn.length && !fold?.drawn.length) return [];
   if (!fold) return [stripPart(name || "bits", rows, frame)];
-  const make = () => element("details", { "data-open": key, open: isOpen && "" }, element("summary", {}, stripNode(fold, frame)),
-    isOpen && stripNode(rows, frame));
+  const make = () => element("details", { "data-open": key, open: isOpen && "" },
+    element("summary", {}, stripNode(fold, frame)), isOpen && stripNode(rows, frame));
   return [{ key: `fold ${name}`, held: JSON.stringify([fold, frame, isOpen && rows]), make }];
 }
+const BRANCH_TITLES = { fork: "a new branch of the steps before the cursor (f)",
+  detach: "give it steps of its own, which no other branch holds (d)",
+  compare: "with the cursor's branch, or its own parent (m)", alone: "show this branch alone",
+  own: "go to the first step that it doesn't share with its parent (j)", drop: "drop the branch" };
+// what can be done with a branch: each button's name, and its words if it is there
+function branchButtons(branch) {
+  const { model, view } = now, isAlone = view.show === `only ${branch.name}`;
+  const isMany = model.branches.length > 1, compare = isComparing() ? "stop comparing" : "compare";
+  return [["fork", "fork\u2026"], ["detach", model.sharedSteps(branch) > 0 && "detach"],
+    ["compare", isMany && compare],
+    ["alone", isMany && !isComparing() && (isAlone ? "show all" : "alone")],
+    ["own", branch.shared && "own steps \u25b8"], ["drop", isMany && "drop"]]
+    .filter(([, words]) => words);
+}
 function headPart(branch) {
-  const { model, view } = now, { branches } = model, isAlone = view.show === `only ${branch.name}`;
-  const shares = model.sharedSteps(branch) > 0, isMany = branches.length > 1;
-  const doing = [["fork", "fork\u2026", "a new branch of the steps before the cursor (f)", true],
-    ["detach", "detach", "give it steps of its own, which no other branch holds (d)", shares],
-    ["compare", isComparing() ? "stop comparing" : "compare", "with the cursor's branch, or its own parent (m)", isMany],
-    ["alone", isAlone ? "show all" : "alone", "show this branch alone", isMany && !isComparing()],
-    ["own", "own steps \u25b8", "go to the first step that it doesn't share with its parent (j)", branch.shared],
-    ["drop", "drop", "drop the branch", isMany]].filter(([, , , is]) => is);
-  const make = () => element("h2", {}, element("span", { class: "select", "data-select": branch.name }, branch.name), " ",
-    element("small", {}, aboutBranch(branch)), doing.map(([name, words, title]) =>
-      element("button", { "data-do": name, "data-key": `${name} ${branch.name}`, title }, words)));
-  return { key: "head", held: JSON.stringify([branch.name, aboutBranch(branch), doing]), make };
+  const doing = branchButtons(branch), about = aboutBranch(branch), { name } = branch;
+  const button = ([what, words]) => element("button",
+    { "data-do": what, "data-key": `${what} ${name}`, title: BRANCH_TITLES[what] }, words);
+  const make = () => element("h2", {},
+    element("span", { class: "select", "data-select": name }, name), " ",
+    element("small", {}, about), doing.map(button));
+  return { key: "head", held: JSON.stringify([name, about, doing]), make };
 }
 function putPanel(section, branch, drawing, frame, { asked, groups, above, differing }) {
   const reading = now.readings.get(branch.name), { model, who } = now, parts = [headPart(branch)];
-  const cursors = model.cursors.map((it, at) => ({ ...it, who: at })).filter((it) => it.name === branch.name && it.who !== who);
+  const isOther = (it) => it.name === branch.name && it.who !== who;
+  const cursors = model.cursors.map((it, at) => ({ ...it, who: at })).filter(isOther);
   section.style.minHeight = now.inSight.has(branch) ? "" : `${heightOf(branch)}px`;
   // (what is made of the same things is left as it is)
   const kept = [parts[0].held, frame, asked, above, differing, cursors, depthKey(), [...groups]];
@@ -137,7 +159,8 @@ function putPanel(section, branch, drawing, frame, { asked, groups, above, diffe
   if (section.made && made.every((it, index) => it === section.made[index])) return;
   section.made = made;
   if (now.inSight.has(branch)) {
-    parts.push(stripPart("chips", drawing.chips(reading, { shared: model.sharedSteps(branch), differing }), frame));
+    const chips = drawing.chips(reading, { shared: model.sharedSteps(branch), differing });
+    parts.push(stripPart("chips", chips, frame));
     if (cursors.length) parts.push(stripPart("flags", drawing.flags(cursors), frame));
     parts.push(stripPart("lanes", drawing.lanes(reading, { asked, shared: above }), frame));
     const rows = [...drawing.bits(reading, groups, above), drawing.words(reading, above)];
@@ -146,34 +169,21 @@ function putPanel(section, branch, drawing, frame, { asked, groups, above, diffe
   putParts(section, parts);
 }
 function differenceOf(branch, drawn) {
-  const other = isComparing() && drawn.find((it) => it !== branch), [from, to] = cut(now.range, branch);
-  return other ? between(from, to).filter((it) => it >= other.length || other.step(it) !== branch.step(it)) : [];
+  const other = isComparing() && drawn.find((it) => it !== branch);
+  const [from, to] = cut(now.range, branch);
+  const differs = (it) => it >= other.length || other.step(it) !== branch.step(it);
+  return other ? between(from, to).filter(differs) : [];
 }
 // `asked` are the processes at the cursor whose read is hit
 export function putPicture(asked) {
-  const { model, range, readings } = now, drawn = shown(), { name, place } = here(), panels = one("#panels");
-  const drawing = new Drawing(range, model.shape, { depthOf, codes: model.codes });
-  const x = drawing.left(range.from), whole = range.axis.left(lengthOf(model.branches)) + MARGIN;
-  const width = Math.min(whole, drawing.left(range.to) + MARGIN) - x, { key } = range.axis;
-  const frame = { x, width, whole: whole + LABEL, axis: key };
-  const inSight = drawn.filter((it) => now.inSight.has(it));
-  const groups = drawing.groups(inSight.map((it) => readings.get(it.name)));
+  const { model, range } = now, { shape, codes } = model, { place } = here();
+  const drawing = new Drawing(range, shape, { depthOf, codes }), frame = frameOf(drawing);
   one("#inner").style.width = `${frame.whole}px`;
   scroll.style.setProperty("--room", `${scroll.clientWidth}px`);
   Object.assign(one("#inner").dataset, { from: range.from, to: range.to });
   putParts(one("#ruler"), [stripPart("ruler", drawing.ruler(lengthOf(model.branches)), frame)]);
   putTree(drawing, frame);
-  while (panels.children.length > drawn.length) panels.lastChild.remove();
-  drawn.forEach((it, index) => {
-    const section = panels.children[index] || panels.appendChild(element("section", { class: "panel" }));
-    section.dataset.branch = it.name;
-    section.classList.toggle("focus", it.name === name);
-    const above = isComparing() ? 0 : Math.max(0, ...drawn.slice(0, index).map((other) => sharedCells(other, it)));
-    putPanel(section, it, drawing, frame, { groups, above, asked: it.name === name && place === it.length ? asked : [],
-      differing: differenceOf(it, drawn) });
-  });
-  // (measured once all are drawn, so that the page is laid out once)
-  for (const it of inSight) heights.set(it.name, panels.children[drawn.indexOf(it)].offsetHeight);
+  putPanels(drawing, frame, asked);
   one("#line").style.left = `${LABEL + range.axis.left(place)}px`;
   for (const it of all(".chip.next")) it.classList.remove("next");
   one(`.panel.focus .chip[data-step="${place}"]`)?.classList.add("next");
@@ -183,52 +193,84 @@ export function putPicture(asked) {
   light();
   scroll.scrollLeft = range.left;
 }
+// which part of the axis is drawn, and how wide all of it is
+function frameOf(drawing) {
+  const { model, range: { from, to, axis } } = now, x = drawing.left(from);
+  const whole = axis.left(lengthOf(model.branches)) + MARGIN;
+  const width = Math.min(whole, drawing.left(to) + MARGIN) - x;
+  return { x, width, whole: whole + LABEL, axis: axis.key };
+}
+function putPanels(drawing, frame, asked) {
+  const drawn = shown(), { name, place } = here(), panels = one("#panels");
+  const inSight = drawn.filter((it) => now.inSight.has(it));
+  const groups = drawing.groups(inSight.map((it) => now.readings.get(it.name)));
+  while (panels.children.length > drawn.length) panels.lastChild.remove();
+  drawn.forEach((it, index) => {
+    const section = panels.children[index]
+      || panels.appendChild(element("section", { class: "panel" }));
+    section.dataset.branch = it.name;
+    section.classList.toggle("focus", it.name === name);
+    const cells = drawn.slice(0, index).map((other) => sharedCells(other, it));
+    const isAsked = it.name === name && place === it.length;
+    putPanel(section, it, drawing, frame, { groups, asked: isAsked ? asked : [],
+      above: isComparing() ? 0 : Math.max(0, ...cells), differing: differenceOf(it, drawn) });
+  });
+  // (measured once all are drawn, so that the page is laid out once)
+  for (const it of inSight) heights.set(it.name, panels.children[drawn.indexOf(it)].offsetHeight);
+}
 // brings the panel of the cursor in sight, if it is another one than before
 export function followFocus() {
-  const { name } = here();
-  if (now.followed !== name) one(".panel.focus").scrollIntoView({ block: "nearest", inline: "nearest" });
-  now.followed = name;
+  const { name } = here(), nearest = { block: "nearest", inline: "nearest" };
+  if (now.followed !== name) one(".panel.focus").scrollIntoView(nearest);
+  setNow({ followed: name });
 }
 function putTree(drawing, frame) {
-  const { model: { branches }, readings } = now, isMany = branches.length > MOST_TREE, fold = one("#tree-fold");
+  const { model: { branches }, readings } = now, fold = one("#tree-fold");
+  const isMany = branches.length > MOST_TREE;
   fold.hidden = branches.length < 2;
   fold.querySelector("summary").hidden = !isMany;
   fold.querySelector("summary span").textContent = `${branches.length} branches`;
   if (!isMany) fold.open = true;
   else if (!fold.dataset.many) fold.open = false;
   fold.dataset.many = isMany ? "yes" : "";
-  if (fold.open && !fold.hidden) putParts(one("#tree"), [stripPart("tree", drawing.tree(branches, readings), frame)]);
+  if (!fold.open || fold.hidden) return;
+  putParts(one("#tree"), [stripPart("tree", drawing.tree(branches, readings), frame)]);
 }
 function putChoices() {
   const { view: { show }, model: { branches } } = now, choices = [["all", "all branches"]];
   for (const { name } of branches) choices.push([`only ${name}`, `${name} alone`]);
   if (isComparing()) choices.push([show, show.replace("compare ", "").replace(" ", " and ")]);
-  putIfChanged(one("#show"), JSON.stringify(choices), () => choices.map(([value, words]) => element("option", { value }, words)));
+  putIfChanged(one("#show"), JSON.stringify(choices), () =>
+    choices.map(([value, words]) => element("option", { value }, words)));
   one("#show").value = show;
 }
 export function comparison() {
   if (!isComparing()) return "";
   const [a, b] = shown(), shared = sharedCells(a, b), at = firstDifference(a, b);
-  const first = shared ? `${a.name} and ${b.name} share their first ${shared} steps` : `${a.name} and ${b.name} share no step`;
-  const of = (it) => (at < it.length ? it.step(at) : "none");
-  if (at >= a.length && at >= b.length) return `${first}, and all their steps are equal.`;
-  return `${first}; the first that differs is step ${at}: ${of(a)} on ${a.name}, ${of(b)} on ${b.name}.`;
+  const many = shared ? `their first ${shared} steps` : "no step";
+  const said = `${a.name} and ${b.name} share ${many}`;
+  const on = (it) => `${at < it.length ? it.step(at) : "none"} on ${it.name}`;
+  if (at >= a.length && at >= b.length) return `${said}, and all their steps are equal.`;
+  return `${said}; the first that differs is step ${at}: ${on(a)}, ${on(b)}.`;
 }
+const LIGHTS = ["lit", "dim", "picked", "lifted"];
 export function light() {
-  for (const it of all(".lit, .dim, .picked, .lifted")) it.classList.remove("lit", "dim", "picked", "lifted");
-  const read = pickedRead(), section = read && all(".panel").find((it) => it.dataset.branch === now.view.picked.name);
+  const { picked } = now.view, read = pickedRead();
+  for (const it of all(".lit, .dim, .picked, .lifted")) it.classList.remove(...LIGHTS);
+  const section = read && all(".panel").find((it) => it.dataset.branch === picked.name);
   const lanes = section && section.querySelector(".lanes");
   one("#zone").hidden = !lanes;
   if (!lanes) return;
   section.classList.add("lifted");
-  const { run, to } = now.readings.get(now.view.picked.name), { axis } = now.range;
+  const { run, to } = now.readings.get(picked.name), { axis } = now.range;
   const overlapped = new Set(overlappedWrites(run, read).map((it) => String(it.begun)));
   section.querySelector(`.operation[data-at="${read.begun}"]`)?.classList.add("picked");
-  for (const it of section.querySelectorAll(".operation.write")) it.classList.add(overlapped.has(it.dataset.at) ? "lit" : "dim");
+  for (const it of section.querySelectorAll(".operation.write"))
+    it.classList.add(overlapped.has(it.dataset.at) ? "lit" : "dim");
   const left = axis.left(read.begun), width = axis.left((read.ended ?? to - 1) + 1) - left;
   Object.assign(one("#zone").style, { left: `${LABEL + left}px`, top: `${lanes.offsetTop}px`,
     width: `${width}px`, height: `${lanes.offsetHeight}px` });
-  lightStory(section, read, storyOfRead(now.view.picked.name, read));
+  lightStory(section, read, storyOfRead(picked.name, read));
 }
 // the bars, rows and cells that a read's sentence names
 function lightStory(section, { process }, story) {

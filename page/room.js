@@ -1,6 +1,6 @@
 // Room for the picture: parts of the page that fold, and a presentation, the picture alone.
 import { remember, remembered } from "./kept.js";
-import { one } from "./state.js";
+import { one } from "./elements.js";
 
 const PARTS = ["deck", "aside", "task"];
 const { classList } = document.body;

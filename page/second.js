@@ -2,13 +2,15 @@
 import { othersOf, transferred } from "./aligned.js";
 import { Axis } from "./axis.js";
 import { Document } from "./document.js";
-import { Drawing, MARGIN } from "./drawing.js";
+import { Drawing } from "./drawing.js";
 import { layersOf } from "./layers.js";
+import { MARGIN } from "./measures.js";
 import { Model } from "./model.js";
 import { stripNode } from "./picture.js";
 import { Reading } from "./reading.js";
 import { looksOf, readInside } from "./still.js";
-import { element, here, now, one, putIfChanged } from "./state.js";
+import { element, one, putIfChanged } from "./elements.js";
+import { here, now } from "./state.js";
 
 const MOST_TRANSFERRED = 200, LEAST_STEP = 12;
 // the tower that was chosen, and what is made of it

@@ -6,7 +6,8 @@ import { inWords } from "./goalwords.js";
 import { remember, remembered } from "./kept.js";
 import { hashFor } from "./links.js";
 import { headOf, isData, isUntouched, taskOf } from "./tasks.js";
-import { element, here, now, one } from "./state.js";
+import { element, one } from "./elements.js";
+import { here, now } from "./state.js";
 
 const field = (name) => one(`#share-${name}`), valueOf = (name) => field(name).value.trim();
 const GOAL = /^(?:# ?)?goal(?: [0-9]+)?: (.*)$/;

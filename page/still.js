@@ -1,6 +1,8 @@
 // A still picture: SVG as text, in rows that fit a page. It needs no browser.
-import { Drawing, FEW_CELLS, LABEL, MARGIN, counted } from "./drawing.js";
+import { Drawing } from "./drawing.js";
+import { counted } from "./labels.js";
 import { Facts, Layers, layersOf } from "./layers.js";
+import { FEW_CELLS, LABEL, MARGIN } from "./measures.js";
 import { Reading } from "./reading.js";
 import { between } from "./pages.js";
 import { Model } from "./model.js";
@@ -11,19 +13,23 @@ const MOST_STILL = 400, GAP = 16;
 const ESCAPED = { "&": "&#38;", "<": "&#60;", ">": "&#62;", '"': "&#34;" };
 const escaped = (words) => String(words).replace(/[&<>"]/g, (it) => ESCAPED[it]);
 export function svgText({ name, attributes, children }) {
-  const given = Object.entries(attributes).map(([key, value]) => ` ${key}="${escaped(value)}"`).join("");
-  return `<${name}${given}>${children.map((it) => (typeof it === "string" ? escaped(it) : svgText(it))).join("")}</${name}>`;
+  const given = Object.entries(attributes).map(([key, value]) => ` ${key}="${escaped(value)}"`);
+  const inside = children.map((it) => (typeof it === "string" ? escaped(it) : svgText(it)));
+  return `<${name}${given.join("")}>${inside.join("")}</${name}>`;
 }
-export const hatch = () => shape("pattern", { id: "hatch", width: 7, height: 7, patternUnits: "userSpaceOnUse",
-  patternTransform: "rotate(45)" }, shape("rect", { class: "hatch-ground", width: 7, height: 7 }),
-shape("rect", { class: "hatch-line", width: 3, height: 7 }));
+export function hatch() {
+  const given = { id: "hatch", width: 7, height: 7, patternUnits: "userSpaceOnUse",
+    patternTransform: "rotate(45)" };
+  return shape("pattern", given, shape("rect", { class: "hatch-ground", width: 7, height: 7 }),
+    shape("rect", { class: "hatch-line", width: 3, height: 7 }));
+}
 export function looksOf({ name }, from, to, kinds = ["state", "bits", "pending"]) {
   const places = between(from, to + 1).flatMap((place) => kinds.map((kind) => [kind, name, place]));
   return [["history", name, to], ["verdict", name, to], ...places];
 }
 export function aboutBranch(branch) {
-  const shared = branch.shared ? `, the first ${branch.shared} shared with ${branch.parent.name}` : "";
-  return counted(branch.length, "step") + shared;
+  const { length, shared, parent } = branch, many = counted(length, "step");
+  return shared ? `${many}, the first ${shared} shared with ${parent.name}` : many;
 }
 // a branch between two places, with what is inside its operations
 export function readInside(model, branch, from, to, end = to) {
@@ -39,60 +45,85 @@ function stillDrawing({ shape: tower, codes }, range) {
 }
 // the strips of branches between two steps
 function stillStrips(model, branches, range, most) {
-  const { drawing, isSmall } = stillDrawing(model, range), readings = new Map(), strips = [];
+  const { drawing, isSmall } = stillDrawing(model, range), readings = new Map();
   for (const it of branches) {
     const [from, to, end] = [range.from, range.to, most].map((place) => Math.min(place, it.length));
     readings.set(it.name, readInside(model, it, from, to, end));
   }
   const drawn = [...readings.values()].filter((it) => it.to > it.from || range.from === 0);
-  const groups = drawing.groups(drawn), text = (words, x, y, kind) => shape("text", { x, y, class: kind }, words);
-  strips.push(drawing.ruler(Math.max(...branches.map((it) => it.length))));
-  if (branches.length > 1) strips.push(drawing.tree(branches.map((it, index) => ({ ...drawnIn(it, branches), index })), readings));
+  const groups = drawing.groups(drawn), strips = [drawing.ruler(longest(branches))];
+  const inTree = branches.map((it, index) => ({ ...drawnIn(it, branches), index }));
+  if (branches.length > 1) strips.push(drawing.tree(inTree, readings));
   for (const reading of drawn) {
-    const { branch } = reading, x = drawing.left(range.from);
-    strips.push(drawing.strip("head", [text(branch.name, 10, 24, "process")], [text(aboutBranch(branch), x, 24, "role")], 34));
-    strips.push(drawing.chips(reading, { shared: model.sharedSteps(branch) }), drawing.lanes(reading));
+    strips.push(headStrip(drawing, reading.branch, drawing.left(range.from)));
+    strips.push(drawing.chips(reading, { shared: model.sharedSteps(reading.branch) }));
+    strips.push(drawing.lanes(reading));
     strips.push(...drawing.bits(reading, groups)
       .flatMap(({ fold, rows }) => (fold && !isSmall ? [fold] : [fold, rows].filter(Boolean))));
   }
   return { drawing, strips };
 }
+const longest = (branches) => Math.max(...branches.map((it) => it.length));
+function headStrip(drawing, branch, x) {
+  const name = shape("text", { x: 10, y: 24, class: "process" }, branch.name);
+  const about = shape("text", { x, y: 24, class: "role" }, aboutBranch(branch));
+  return drawing.strip("head", [name], [about], 34);
+}
 // (a branch whose parent isn't drawn begins at the left)
-const drawnIn = (branch, branches) => ({ name: branch.name, length: branch.length, parent: { index: branches.indexOf(branch.parent) },
-  shared: branches.includes(branch.parent) ? branch.shared : 0 });
+function drawnIn({ name, length, parent, shared }, branches) {
+  const index = branches.indexOf(parent);
+  return { name, length, parent: { index }, shared: index < 0 ? 0 : shared };
+}
 const evenly = (most, perRow) => Math.ceil(most / Math.ceil(Math.max(1, most) / perRow)) || 1;
-// The branches of a model in rows of columns; each row is an element `svg` and its size. The pages must be there.
-// `many`: how many columns a row has, at most `perRow`
+// The branches of a model in rows of columns; each row is an element `svg` and its size. The pages
+// must be there. `many`: how many columns a row has, at most `perRow`
 export function stillRows(model, branches, { most, column = 76, perRow = 24, many }) {
   if (!many) return stillRows(model, branches, { most, column, many: evenly(most, perRow) });
-  const rows = [], width = LABEL + many * column + MARGIN;
+  const rows = [], width = many * column + MARGIN;
   for (let from = 0; from < Math.max(1, most); from += many) {
-    const { drawing, strips } = stillStrips(model, branches, { from, to: Math.min(most, from + many), column }, most), inner = [];
-    const x = drawing.left(from);
-    let y = 0;
-    for (const { label, drawn, height } of strips) {
-      inner.push(shape("svg", { y, height, width: LABEL }, label));
-      inner.push(shape("svg", { x: LABEL, y, width: width - LABEL, height, viewBox: `${x} 0 ${width - LABEL} ${height}` }, drawn));
-      y += height;
-    }
-    rows.push({ width, height: y, svg: shape("svg", { viewBox: `0 0 ${width} ${y}`, width, height: y }, inner) });
+    const range = { from, to: Math.min(most, from + many), column };
+    const { drawing, strips } = stillStrips(model, branches, range, most);
+    rows.push(rowOf(strips, drawing.left(from), width));
   }
   return rows;
 }
+// strips one below the other: labels, and what is drawn from an x on, that wide
+function rowOf(strips, x, width) {
+  const inner = [], whole = LABEL + width;
+  let y = 0;
+  for (const { label, drawn, height } of strips) {
+    const viewBox = `${x} 0 ${width} ${height}`;
+    inner.push(shape("svg", { y, height, width: LABEL }, label));
+    inner.push(shape("svg", { x: LABEL, y, width, height, viewBox }, drawn));
+    y += height;
+  }
+  const given = { viewBox: `0 0 ${whole} ${y}`, width: whole, height: y };
+  return { width: whole, height: y, svg: shape("svg", given, inner) };
+}
+// a style sheet with its colours for paper in place of their names
+function forPaper(style) {
+  const noComments = style.replace(/\/\*[^*]*\*\//g, ""), colours = new Map();
+  const light = noComments.replace(/light-dark\(([^,()]+),[^()]+\)/g, "$1");
+  for (const [, name, value] of light.matchAll(/(--[a-z-]+): ?([^;}]+)/g))
+    colours.set(name, value.trim());
+  const rules = light.replace(/:root ?\{[^}]*\}/, "");
+  return rules.replace(/var\((--[a-z-]+)\)/g, (_, name) => colours.get(name)).trim();
+}
 // The branches of a model as SVG; `style` is drawing.css, whose colours for paper are taken.
 export function stillPicture(model, branches, style, options = {}) {
-  const most = Math.min(MOST_STILL, Math.max(...branches.map((it) => it.length))), rows = stillRows(model, branches, { ...options, most });
-  const paper = shape("rect", { width: "100%", height: "100%", class: "paper" }), colours = new Map(), inner = [];
+  const most = Math.min(MOST_STILL, longest(branches)), inner = [];
+  const rows = stillRows(model, branches, { ...options, most });
+  const paper = shape("rect", { width: "100%", height: "100%", class: "paper" });
   let y = 0;
   for (const row of rows) {
     inner.push({ ...row.svg, attributes: { ...row.svg.attributes, y } });
     y += row.height + GAP;
   }
-  const light = style.replace(/\/\*[^*]*\*\//g, "").replace(/light-dark\(([^,()]+),[^()]+\)/g, "$1");
-  for (const [, name, value] of light.matchAll(/(--[a-z-]+): ?([^;}]+)/g)) colours.set(name, value.trim());
-  const plain = light.replace(/:root ?\{[^}]*\}/, "").replace(/var\((--[a-z-]+)\)/g, (_, name) => colours.get(name)).trim();
-  return svgText(shape("svg", { xmlns: "http://www.w3.org/2000/svg", viewBox: `0 0 ${rows[0].width} ${y}`, width: rows[0].width, height: y },
-    shape("style", {}, plain), shape("defs", {}, hatch()), paper, inner));
+  const [{ width }] = rows;
+  const given = { xmlns: "http://www.w3.org/2000/svg", viewBox: `0 0 ${width} ${y}`, width,
+    height: y };
+  return svgText(shape("svg", given, shape("style", {}, forPaper(style)),
+    shape("defs", {}, hatch()), paper, inner));
 }
 // The picture of what a script leaves; `ask` answers a tower file and a script, as engine.js does.
 export async function pictureOf(ask, tower, script, style, options) {

@@ -5,7 +5,8 @@ import { exerciseDocument, isSolved, lessonsOf, partOf } from "./exercises.js";
 import { putFigure } from "./figures.js";
 import { remember, remembered } from "./kept.js";
 import { withWords } from "./words.js";
-import { element, one, say } from "./state.js";
+import { say } from "./acting.js";
+import { element, one } from "./elements.js";
 
 let studied = "";
 export const isStudying = () => studied !== "";

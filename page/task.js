@@ -8,7 +8,8 @@ import { inWords } from "./goalwords.js";
 import { isPredicted, taskOf } from "./tasks.js";
 import { exerciseAfter, exerciseNamed, lessonAfter, markSolved } from "./exercises.js";
 import { withWords } from "./words.js";
-import { element, now, one, putIfChanged } from "./state.js";
+import { element, one, putIfChanged } from "./elements.js";
+import { now } from "./state.js";
 
 const COMMAND = /^[0-9]+ ([a-z]+ ?.*)$/, SIGN = { met: "\u2713", open: "\u25cb", not: "\u2717" };
 let decided = { key: "", right: [] };

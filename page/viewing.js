@@ -3,7 +3,8 @@ import { forgetScale, setEqual, setScale } from "./columns.js";
 import { depthForAll, forgetDepths, isFoldOpen, openLayer, setDepth, setFold } from "./depths.js";
 import { layersOf } from "./layers.js";
 import { chooseSecond, forgetSecond } from "./second.js";
-import { now, one } from "./state.js";
+import { one } from "./elements.js";
+import { now } from "./state.js";
 
 // a document begins with the picture as it is at first
 export function forgetViewing() {

@@ -1,7 +1,7 @@
 // What a word on the screen means, when it is pointed at, focused or touched; tools/page takes the
 // meanings from the guide and the glossary.
 import { packedData } from "./engine.js";
-import { element, one } from "./state.js";
+import { element, one } from "./elements.js";
 
 const { words: MEANINGS = {} } = packedData();
 const HOVER_PAUSE = 450, WIDE = 340, GAP = 6;

@@ -1,0 +1,75 @@
+// Keys: which gesture each does.
+import { say } from "./acting.js";
+import { FEW_VALUES, closeMenu, openMenu, processesHere, putDeck } from "./deck.js";
+import { flipped } from "./document.js";
+import { one } from "./elements.js";
+import { saveAs } from "./files.js";
+import { by, commands, does, nextSession, panelNext, pick, pickNext, views } from "./gestures.js";
+import { isPresenting } from "./room.js";
+import { here, now, setView } from "./state.js";
+import { isStudying } from "./study.js";
+
+const FAR = 1e9;
+// a step of the process that keys go to; a write waits for its value, and the end of a hit read for
+// its choice
+function key(step) {
+  const p = now.view.process, it = processesHere().find((each) => each.number === p);
+  const isWrite = step === "w", isStep = step === "g", { values } = now.model.shape;
+  if (isWrite && values > FEW_VALUES) return one(`[data-key="p${p} value"]`)?.focus();
+  if (!isWrite && !(isStep && it?.isHit)) return does.put(p, `${step} ${p}${isStep ? " 0" : ""}`);
+  setView({ awaiting: step });
+  say(isWrite ? `p${p} writes which value?` : `p${p}'s read: give 0 or 1?`, "awaits");
+  return putDeck(does);
+}
+function digit(number) {
+  const { awaiting, process } = now.view, p = Number(number);
+  if (awaiting) return does.put(process, `${awaiting} ${process} ${number}`);
+  return processesHere().some((it) => it.number === p) && does.choose(p);
+}
+const atStep = (offset, use) => () => {
+  const { place, branch } = here(), index = place + offset;
+  return index >= 0 && index < branch.length && use(index, branch.step(index));
+};
+const atBranch = (name) => () => commands[name](here().name);
+const keys = {
+  ArrowLeft: (many) => by(-many), ArrowRight: (many) => by(many),
+  Home: () => by(-FAR), End: () => by(FAR),
+  ArrowUp: () => panelNext(-1), ArrowDown: () => panelNext(1),
+  w: () => key("w"), r: () => key("r"), g: () => key("g"), x: () => key("x"),
+  e: () => does.end(now.view.process), f: () => does.fork(),
+  d: atBranch("detach"), j: atBranch("own"), m: atBranch("compare"),
+  a: atBranch("alone"), D: atBranch("drop"),
+  ...views.keys,
+  n: () => does.edit("seek"), b: () => does.edit("back"), v: pickNext,
+  l: commands.lessonNext, "?": commands.help,
+  "[": () => nextSession(-1), "]": () => nextSession(1),
+  Escape: () => { setView({ awaiting: "" }); pick(); },
+  Enter: atStep(0, (index) => openMenu(index, does)),
+  o: atStep(0, (index) => does.tryOther(index)),
+  c: atStep(0, (index, step) => does.replace(index, flipped(step))),
+  Delete: atStep(0, (index) => does.remove(index)),
+  Backspace: atStep(-1, (index) => does.remove(index)),
+};
+const heldKeys = { z: () => commands.undo(), Z: () => commands.redo(), y: () => commands.redo(),
+  p: () => saveAs("print") };
+const NO_KEYS = "textarea, select, dialog, #menu, input:not([type=range])";
+function gestureOf({ key: name, ctrlKey, metaKey }) {
+  if (ctrlKey || metaKey) return heldKeys[name];
+  return /^[0-9]$/.test(name) ? () => digit(name) : keys[name];
+}
+// (a key waits for what the last one does, as what it means hangs on that)
+let lastKey = Promise.resolve();
+function press(event) {
+  const { target, shiftKey } = event;
+  if (event.key === "Escape" && !one("#menu").hidden) return closeMenu();
+  if (event.key === "Escape" && isPresenting()) return commands.present();
+  if (!now.model || event.altKey || target.closest(NO_KEYS) || isStudying()) return null;
+  if (["Enter", " "].includes(event.key) && target.closest("button, summary")) return null;
+  const found = gestureOf(event);
+  if (!found) return null;
+  event.preventDefault();
+  const many = shiftKey && event.key.startsWith("Arrow") ? 10 : 1;
+  lastKey = lastKey.then(() => found(many)).catch((fault) => say(fault.message, "refusal"));
+  return lastKey;
+}
+export const watchKeys = () => addEventListener("keydown", press);

@@ -1,0 +1,31 @@
+// The whole page drawn: the picture, the deck, the texts, a lesson and an exercise. `does` are the
+// deck's gestures, `taskDoes` those of the exercise.
+import { putUndo } from "./back.js";
+import { processesHere, putDeck } from "./deck.js";
+import { one } from "./elements.js";
+import { preparePrint } from "./files.js";
+import { isLessonAtStart, putLesson } from "./lessons.js";
+import { followFocus, look, putPicture } from "./picture.js";
+import { lookAtSecond, putSecond } from "./second.js";
+import { now } from "./state.js";
+import { goalLooks, putTask } from "./task.js";
+import { putText } from "./text.js";
+
+export async function drawWhole(does, taskDoes, isFollowing = true) {
+  await look(isFollowing);
+  await lookAtSecond();
+  // (how many pages the picture asked the program for, for the tests)
+  one("#inner").dataset.asked = now.model.asked;
+  await now.model.look(goalLooks());
+  now.model.asked = 0;
+  putPicture(processesHere().filter((it) => it.isHit).map((it) => it.number));
+  putSecond();
+  putDeck(does);
+  putText();
+  putLesson();
+  const isCovered = await putTask(taskDoes) || isLessonAtStart();
+  document.body.classList.toggle("covered", isCovered);
+  putUndo();
+  followFocus();
+  preparePrint();
+}
