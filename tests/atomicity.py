@@ -143,7 +143,9 @@ def compare(processes, most, planted=None):
 
 
 def spelled(history):
-    return "; ".join(f"p{p} {kind}" + f" {value}" * (value is not None) for p, kind, value in history)
+    return "; ".join(
+        f"p{p} {kind}" + f" {value}" * (value is not None) for p, kind, value in history
+    )
 
 
 def check_definition():
@@ -158,7 +160,12 @@ def check_definition():
 
 
 # Towers, numbers of values and of processes: tags and stamps are spent in some.
-TOWERS = (("matrix 2 2 1 3", 2, 2), ("matrix 2 2 3 7", 2, 2), ("matrix 3 2 1 3", 3, 2), ("matrix 4 2 1 3", 4, 2))
+TOWERS = (
+    ("matrix 2 2 1 3", 2, 2),
+    ("matrix 2 2 3 7", 2, 2),
+    ("matrix 3 2 1 3", 3, 2),
+    ("matrix 4 2 1 3", 4, 2),
+)
 BRANCHES, STEPS, FILES = 500, 240, 200
 LINE = re.compile(r" +\d+ p(\d) (invoke|return|refused)(?: (read|written|write (\d+)|(\d+)|.*))?")
 
@@ -167,7 +174,10 @@ def blocks_of(processes, rng):
     """Returns steps of each process, in pieces of different lengths."""
     goes = [f"g {p} {choice}\n" for p in range(processes) for choice in (0, 1)]
     return [
-        [("".join(rng.choices(goes[2 * p : 2 * p + 2], k=length)), length) for length in (1, 2, 3, 5, 8, 13, 21, 34)]
+        [
+            ("".join(rng.choices(goes[2 * p : 2 * p + 2], k=length)), length)
+            for length in (1, 2, 3, 5, 8, 13, 21, 34)
+        ]
         for p in range(processes)
     ]
 
@@ -266,7 +276,11 @@ def check_histories(program):
     # a changed value may be that of an overlapping write, so that not every one is wrong
     if 3 * counts["found"] < counts["planted"] or not counts["refused"] or not counts["planted"]:
         return f"too little is found: {dict(counts)}"
-    print(", ".join(f"{it} {counts[it]}" for it in ("histories", "returned", "refused", "planted", "found")))
+    print(
+        ", ".join(
+            f"{it} {counts[it]}" for it in ("histories", "returned", "refused", "planted", "found")
+        )
+    )
     return None
 
 
@@ -311,7 +325,9 @@ def said_of(code):
 def ended(matrix, state, p, work):
     """Returns the state with p's operation moved on, and what is said if it has ended."""
     is_over = work.written == matrix.processes
-    is_over = is_over or work.read == matrix.processes and work.value is None and not matrix.writes_back
+    is_over = (
+        is_over or work.read == matrix.processes and work.value is None and not matrix.writes_back
+    )
     if not is_over:
         return state._replace(works=put(p, work, state.works)), ""
     kind, value = (WROTE, None) if work.value is not None else (GOT, work.code.value)
@@ -401,7 +417,9 @@ def tests(program):
 
 def fault_of(words):
     """Runs a check as a process of its own, so that it doesn't hold up those in this one."""
-    ran = subprocess.run([sys.executable, __file__, *words], capture_output=True, text=True, check=False)
+    ran = subprocess.run(
+        [sys.executable, __file__, *words], capture_output=True, text=True, check=False
+    )
     return None if ran.returncode == 0 else (ran.stdout + ran.stderr)[-500:]
 
 

@@ -217,7 +217,11 @@ def rows():
             elif f"{at}/{file}" != sizes.TABLE:
                 strange[f"{at}/{file}"] = "no file of a row"
     names = sorted(found, key=lambda it: (own_name(it), it))
-    strange.update((one, f"{other} has its name") for one, other in zip(names, names[1:]) if own_name(one) == own_name(other))
+    strange.update(
+        (one, f"{other} has its name")
+        for one, other in zip(names, names[1:])
+        if own_name(one) == own_name(other)
+    )
     return names, strange
 
 

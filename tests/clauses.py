@@ -125,7 +125,9 @@ def main(names):
     faults = [it for crate in names or crates() for it in faults_of(crate)]
     for it in faults:
         print(it)
-    print(f"clauses: {len(faults)} of more than {MOST_COLUMNS} columns or {MOST_PARAMETERS} parameters")
+    print(
+        f"clauses: {len(faults)} of more than {MOST_COLUMNS} columns or {MOST_PARAMETERS} parameters"
+    )
     return 1 if faults else 0
 
 

@@ -41,7 +41,13 @@ NAME_OF_CODE = re.compile(r"[A-Za-z_][A-Za-z0-9_]*(?:(?:::|\.)[A-Za-z_][A-Za-z0-
 WORD = re.compile(r"[A-Za-z_][A-Za-z0-9_]*")
 NAME_OF_A_FILE = re.compile(r"[a-z0-9]+(?:-[a-z0-9*]+)+")
 # What the prover calls things itself.
-OF_THE_PROVER = ("f-requires", "known-0", "unsupported-recursive-bound", "rattle-kit-13b", "rattle-kit-13f")
+OF_THE_PROVER = (
+    "f-requires",
+    "known-0",
+    "unsupported-recursive-bound",
+    "rattle-kit-13b",
+    "rattle-kit-13f",
+)
 LINK = re.compile(r"\]\(([^)#\s]+)(?:#[^)\s]*)?\)")
 # What matches any name in a path, and how paths begin that a reader makes himself.
 ANY_NAME, MADE_BY_A_READER = ("NAME", "KIND"), ("/tmp/", "out/", "page.html")
@@ -146,7 +152,9 @@ def console_faults(lines, at, document):
             commands[-1][1].append(line)
     for command, wanted in commands:
         ran = cases.run("bash", ["-c", command], b"")
-        difference = cases.first_difference("".join(f"{it}\n" for it in wanted).encode(), ran.output)
+        difference = cases.first_difference(
+            "".join(f"{it}\n" for it in wanted).encode(), ran.output
+        )
         if difference:
             faults.append(f"{document}:{at}: {command}: {difference}")
     return faults

@@ -51,8 +51,12 @@ def file_of(name):
 
 def scripts():
     """Returns the names of the scripts of lessons that have a goal or a question."""
-    found = sorted(f"lessons/{folder}/{it[:-len('.script')]}" for folder in quotes.lessons()
-                   for it in os.listdir(f"{TOP}/lessons/{folder}") if it.endswith(".script"))
+    found = sorted(
+        f"lessons/{folder}/{it[:-len('.script')]}"
+        for folder in quotes.lessons()
+        for it in os.listdir(f"{TOP}/lessons/{folder}")
+        if it.endswith(".script")
+    )
     return [it for it in found if re.search(r"^# (?:goal|ask)\b", text_of(f"{it}.script"), re.M)]
 
 
@@ -61,17 +65,31 @@ def judged(program, names, tried):
     asked = []
     for name in names:
         its = [(number, *it) for (of, number), each in tried.items() if of == name for it in each]
-        made = [{"number": number, "isRight": is_right, "what": what, "lines": lines}
-                for number, is_right, what, lines in its]
-        asked.append({"name": name, "tower": file_of(name), "script": text_of(f"{name}.script"), "attempts": made})
+        made = [
+            {"number": number, "isRight": is_right, "what": what, "lines": lines}
+            for number, is_right, what, lines in its
+        ]
+        asked.append(
+            {
+                "name": name,
+                "tower": file_of(name),
+                "script": text_of(f"{name}.script"),
+                "attempts": made,
+            }
+        )
     with tempfile.TemporaryDirectory() as room:
         shutil.copytree(f"{TOP}/page", f"{room}/page")
         shutil.copy(f"{TOP}/tests/pages/goals.mjs", room)
         # (so that node takes each file for a module)
         with open(f"{room}/package.json", "w", encoding="ascii") as file:
             file.write('{ "type": "module" }')
-        done = subprocess.run(["node", f"{room}/goals.mjs", os.path.abspath(program), room], input=json.dumps(asked),
-                              capture_output=True, text=True, check=False)
+        done = subprocess.run(
+            ["node", f"{room}/goals.mjs", os.path.abspath(program), room],
+            input=json.dumps(asked),
+            capture_output=True,
+            text=True,
+            check=False,
+        )
     if done.returncode:
         raise ValueError(f"node ended with status {done.returncode}: {done.stderr.strip()[-600:]}")
     return {it["name"]: it for it in map(json.loads, done.stdout.splitlines())}
@@ -115,4 +133,7 @@ def tests(program):
     if not shutil.which("node"):
         return [Test("exercises: node isn't here", None)]
     its = Judged(program)
-    return [Test(f"exercises of lessons/{it}", functools.partial(its.fault_of, it)) for it in quotes.lessons()]
+    return [
+        Test(f"exercises of lessons/{it}", functools.partial(its.fault_of, it))
+        for it in quotes.lessons()
+    ]

@@ -162,7 +162,9 @@ class Answers:
             own = ample[: len(ample) - len(self.rest(k + 1, left_out))]
             # (a line that calls nothing isn't refused memory)
             refusal = line.split()[0] + REFUSED if own and not own.startswith(b"line ") else None
-            if refusal and (came.startswith(refusal) or (not is_whole and refusal.startswith(came))):
+            if refusal and (
+                came.startswith(refusal) or (not is_whole and refusal.startswith(came))
+            ):
                 left_out, place = left_out | {k}, place + len(refusal)
             elif came.startswith(own):
                 place += len(own)
@@ -209,9 +211,7 @@ def fault_of_script(trial, program, refuse, scratch):
     if cases.difference(case, ran):
         return cases.difference(case, ran)
     own = [it for it in case.words if it not in ("--save", case.save)]
-    ample = Answers(
-        lambda script: cases.run(program, own, script).output, cases.read(case.script)
-    )
+    ample = Answers(lambda script: cases.run(program, own, script).output, cases.read(case.script))
 
     def work(number, environment, refused):
         if case.save:

@@ -21,7 +21,14 @@ class Reader(html.parser.HTMLParser):
 
     def __init__(self):
         super().__init__()
-        self.open, self.links, self.names, self.faults, self.text, self.code = [], [], set(), [], "", ""
+        self.open, self.links, self.names, self.faults, self.text, self.code = (
+            [],
+            [],
+            set(),
+            [],
+            "",
+            "",
+        )
 
     def handle_starttag(self, tag, attributes):
         found = dict(attributes)
@@ -65,7 +72,11 @@ def fault_of_link(link, path, readers, others):
         return None
     if there not in readers:
         return f"{link} leads nowhere"
-    return None if not anchor or anchor in readers[there].names else f"{link}: {there} has no such part"
+    return (
+        None
+        if not anchor or anchor in readers[there].names
+        else f"{link}: {there} has no such part"
+    )
 
 
 def fault():
@@ -75,8 +86,14 @@ def fault():
     for path, reader in readers.items():
         found = reader.faults + [f"<{it}> isn't ended" for it in reader.open]
         found += [f"{it.group()!r} is left" for it in LEFT.finditer(reader.text)]
-        found += [it for it in (fault_of_link(link, path, readers, others) for link in reader.links) if it]
+        found += [
+            it for it in (fault_of_link(link, path, readers, others) for link in reader.links) if it
+        ]
         handed = [*readers, *others]
-        found += [f"{it} isn't handed out" for it in PATH.findall(reader.code) if not any(one.startswith(it) for one in handed)]
+        found += [
+            f"{it} isn't handed out"
+            for it in PATH.findall(reader.code)
+            if not any(one.startswith(it) for one in handed)
+        ]
         faults += [f"{path}: {it}" for it in found]
     return "; ".join(faults[:5]) or (None if readers else "there are no pages")

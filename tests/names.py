@@ -16,7 +16,9 @@ import re
 import sys
 
 TOP = os.path.dirname(os.path.dirname(os.path.realpath(__file__)))
-DEFINED = re.compile(r" *(?:unfoldable |abbrev )?pub (?:record |data )?(?!(?:use|mod) )([^\W\d][\w'-]*)")
+DEFINED = re.compile(
+    r" *(?:unfoldable |abbrev )?pub (?:record |data )?(?!(?:use|mod) )([^\W\d][\w'-]*)"
+)
 RECORD = re.compile(r" *(?:pub )?(?:record|data) ")
 ITEM = re.compile(r"pub (?:const |unsafe )*(?:struct|enum|trait|type|fn|const) (\w+)")
 LAWS = "laws.rt"
@@ -27,7 +29,11 @@ def definitions_of(text):
     found, record = set(), None
     for line in text.split("\n"):
         margin = len(line) - len(line.lstrip(" "))
-        if not line.strip() or line.strip().startswith("--") or (record is not None and margin > record):
+        if (
+            not line.strip()
+            or line.strip().startswith("--")
+            or (record is not None and margin > record)
+        ):
             continue
         record = margin if RECORD.match(line) else None
         found.update(it.group(1) for it in [DEFINED.match(line)] if it)
@@ -39,7 +45,9 @@ def items_of(text):
     found = set()
     for line in text.split("\n"):
         item = ITEM.match(line)
-        is_alias = item and re.match(rf"pub type {item.group(1)}\b.*= (?:\w+::)*{item.group(1)}\b", line)
+        is_alias = item and re.match(
+            rf"pub type {item.group(1)}\b.*= (?:\w+::)*{item.group(1)}\b", line
+        )
         found.update([item.group(1)] if item and not is_alias else [])
     return found
 

@@ -63,7 +63,7 @@ def parted(page):
         if line.startswith(FENCE):
             is_inside = not is_inside
             if is_inside:
-                blocks.append((line[len(FENCE):], []))
+                blocks.append((line[len(FENCE) :], []))
         elif is_inside:
             blocks[-1][1].append(line)
         else:
@@ -116,7 +116,9 @@ def page_faults(page):
         if not re.search(rf"`\./towerbench {file}(tower|bench)( --save [^`]*)?`", text):
             yield f"it doesn't say how to start {name}.tower or {name}.bench"
         yield from quotes_faults(page, name, [it for line in lines for it in written_out(line)])
-    shown = [it for lines in transcripts.values() for line in lines for it in {line, *written_out(line)}]
+    shown = [
+        it for lines in transcripts.values() for line in lines for it in {line, *written_out(line)}
+    ]
     quoted = {line.strip() for line in shown if not is_command(line)}
     for named in NAMED.findall(text):
         if not any(it == named or it.startswith(named + " ") for it in quoted):

@@ -13,12 +13,17 @@ import shutil
 import sys
 
 # An item that begins at the margin or in an impl: a function, with the margin before it, an impl, or the end of one.
-ITEM = re.compile(r"^(?:( *)(?:pub(?:\([a-z]+\))? )?(?:const )?fn (\w+)|impl(?:<[^{]*?>)? ([^{]*?)\s*(?:\{|\bwhere\b)|\})", re.M)
+ITEM = re.compile(
+    r"^(?:( *)(?:pub(?:\([a-z]+\))? )?(?:const )?fn (\w+)|impl(?:<[^{]*?>)? ([^{]*?)\s*(?:\{|\bwhere\b)|\})",
+    re.M,
+)
 OLD, NEW, FILE = "old: ", "new:", "file: "
 FLAGS = ["--jobs", "1"]
 # What a check says of a place, and what it says of a proof that names what the edit took away.
 OF_A_PLACE = re.compile(r"(note: )?\S+:\d+:\d+:")
-NAMES = re.compile(r"(note: )?(\./)?proofs/.*(has no field|is not in scope|has no `|was not admitted)")
+NAMES = re.compile(
+    r"(note: )?(\./)?proofs/.*(has no field|is not in scope|has no `|was not admitted)"
+)
 # The status of a check that was given a name that no function has, or several have.
 NO_SUCH_NAME = 2
 TRIES_OF_A_CHECK = 2
@@ -86,16 +91,26 @@ def selections(edit, crate):
         places.append(place_of(path, text, at))
     modules = [module for module, _ in places]
     found = [[function or module for module, function in places], modules, []]
-    return [[*dict.fromkeys(it)] for number, it in enumerate(found) if all(it) and it not in found[:number]]
+    return [
+        [*dict.fromkeys(it)]
+        for number, it in enumerate(found)
+        if all(it) and it not in found[:number]
+    ]
 
 
 def refusal_in(rt, ran, texts):
     """Returns the first line in which a check refuses a wrong body, or None if it judged nothing or found no fault."""
     lines = ran.stdout.rstrip("\n").split("\n")
     is_read = not any(rt.unread(it, texts) for it in lines)
-    if ran.returncode != 1 or not is_read or not lines[-1].startswith(("only=", "logic=not-proved")):
+    if (
+        ran.returncode != 1
+        or not is_read
+        or not lines[-1].startswith(("only=", "logic=not-proved"))
+    ):
         return None
-    faults = [it for it in lines if OF_A_PLACE.match(it) and (": error" in it or it.startswith("note: "))]
+    faults = [
+        it for it in lines if OF_A_PLACE.match(it) and (": error" in it or it.startswith("note: "))
+    ]
     refused = [it for it in lines if it.startswith("fn ") and not it.endswith(": proved")]
     return next((it for it in faults if not NAMES.match(it)), [*faults, *refused, lines[-1]][0])
 
@@ -115,5 +130,9 @@ def tried(rt, crate, edit, proved):
                 return Result(True, f"refused: {said}")
             if ran.returncode in (0, NO_SUCH_NAME):
                 break
-        said = "NOT REFUSED" if ran.returncode == 0 else f"NOT TRIED: {' / '.join(ran.stdout.splitlines()[:3])}"
+        said = (
+            "NOT REFUSED"
+            if ran.returncode == 0
+            else f"NOT TRIED: {' / '.join(ran.stdout.splitlines()[:3])}"
+        )
     return Result(False, said)

@@ -15,7 +15,9 @@ WRITERS = {"p0": False, "all": True}
 
 # last: the number of the last reader; most: the greatest value; bits, words: the first page's; are_alike: whether all processes
 # write and read
-Row = collections.namedtuple("Row", "name tower last most bits words are_alike", defaults=[None] * 5)
+Row = collections.namedtuple(
+    "Row", "name tower last most bits words are_alike", defaults=[None] * 5
+)
 
 
 def values(column):
@@ -33,7 +35,15 @@ def row_of(line):
     if columns == [REFUSED]:
         return Row(name, tower)
     last, most, bits, words, writers = columns
-    return Row(name, tower, int(last.lstrip("p")), int(most), "".join(values(bits)), " ".join(values(words)), WRITERS[writers])
+    return Row(
+        name,
+        tower,
+        int(last.lstrip("p")),
+        int(most),
+        "".join(values(bits)),
+        " ".join(values(words)),
+        WRITERS[writers],
+    )
 
 
 def rows(table):
@@ -45,15 +55,24 @@ def steps_of(row):
     """Returns the steps that are inserted at the front, each with whether the tower has it."""
     last, most = row.last, row.most
     return [
-        (f"w 0 {most}", True), (f"w 0 {most + 1}", False),
-        (f"r {last}", True), (f"r {last + 1}", False),
-        ("w 1 0", row.are_alike), ("r 0", row.are_alike),
-        (f"g {last} 1", True), (f"g {last + 1} 0", False),
+        (f"w 0 {most}", True),
+        (f"w 0 {most + 1}", False),
+        (f"r {last}", True),
+        (f"r {last + 1}", False),
+        ("w 1 0", row.are_alike),
+        ("r 0", row.are_alike),
+        (f"g {last} 1", True),
+        (f"g {last + 1} 0", False),
     ]
 
 
 def expected_of(row):
-    lines = ["0: state main 0 of 0", *(f"  p{it} idle" for it in range(row.last + 1)), f"  bits {row.bits}", f"  words {row.words}"]
+    lines = [
+        "0: state main 0 of 0",
+        *(f"  p{it} idle" for it in range(row.last + 1)),
+        f"  bits {row.bits}",
+        f"  words {row.words}",
+    ]
     edits = 0
     for _, is_step in steps_of(row):
         edits += is_step
@@ -65,7 +84,13 @@ def files_of(row):
     """Returns the text of each file of a row, by its kind."""
     script, tower = ["0 state main 0"], ["tower 1", row.tower]
     if row.last is None:
-        texts = {"script": script, "tower": tower, "expected": [], "status": ["1"], "errors": ["towerbench: file line 2: 15 BadSize"]}
+        texts = {
+            "script": script,
+            "tower": tower,
+            "expected": [],
+            "status": ["1"],
+            "errors": ["towerbench: file line 2: 15 BadSize"],
+        }
     else:
         script += [f"0 insert main 0 {step}" for step, _ in steps_of(row)]
         texts = {"script": script, "tower": tower, "expected": expected_of(row)}

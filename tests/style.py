@@ -30,7 +30,10 @@ HABITS = {
     "anew": r"anew",
     "where": r"where",
 }
-PATTERNS = {habit: re.compile(rf"(?<![a-z])(?:{pattern})(?![a-z])", re.I) for habit, pattern in HABITS.items()}
+PATTERNS = {
+    habit: re.compile(rf"(?<![a-z])(?:{pattern})(?![a-z])", re.I)
+    for habit, pattern in HABITS.items()
+}
 # The page of the habits has all of them, and this file too; the page of definitions is printed from comments.
 LEFT_OUT = ("docs/STYLE.md", "docs/DEFINITIONS.md", "tests/style.py", KEPT)
 PARTS = (
@@ -42,7 +45,11 @@ PARTS = (
     ("documents", "*.md"),
     ("scripts", "*"),
 )
-COMMENT = {"rt": re.compile(r"//.*"), "antt": re.compile(r"--.*"), "py": re.compile(r"#[^\n]*|\"\"\".*?\"\"\"", re.DOTALL)}
+COMMENT = {
+    "rt": re.compile(r"//.*"),
+    "antt": re.compile(r"--.*"),
+    "py": re.compile(r"#[^\n]*|\"\"\".*?\"\"\"", re.DOTALL),
+}
 
 
 def part_of(path):
@@ -64,7 +71,10 @@ def counts():
     found = collections.Counter()
     for path in documents.files():
         # (the gate's copy has this turn's wrong bodies twice)
-        is_twice = os.path.exists(path.replace("/must-fail/", "/must-fail-in-turn/")) and "/must-fail/" in path
+        is_twice = (
+            os.path.exists(path.replace("/must-fail/", "/must-fail-in-turn/"))
+            and "/must-fail/" in path
+        )
         if is_twice or path in LEFT_OUT or path.endswith((".png", ".wasm")):
             continue
         with open(path, encoding="utf-8", errors="replace") as file:
@@ -87,7 +97,11 @@ def kept():
 def fault():
     """Returns which habits have risen, or None."""
     before = kept()
-    risen = [f"{habit} in {part}: {count}, {before.get((part, habit), 0)} before" for (part, habit), count in counts().items() if count > before.get((part, habit), 0)]
+    risen = [
+        f"{habit} in {part}: {count}, {before.get((part, habit), 0)} before"
+        for (part, habit), count in counts().items()
+        if count > before.get((part, habit), 0)
+    ]
     return "; ".join(sorted(risen)) or None
 
 

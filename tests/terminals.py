@@ -9,7 +9,9 @@ import cases
 
 TYPED = b"0 insert main 0 r 1\n"
 ANSWER = b"0: edit 1"
-SAID = b"towerbench: Ctrl-D ends the script and saves where --save says; Ctrl-C leaves without saving"
+SAID = (
+    b"towerbench: Ctrl-D ends the script and saves where --save says; Ctrl-C leaves without saving"
+)
 SAVED = b"bench 1\nsafe 0\nbranch main 0 0\nr 1\n"
 CTRL_C, CTRL_D = b"\x03", b"\x04"
 MOST_SECONDS = 60

@@ -23,7 +23,10 @@ ANY = {"pP": r"p\d+", "A": "(?:ws|we|rs|re)", "STEP": r"[wrgx] .+", "BREAK": r"\
 
 def pattern_of(text):
     """Returns what matches a line with a text of the guide."""
-    words = [ANY.get(it) or (r"\S+" if re.fullmatch(r"[A-Z]+", it) else re.escape(it)) for it in text.strip().split(" ")]
+    words = [
+        ANY.get(it) or (r"\S+" if re.fullmatch(r"[A-Z]+", it) else re.escape(it))
+        for it in text.strip().split(" ")
+    ]
     body = " ".join(words)
     if FRAME.fullmatch(text):
         return re.compile(rf"(?:^|> |p\d+ ){body}(?: >| stopped$|$)", re.M)
@@ -36,7 +39,11 @@ def pattern_of(text):
 def texts_of(page):
     """Returns the texts that a page of the guide says are printed."""
     spans = [it.group(1) for it in SPAN.finditer(page)]
-    found = [it for it in spans if it.startswith(("  ", "0: ")) or FRAME.fullmatch(it) or NUMBERED.fullmatch(it)]
+    found = [
+        it
+        for it in spans
+        if it.startswith(("  ", "0: ")) or FRAME.fullmatch(it) or NUMBERED.fullmatch(it)
+    ]
     breaks = BREAKS.search(page)
     rows = breaks.group().splitlines()[2:] if breaks else []
     found += [f"  {SPAN.search(it).group(1)}" for it in rows if SPAN.search(it)]
@@ -50,7 +57,12 @@ def read(path):
 
 def outputs():
     """Returns all that is expected of the program, in one text."""
-    found = [read(path) for folder in FOLDERS for kind in EXPECTED for path in sorted(glob.glob(f"{folder}/*.{kind}"))]
+    found = [
+        read(path)
+        for folder in FOLDERS
+        for kind in EXPECTED
+        for path in sorted(glob.glob(f"{folder}/*.{kind}"))
+    ]
     found += [texts[kind] for texts in sizes.files().values() for kind in EXPECTED if kind in texts]
     return "\n".join(found)
 

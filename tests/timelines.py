@@ -36,8 +36,14 @@ GUIDE = "docs/guide/towers.md"
 INNER_BAR = re.compile(r"\|-*([^-|>][^|>]*?)-*([|>])")
 LAYERS = {"registers": "stamped", "number": "unary", "bits": "regular"}
 # an inner operation's words in the page, and what they are in short
-SHORT = ((r"(R\S+) := .* wrote (\d+) .*", r"\1:=\2"), (r"read (R\S+?)(?::.*)?", r"\1"), (r".*?(code \d+).*", r"\1"),
-         (r"(bit \d+) := (\d).*", r"\1:=\2"), (r"(bit \d+) is (\d)", r"\1=\2"), (r"(bit \d+) hit, chosen (\d)", r"\1=\2"))
+SHORT = (
+    (r"(R\S+) := .* wrote (\d+) .*", r"\1:=\2"),
+    (r"read (R\S+?)(?::.*)?", r"\1"),
+    (r".*?(code \d+).*", r"\1"),
+    (r"(bit \d+) := (\d).*", r"\1:=\2"),
+    (r"(bit \d+) is (\d)", r"\1=\2"),
+    (r"(bit \d+) hit, chosen (\d)", r"\1=\2"),
+)
 
 # begun, ended: steps; ended: None while it is pending; ending: a value of ENDINGS, or "refused"
 Operation = collections.namedtuple("Operation", "process what begun ended ending")
@@ -74,7 +80,7 @@ def texts_by_step(line, columns):
 
 def bars(process, line, columns):
     """Returns the operations of a process's row."""
-    found, rest = [], BAR.sub("", line)[len(process):].strip()
+    found, rest = [], BAR.sub("", line)[len(process) :].strip()
     for bar in BAR.finditer(line):
         begun = next((it.first for it in columns if it.begin == bar.start()), None)
         ended = next((it.last for it in columns if it.begin <= bar.end() - 1 < it.end), None)
@@ -97,12 +103,18 @@ def rows_of_page(lines):
     columns = columns_of(rows.pop("step"))
     processes = [it for it in rows if re.fullmatch(r"p\d", it)]
     operations = [one for it in processes for one in bars(it, rows.pop(it), columns)]
-    return sorted(operations), {it: texts_by_step(line, columns) for it, line in rows.items()}, columns
+    return (
+        sorted(operations),
+        {it: texts_by_step(line, columns) for it, line in rows.items()},
+        columns,
+    )
 
 
 def ask(program, path, looks):
     """Returns the pages of looks after a script: the lines of each, without their first one."""
-    tower = next(f"{path}.{kind}" for kind in ("tower", "bench") if os.path.exists(f"{path}.{kind}"))
+    tower = next(
+        f"{path}.{kind}" for kind in ("tower", "bench") if os.path.exists(f"{path}.{kind}")
+    )
     script = cases.read(f"{path}.script").decode("ascii")
     asked = script + "".join(f"\n{LOOK} {it}" for it in looks)
     ran = cases.run(program, [tower], asked.encode())
@@ -169,8 +181,10 @@ def fault_of_block(program, folder, words, lines):
     if len(found["by"]) != count:
         return f"{name}: {branch} has {len(found['by'])} steps, the time line {count}"
     if operations != wanted:
-        lacks, has = ([tuple(it) for it in some if it not in others]
-                      for some, others in ((wanted, operations), (operations, wanted)))
+        lacks, has = (
+            [tuple(it) for it in some if it not in others]
+            for some, others in ((wanted, operations), (operations, wanted))
+        )
         return f"{name}: {branch} has {lacks}, the time line {has}"
     for row, texts in rows.items():
         for step in range(count):
@@ -184,7 +198,9 @@ def fault_of(path, program):
     """Returns what is wrong with the time lines of a page, or nothing."""
     folder = os.path.dirname(path)
     text, blocks = quotes.parted(quotes.TOP / path)
-    timelines = [(mark.split()[1:], lines) for mark, lines in blocks if mark.split()[:1] == ["timeline"]]
+    timelines = [
+        (mark.split()[1:], lines) for mark, lines in blocks if mark.split()[:1] == ["timeline"]
+    ]
     number = os.path.basename(folder).partition("-")[0].lstrip("0")
     is_named = not timelines or f"lesson {number} in the page" in text
     faults = [] if is_named else [f"it doesn't say that it is lesson {number} in the page"]
@@ -201,8 +217,14 @@ def inner_bars(line, columns):
     found = []
     for bar in INNER_BAR.finditer(line):
         begun = next((it.first for it in columns if it.begin == bar.start()), None)
-        ended = next((it.last for it, after in zip(columns, [*columns[1:], None])
-                      if it.begin <= bar.end() - 1 and (after is None or bar.end() - 1 < after.begin)), None)
+        ended = next(
+            (
+                it.last
+                for it, after in zip(columns, [*columns[1:], None])
+                if it.begin <= bar.end() - 1 and (after is None or bar.end() - 1 < after.begin)
+            ),
+            None,
+        )
         if begun is None or (bar[2] == "|" and ended is None):
             raise Odd(f"a bar begins or ends over no step: {line}")
         found.append((begun, None if bar[2] == ">" else ended, bar[1]))
@@ -211,7 +233,9 @@ def inner_bars(line, columns):
 
 def short(title):
     """Returns the words of an inner operation in short."""
-    return next(re.sub(f"^{pattern}$", by, title) for pattern, by in SHORT if re.fullmatch(pattern, title))
+    return next(
+        re.sub(f"^{pattern}$", by, title) for pattern, by in SHORT if re.fullmatch(pattern, title)
+    )
 
 
 def inside_of(program, path):
@@ -222,9 +246,11 @@ def inside_of(program, path):
     looks = [f"{kind} main {place}" for kind in ("state", "bits") for place in range(count + 1)]
     asked = "".join(f"{LOOK} {it}\n" for it in [*looks, f"history main {count}"])
     ran = cases.run(program, [tower], asked.encode())
-    pages = [[line[2:] for line in lines.splitlines()]
-             for lines in re.findall(rf"^{LOOK}: .*\n((?:  .*\n)*)", ran.output.decode("ascii"), re.M)]
-    made = {"state": pages[: count + 1], "bits": pages[count + 1: -1], "history": pages[-1]}
+    pages = [
+        [line[2:] for line in lines.splitlines()]
+        for lines in re.findall(rf"^{LOOK}: .*\n((?:  .*\n)*)", ran.output.decode("ascii"), re.M)
+    ]
+    made = {"state": pages[: count + 1], "bits": pages[count + 1 : -1], "history": pages[-1]}
     return Inside(Tower(line), made)
 
 
@@ -238,20 +264,27 @@ def fault_of_layers(program, path, lines):
     for it, layer, part, title in inside.nests():
         name = next(word for word, known in LAYERS.items() if known == layer)
         if it.begun <= last:
-            wanted[f"p{it.process} {name}"].append((part.begin, part.end if part.is_over else None, short(title)))
+            wanted[f"p{it.process} {name}"].append(
+                (part.begin, part.end if part.is_over else None, short(title))
+            )
     found = {}
     for line in lines[1:]:
         name = re.match(r"p\d(?: [a-z]+)?", line)[0]
-        found[name] = inner_bars(" " * len(name) + line[len(name):], columns)
+        found[name] = inner_bars(" " * len(name) + line[len(name) :], columns)
     if found != wanted:
-        return f"{path}: " + "; ".join(f"{it}: the block has {found.get(it)}, the pages {wanted.get(it)}"
-                                       for it in sorted({*found, *wanted}) if found.get(it) != wanted.get(it))
+        return f"{path}: " + "; ".join(
+            f"{it}: the block has {found.get(it)}, the pages {wanted.get(it)}"
+            for it in sorted({*found, *wanted})
+            if found.get(it) != wanted.get(it)
+        )
     return None
 
 
 def fault_of_guide(program):
     """Returns what is wrong with the layers that the guide draws, or nothing."""
-    blocks = re.findall(r"^```layers (\S+)\n(.*?)^```$", cases.read(GUIDE).decode("ascii"), re.M | re.S)
+    blocks = re.findall(
+        r"^```layers (\S+)\n(.*?)^```$", cases.read(GUIDE).decode("ascii"), re.M | re.S
+    )
     if len(blocks) < 2:
         return "it draws no layers"
     faults = [fault_of_layers(program, path, text.splitlines()) for path, text in blocks]

@@ -21,7 +21,13 @@ from trials import Test
 
 TOP = os.path.dirname(os.path.dirname(os.path.realpath(__file__)))
 LISTED = "# the crates\nlow: std\nover: low std  # above it\ntool: low, over\n"
-SOURCES = {"low/src/lib.rt": 7, "low/proofs/Low.antt": 14, "over/src/lib.rt": 3, "over/specs/Over.antt": 2, "tool/src/main.rt": 1}
+SOURCES = {
+    "low/src/lib.rt": 7,
+    "low/proofs/Low.antt": 14,
+    "over/src/lib.rt": 3,
+    "over/specs/Over.antt": 2,
+    "tool/src/main.rt": 1,
+}
 # What `rt try` adds after a program that ended with a status.
 ENDED = "checked: all\nrun=ended status={} steps=1\n"
 
@@ -33,7 +39,9 @@ def same(what, got, wanted):
 
 def loaded(path):
     """Returns a tool as a module of its own."""
-    loader = importlib.machinery.SourceFileLoader(os.path.basename(path).partition(".")[0], f"{TOP}/{path}")
+    loader = importlib.machinery.SourceFileLoader(
+        os.path.basename(path).partition(".")[0], f"{TOP}/{path}"
+    )
     module = importlib.util.module_from_spec(importlib.util.spec_from_loader(loader.name, loader))
     with_tools = f"{TOP}/tools"
     if with_tools not in sys.path:
@@ -83,13 +91,26 @@ def tree_of_a_crate():
         put(f"{top}/crates/low/out/rlib/low.rlib", "built")
         put(f"{top}/crates/over/out/before", "kept")
         with side.Tree(side.crates_of(), "over") as tree:
-            found = sorted(os.path.relpath(f"{at}/{it}", tree.top) for at, _, files in os.walk(tree.top) for it in files)
+            found = sorted(
+                os.path.relpath(f"{at}/{it}", tree.top)
+                for at, _, files in os.walk(tree.top)
+                for it in files
+            )
             put(f"{tree.folder}/out/after", "made")
             tree.put_back()
-        same("files of the tree", found, [
-            "crates.txt", "crates/low/out/rlib/low.rlib", "crates/low/proofs/Low.antt", "crates/low/src/lib.rt",
-            "crates/over/out/before", "crates/over/specs/Over.antt", "crates/over/src/lib.rt",
-        ])
+        same(
+            "files of the tree",
+            found,
+            [
+                "crates.txt",
+                "crates/low/out/rlib/low.rlib",
+                "crates/low/proofs/Low.antt",
+                "crates/low/src/lib.rt",
+                "crates/over/out/before",
+                "crates/over/specs/Over.antt",
+                "crates/over/src/lib.rt",
+            ],
+        )
         same("products", sorted(os.listdir(f"{top}/crates/over/out")), ["after", "before"])
         same("the tree is left", os.path.exists(tree.top), False)
 
@@ -100,15 +121,26 @@ def ran_side_by_side(failing=None):
     side.lanes = side.processors = lambda: 1
 
     def task(name, waits, lines):
-        return side.Task(waits, lines, 4, lambda jobs, niceness: (order.append((name, jobs)), name != failing)[1])
+        return side.Task(
+            waits, lines, 4, lambda jobs, niceness: (order.append((name, jobs)), name != failing)[1]
+        )
 
-    tasks = {"short": task("short", [], 3), "first": task("first", [], 1), "then": task("then", ["first"], 5), "last": task("last", ["then"], 1)}
+    tasks = {
+        "short": task("short", [], 3),
+        "first": task("first", [], 1),
+        "then": task("then", ["first"], 5),
+        "last": task("last", ["then"], 1),
+    }
     same("chains", side.chains(tasks), {"short": 3, "first": 7, "then": 6, "last": 1})
     return side.run_side_by_side(tasks, lambda *_: None), order
 
 
 def order_of_tasks():
-    same("all tasks", ran_side_by_side(), (True, [("first", 1), ("then", 1), ("short", 1), ("last", 1)]))
+    same(
+        "all tasks",
+        ran_side_by_side(),
+        (True, [("first", 1), ("then", 1), ("short", 1), ("last", 1)]),
+    )
     same("a task that fails", ran_side_by_side("then"), (False, [("first", 1), ("then", 1)]))
 
 
@@ -163,13 +195,19 @@ def statements_at(top):
 def words_of_a_library():
     with repository() as top:
         statements, _ = statements_at(top)
-        words = " ".join(statements.steps_of(statements.side.crates_of(), "over", 2)[0]).replace(top, "TOP")
-        same("words", words, (
-            "/kit/bin/rattle build --crate-name over src/lib.rt --extern std=/kit/rlibs/std.rlib --extern std=/kit/rlibs/std.rlib"
-            " --extern low=TOP/crates/low/out/statements/low.rlib -L dependency=/kit/rlibs"
-            " -L dependency=TOP/crates/low/out/statements --antt-project /kit/rattle/logic/antt-project.json"
-            " --logic-built /kit/logic_built --links over= --jobs 2 --statements -o TOP/crates/over/out/statements/over.rlib"
-        ))
+        words = " ".join(statements.steps_of(statements.side.crates_of(), "over", 2)[0]).replace(
+            top, "TOP"
+        )
+        same(
+            "words",
+            words,
+            (
+                "/kit/bin/rattle build --crate-name over src/lib.rt --extern std=/kit/rlibs/std.rlib --extern std=/kit/rlibs/std.rlib"
+                " --extern low=TOP/crates/low/out/statements/low.rlib -L dependency=/kit/rlibs"
+                " -L dependency=TOP/crates/low/out/statements --antt-project /kit/rattle/logic/antt-project.json"
+                " --logic-built /kit/logic_built --links over= --jobs 2 --statements -o TOP/crates/over/out/statements/over.rlib"
+            ),
+        )
 
 
 def built_once():
@@ -179,17 +217,35 @@ def built_once():
         made = [statements.prove(crates, it, 1, 0) for it in ("low", "low", "over", "tool")]
         same("proved", made, [True] * 4)
         # (a program is compiled, and then linked)
-        same("built", [folder for folder, _ in given], ["crates/low", "crates/over", "crates/tool", "crates/tool"])
-        same("the program is where rt builds it", os.path.exists(f"{top}/crates/tool/out/tool"), True)
+        same(
+            "built",
+            [folder for folder, _ in given],
+            ["crates/low", "crates/over", "crates/tool", "crates/tool"],
+        )
+        same(
+            "the program is where rt builds it", os.path.exists(f"{top}/crates/tool/out/tool"), True
+        )
         put(f"{top}/crates/over/specs/Over.antt", "another line\n")
         same("current", [it for it in crates if statements.is_current(crates, it)], ["low"])
 
 
 def words_of_first_run():
     first = loaded("tools/first_run")
-    for words, place in (([], None), (["a"], 0), (["--workers", "4", "a"], 2), (["--workers=4", "a"], 1), (["--save", "s"], None), (["--", "-a"], 1)):
+    for words, place in (
+        ([], None),
+        (["a"], 0),
+        (["--workers", "4", "a"], 2),
+        (["--workers=4", "a"], 1),
+        (["--save", "s"], None),
+        (["--", "-a"], 1),
+    ):
         same(f"file of {words}", first.place_of_file(words), place)
-    for words, left in ((["a", "--save", "s"], ["a"]), (["--save=s", "a"], ["a"]), (["--save"], ["--save"]), (["--", "--save", "s"], ["--", "--save", "s"])):
+    for words, left in (
+        (["a", "--save", "s"], ["a"]),
+        (["--save=s", "a"], ["a"]),
+        (["--save"], ["--save"]),
+        (["--", "--save", "s"], ["--", "--save", "s"]),
+    ):
         same(f"{words} without its save", first.without_save(words), left)
     twice = ["--save", "s", "--save=t"]
     same("two saves", first.without_save(twice), twice)
@@ -207,21 +263,38 @@ def first_run(early, program, words=(), has_rt=True):
             put(f"{top}/tools/{it}", "")
             shutil.copy(f"{TOP}/tools/{it}", f"{top}/tools/{it}")
         put(f"{top}/built", f"#!/bin/sh\n{program}\n", 0o755)
-        put(f"{top}/tools/program", "#!/bin/sh\n" + (f"echo '{top}/built'\n" if program else "exit 1\n"), 0o755)
+        put(
+            f"{top}/tools/program",
+            "#!/bin/sh\n" + (f"echo '{top}/built'\n" if program else "exit 1\n"),
+            0o755,
+        )
         if has_rt:
             put(f"{top}/bin/rt", f"#!/bin/sh\n{early}\n", 0o755)
         path = {"PATH": f"{top}/bin:/usr/bin:/bin" if has_rt else f"{top}/bin"}
-        ran = subprocess.run([sys.executable, f"{top}/tools/first_run", *words], input=b"0 join\n", capture_output=True,
-                             env={**os.environ, **path}, check=False)
+        ran = subprocess.run(
+            [sys.executable, f"{top}/tools/first_run", *words],
+            input=b"0 join\n",
+            capture_output=True,
+            env={**os.environ, **path},
+            check=False,
+        )
         return ran.returncode, ran.stdout.decode(), ran.stderr.decode().split("\n")
 
 
 def answers_twice():
     early = "cat; printf '%s' '" + ENDED.format(0) + "' >&2"
     status, output, said = first_run(early, "cat")
-    same("the same answers", (status, output, said[-2]), (0, "0 join\n", "towerbench: proved, and the proved program answers the same"))
+    same(
+        "the same answers",
+        (status, output, said[-2]),
+        (0, "0 join\n", "towerbench: proved, and the proved program answers the same"),
+    )
     status, output, said = first_run(early, "cat; echo more; exit 1")
-    same("other answers", (status, output, said[-3:]), (3, "0 join\n", ["+more", "towerbench: the status was 0, and is 1", ""]))
+    same(
+        "other answers",
+        (status, output, said[-3:]),
+        (3, "0 join\n", ["+more", "towerbench: the status was 0, and is 1", ""]),
+    )
     status, output, said = first_run("echo stuck >&2", "cat; exit 1")
     same("no unproved answers", (status, output, "stuck" in said), (1, "0 join\n", True))
     same("no proof", first_run(early, None)[:2], (1, "0 join\n"))
@@ -232,22 +305,36 @@ def answers_and_saves():
     early = "cat; echo \"$@\"; printf '%s' '" + ENDED.format(0) + "' >&2"
     proved = "cat; echo try --; echo towerbench: save failed >&2; exit 1"
     status, output, said = first_run(early, proved, ["--save", "s"])
-    wanted = ["towerbench: proved, and the proved program answers the same, but the branches aren't saved", "towerbench: save failed", ""]
+    wanted = [
+        "towerbench: proved, and the proved program answers the same, but the branches aren't saved",
+        "towerbench: save failed",
+        "",
+    ]
     same("a save that fails", (status, output, said[-3:]), (1, "0 join\ntry --\n", wanted))
 
 
 def table_of_shares():
-    parts = {1: ("low", "proof", ""), 2: ("low", "wrong bodies", "lost"), 3: ("over", "proof", ""), 4: None, 5: ("low", "wrong bodies", "")}
+    parts = {
+        1: ("low", "proof", ""),
+        2: ("low", "wrong bodies", "lost"),
+        3: ("over", "proof", ""),
+        4: None,
+        5: ("low", "wrong bodies", ""),
+    }
     crates = {"low": [], "another": ["low"], "over": ["low"]}
-    same("table", loaded(".ci/shares").written(parts, {1: 120, 2: 24, 3: 60, 4: 600, 5: 6}, crates), (
-        "processor minutes                proof         tests  wrong bodies    in all\n"
-        "low                                2.0           0.0           0.5       2.5\n"
-        "over                               1.0           0.0           0.0       1.0\n"
-        "in all                             3.0           0.0           0.5       3.5\n"
-        "(tests + wrong bodies) over proofs: 0.17\n"
-        "longest chain of proofs: 3.0, low over\n"
-        "   0.4 low/lost\n"
-    ))
+    same(
+        "table",
+        loaded(".ci/shares").written(parts, {1: 120, 2: 24, 3: 60, 4: 600, 5: 6}, crates),
+        (
+            "processor minutes                proof         tests  wrong bodies    in all\n"
+            "low                                2.0           0.0           0.5       2.5\n"
+            "over                               1.0           0.0           0.0       1.0\n"
+            "in all                             3.0           0.0           0.5       3.5\n"
+            "(tests + wrong bodies) over proofs: 0.17\n"
+            "longest chain of proofs: 3.0, low over\n"
+            "   0.4 low/lost\n"
+        ),
+    )
 
 
 def edits_of_copies():
@@ -259,26 +346,44 @@ def edits_of_copies():
                 file.write(text)
         with open(f"{room}/lost.edit", "w") as file:
             file.write("file: src/lib.rt\nold: well\nnew: lost\n")
-        found = [tool.is_made_by(f"{room}/lost.edit", f"{room}/crate", f"{room}/{it}") for it in ("other", "same")]
+        found = [
+            tool.is_made_by(f"{room}/lost.edit", f"{room}/crate", f"{room}/{it}")
+            for it in ("other", "same")
+        ]
         same("copies that an edit made", found, [True, False])
 
 
 def shares_of(command):
     """Returns the status of a command under .ci/shares, and the lines of its table, if there is one."""
     with tempfile.TemporaryDirectory() as room:
-        status = subprocess.run([f"{TOP}/.ci/shares", f"{room}/table", "bash", "-c", command], check=False).returncode
-        return status, cases.read(f"{room}/table").decode().splitlines() if os.path.exists(f"{room}/table") else []
+        status = subprocess.run(
+            [f"{TOP}/.ci/shares", f"{room}/table", "bash", "-c", command], check=False
+        ).returncode
+        return (
+            status,
+            cases.read(f"{room}/table").decode().splitlines()
+            if os.path.exists(f"{room}/table")
+            else [],
+        )
 
 
 def shares_of_commands():
     same("a command that ends", shares_of("exit 7"), (7, []))
     same("a command that is killed", shares_of("kill -9 $$"), (137, []))
     # (it looks at what the command has started, once a second)
-    prover = f"exec -a rattle '{sys.executable}' -c 'import time; time.sleep(3)' --crate-name low --test"
+    prover = (
+        f"exec -a rattle '{sys.executable}' -c 'import time; time.sleep(3)' --crate-name low --test"
+    )
     status, lines = shares_of(f"({prover}); exit 0")
     same("the prover's crates", (status, [it.split()[0] for it in lines[1:-3]]), (0, ["low"]))
-    same("the prover's ratio", lines[-2:-1], ["(tests + wrong bodies) over proofs: no proofs in this run"])
-    after = lambda first: subprocess.run([f"{TOP}/.ci/shares", "/dev/null", *first, "--", "false"], check=False).returncode
+    same(
+        "the prover's ratio",
+        lines[-2:-1],
+        ["(tests + wrong bodies) over proofs: no proofs in this run"],
+    )
+    after = lambda first: subprocess.run(
+        [f"{TOP}/.ci/shares", "/dev/null", *first, "--", "false"], check=False
+    ).returncode
     same("a command after another", (after(["true"]), after(["bash", "-c", "exit 7"])), (1, 7))
 
 
@@ -324,17 +429,26 @@ def selections_of_edits():
             put(f"{room}/edit", "\n".join(lines) + "\n")
             return refusals.selections(f"{room}/edit", room)
 
-        method, value = ["file: src/cell.rt", "old:         self.value", "new:         0"], ["old:     MOST", "new:     self"]
+        method, value = ["file: src/cell.rt", "old:         self.value", "new:         0"], [
+            "old:     MOST",
+            "new:     self",
+        ]
         same("a method, its module, the crate", of(*method), [["Cell::value"], ["cell"], []])
         same("two functions", of(*method, *value), [["Cell::value", "cell::most"], ["cell"], []])
-        same("a method of a trait", of("file: src/cell.rt", "old:         *self", "new:         Cell { value: 0 }"), [["cell"], []])
+        same(
+            "a method of a trait",
+            of("file: src/cell.rt", "old:         *self", "new:         Cell { value: 0 }"),
+            [["cell"], []],
+        )
         same("no function", of("file: src/lib.rt", "old: pub mod cell;", "new: mod cell;"), [[]])
 
 
 def refusals_of_checks():
     said = "note: src/cell.rt:12:5: it is not proved that what the function ensures holds"
     rt = types.SimpleNamespace(unread=lambda line, texts: "not in scope" in line)
-    of = lambda status, *lines: refusals.refusal_in(rt, types.SimpleNamespace(returncode=status, stdout="\n".join(lines) + "\n"), {})
+    of = lambda status, *lines: refusals.refusal_in(
+        rt, types.SimpleNamespace(returncode=status, stdout="\n".join(lines) + "\n"), {}
+    )
     same("some functions", of(1, said, "only=2 proved=1"), said)
     same("a crate", of(1, said, "logic=not-proved functions=2"), said)
     same("all proved", of(0, "only=2 proved=2"), None)
@@ -345,7 +459,10 @@ def refusals_of_checks():
 def floors_of_proofs():
     tool = loaded("tests/floors")
     of = lambda *lines: len([*tool.faults_of_proofs("\n".join(lines) + "\n", 30, 54)])
-    proved, turn = "30 passed, 0 failed", "wrong bodies: turn 7 of 8 tries 70 besides those of each gate"
+    proved, turn = (
+        "30 passed, 0 failed",
+        "wrong bodies: turn 7 of 8 tries 70 besides those of each gate",
+    )
     same("all", of(proved, turn, "wrong bodies: 124 refused, 0 not"), 0)
     same("a crate less", of("29 passed, 0 failed", turn, "wrong bodies: 124 refused, 0 not"), 1)
     same("a failure", of("30 passed, 1 failed", turn, "wrong bodies: 124 refused, 0 not"), 1)
@@ -382,4 +499,8 @@ ALL = {
 
 
 def tests():
-    return [Test(f"tool {tool}: {it.__name__.replace('_', ' ')}", it) for tool, its in ALL.items() for it in its]
+    return [
+        Test(f"tool {tool}: {it.__name__.replace('_', ' ')}", it)
+        for tool, its in ALL.items()
+        for it in its
+    ]

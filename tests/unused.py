@@ -18,7 +18,13 @@ TOP = os.path.dirname(os.path.dirname(os.path.realpath(__file__)))
 # The names of files of worked examples, and of what wrong bodies miss.
 EXAMPLES = ("Examples", "Rows", "WrongEdits", "VerdictRows", "LimbRows", "BenchRows")
 PROOFS = ".antt"
-READ = ("proofs/**/*.antt", "specs/**/*.antt", "src/**/*.rt", "must-fail/*.edit", "must-fail-in-turn/**/*.edit")
+READ = (
+    "proofs/**/*.antt",
+    "specs/**/*.antt",
+    "src/**/*.rt",
+    "must-fail/*.edit",
+    "must-fail-in-turn/**/*.edit",
+)
 LEMMAS = re.compile(r"crates/[^/]+/proofs/([A-Z]\w*)\.antt")
 TOKEN = re.compile(r"[^\s(){}\[\],;:.⟦⟧@`\"]+")
 DEFINED = re.compile(r"( *)(?:unfoldable |abbrev )?(?:pub )?([^\s:(){}]+) :(?: |$)")
@@ -58,7 +64,11 @@ def is_within(line, margin, name):
     """Returns whether a line after the signature of a name, which has this margin, is of its definition."""
     own = len(line) - len(line.lstrip())
     begun = BEGUN.match(line)
-    return own > margin or own == margin and (line.strip()[:1] in "})]" or begun and begun.group(2) in (name, "unfolding"))
+    return (
+        own > margin
+        or own == margin
+        and (line.strip()[:1] in "})]" or begun and begun.group(2) in (name, "unfolding"))
+    )
 
 
 def own_uses(lines):
@@ -78,7 +88,9 @@ def own_uses(lines):
 def unused(files):
     """Returns the path and the name of each lemma that nothing uses; files: the texts by their paths."""
     code = {path: code_of(path, text) for path, text in files.items()}
-    uses = collections.Counter(token for lines in code.values() for line in lines for token in TOKEN.findall(line))
+    uses = collections.Counter(
+        token for lines in code.values() for line in lines for token in TOKEN.findall(line)
+    )
     found = []
     for path, lines in sorted(code.items()):
         lemmas = lemmas_of(path, lines)

@@ -56,7 +56,9 @@ def rows():
 
 def crates_of():
     """Returns each crate of crates.txt, with the crates of the repository directly below it."""
-    libraries = {name: row.partition(":")[2].replace(",", " ").split() for name, row in rows().items()}
+    libraries = {
+        name: row.partition(":")[2].replace(",", " ").split() for name, row in rows().items()
+    }
     return {name: [it for it in below if it in libraries] for name, below in libraries.items()}
 
 
@@ -108,7 +110,9 @@ class Tree:
         try:
             # (in the order of `rt`, so that neither waits for the other in a ring)
             for it in sorted([*self.below, self.name]):
-                self.held[it] = lock(f"{TOP}/crates/{it}", fcntl.LOCK_EX if it == self.name else fcntl.LOCK_SH)
+                self.held[it] = lock(
+                    f"{TOP}/crates/{it}", fcntl.LOCK_EX if it == self.name else fcntl.LOCK_SH
+                )
             self.fill()
         except BaseException:
             self.__exit__()
@@ -124,7 +128,9 @@ class Tree:
 
     def fill(self):
         with open(f"{self.top}/crates.txt", "w", encoding="utf-8") as listed:
-            listed.writelines(f"{row}\n" for it, row in rows().items() if it in (*self.below, self.name))
+            listed.writelines(
+                f"{row}\n" for it, row in rows().items() if it in (*self.below, self.name)
+            )
         for it in [*self.below, self.name]:
             for part in PARTS:
                 self.bring(f"crates/{it}/{part}", shutil.copy2)
@@ -199,7 +205,9 @@ def prove(crates, name, jobs, niceness):
         # (a program is built by `rt run`, which also runs it, here on no input)
         verb = "run" if is_program(name) else "lib"
         log = f"{tree.folder}/out/prove.log"
-        is_proved = PROCESSES.call(["nice", "-n", str(niceness), "rt", verb, "--jobs", str(jobs)], tree.folder, log)
+        is_proved = PROCESSES.call(
+            ["nice", "-n", str(niceness), "rt", verb, "--jobs", str(jobs)], tree.folder, log
+        )
         has_failed = not is_proved and not PROCESSES.are_ended
         tree.put_back()
     if has_failed:
@@ -230,7 +238,12 @@ def proofs(crates, names, prove_one=prove):
     """Returns the tasks that prove these crates and all below them, by their names."""
     wanted = {it for name in names for it in [*all_below(crates, name), name]}
     return {
-        name: Task(crates[name], lines_of_check(crates, name), JOBS_OF_A_CHECK, lambda jobs, niceness, it=name: prove_one(crates, it, jobs, niceness))
+        name: Task(
+            crates[name],
+            lines_of_check(crates, name),
+            JOBS_OF_A_CHECK,
+            lambda jobs, niceness, it=name: prove_one(crates, it, jobs, niceness),
+        )
         for name in crates
         if name in wanted
     }
@@ -259,7 +272,9 @@ def processors():
 def lanes():
     """Returns how many checks may run side by side: as many as memory holds, at most two for each processor, and at least one."""
     free = 1024 * (number_in("/proc/meminfo", r"MemAvailable:\s+(\d+)") or 0)
-    limit, held = number_in("/sys/fs/cgroup/memory.max", r"(\d+)"), number_in("/sys/fs/cgroup/memory.stat", r"anon (\d+)")
+    limit, held = number_in("/sys/fs/cgroup/memory.max", r"(\d+)"), number_in(
+        "/sys/fs/cgroup/memory.stat", r"anon (\d+)"
+    )
     if limit and held is not None:
         free = min(free, limit - held)
     # (a check is at one processor for half of its time, so more of them than processors keep those busy)
@@ -293,12 +308,17 @@ def run_side_by_side(tasks, show):
     with ThreadPoolExecutor(all_lanes) as pool:
         try:
             while running or (left and is_well):
-                ready = [it for it in left if is_well and all(below in done for below in tasks[it].waits)]
+                ready = [
+                    it for it in left if is_well and all(below in done for below in tasks[it].waits)
+                ]
                 head = max(chain[it] for it in [*left, *(it for it, _ in running.values())])
                 # (a check by more than one processor costs more of them in all, so that's for what the others wait for)
                 share = all_processors // (len(running) + len(ready) or 1)
                 for key in ready[: all_lanes - len(running)]:
-                    jobs = max(1, min(tasks[key].most_jobs, all_processors if chain[key] == head else share))
+                    jobs = max(
+                        1,
+                        min(tasks[key].most_jobs, all_processors if chain[key] == head else share),
+                    )
                     niceness = round(NICEST * (1 - chain[key] / head))
                     left.remove(key)
                     running[pool.submit(tasks[key].work, jobs, niceness)] = key, time.monotonic()
@@ -321,6 +341,7 @@ def run_side_by_side(tasks, show):
 
 def end_by_signals():
     """Has a request to end the run end its commands too, and remove its scratch trees."""
+
     def end(*_):
         raise SystemExit(130)
 

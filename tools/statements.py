@@ -16,7 +16,9 @@ TARGET = "x86_64-unknown-linux-gnu"
 
 
 def said_by_rt(word):
-    return subprocess.run(["rt", word], check=True, stdout=subprocess.PIPE, text=True).stdout.strip()
+    return subprocess.run(
+        ["rt", word], check=True, stdout=subprocess.PIPE, text=True
+    ).stdout.strip()
 
 
 @functools.lru_cache(None)
@@ -48,7 +50,9 @@ def sum_of(crates, name):
             for at, _, files in sorted(os.walk(f"{folder_of(it)}/{part}")):
                 for file in sorted(files):
                     with open(f"{at}/{file}", "rb") as text:
-                        found.update(repr((os.path.relpath(f"{at}/{file}", side.TOP), text.read())).encode())
+                        found.update(
+                            repr((os.path.relpath(f"{at}/{file}", side.TOP), text.read())).encode()
+                        )
     return found.hexdigest()
 
 
@@ -60,9 +64,17 @@ def words_of(crates, name, made=made_of):
         words += ["--extern", f"{it}={kit()}/rlibs/{it}.rlib"]
     for it in crates[name]:
         words += ["--extern", f"{it}={made(it)}"]
-    for at in [f"{kit()}/rlibs", *[os.path.dirname(made(it)) for it in side.all_below(crates, name)]]:
+    for at in [
+        f"{kit()}/rlibs",
+        *[os.path.dirname(made(it)) for it in side.all_below(crates, name)],
+    ]:
         words += ["-L", f"dependency={at}"]
-    words += ["--antt-project", f"{kit()}/rattle/logic/antt-project.json", "--logic-built", f"{kit()}/logic_built"]
+    words += [
+        "--antt-project",
+        f"{kit()}/rattle/logic/antt-project.json",
+        "--logic-built",
+        f"{kit()}/logic_built",
+    ]
     return [*words, "--links", f"{name}="]
 
 
@@ -77,7 +89,16 @@ def c_libraries():
 
 def linking(unlinked, linked):
     """Returns the words that link a program from its object file."""
-    return [f"{kit()}/bin/rattle-link", "--target", TARGET, *toolchain(), "-o", linked, unlinked, *c_libraries()]
+    return [
+        f"{kit()}/bin/rattle-link",
+        "--target",
+        TARGET,
+        *toolchain(),
+        "-o",
+        linked,
+        unlinked,
+        *c_libraries(),
+    ]
 
 
 def steps_of(crates, name, jobs):
@@ -87,7 +108,10 @@ def steps_of(crates, name, jobs):
         return [[*prover, "--statements", "-o", made_of(name)]]
     unlinked = f"out/statements/{name}.o"
     # (Rattle's own compiler is a minute sooner done than LLVM, and nothing is left to do meanwhile)
-    return [[*prover, *toolchain(), "--backend", "rattle", "-o", unlinked], linking(unlinked, made_of(name))]
+    return [
+        [*prover, *toolchain(), "--backend", "rattle", "-o", unlinked],
+        linking(unlinked, made_of(name)),
+    ]
 
 
 def prove(crates, name, jobs, niceness):
@@ -101,7 +125,9 @@ def prove(crates, name, jobs, niceness):
 
 
 def is_current(crates, name):
-    return os.path.exists(made_of(name)) and side.text_of(f"{folder_of(name)}/out/statements/sum") == sum_of(crates, name)
+    return os.path.exists(made_of(name)) and side.text_of(
+        f"{folder_of(name)}/out/statements/sum"
+    ) == sum_of(crates, name)
 
 
 def build(crates, name, jobs, niceness):

@@ -23,19 +23,41 @@ WORDS = {
     "r": "a step: a process begins a read",
     "g": "a step: a process makes its next bit action; the last digit is what a hit read of the bit gives",
     "x": "a step: a process stops for good",
-    "ws": "a write of a bit starts", "we": "a write of a bit ends", "rs": "a read of a bit starts", "re": "a read of a bit ends",
+    "ws": "a write of a bit starts",
+    "we": "a write of a bit ends",
+    "rs": "a read of a bit starts",
+    "re": "a read of a bit ends",
     "choice": "what a hit read of a bit gives, 0 or 1: the last digit of the step g that ends it. It matters nowhere else",
-    "chosen": (GLOSSARY, "chosen"), "code": (GLOSSARY, "code"), "hit": (GLOSSARY, "hit"), "stamp": (GLOSSARY, "stamp"),
-    "tag": (GLOSSARY, "tag"), "void": (GLOSSARY, "void"), "words": "numbers that one process each remembers between its actions",
-    "inversion": (GLOSSARY, "new-old inversion"), "atomic": (GLOSSARY, "atomic"), "regular": (GLOSSARY, "regular"),
-    "safe": (GLOSSARY, "safe"), "matrix": (GLOSSARY, "matrix"),
-    "fresh": (TOWERS, "fresh"), "overlap": (TOWERS, "overlap"), "stray": (TOWERS, "stray"),
+    "chosen": (GLOSSARY, "chosen"),
+    "code": (GLOSSARY, "code"),
+    "hit": (GLOSSARY, "hit"),
+    "stamp": (GLOSSARY, "stamp"),
+    "tag": (GLOSSARY, "tag"),
+    "void": (GLOSSARY, "void"),
+    "words": "numbers that one process each remembers between its actions",
+    "inversion": (GLOSSARY, "new-old inversion"),
+    "atomic": (GLOSSARY, "atomic"),
+    "regular": (GLOSSARY, "regular"),
+    "safe": (GLOSSARY, "safe"),
+    "matrix": (GLOSSARY, "matrix"),
+    "fresh": (TOWERS, "fresh"),
+    "overlap": (TOWERS, "overlap"),
+    "stray": (TOWERS, "stray"),
     "pending": "an operation that hasn't returned",
     "refused": "the register has no stamp or tag left, so the operation ends without effect",
-    "place": (GUIDE, "Place K is"), "session": (GUIDE, "A session is"), "break": (GUIDE, "break BREAK"), "seek": (GUIDE, "seek"),
-    "back": (GUIDE, "back"), "fork": (GUIDE, "fork B K NAME"), "detach": (GUIDE, "detach B"), "drop": (GUIDE, "drop B"),
-    "cell": (GUIDE, "A cell's line"), "state": (GUIDE, "state B K"), "bits": (GUIDE, "bits B K"),
-    "history": (GUIDE, "history B K"), "verdict": (GUIDE, "verdict B K"),
+    "place": (GUIDE, "Place K is"),
+    "session": (GUIDE, "A session is"),
+    "break": (GUIDE, "break BREAK"),
+    "seek": (GUIDE, "seek"),
+    "back": (GUIDE, "back"),
+    "fork": (GUIDE, "fork B K NAME"),
+    "detach": (GUIDE, "detach B"),
+    "drop": (GUIDE, "drop B"),
+    "cell": (GUIDE, "A cell's line"),
+    "state": (GUIDE, "state B K"),
+    "bits": (GUIDE, "bits B K"),
+    "history": (GUIDE, "history B K"),
+    "verdict": (GUIDE, "verdict B K"),
 }
 
 
@@ -81,20 +103,31 @@ def article(folder):
         name, branch, drawn = figures[int(match.group(1))]
         return f'<figure data-part="{name}" data-branch="{branch or "main"}">{markdown.preformatted(drawn.splitlines())}</figure>'
 
-    made = blocks(TIMELINE.sub(hold, text), markdown.Place(f"lessons/{folder}/README.html", frozenset()))
+    made = blocks(
+        TIMELINE.sub(hold, text), markdown.Place(f"lessons/{folder}/README.html", frozenset())
+    )
     return re.sub(r"<p>FIGURE(\d+)</p>", figure, made)
 
 
 def exercises(folder):
     """Returns a lesson's exercises: number, title, text, and for each script that has goals or questions of it these comments."""
     asked = with_towers(text_of(f"lessons/{folder}/README.md")).partition(FOLD)[0]
-    found = [{"number": int(number), "title": title, "text": plain(text), "parts": []} for number, title, text in EXERCISE.findall(asked)]
+    found = [
+        {"number": int(number), "title": title, "text": plain(text), "parts": []}
+        for number, title, text in EXERCISE.findall(asked)
+    ]
     for path in sorted(glob.glob(f"{TOP}/lessons/{folder}/*.script")):
         lines = DATA.findall(text_of(os.path.relpath(path, TOP)))
         for it in found:
-            its = [f"{COMMENT}{kind}: {said}" for kind, number, said in lines if int(number) == it["number"]]
+            its = [
+                f"{COMMENT}{kind}: {said}"
+                for kind, number, said in lines
+                if int(number) == it["number"]
+            ]
             if its:
-                it["parts"].append({"name": os.path.basename(path)[: -len(".script")], "lines": its})
+                it["parts"].append(
+                    {"name": os.path.basename(path)[: -len(".script")], "lines": its}
+                )
     return found
 
 
@@ -102,8 +135,12 @@ def explained(page, mark):
     """Returns what a page says of a word: a table's row, a list's item, or the sentence that begins with the mark."""
     text = text_of(page)
     row = re.search(rf"^\| ` *{re.escape(mark)}` \| (.*?) \|", text, re.M)
-    item = re.search(rf"^- \*+{re.escape(mark)}\*+(?: \([^)]*\))?: (.*?)(?=^- |^$|\Z)", text, re.M | re.S)
-    sentence = re.search(rf"(?:^|(?<=\. )|(?<=\.\n)|(?<=\*\*)){re.escape(mark)}.*?\.(?=\s)", text, re.M | re.S)
+    item = re.search(
+        rf"^- \*+{re.escape(mark)}\*+(?: \([^)]*\))?: (.*?)(?=^- |^$|\Z)", text, re.M | re.S
+    )
+    sentence = re.search(
+        rf"(?:^|(?<=\. )|(?<=\.\n)|(?<=\*\*)){re.escape(mark)}.*?\.(?=\s)", text, re.M | re.S
+    )
     found = row or item or sentence
     if not found:
         raise Unexplained(f"{page} doesn't explain {mark}")
@@ -111,4 +148,6 @@ def explained(page, mark):
 
 
 def words():
-    return {word: said if isinstance(said, str) else explained(*said) for word, said in WORDS.items()}
+    return {
+        word: said if isinstance(said, str) else explained(*said) for word, said in WORDS.items()
+    }

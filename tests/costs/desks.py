@@ -11,7 +11,9 @@ def desk(room):
 
     def counted(test):
         how = {"stdout": subprocess.DEVNULL, "stderr": subprocess.PIPE, "text": True, "check": True}
-        return collected(subprocess.run([*CALLGRIND, program, f"desks::measured::{test}"], **how).stderr)
+        return collected(
+            subprocess.run([*CALLGRIND, program, f"desks::measured::{test}"], **how).stderr
+        )
 
     def clocked(test):
         begun = time.monotonic()
@@ -19,10 +21,17 @@ def desk(room):
         return time.monotonic() - begun
 
     book, at_desk = counted("on_a_book"), counted("at_a_desk")
-    print(f"instructions of 20,000 edits: {book} on a book, {at_desk} at a desk, {at_desk / book:.3f} times as many")
-    pairs = [(clocked("twice_as_many_by_one_thread"), clocked("as_many_by_each_of_two_threads")) for _ in range(5)]
+    print(
+        f"instructions of 20,000 edits: {book} on a book, {at_desk} at a desk, {at_desk / book:.3f} times as many"
+    )
+    pairs = [
+        (clocked("twice_as_many_by_one_thread"), clocked("as_many_by_each_of_two_threads"))
+        for _ in range(5)
+    ]
     one, two = (sorted(it)[2] for it in zip(*pairs))
-    print(f"milliseconds of 40,000 edits: {one * 1000:.1f} by one thread, {two * 1000:.1f} by two, {two / one:.2f} times as long")
+    print(
+        f"milliseconds of 40,000 edits: {one * 1000:.1f} by one thread, {two * 1000:.1f} by two, {two / one:.2f} times as long"
+    )
 
 
 def fills(room):
@@ -43,7 +52,9 @@ def fills_apart(room):
         return instructions([path, "--cells", "200000", "--workers", str(workers)], text, room)
 
     none, four = (spent(workers, script) - spent(workers, apart) for workers in (0, 4))
-    print(f"instructions of filling eight branches of {count} steps of {line}: {none} with no worker, {four} with 4: {four / none:.2f}")
+    print(
+        f"instructions of filling eight branches of {count} steps of {line}: {none} with no worker, {four} with 4: {four / none:.2f}"
+    )
     totals = [spent(0, script)]
     for name in ["main", *others, "main", *others]:
         script += f"0 state {name} {count}\n"
@@ -56,12 +67,23 @@ def fills_apart(room):
 def fills_shared(room):
     """Branches that share all cells: the first fill, of 64 rounds, and all fills that it takes."""
     print("instructions of fills of branches that share all steps of safe 0")
-    for branches, count in ((1_000, 25_000), (1_000, 50_000), (250, 100_000), (500, 100_000), (1_000, 100_000)):
+    for branches, count in (
+        (1_000, 25_000),
+        (1_000, 50_000),
+        (250, 100_000),
+        (500, 100_000),
+        (1_000, 100_000),
+    ):
         path = tower("safe 0", SHORT_WRITES, count, room)
         words = [path, "--cells", "200000", "--branches", "1024"]
         forks = "".join(f"0 fork main {count} b{k}\n" for k in range(branches - 1))
         opened = instructions(words, forks, room)
         segments = count // 128 + 1
         needed = segments // 64 + 1
-        first, all_of_them = (instructions(words, forks + "0 fill main\n" * fills, room) - opened for fills in (1, needed))
-        print(f"  {branches} branches of {count}: {first} the first fill, {all_of_them} all {needed}")
+        first, all_of_them = (
+            instructions(words, forks + "0 fill main\n" * fills, room) - opened
+            for fills in (1, needed)
+        )
+        print(
+            f"  {branches} branches of {count}: {first} the first fill, {all_of_them} all {needed}"
+        )

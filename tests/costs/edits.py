@@ -8,7 +8,12 @@ LENGTHS = (50_000, 100_000, 200_000)
 
 
 def inserts(room):
-    places = {"start": lambda i: 0, "middle": lambda i: i // 2, "end": lambda i: i, "spread": lambda i: i * 7919 % (i + 1)}
+    places = {
+        "start": lambda i: 0,
+        "middle": lambda i: i // 2,
+        "end": lambda i: i,
+        "spread": lambda i: i * 7919 % (i + 1),
+    }
     print("instructions of an insert, of 25,000, 50,000 and 100,000")
     for name, place in places.items():
         figures = []
@@ -24,7 +29,10 @@ def each_in(room):
     """Returns what gives the instructions of each of `count` lines of a script, after others."""
 
     def each(path, before, script, count):
-        return (instructions([path, *WORDS], before + script, room) - instructions([path, *WORDS], before, room)) / count
+        return (
+            instructions([path, *WORDS], before + script, room)
+            - instructions([path, *WORDS], before, room)
+        ) / count
 
     return each
 
@@ -44,8 +52,17 @@ def shared(room):
 
 def shared_by_length(paths, each):
     print("instructions, of a branch of 50,000, 100,000 and 200,000 steps")
-    row("a fork at its end", [each(path, "", "".join(f"0 fork main {n} a{i}\n" for i in range(100)), 100) for n, path in paths])
-    row("a replacement at its end", [each(path, "", f"0 replace main {n - 1} g 0 1\n" * 100, 100) for n, path in paths])
+    row(
+        "a fork at its end",
+        [
+            each(path, "", "".join(f"0 fork main {n} a{i}\n" for i in range(100)), 100)
+            for n, path in paths
+        ],
+    )
+    row(
+        "a replacement at its end",
+        [each(path, "", f"0 replace main {n - 1} g 0 1\n" * 100, 100) for n, path in paths],
+    )
 
     def inserts_from(at):
         return "".join(f"0 insert main {at + i} r 1\n" for i in range(100))
@@ -54,21 +71,39 @@ def shared_by_length(paths, each):
     row("an insert in its middle", [each(path, "", inserts_from(n // 2), 100) for n, path in paths])
     settled = [(n, path, f"0 state main {n}\n") for n, path in paths]
     row("the same page again", [each(path, page, page * 10, 10) for _, path, page in settled])
-    replaced = [each(path, page, f"0 replace main {n // 2} g 0 1\n{page}" * 10, 10) for n, path, page in settled]
+    replaced = [
+        each(path, page, f"0 replace main {n // 2} g 0 1\n{page}" * 10, 10)
+        for n, path, page in settled
+    ]
     row("a replacement in its middle, and the page", replaced)
 
 
 def shared_by_forks(n, path, each):
     forks = (250, 500, 1000)
     print(f"instructions, of 250, 500 and 1,000 forks of a branch of {n} steps")
-    row("a fork at a place of its own", [each(path, "", "".join(f"0 fork main {i * 97 + 1} a{i}\n" for i in range(k)), k) for k in forks])
+    row(
+        "a fork at a place of its own",
+        [
+            each(path, "", "".join(f"0 fork main {i * 97 + 1} a{i}\n" for i in range(k)), k)
+            for k in forks
+        ],
+    )
     many = {k: "".join(f"0 fork main {n} a{i}\n" for i in range(k)) for k in forks}
     spread = "".join(f"0 insert main {i * 7919 % n} r 1\n" for i in range(50))
     row("an insert at some place that all share", [each(path, many[k], spread, 50) for k in forks])
-    row("an insert at 0 that all share", [each(path, many[k], "0 insert main 0 r 1\n" * 50, 50) for k in forks])
-    row("a removal at 0 that all share", [each(path, many[k], "0 remove main 0\n" * 50, 50) for k in forks])
+    row(
+        "an insert at 0 that all share",
+        [each(path, many[k], "0 insert main 0 r 1\n" * 50, 50) for k in forks],
+    )
+    row(
+        "a removal at 0 that all share",
+        [each(path, many[k], "0 remove main 0\n" * 50, 50) for k in forks],
+    )
     looked = {k: "".join(f"0 state a{i} {n}\n" for i in range(k)) for k in forks}
-    row("a look at the end of each", [each(path, f"0 state main {n}\n" + many[k], looked[k], k) for k in forks])
+    row(
+        "a look at the end of each",
+        [each(path, f"0 state main {n}\n" + many[k], looked[k], k) for k in forks],
+    )
 
 
 def bytes_of_a_fork(paths, room):

@@ -6,6 +6,7 @@ def bench_file(shared, own, others, room):
     """A bench file of a branch, and of others that have its first steps each and as many own ones."""
     path = f"{room}/bench"
     with open(path, "w") as file:
+
         def step_lines(count):
             file.writelines(f"{SHORT_WRITES[i % len(SHORT_WRITES)]}\n" for i in range(count))
 
@@ -27,12 +28,16 @@ def bench(room):
         for shared, own, others in sizes:
             path, count = bench_file(shared, own, others, room), shared + own * others
             words = [path, "--cells", str(count + 9), "--branches", "1024"]
-            first, last = instructions(words, script, room), instructions([*words, "--save", f"{room}/kept"], script, room)
+            first, last = instructions(words, script, room), instructions(
+                [*words, "--save", f"{room}/kept"], script, room
+            )
             opened.append(first / count)
             saved.append((last - first) / count)
         return opened, saved
 
-    print("instructions a step, of 50,000, 100,000 and 200,000 steps, half of them shared by 1,000 branches")
+    print(
+        "instructions a step, of 50,000, 100,000 and 200,000 steps, half of them shared by 1,000 branches"
+    )
     opened, saved = costs([(n // 2, n // 2000, 1000) for n in (50_000, 100_000, 200_000)], "")
     row("opened", opened)
     row("saved", saved)
@@ -43,7 +48,13 @@ def bench(room):
     row("saved", saved)
     held, most = [], []
     for count, own, others in sizes:
-        words = [bench_file(count, own, others, room), "--cells", str(count + 9), "--save", f"{room}/kept"]
+        words = [
+            bench_file(count, own, others, room),
+            "--cells",
+            str(count + 9),
+            "--save",
+            f"{room}/kept",
+        ]
         reads = heap_at_reads(words, PAD, room)
         held.append(reads[0][0] / count)
         most.append(max(it[1] for it in reads) / count)
@@ -60,5 +71,7 @@ def heap(room):
     opened, most = reads[0]
     print(f"bytes of the heap a step, over a file of {count} steps")
     print(f"  opened: {opened / count:.1f}, and at most {most / count:.1f} on the way there")
-    print(f"  after a page at the end: {(reads[1][0] - opened) / count:.1f} more; "
-          f"after a fork: {reads[2][0] - reads[1][0]} bytes more in all")
+    print(
+        f"  after a page at the end: {(reads[1][0] - opened) / count:.1f} more; "
+        f"after a fork: {reads[2][0] - reads[1][0]} bytes more in all"
+    )

@@ -64,7 +64,12 @@ def pieces_cost(words, pieces, room):
     """Returns what each of these pieces of a script costs, less an empty one; each is sent after the answers to the one before."""
     out, taken = f"{room}/callgrind", []
     tool = ["valgrind", "--tool=callgrind", f"--callgrind-out-file={out}", "--dump-before=write"]
-    how = {"stdin": subprocess.PIPE, "stdout": subprocess.PIPE, "stderr": subprocess.DEVNULL, "text": True}
+    how = {
+        "stdin": subprocess.PIPE,
+        "stdout": subprocess.PIPE,
+        "stderr": subprocess.DEVNULL,
+        "text": True,
+    }
     with subprocess.Popen([*tool, runs.PROGRAM, *words], **how) as program:
         # (the first one comes after the opening)
         for piece in ["", "", *pieces]:
@@ -101,8 +106,16 @@ class Kind:
 def of_one_branch(kind):
     for n in LENGTHS:
         look = f"0 state main {n}\n"
-        edits, others = ([f"0 replace main {place} g 0 {(i + k) % 2}\n" for i, place in enumerate(places(LOOKS, n))] for k in (0, 1))
-        first, alone, _, both = kind.costs(n, look, "".join(edits), look, "".join(it + look for it in others))
+        edits, others = (
+            [
+                f"0 replace main {place} g 0 {(i + k) % 2}\n"
+                for i, place in enumerate(places(LOOKS, n))
+            ]
+            for k in (0, 1)
+        )
+        first, alone, _, both = kind.costs(
+            n, look, "".join(edits), look, "".join(it + look for it in others)
+        )
         kind.add("a step of a first look", first / n)
         kind.add("a look after an edit", (both - alone) / LOOKS)
     for n in FILLED:
@@ -121,19 +134,30 @@ def of_shared_steps(kind):
         looked = "".join(f"{it}0 state main {long + i + 1}\n" for i, it in enumerate(others))
         begun = f"0 state main {SHARED}\n" + forked(SHARED, k)
         _, alone, _, both, fork = kind.costs(
-            SHARED, begun, "".join(edits), f"0 state main {long}\n", looked, f"0 state a{k // 2} {long + EDITS}\n")
+            SHARED,
+            begun,
+            "".join(edits),
+            f"0 state main {long}\n",
+            looked,
+            f"0 state a{k // 2} {long + EDITS}\n",
+        )
         kind.add("a shared insert anywhere", alone / EDITS)
         kind.add("a look at `main` after it", (both - alone) / EDITS)
         kind.add("a look at a fork after these", fork)
     for k in FEW_FORKS:
-        kind.add("a shared insert at 0", kind.costs(FRONT, forked(FRONT, k), "0 insert main 0 r 1\n" * EDITS)[1] / EDITS)
+        kind.add(
+            "a shared insert at 0",
+            kind.costs(FRONT, forked(FRONT, k), "0 insert main 0 r 1\n" * EDITS)[1] / EDITS,
+        )
 
 
 def bytes_of_a_fork(kind):
     for k in FORKS:
         # (a refused fork has a log entry, and nothing else; the plain program has no log)
         scripts = forked(SHARED, k), "0 fork main 0 main\n" * k
-        taken = [heap_at_reads([kind.path(SHARED), *WORDS], PAD + it + PAD, kind.room) for it in scripts]
+        taken = [
+            heap_at_reads([kind.path(SHARED), *WORDS], PAD + it + PAD, kind.room) for it in scripts
+        ]
         fork, refused = ((reads[-1][0] - reads[0][0]) / k for reads in taken)
         kind.add("bytes of the heap a fork", fork)
         kind.add("the same, without its log entry", fork - refused)
@@ -143,12 +167,21 @@ def kinds(room):
     """Prints a table for each kind of schedule, and how many of the figures are at most those of plain Rust."""
     ratios = []
     for name in KINDS:
-        print(f"on schedules of safe 0, {name}, at three sizes: what is taken, and its ratio to what plain Rust takes")
+        print(
+            f"on schedules of safe 0, {name}, at three sizes: what is taken, and its ratio to what plain Rust takes"
+        )
         kind = Kind(name, room)
         for part in (of_one_branch, of_shared_steps, bytes_of_a_fork):
             part(kind)
         for row, figures in kind.rows.items():
-            against = [taken / of_plain for taken, of_plain in zip(figures, PLAIN.get((name, row), ()))]
+            against = [
+                taken / of_plain for taken, of_plain in zip(figures, PLAIN.get((name, row), ()))
+            ]
             ratios += against
-            print(f"  {row:40}" + "".join(f"{it:11.1f}" for it in figures) + "".join(f"{it:8.2f}" for it in against), flush=True)
+            print(
+                f"  {row:40}"
+                + "".join(f"{it:11.1f}" for it in figures)
+                + "".join(f"{it:8.2f}" for it in against),
+                flush=True,
+            )
     print(f"  at most 1.0: {sum(it < 1.005 for it in ratios)} of {len(ratios)}")

@@ -7,8 +7,12 @@ def pages(room):
     path = tower("safe 0", SHORT_WRITES, count, room)
     words = [path, "--cells", "200000"]
     page = f"0 state main {count}\n"
-    lines = [("first page", page), ("replace and page", f"0 replace main {count // 2} g 0 1\n{page}"), ("page again", page),
-             ("insert and page", f"0 insert main {count // 2} g 0 1\n{page}")]
+    lines = [
+        ("first page", page),
+        ("replace and page", f"0 replace main {count // 2} g 0 1\n{page}"),
+        ("page again", page),
+        ("insert and page", f"0 insert main {count // 2} g 0 1\n{page}"),
+    ]
     before, script, first = instructions(words, "", room), "", None
     print(f"instructions of pages at the end of {count} steps of safe 0, opened by {before}")
     for name, more in lines:
@@ -20,14 +24,18 @@ def pages(room):
 
 
 def looks(room):
-    print("instructions a step of a page at the end of a settled branch of safe 0, of 10,000, 20,000 and 40,000 steps")
+    print(
+        "instructions a step of a page at the end of a settled branch of safe 0, of 10,000, 20,000 and 40,000 steps"
+    )
     for kind in ("state", "history", "verdict"):
         figures = []
         for count in (10_000, 20_000, 40_000):
             path = tower("safe 0", WRITE + READ, count, room)
             script = f"0 state main {count}\n"
             once = instructions([path], script, room)
-            figures.append((instructions([path], f"{script}0 {kind} main {count}\n", room) - once) / count)
+            figures.append(
+                (instructions([path], f"{script}0 {kind} main {count}\n", room) - once) / count
+            )
         print(f"  {kind:16}" + "".join(f"{it:9.1f}" for it in figures))
 
 
@@ -37,27 +45,39 @@ def lens(room):
     words, first = [path, "--cells", "200000"], f"0 state main {128 * len(runs)}\n"
 
     def cost_at(places):
-        return instructions(words, first + "".join(f"0 state main {place}\n" for place in places), room)
+        return instructions(
+            words, first + "".join(f"0 state main {place}\n" for place in places), room
+        )
 
     ends = cost_at([128 * k for k in runs for _ in deep])
     next_to = cost_at([128 * k + place for k in runs for place in deep])
     apart = cost_at([128 * k + place for place in deep for k in runs])
     looks = len(runs) * len(deep)
-    print(f"instructions of {looks} looks at deep places of {line}, more than a look at the end of a run: "
-          f"{(next_to - ends) / looks:.0f} each after its neighbour, {(apart - ends) / looks:.0f} without one, "
-          f"{(apart - ends) / (next_to - ends):.2f} times as many")
+    print(
+        f"instructions of {looks} looks at deep places of {line}, more than a look at the end of a run: "
+        f"{(next_to - ends) / looks:.0f} each after its neighbour, {(apart - ends) / looks:.0f} without one, "
+        f"{(apart - ends) / (next_to - ends):.2f} times as many"
+    )
 
 
 def sessions(room):
     counts = (10_000, 20_000, 40_000)
     begun = {count: f"0 state main {count}\n0 join\n" for count in counts}
-    print("instructions a step of a seek over a settled branch of safe 0, of 10,000, 20,000 and 40,000 steps")
+    print(
+        "instructions a step of a seek over a settled branch of safe 0, of 10,000, 20,000 and 40,000 steps"
+    )
     for kind in ("returns 9", "bit 9 1"):
         figures = []
         for count in counts:
             path = tower("safe 0", WRITE + READ, count, room)
             script = f"{begun[count]}0 break {kind}\n"
-            figures.append((instructions([path], f"{script}0 seek\n", room) - instructions([path], script, room)) / count)
+            figures.append(
+                (
+                    instructions([path], f"{script}0 seek\n", room)
+                    - instructions([path], script, room)
+                )
+                / count
+            )
         print(f"  {kind:16}" + "".join(f"{it:9.1f}" for it in figures))
     print("instructions of another command of a session there")
     for kind in ("join", "go main 5000", "break void", "cursor"):

@@ -30,8 +30,14 @@ def mixed_operations(count):
 
 
 def mixed(room):
-    print("instructions a step of safe 0 in mixed operations, at 10,000, 100,000 and 1,000,000 steps")
-    rows = {"a first page at the end": [], "a fill": [], "a replacement in the middle, and the page, in all": []}
+    print(
+        "instructions a step of safe 0 in mixed operations, at 10,000, 100,000 and 1,000,000 steps"
+    )
+    rows = {
+        "a first page at the end": [],
+        "a fill": [],
+        "a replacement in the middle, and the page, in all": [],
+    }
     for count in LENGTHS:
         path = tower("safe 0", mixed_operations(count), count, room)
         page, edit = f"0 state main {count}\n", f"0 replace main {count // 2} g 0 1\n"
@@ -40,7 +46,11 @@ def mixed(room):
             return instructions([path, "--cells", "2000000"], script, room)
 
         opened, looked = cost(""), cost(page)
-        figures = ((looked - opened) / count, (cost("0 fill main\n") - opened) / count, cost(page + edit + page) - looked)
+        figures = (
+            (looked - opened) / count,
+            (cost("0 fill main\n") - opened) / count,
+            cost(page + edit + page) - looked,
+        )
         for row, figure in zip(rows.values(), figures):
             row.append(figure)
     for name, figures in rows.items():
@@ -52,11 +62,19 @@ def alone(room):
     """The commands once all in one read, and once each in a read of its own, after the answer to the one before."""
     lines = ["0 join\n", *["0 go main 0\n"] * COMMANDS]
     together = instructions([], "".join(lines), room)
-    with subprocess.Popen([*CALLGRIND, PROGRAM], stdin=subprocess.PIPE, stdout=subprocess.PIPE, stderr=subprocess.PIPE, text=True) as program:
+    with subprocess.Popen(
+        [*CALLGRIND, PROGRAM],
+        stdin=subprocess.PIPE,
+        stdout=subprocess.PIPE,
+        stderr=subprocess.PIPE,
+        text=True,
+    ) as program:
         for line in lines:
             program.stdin.write(line)
             program.stdin.flush()
             program.stdout.readline()
         program.stdin.close()
         apart = collected(program.stderr.read())
-    print(f"instructions of a command that arrives alone, more than one among others: {(apart - together) / len(lines):.0f}")
+    print(
+        f"instructions of a command that arrives alone, more than one among others: {(apart - together) / len(lines):.0f}"
+    )

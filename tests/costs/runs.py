@@ -27,8 +27,15 @@ def ran(words, script, room, prefix=(), env=None):
     with open(path, "w") as file:
         file.write(script)
     with open(path) as script_file:
-        done = subprocess.run([*prefix, PROGRAM, *words], stdin=script_file, stdout=subprocess.DEVNULL, stderr=subprocess.PIPE,
-                              text=True, env=env, check=False)
+        done = subprocess.run(
+            [*prefix, PROGRAM, *words],
+            stdin=script_file,
+            stdout=subprocess.DEVNULL,
+            stderr=subprocess.PIPE,
+            text=True,
+            env=env,
+            check=False,
+        )
     if done.returncode != 0:
         sys.exit(f"tests/cost: the program ended with {done.returncode}: {done.stderr}")
     return done.stderr
@@ -50,13 +57,19 @@ def heap_at_reads(words, script, room):
         source = f"{TOP}/tests/count_heap.c"
         subprocess.run(["cc", "-O2", "-shared", "-fPIC", "-o", library, source, "-ldl"], check=True)
     text = ran(words, script, room, env={**os.environ, "LD_PRELOAD": library})
-    return [tuple(int(it) for it in line.split()[1:]) for line in text.splitlines() if line.startswith("heap ")]
+    return [
+        tuple(int(it) for it in line.split()[1:])
+        for line in text.splitlines()
+        if line.startswith("heap ")
+    ]
 
 
 def tower(line, cycle, count, room):
     path = f"{room}/tower"
     with open(path, "w") as file:
-        file.write(f"tower 1\n{line}\n" + "".join(f"{cycle[i % len(cycle)]}\n" for i in range(count)))
+        file.write(
+            f"tower 1\n{line}\n" + "".join(f"{cycle[i % len(cycle)]}\n" for i in range(count))
+        )
     return path
 
 

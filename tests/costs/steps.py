@@ -15,24 +15,33 @@ OPERATIONS = {
 
 
 def steps(room):
-    print("instructions a step: replayed and stored, of a first page at 3,000, 6,000 and 12,000 steps; and replayed alone")
+    print(
+        "instructions a step: replayed and stored, of a first page at 3,000, 6,000 and 12,000 steps; and replayed alone"
+    )
     for line, cycle in TOWERS.items():
         figures = []
         for count in (3000, 6000, 12000):
             path = tower(line, cycle, count, room)
             page = f"0 state main {count}\n"
-            figures.append((instructions([path], page, room) - instructions([path], "", room)) / count)
+            figures.append(
+                (instructions([path], page, room) - instructions([path], "", room)) / count
+            )
         path = tower(line, varied(cycle, count), count, room)
         # (each look is at another run than the 32 before it, of which the lens may keep places)
-        rounds = ("".join(f"0 state main {128 * k + place}\n" for k in range(80)) * 3 for place in (11, 111))
+        rounds = (
+            "".join(f"0 state main {128 * k + place}\n" for k in range(80)) * 3
+            for place in (11, 111)
+        )
         near, far = (instructions([path], page + looks, room) for looks in rounds)
         figures.append((far - near) / (3 * 80 * 100))
         print(f"  {line:16}" + "".join(f"{it:9.1f}" for it in figures))
 
 
 def operations(room):
-    print("instructions a step of whole operations, one pair in five overlapping: replayed alone, within the first run, one in the middle, "
-          "and the last")
+    print(
+        "instructions a step of whole operations, one pair in five overlapping: replayed alone, within the first run, one in the middle, "
+        "and the last"
+    )
     for line in TOWERS:
         path = whole_operations(line, room)
         count = sum(1 for _ in open(path)) - 2
@@ -42,7 +51,10 @@ def operations(room):
             # (between two looks the lens is filled with places of another run, none after its neighbour)
             fill = "".join(f"0 state main {other + place}\n" for place in range(2, 68, 2))
             # (pages differ in length, less so in sum)
-            rounds = ("".join(f"0 state main {first + place + ahead}\n{fill}" for place in range(1, 28)) for ahead in (0, 100))
+            rounds = (
+                "".join(f"0 state main {first + place + ahead}\n{fill}" for place in range(1, 28))
+                for ahead in (0, 100)
+            )
             near, far = (instructions([path], page + looks, room) for looks in rounds)
             figures.append((far - near) / (27 * 100))
         print(f"  {line:16}" + "".join(f"{it:9.1f}" for it in figures) + f"   of {count} steps")
@@ -62,7 +74,9 @@ def whole_operations(line, room):
     with open(f"{room}/script", "w") as file:
         file.write(f"0 history main {len(given)}\n")
     with open(f"{room}/script") as script_file:
-        page = subprocess.run([PROGRAM, path], stdin=script_file, capture_output=True, text=True, check=True).stdout
+        page = subprocess.run(
+            [PROGRAM, path], stdin=script_file, capture_output=True, text=True, check=True
+        ).stdout
     void = {int(it.split()[0]) for it in page.splitlines() if " void " in it}
     kept = [step for i, step in enumerate(given) if i not in void]
     return tower(line, kept, len(kept), room)

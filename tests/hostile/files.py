@@ -23,16 +23,39 @@ def spelled(header, tower, *steps):
 
 READ = ["r 1"] + ["g 1 0"] * 8
 ROWS = {
-    "stamped-best": spelled("tower 1", "stamped 2 1", "w 0 1", *["g 0 0"] * 3, *READ,
-                            "r 1", "g 1 0", "g 1 1"),
-    "matrix-spent": spelled("tower 1", "matrix 2 2 1 3", "w 0 1", *["g 0 0"] * 12,
-                            "w 1 0", *["g 1 0"] * 30),
-    "stopped-writer": spelled("tower 2", "safe 0", "w 0 1", "g 0 0", "x 0", "g 0 0",
-                              "r 1", "g 1 0", "g 1 1"),
-    "bench-file": spelled("bench 1", "safe 0", "branch main 0 0", "r 1", "w 0 1", "branch a 0 1", "g 1 0",
-                          "branch b 1 2", "g 1 1"),
-    "bench-of-four": spelled("bench 1", "unary 3 2 0", "branch c 0 0", "w 0 1", "branch a 0 0", "branch main 0 1",
-                             *["g 0 0"] * 11, "x 0", "branch b 2 12", "r 2", "g 2 1"),
+    "stamped-best": spelled(
+        "tower 1", "stamped 2 1", "w 0 1", *["g 0 0"] * 3, *READ, "r 1", "g 1 0", "g 1 1"
+    ),
+    "matrix-spent": spelled(
+        "tower 1", "matrix 2 2 1 3", "w 0 1", *["g 0 0"] * 12, "w 1 0", *["g 1 0"] * 30
+    ),
+    "stopped-writer": spelled(
+        "tower 2", "safe 0", "w 0 1", "g 0 0", "x 0", "g 0 0", "r 1", "g 1 0", "g 1 1"
+    ),
+    "bench-file": spelled(
+        "bench 1",
+        "safe 0",
+        "branch main 0 0",
+        "r 1",
+        "w 0 1",
+        "branch a 0 1",
+        "g 1 0",
+        "branch b 1 2",
+        "g 1 1",
+    ),
+    "bench-of-four": spelled(
+        "bench 1",
+        "unary 3 2 0",
+        "branch c 0 0",
+        "w 0 1",
+        "branch a 0 0",
+        "branch main 0 1",
+        *["g 0 0"] * 11,
+        "x 0",
+        "branch b 2 12",
+        "r 2",
+        "g 2 1",
+    ),
 }
 
 
@@ -114,8 +137,25 @@ def sized():
             tower = " ".join([kind, *map(str, numbers)])
             yield tower, spelled("tower 1", tower)
         for version in ("tower 1", "tower 2"):
-            for step in ("w 0 1", "w 0 2", "w 1 0", "r 0", "r 1", "r 2", "g 1 1", "g 2 0", "g 0 2",
-                         "x 1", "x 2", "r 01", "g  0 0", "w 0", "r 1 0", "y 1", ""):
+            for step in (
+                "w 0 1",
+                "w 0 2",
+                "w 1 0",
+                "r 0",
+                "r 1",
+                "r 2",
+                "g 1 1",
+                "g 2 0",
+                "g 0 2",
+                "x 1",
+                "x 2",
+                "r 01",
+                "g  0 0",
+                "w 0",
+                "r 1 0",
+                "y 1",
+                "",
+            ):
                 tower = " ".join([kind, *(str(edge[1]) for edge in edges)])
                 yield f"{version}, {tower}, {step}", spelled(version, tower, step)
 
@@ -128,8 +168,12 @@ def over(path, data):
 def broken(counts, room):
     """A row's file cut after each of its bytes, and with each replaced."""
     for row, data in ROWS.items():
-        for kind, changes in (("cut", cuts), ("with a byte replaced", replacements),
-                              ("in each version", versions), ("changed by chance", mixed)):
+        for kind, changes in (
+            ("cut", cuts),
+            ("with a byte replaced", replacements),
+            ("in each version", versions),
+            ("changed by chance", mixed),
+        ):
             hold(counts, f"files: {row}, {kind}", changes(data), room)
     hold(counts, "files: towers at their limits", sized(), room)
 
@@ -208,6 +252,7 @@ def endless():
 
 def fed(path, pieces):
     """Writes pieces to a named pipe, by a thread, until nobody reads it."""
+
     def feed():
         try:
             with open(path, "wb", buffering=0) as pipe:
@@ -215,6 +260,7 @@ def fed(path, pieces):
                     pipe.write(piece)
         except BrokenPipeError:
             pass
+
     feeder = threading.Thread(target=feed, daemon=True)
     feeder.start()
     return feeder
@@ -227,8 +273,12 @@ def pipes(counts, room):
     for row, data in ROWS.items():
         bytewise = [data[i : i + 1] for i in range(len(data))]
         half = data[: len(data) // 2]
-        for name, pieces in (("whole", [data]), ("no bytes", []), ("half", [half]),
-                             ("a byte a write", bytewise)):
+        for name, pieces in (
+            ("whole", [data]),
+            ("no bytes", []),
+            ("half", [half]),
+            ("a byte a write", bytewise),
+        ):
             feeder = fed(pipe, pieces)
             whole = b"".join(pieces)
             counts.same(f"{row}, {name}", over(pipe, whole), wanted(whole))
@@ -282,11 +332,16 @@ def no_files(counts, room):
         file.write(ROWS["stamped-best"])
     with socket.socket(socket.AF_UNIX) as listener:
         listener.bind(f"{room}/socket")
-        for name, path in (("a folder", room), ("a name that isn't there", f"{room}/absent"),
-                           ("an empty name", ""), ("a ring of links", f"{room}/ring"),
-                           ("below a file", f"{room}/plain/x"), ("a socket", f"{room}/socket"),
-                           ("a name of 5,000 bytes", "a" * 5000),
-                           ("a file whose first read fails", "/proc/self/mem")):
+        for name, path in (
+            ("a folder", room),
+            ("a name that isn't there", f"{room}/absent"),
+            ("an empty name", ""),
+            ("a ring of links", f"{room}/ring"),
+            ("below a file", f"{room}/plain/x"),
+            ("a socket", f"{room}/socket"),
+            ("a name of 5,000 bytes", "a" * 5000),
+            ("a file whose first read fails", "/proc/self/mem"),
+        ):
             counts.same(name, ended([path], b"0 branches\n"), fault("file unreadable"))
     counts.same("/dev/null", ended(["/dev/null"]), wanted(b""))
     got = ended([b"\xff\xfe"], b"0 branches\n")
@@ -302,8 +357,10 @@ def limits(counts, room):
     path = f"{room}/steps"
     with open(path, "wb") as file:
         file.write(ROWS["stamped-best"])
-    for cells, want in (("16", wanted(ROWS["stamped-best"])),
-                        ("15", fault("open refused 24 Full"))):
+    for cells, want in (
+        ("16", wanted(ROWS["stamped-best"])),
+        ("15", fault("open refused 24 Full")),
+    ):
         counts.same(f"--cells {cells}", ended([path, "--cells", cells], tower_reader.SCRIPT), want)
     counts.end()
 

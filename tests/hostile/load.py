@@ -62,9 +62,14 @@ def refused(answer, *lines):
 
 # Commands that are logged, and what each is answered, over and over: refused ones too.
 LOGGED = (
-    ("0 join", "0: joined"), ("0 break void", "0: break set"), ("0 seek", "0: no hit"),
-    ("0 clear void", "0: break cleared"), ("0 back", "0: no hit"), ("0 go main 0", "0: at main 0"),
-    ("5 leave", "5: refused 33 NoSession"), ("0 drop main", "0: refused 25 LastBranch"),
+    ("0 join", "0: joined"),
+    ("0 break void", "0: break set"),
+    ("0 seek", "0: no hit"),
+    ("0 clear void", "0: break cleared"),
+    ("0 back", "0: no hit"),
+    ("0 go main 0", "0: at main 0"),
+    ("5 leave", "5: refused 33 NoSession"),
+    ("0 drop main", "0: refused 25 LastBranch"),
 )
 
 
@@ -74,12 +79,23 @@ def full_log(counts, room):
     times = MOST_LOGGED // len(LOGGED)
     name = f"{MOST_LOGGED} logged commands"
     logged = Stage(name, script * times, answers * times, "command", MOST_LOGGED)
-    more = ["0 join", "16 join", "0 @9 drop main", "0 insert main 0 r 1", "0 fork main 0 a",
-            "0 insert zed 0 w 1 7", "0 leave", "3 seek"]
+    more = [
+        "0 join",
+        "16 join",
+        "0 @9 drop main",
+        "0 insert main 0 r 1",
+        "0 fork main 0 a",
+        "0 insert zed 0 w 1 7",
+        "0 leave",
+        "3 seek",
+    ]
     last = stage(
-        "one more, and pages", *[(it, f"{it.split()[0]}: refused 35 LogFull") for it in more],
-        ("0 cursor", "0: cursor main 0 breaks 0"), ("0 fill main", "0: filled"),
-        branches(0, 0, ("main", 0)))
+        "one more, and pages",
+        *[(it, f"{it.split()[0]}: refused 35 LogFull") for it in more],
+        ("0 cursor", "0: cursor main 0 breaks 0"),
+        ("0 fill main", "0: filled"),
+        branches(0, 0, ("main", 0)),
+    )
     drive(counts, "the log", [], [opened(), logged, last])
 
 
@@ -99,7 +115,8 @@ def cells_by_inserts(counts, room):
         *refused(FULL, "0 insert main 0 r 1"),
         *edits("0 fork main 0 a", "0 detach a", first=count + 3),
         *refused(FULL, "0 insert a 0 r 1"),
-        branches(count + 4, MOST_CELLS, ("main", MOST_CELLS - 1), ("a", 0)))
+        branches(count + 4, MOST_CELLS, ("main", MOST_CELLS - 1), ("a", 0)),
+    )
     words = [file_of(room, steps), *CELLS]
     drive(counts, "cells by inserts", words, [opened(steps, of="cell"), inserted, last])
 
@@ -111,14 +128,21 @@ def cells_by_detach(counts, room):
     made = edits(f"0 fork main {half} a", "0 detach a")
     detached = stage("a fork of them, detached", *made, of="cell", count=half)
     last = stage(
-        "one more", *refused(FULL, "0 insert a 0 r 1", "0 detach main"),
-        branches(2, MOST_CELLS, ("main", half), ("a", half)), *edits("0 drop main", first=3),
-        *refused(FULL, "0 detach a"), branches(3, MOST_CELLS, ("a", half)))
+        "one more",
+        *refused(FULL, "0 insert a 0 r 1", "0 detach main"),
+        branches(2, MOST_CELLS, ("main", half), ("a", half)),
+        *edits("0 drop main", first=3),
+        *refused(FULL, "0 detach a"),
+        branches(3, MOST_CELLS, ("a", half)),
+    )
     drive(counts, "cells by detach", words, [opened(half), detached, last])
     too_many = stage(
         "a detach that would make one cell too many",
-        *edits("0 fork main 0 b", "0 insert b 0 w 0 1"), *refused(FULL, "0 detach main"),
-        *edits("0 detach b", first=3), branches(3, half + 2, ("main", half), ("b", 1)))
+        *edits("0 fork main 0 b", "0 insert b 0 w 0 1"),
+        *refused(FULL, "0 detach main"),
+        *edits("0 detach b", first=3),
+        branches(3, half + 2, ("main", half), ("b", 1)),
+    )
     drive(counts, "cells by detach", words, [opened(half), too_many])
 
 
@@ -139,13 +163,15 @@ def many_branches(counts, room):
         # (at the end of a branch an insert acts in it alone)
         grown = [(it, steps + (steps > 0 or it == "main")) for it in [*names, "c"] if it != "b7"]
         last = stage(
-            "one more", (f"0 fork main {steps} c", too_many),
+            "one more",
+            (f"0 fork main {steps} c", too_many),
             (f"0 fork b7 {steps} b7", "0: refused 21 NameTaken"),
             branches(before, steps, *[(it, steps) for it in names]),
             *edits("0 drop b7", f"0 fork b9 {steps} c", first=before + 1),
             (f"0 fork b9 {steps} d", too_many),
             *edits("0 insert main 0 r 1", first=before + 3),
-            branches(before + 3, steps + 1, *grown))
+            branches(before + 3, steps + 1, *grown),
+        )
         words = [file_of(room, steps), *CELLS, "--branches", str(MOST_BRANCHES)]
         row = f"branches that share {steps} steps"
         drive(counts, row, words, [opened(steps), forked, last])
@@ -171,8 +197,10 @@ def branches_apart(counts, room):
     name = f"each of them detached, of {steps} cells"
     detached = stage(name, *made, of="branch", count=before)
     last = stage(
-        "one more", *refused(FULL, "0 insert b0 3 r 1"),
-        branches(2 * before, MOST_CELLS, *[(it, steps) for it in names]))
+        "one more",
+        *refused(FULL, "0 insert b0 3 r 1"),
+        branches(2 * before, MOST_CELLS, *[(it, steps) for it in names]),
+    )
     fill = ("0 fill main", "0: filled")
     filled = stage("a fill by 4 workers", fill, of="branch", count=MOST_BRANCHES)
     shown = [state(name, steps, "idle", "read next rs 0") for name in names]
@@ -197,24 +225,35 @@ def long_branch(counts, room):
     main, a = own + 1, own + 2
     edited = stage(
         "a fork, and edits at both ends",
-        *edits("0 insert main 0 w 0 1", f"0 fork main {own} a", f"0 insert a {own} g 1 0",
-               f"0 insert a {own + 1} g 1 0", f"0 insert main {own} g 0 0"),
+        *edits(
+            "0 insert main 0 w 0 1",
+            f"0 fork main {own} a",
+            f"0 insert a {own} g 1 0",
+            f"0 insert a {own + 1} g 1 0",
+            f"0 insert main {own} g 0 0",
+        ),
         *refused(FULL, f"0 insert main {main} r 1", "0 detach a"),
-        branches(5, MOST_CELLS, ("main", main), ("a", a)))
+        branches(5, MOST_CELLS, ("main", main), ("a", a)),
+    )
     page = state("a", a, "write 1 next ws 0", "idle")
     first = stage("a page at its end", page, of="cell", count=a)
     others = stage(
-        "other pages there, of both", state("main", main, "write 1 next we 0", "read next rs 0"),
+        "other pages there, of both",
+        state("main", main, "write 1 next we 0", "read next rs 0"),
         page_of("bits", "main", main, "  0 0 1 -", "  words -"),
         page_of("bits", "a", a, "  0 0 - -", "  words -"),
         page_of("pending", "a", a, "  p0 safe w 1 0", "  p1 idle"),
         (f"0 process a {a} 1", f"0: process a {a} of {a}\n  p1 idle"),
-        page_of("verdict", "a", a, f"  {a - 1} p1 0 fresh"))
+        page_of("verdict", "a", a, f"  {a - 1} p1 0 fresh"),
+    )
     again = stage(
-        "edits at both ends again", *edits("0 replace main 0 w 0 0", first=6),
-        state("a", a, "write 0 next ws 0", "idle"), *edits(f"0 remove a {a - 1}", first=7),
+        "edits at both ends again",
+        *edits("0 replace main 0 w 0 0", first=6),
+        state("a", a, "write 0 next ws 0", "idle"),
+        *edits(f"0 remove a {a - 1}", first=7),
         state("a", a - 1, "write 0 next ws 0", "read next re 0"),
-        branches(7, MOST_CELLS, ("main", main), ("a", a - 1)))
+        branches(7, MOST_CELLS, ("main", main), ("a", a - 1)),
+    )
     page = steps_page("a", a - 1, "w 0 0", "g 1 0")
     steps = Stage("its steps", b"0 steps a\n", page, "cell", a - 1)
     stages = [opened(FILE_STEPS, of="cell"), edited, first, others, again, steps]
@@ -224,9 +263,15 @@ def long_branch(counts, room):
 def breaks_on(own):
     """Returns breaks, and the place at which each is met: from the beginning forth, from the end back."""
     return (
-        ("returns 1", own + 2, None), ("void", 3, own), ("chosen", None, None),
-        ("refused", None, None), ("bit 0 1", None, None), ("bit 0 0", 1, own + 1),
-        ("returns 0", None, None), ("bit 7 0", None, None))
+        ("returns 1", own + 2, None),
+        ("void", 3, own),
+        ("chosen", None, None),
+        ("refused", None, None),
+        ("bit 0 1", None, None),
+        ("bit 0 0", 1, own + 1),
+        ("returns 0", None, None),
+        ("bit 7 0", None, None),
+    )
 
 
 def moved(session, place):
@@ -253,21 +298,32 @@ def sixteen_sessions(counts, room):
     own = FILE_STEPS + 1
     end = own + 2
     sessions = [(session, *breaks_on(own)[session % 8]) for session in range(16)]
-    ends = edits("0 insert main 0 w 0 1", f"0 insert main {own} g 1 0",
-                 f"0 insert main {own + 1} g 1 0")
+    ends = edits(
+        "0 insert main 0 w 0 1", f"0 insert main {own} g 1 0", f"0 insert main {own + 1} g 1 0"
+    )
     first, *others = [(f"{it} seek", moved(it, forth)) for it, _, forth, _ in sessions]
     back, at, again = [], [], []
     for session, sought, _, after in sessions:
-        back += [(f"{session} go main {end}", f"{session}: at main {end}"),
-                 (f"{session} back", moved(session, after))]
+        back += [
+            (f"{session} go main {end}", f"{session}: at main {end}"),
+            (f"{session} back", moved(session, after)),
+        ]
         at.append(cursor(session, 1 + (end if after is None else after), sought))
         again.append((f"{session} seek", moved(session, end + 1 if sought == "bit 0 0" else None)))
-    drive(counts, "sixteen sessions", [file_of(room, FILE_STEPS), *CELLS], [
-        opened(FILE_STEPS), stage("edits at its ends, and breaks", *ends, *begun(sessions)),
-        stage("a seek", first, of="cell", count=end), stage("a seek of each other", *others),
-        stage("each back from the end", *back),
-        stage("each after an insert", *edits("0 insert main 0 r 1", first=4), *at),
-        stage("a seek of each again", *again)])
+    drive(
+        counts,
+        "sixteen sessions",
+        [file_of(room, FILE_STEPS), *CELLS],
+        [
+            opened(FILE_STEPS),
+            stage("edits at its ends, and breaks", *ends, *begun(sessions)),
+            stage("a seek", first, of="cell", count=end),
+            stage("a seek of each other", *others),
+            stage("each back from the end", *back),
+            stage("each after an insert", *edits("0 insert main 0 r 1", first=4), *at),
+            stage("a seek of each again", *again),
+        ],
+    )
 
 
 def free_memory():
@@ -306,7 +362,14 @@ def print_table():
 
 
 def run(counts, room):
-    for row in (full_log, cells_by_inserts, cells_by_detach, many_branches, branches_apart,
-                long_branch, sixteen_sessions):
+    for row in (
+        full_log,
+        cells_by_inserts,
+        cells_by_detach,
+        many_branches,
+        branches_apart,
+        long_branch,
+        sixteen_sessions,
+    ):
         row(counts, room)
     print_table()

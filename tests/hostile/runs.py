@@ -58,8 +58,10 @@ def difference(got, want):
     for name, has, wants in zip(Ended._fields, got, want):
         if has != wants:
             are_bytes = isinstance(has, bytes)
-            found.append(f"{name}: {shown(has) if are_bytes else has}, "
-                         f"wanted {shown(wants) if are_bytes else wants}")
+            found.append(
+                f"{name}: {shown(has) if are_bytes else has}, "
+                f"wanted {shown(wants) if are_bytes else wants}"
+            )
     return "; ".join(found)
 
 

@@ -50,7 +50,9 @@ def same_file(counts, name, path, want, has_left=False):
     wrong = None if got == want else f"it has {'no file' if got is None else f'{len(got)} bytes'}"
     counts.count(name, wrong)
     is_left = os.path.exists(path + LEFT)
-    counts.count(f"{name}: a new file next to it", None if is_left == has_left else f"there: {is_left}")
+    counts.count(
+        f"{name}: a new file next to it", None if is_left == has_left else f"there: {is_left}"
+    )
 
 
 def killed_save(words, moment):
@@ -87,8 +89,13 @@ def kills(counts, room):
         got = at(path)
         olds += got == OLD
         lefts += os.path.exists(path + LEFT)
-        counts.count(f"kill {number}", None if got in (OLD, NEW) else "neither the old file nor the new one is there")
-    print(f"{counts.row}: the old file is there after {olds} of {KILLS}, a part of a new one next to it after {lefts}")
+        counts.count(
+            f"kill {number}",
+            None if got in (OLD, NEW) else "neither the old file nor the new one is there",
+        )
+    print(
+        f"{counts.row}: the old file is there after {olds} of {KILLS}, a part of a new one next to it after {lefts}"
+    )
     counts.count("some were killed while they wrote", None if lefts else "none was")
     killed_save(words, None)
     same_file(counts, "a save after them", path, NEW)
@@ -161,7 +168,11 @@ def links(counts, room):
     same_file(counts, "the long name", f"{room}/{'a' * 250}", LITTLE)
     with tempfile.TemporaryFile() as file:
         number = file.fileno()
-        counts.same("an open file without a name", ended(words_of(source, f"/dev/fd/{number}"), pass_fds=[number]), good(b""))
+        counts.same(
+            "an open file without a name",
+            ended(words_of(source, f"/dev/fd/{number}"), pass_fds=[number]),
+            good(b""),
+        )
         counts.count("its bytes", None if file.read() == LITTLE else "others")
     counts.end()
 
@@ -175,7 +186,9 @@ def pipe(counts, room):
     counts.same("it", ended(words_of(f"{room}/little", path)), good(b""))
     reader.join(SECONDS)
     counts.count("its reader's bytes", None if got == [LITTLE] else f"{got}")
-    counts.count("it is a pipe still", None if stat.S_ISFIFO(os.stat(path).st_mode) else "it is none")
+    counts.count(
+        "it is a pipe still", None if stat.S_ISFIFO(os.stat(path).st_mode) else "it is none"
+    )
     counts.end()
 
 
@@ -190,14 +203,22 @@ def folders(counts, room):
         how = {"preexec_fn": to_nobody}
         os.chown(written, NOBODY, NOBODY)
         if not is_run_by_nobody(program()):
-            counts.skip("saves without rights", "this runs as root, and nobody else can run the program")
+            counts.skip(
+                "saves without rights", "this runs as root, and nobody else can run the program"
+            )
             return
     os.chmod(f"{room}/little", 0o644)
     os.chmod(locked, 0o444)
     os.chmod(closed, 0o555)
-    counts.same("a folder that takes no new file", ended(words_of(f"{room}/little", written), **how), good(b""))
+    counts.same(
+        "a folder that takes no new file",
+        ended(words_of(f"{room}/little", written), **how),
+        good(b""),
+    )
     same_file(counts, "its file", written, LITTLE)
-    counts.same("a file that may not be written", ended(words_of(f"{room}/little", locked), **how), FAILED)
+    counts.same(
+        "a file that may not be written", ended(words_of(f"{room}/little", locked), **how), FAILED
+    )
     same_file(counts, "that file", locked, OLD)
     counts.end()
 

@@ -18,8 +18,10 @@ TALK = (
     (b"0 insert main 1 w 0 1\n", b"0: edit 2\n"),
     (b"1 cursor\n", b"1: cursor a 3 breaks 0\n"),
     (b"0 branches\n", b"0: branches 2 edits 2 made 4\n  main 4\n  a 4\n"),
-    (b"0 history a 4\n",
-     b"0: history a 4 of 4\n  0 p1 invoke read\n  1 p0 invoke write 1\n  3 p1 return 0\n"),
+    (
+        b"0 history a 4\n",
+        b"0: history a 4 of 4\n  0 p1 invoke read\n  1 p0 invoke write 1\n  3 p1 return 0\n",
+    ),
 )
 SCRIPT = b"".join(line for line, _ in TALK)
 ANSWERS = b"".join(answer for _, answer in TALK)
@@ -108,8 +110,11 @@ ENDINGS = (
 def lost_errors(counts, room):
     """Standard error that takes nothing: the status is kept."""
     counts.begin("streams: standard error")
-    paths = {"tower": text_at(f"{room}/tower", TOWER), "absent": f"{room}/absent",
-             "broken": text_at(f"{room}/broken", b"tower 3\n")}
+    paths = {
+        "tower": text_at(f"{room}/tower", TOWER),
+        "absent": f"{room}/absent",
+        "broken": text_at(f"{room}/broken", b"tower 3\n"),
+    }
     for name, words, script, status in ENDINGS:
         words = [paths.get(it, it) for it in words or ["tower"]]
         want = Ended(status, ANSWERS if status == 0 else b"", b"")
@@ -210,8 +215,11 @@ def long_scripts(counts, room):
     path = text_at(f"{room}/tower", TOWER)
     last, answer = TALK[-1]
     room_left = LIMIT - 1 - len(SCRIPT) - len(last)
-    for name, padding in (("empty lines", b"\n"), ("lines of #", b"#" * 4095 + b"\n"),
-                          ("one line of #", b"#" * room_left)):
+    for name, padding in (
+        ("empty lines", b"\n"),
+        ("lines of #", b"#" * 4095 + b"\n"),
+        ("one line of #", b"#" * room_left),
+    ):
         filled = (padding * (room_left // len(padding) + 1))[: room_left - 1] + b"\n"
         script = SCRIPT + filled + last
         counts.same(f"2^24 - 1 bytes, {name}", ended([path], script), good(ANSWERS + answer))
@@ -289,10 +297,12 @@ def gone_readers(counts, room):
 
 def to_small_file(path, answers, count):
     """Runs the script with answers to a file that takes at most `count` bytes."""
+
     def limit():
         # (else the file's limit is reported by a signal)
         signal.signal(signal.SIGXFSZ, signal.SIG_IGN)
         resource.setrlimit(resource.RLIMIT_FSIZE, (count, count))
+
     with open(answers, "w+b") as out:
         got = ended([path], SCRIPT, stdout=out, preexec_fn=limit)
         out.seek(0)
@@ -305,8 +315,17 @@ def long_answers(counts, room):
     steps = 20_000
     path = text_at(f"{room}/long", b"tower 1\nsafe 0\n" + b"r 1\n" * steps)
     page = f"0: steps main {steps}\n".encode() + b"".join(b"  %d r 1\n" % i for i in range(steps))
-    for count in (0, 1, 4095, 4096, 4097, PIPE_BYTES - 1, PIPE_BYTES, PIPE_BYTES + 1,
-                  len(page) - PIPE_BYTES - 4096):
+    for count in (
+        0,
+        1,
+        4095,
+        4096,
+        4097,
+        PIPE_BYTES - 1,
+        PIPE_BYTES,
+        PIPE_BYTES + 1,
+        len(page) - PIPE_BYTES - 4096,
+    ):
         process, taken = begun([path]), b""
         said(process, b"0 steps main\n")
         while len(taken) < count:

@@ -79,7 +79,9 @@ def checked(counts, name, tool, words, given, want, log, fault=b""):
         return
     with open(log, encoding="utf-8", errors="replace") as file:
         counts.count(f"{name}, {tool}: its errors", found(file.read()))
-    is_same = done.returncode == bool(fault) and (want is None or (done.stdout, done.stderr) == (want, fault))
+    is_same = done.returncode == bool(fault) and (
+        want is None or (done.stdout, done.stderr) == (want, fault)
+    )
     got = f"status {done.returncode}, {shown(done.stdout)}, {shown(done.stderr)}"
     counts.count(f"{name}, {tool}: its answers", None if is_same else got)
 

@@ -7,9 +7,14 @@ import collections
 import re
 
 NUMBERS = {
-    "NotAscii": 10, "BadHeader": 11, "UnknownTower": 12,
-    "BadField": 13, "BadStep": 14, "BadSize": 15,
-    "BadBranch": 16, "Tangled": 17,
+    "NotAscii": 10,
+    "BadHeader": 11,
+    "UnknownTower": 12,
+    "BadField": 13,
+    "BadStep": 14,
+    "BadSize": 15,
+    "BadBranch": 16,
+    "Tangled": 17,
 }
 BENCH = b"bench 1\n"
 HEADERS = {"tower 1\n": 1, "tower 2\n": 2}

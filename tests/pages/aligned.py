@@ -14,7 +14,10 @@ from trials import Test
 SEED, COUNT, STEPS, SHOWN = 7, 20, 40, 3
 FIRST = ("unary 2 1 0", "stamped 2 20", "regular 1 1", "unary 4 1 2")
 # lesson 5's unary schedule, whose second read is the older value
-INVERSION = ("unary 2 1 0", "w 0 1,g 0 0,g 0 0,g 0 0,r 1,g 1 0,g 1 0,g 1 0,g 1 0,r 1,g 1 0,g 1 1,g 0 0".split(","))
+INVERSION = (
+    "unary 2 1 0",
+    "w 0 1,g 0 0,g 0 0,g 0 0,r 1,g 1 0,g 1 0,g 1 0,g 1 0,r 1,g 1 0,g 1 1,g 0 0".split(","),
+)
 
 
 def schedule(chance, tower):
@@ -45,8 +48,11 @@ def operations(history):
 def order(found, at_once):
     """Returns in what order operations begin and end, but for the ends of those that end at once on the second tower."""
     events = [(begun, 0, f"{process} begins {name}") for process, name, begun, _ in found]
-    events += [(ended, 1, f"{process} ends") for index, (process, _, _, ended) in enumerate(found)
-               if ended is not None and index not in at_once]
+    events += [
+        (ended, 1, f"{process} ends")
+        for index, (process, _, _, ended) in enumerate(found)
+        if ended is not None and index not in at_once
+    ]
     return [words for *_, words in sorted(events)]
 
 
@@ -65,15 +71,24 @@ def fault_of_transfers():
         build.put_modules(room, "aligned.mjs")
         with open(f"{room}/schedules", "w", encoding="ascii") as file:
             file.writelines(f"{json.dumps(it)}\n" for it in schedules)
-        done = subprocess.run(["node", f"{room}/aligned.mjs", build.made_module(), f"{room}/schedules"], stdout=subprocess.PIPE,
-                              stderr=subprocess.PIPE, text=True, check=False)
+        done = subprocess.run(
+            ["node", f"{room}/aligned.mjs", build.made_module(), f"{room}/schedules"],
+            stdout=subprocess.PIPE,
+            stderr=subprocess.PIPE,
+            text=True,
+            check=False,
+        )
     if done.returncode:
         raise ValueError(f"node ended with status {done.returncode}: {done.stderr.strip()[-300:]}")
     made = [json.loads(it) for it in done.stdout.splitlines()]
     if len(made) < 2 * len(schedules):
         return f"only {len(made)} schedules were made of {len(schedules)}"
     faults = [it for it in (fault_of(*each[:4]) for each in made) if it]
-    stamped = next(second for tower, other, _, second, _ in made if (tower, other) == (INVERSION[0], "stamped 2 1"))
+    stamped = next(
+        second
+        for tower, other, _, second, _ in made
+        if (tower, other) == (INVERSION[0], "stamped 2 1")
+    )
     reads = [line.split()[-1] for line in stamped if " p1 return " in line]
     if reads != ["1", "1"]:
         faults.append(f"lesson 5 on a stamped register reads {reads}")
@@ -81,4 +96,8 @@ def fault_of_transfers():
 
 
 def tests():
-    return [Test("aligned operations on two towers", fault_of_transfers if shutil.which("node") else None)]
+    return [
+        Test(
+            "aligned operations on two towers", fault_of_transfers if shutil.which("node") else None
+        )
+    ]

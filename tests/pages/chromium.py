@@ -25,10 +25,22 @@ class Browser:
     def __init__(self, program):
         self.room = tempfile.mkdtemp(prefix="towerbench-")
         # (a test may open hundreds of documents in a few seconds, which Chromium otherwise drops)
-        words = ["--headless=new", "--no-sandbox", "--disable-gpu", "--disable-dev-shm-usage",
-                 "--disable-ipc-flooding-protection", "--remote-debugging-port=0", "--hide-scrollbars", f"--user-data-dir={self.room}/profile"]
-        self.process = subprocess.Popen([program, *words, "about:blank"], stdin=subprocess.DEVNULL,
-                                        stdout=subprocess.DEVNULL, stderr=subprocess.DEVNULL)
+        words = [
+            "--headless=new",
+            "--no-sandbox",
+            "--disable-gpu",
+            "--disable-dev-shm-usage",
+            "--disable-ipc-flooding-protection",
+            "--remote-debugging-port=0",
+            "--hide-scrollbars",
+            f"--user-data-dir={self.room}/profile",
+        ]
+        self.process = subprocess.Popen(
+            [program, *words, "about:blank"],
+            stdin=subprocess.DEVNULL,
+            stdout=subprocess.DEVNULL,
+            stderr=subprocess.DEVNULL,
+        )
         port, path = self.where()
         self.socket, self.number, self.session, self.events = Socket(port, path), 0, None, []
         self.complaints = []
@@ -36,13 +48,21 @@ class Browser:
         self.session = self.ask("Target.attachToTarget", targetId=target, flatten=True)["sessionId"]
         for domain in ("Page", "Runtime", "Log", "DOM", "Network"):
             self.ask(f"{domain}.enable")
-        self.ask("Network.emulateNetworkConditions", offline=True, latency=0, downloadThroughput=0, uploadThroughput=0)
+        self.ask(
+            "Network.emulateNetworkConditions",
+            offline=True,
+            latency=0,
+            downloadThroughput=0,
+            uploadThroughput=0,
+        )
 
     def where(self):
         """Returns the port and the path that Chromium listens at, once it has written them."""
         for _ in range(PATIENCE * 10):
             try:
-                with open(os.path.join(self.room, "profile", "DevToolsActivePort"), encoding="ascii") as file:
+                with open(
+                    os.path.join(self.room, "profile", "DevToolsActivePort"), encoding="ascii"
+                ) as file:
                     port, path = file.read().split("\n")[:2]
                 return int(port), path
             except (OSError, ValueError):
@@ -78,7 +98,9 @@ class Browser:
 
     def value(self, expression):
         """Returns what an expression, or its promise, yields in the page."""
-        answer = self.ask("Runtime.evaluate", expression=expression, returnByValue=True, awaitPromise=True)
+        answer = self.ask(
+            "Runtime.evaluate", expression=expression, returnByValue=True, awaitPromise=True
+        )
         if "exceptionDetails" in answer:
             raise ValueError(json.dumps(answer["exceptionDetails"])[:400])
         return answer["result"].get("value")
@@ -92,8 +114,13 @@ class Browser:
             self.ask("Input.dispatchMouseEvent", type=kind, x=x, y=y, button="left", clickCount=1)
 
     def size(self, width, height):
-        self.ask("Emulation.setDeviceMetricsOverride", width=width, height=height,
-                 deviceScaleFactor=1, mobile=False)
+        self.ask(
+            "Emulation.setDeviceMetricsOverride",
+            width=width,
+            height=height,
+            deviceScaleFactor=1,
+            mobile=False,
+        )
 
     def shot(self, path):
         with open(path, "wb") as file:

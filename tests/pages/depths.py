@@ -3,7 +3,11 @@ import cases
 from pages.live import holds, same
 
 INVERSION = "lessons/05-new-old-inversion/unary"
-STAMPED, UNARY, MATRIX = "lessons/05-new-old-inversion/stamped", "lessons/04-unary-number/unary", "lessons/08-matrix/matrix"
+STAMPED, UNARY, MATRIX = (
+    "lessons/05-new-old-inversion/stamped",
+    "lessons/04-unary-number/unary",
+    "lessons/08-matrix/matrix",
+)
 NESTS = "[...document.querySelectorAll('.nest')].filter((it) => it.dataset.process === '%d').map((it) => it.dataset.nest)"
 # how many pages a gesture may ask for, on a schedule that is open already: those of the columns in sight, of what the
 # cursor's place shows, and of a read that is explained; a matrix's elastic axis takes a page of each place too
@@ -23,7 +27,9 @@ def nests(page, process):
 
 
 def click_in(page, selector):
-    page.value(f"document.querySelector({selector!r}).dispatchEvent(new MouseEvent('click', {{ bubbles: true }}))")
+    page.value(
+        f"document.querySelector({selector!r}).dispatchEvent(new MouseEvent('click', {{ bubbles: true }}))"
+    )
     page.wait()
 
 
@@ -53,30 +59,57 @@ def reasons(page):
     """A click on a read says why it gave its value, and lights what it names; another opens the layer below."""
     opened(page, STAMPED)
     click_in(page, '.operation.read[data-at="13"]')
-    holds(page.said().endswith("Its scan read bit 0, hit, chosen 1: so it found code 0 = stamp 0, value 0. But p1 remembered code 3 = "
-                               "stamp 1, value 1, which is greater, and gives that one's value, 1."), page.said())
-    same(page.texts(".nest.lit title"), ["scan up to bit 0: code 0 (stamp 0, value 0)", "bit 0 hit, chosen 1"])
-    same(page.value("[...document.querySelectorAll('[data-row].lit')].map((it) => it.dataset.row)"), ["register", "p1 remembers"])
+    holds(
+        page.said().endswith(
+            "Its scan read bit 0, hit, chosen 1: so it found code 0 = stamp 0, value 0. But p1 remembered code 3 = "
+            "stamp 1, value 1, which is greater, and gives that one's value, 1."
+        ),
+        page.said(),
+    )
+    same(
+        page.texts(".nest.lit title"),
+        ["scan up to bit 0: code 0 (stamp 0, value 0)", "bit 0 hit, chosen 1"],
+    )
+    same(
+        page.value("[...document.querySelectorAll('[data-row].lit')].map((it) => it.dataset.row)"),
+        ["register", "p1 remembers"],
+    )
     same(page.text(".operation.read[data-at='13'] .op"), "found 0, kept 3")
     opened(page, UNARY)
     click_in(page, ".operation.read")
-    holds("Its scan read bit 0" in page.said() and "the first 1 that it found is bit" in page.said(), page.said())
+    holds(
+        "Its scan read bit 0" in page.said() and "the first 1 that it found is bit" in page.said(),
+        page.said(),
+    )
     opened(page, MATRIX, "0 join\n0 go main 74\n")
     click_in(page, '.operation.read[data-process="0"]')
-    holds("It read its column: R[0][0]: tag 1, p0 wrote 1; R[1][0]: tag 1, p1 wrote 0. The greatest is tag 1, p1 wrote 0" in page.said(),
-          page.said())
-    same(page.value("[...document.querySelectorAll('.memory.lit')].map((it) => it.dataset.register)"), ["R[0][0]", "R[1][0]"])
+    holds(
+        "It read its column: R[0][0]: tag 1, p0 wrote 1; R[1][0]: tag 1, p1 wrote 0. The greatest is tag 1, p1 wrote 0"
+        in page.said(),
+        page.said(),
+    )
+    same(
+        page.value(
+            "[...document.querySelectorAll('.memory.lit')].map((it) => it.dataset.register)"
+        ),
+        ["R[0][0]", "R[1][0]"],
+    )
 
 
 def square(page):
     """A matrix is a square at the cursor's place, in which the column or the row in work is marked."""
     opened(page, MATRIX, "0 join\n0 go main 74\n")
-    cells = page.value("[...document.querySelectorAll('.memory')].map((it) => [it.dataset.register, it.className])")
+    cells = page.value(
+        "[...document.querySelectorAll('.memory')].map((it) => [it.dataset.register, it.className])"
+    )
     same([name for name, _ in cells], ["R[0][0]", "R[0][1]", "R[1][0]", "R[1][1]"])
     same([name for name, kind in cells if "column" in kind], ["R[0][0]", "R[1][0]"])
     same([name for name, kind in cells if "is-read" in kind], ["R[1][0]"])
     same(page.texts(".memory .value-now"), ["1", "1", "0", "0"])
-    same(page.texts(".card li"), ["p0's read: reads its column, now R[1][0]; greatest so far: tag 1, p0 wrote 1"])
+    same(
+        page.texts(".card li"),
+        ["p0's read: reads its column, now R[1][0]; greatest so far: tag 1, p0 wrote 1"],
+    )
     page.key("End")
     same(page.texts(".memory .value-now"), ["0", "0", "0", "0"])
 
@@ -84,19 +117,47 @@ def square(page):
 def scale(page):
     """The elastic axis shows all steps of lesson 8; a click between two steps goes to their place; columns can be equal or wider."""
     opened(page, MATRIX)
-    widths = page.value("[...document.querySelectorAll('.chip rect')].map((it) => Number(it.getAttribute('width')))")
+    widths = page.value(
+        "[...document.querySelectorAll('.chip rect')].map((it) => Number(it.getAttribute('width')))"
+    )
     same(len(widths), 93)
-    holds(page.value("document.querySelector('#scroll').scrollWidth <= document.querySelector('#scroll').clientWidth"), "it needs scrolling")
-    holds(sum(it > 30 for it in widths) > 10 and sum(it < 5 for it in widths) > 50, f"the widths are {sorted(widths)}")
-    x = page.value("document.querySelector('.chip[data-step=\"26\"]').getBoundingClientRect().left - 1")
-    y = page.value("document.querySelector('.strip.lanes .drawn').getBoundingClientRect().bottom - 3")
+    holds(
+        page.value(
+            "document.querySelector('#scroll').scrollWidth <= document.querySelector('#scroll').clientWidth"
+        ),
+        "it needs scrolling",
+    )
+    holds(
+        sum(it > 30 for it in widths) > 10 and sum(it < 5 for it in widths) > 50,
+        f"the widths are {sorted(widths)}",
+    )
+    x = page.value(
+        "document.querySelector('.chip[data-step=\"26\"]').getBoundingClientRect().left - 1"
+    )
+    y = page.value(
+        "document.querySelector('.strip.lanes .drawn').getBoundingClientRect().bottom - 3"
+    )
     page.chrome.click(x, y)
     page.wait()
     same(page.place(), "main, place 26 of 93")
     page.do("equal")
-    same(set(page.value("[...document.querySelectorAll('.chip rect')].map((it) => it.getAttribute('width'))")), {"41"})
+    same(
+        set(
+            page.value(
+                "[...document.querySelectorAll('.chip rect')].map((it) => it.getAttribute('width'))"
+            )
+        ),
+        {"41"},
+    )
     page.do("narrower")
-    same(set(page.value("[...document.querySelectorAll('.chip rect')].map((it) => it.getAttribute('width'))")), {"33"})
+    same(
+        set(
+            page.value(
+                "[...document.querySelectorAll('.chip rect')].map((it) => it.getAttribute('width'))"
+            )
+        ),
+        {"33"},
+    )
     page.do("equal")
     same(page.count(".chip"), 93)
 
@@ -114,25 +175,36 @@ def refusals(page):
         same(page.count(".operation.refused"), 0)
     page.button("p0 w 0 1")
     page.button("p0 end")
-    same(page.said(), "p0's write 1 was refused: its tag would be 3, and the last one is 2 (TAG). It wrote nothing; reads go on while "
-         "their registers have stamps.")
+    same(
+        page.said(),
+        "p0's write 1 was refused: its tag would be 3, and the last one is 2 (TAG). It wrote nothing; reads go on while "
+        "their registers have stamps.",
+    )
     page.open("tower 2\nstamped 2 0\n")
     page.button("p0 w 0 1")
-    same(page.said(), "p0's write 1 was refused: its stamp would be 1, and the last one is 0 (LAST). It changed nothing; no further "
-         "write passes, and reads go on.")
+    same(
+        page.said(),
+        "p0's write 1 was refused: its stamp would be 1, and the last one is 0 (LAST). It changed nothing; no further "
+        "write passes, and reads go on.",
+    )
 
 
 def two_towers(page):
     """Below a unary number the same operations are done on a stamped register, without lesson 5's inversion; they follow an edit."""
     opened(page, INVERSION)
-    same(page.texts("#second-tower option"), ["one tower", "and safe 0", "and regular 1 0", "and stamped 2 1"])
+    same(
+        page.texts("#second-tower option"),
+        ["one tower", "and safe 0", "and regular 1 0", "and stamped 2 1"],
+    )
     page.fill("#second-tower", "stamped 2 1")
     page.until("!document.querySelector('#second').hidden")
     same(page.texts(".panel .verdict text"), ["1 \u25d0 overlap", "0 \u25cf fresh"])
     same(page.texts("#second .verdict text"), ["1 \u25d0 overlap", "1 \u25d0 overlap"])
     for begun, _ in enumerate(page.texts(".panel .operation")):
-        lefts = page.value(f"""['.panel', '#second'].map((it) => document.querySelectorAll(it + ' .operation .bar')[{begun}]
-          .getBoundingClientRect()).map((it) => [it.left, it.right])""")
+        lefts = page.value(
+            f"""['.panel', '#second'].map((it) => document.querySelectorAll(it + ' .operation .bar')[{begun}]
+          .getBoundingClientRect()).map((it) => [it.left, it.right])"""
+        )
         holds(max(abs(a - b) for a, b in zip(*lefts)) < 2, f"operation {begun} is at {lefts}")
     page.value("document.querySelector('#scroll').focus()")
     page.key("End")
@@ -141,7 +213,9 @@ def two_towers(page):
     page.fill("#second-tower", "")
     holds(page.value("document.querySelector('#second').hidden"), "the second tower stays")
     opened(page, MATRIX)
-    holds(page.value("document.querySelector('#second-tower').hidden"), "a matrix has a second tower")
+    holds(
+        page.value("document.querySelector('#second-tower').hidden"), "a matrix has a second tower"
+    )
 
 
 def counted_pages(page):
@@ -159,6 +233,12 @@ def counted_pages(page):
     page.value("document.querySelector('#scroll').focus()")
     for gesture in ("ArrowLeft", "ArrowLeft"):
         page.key(gesture)
-        holds(asked(page) <= MOST_ASKED["a move"], f"{gesture} asks for {asked(page)} pages of 30,000 steps")
+        holds(
+            asked(page) <= MOST_ASKED["a move"],
+            f"{gesture} asks for {asked(page)} pages of 30,000 steps",
+        )
     page.key("Home")
-    holds(asked(page) <= MOST_ASKED["safe 0"], f"the other end asks for {asked(page)} pages of 30,000 steps")
+    holds(
+        asked(page) <= MOST_ASKED["safe 0"],
+        f"the other end asks for {asked(page)} pages of 30,000 steps",
+    )

@@ -56,50 +56,106 @@ def compare_rows(page, found, name, first, last):
             x = place * column
             boxes = [kind for kind, left, right in row["boxes"] if left <= x <= right]
             reads = [kind for kind, left, right in row["reads"] if left - 0.1 <= x <= right + 0.1]
-            same(boxes, ["written" if written != "-" else {"0": "zero", "1": "one"}[value]], f"bit {bit} at {name} {place}")
-            same(reads, {"-": [], "r": ["read-line"], "h": ["hit"]}[read], f"read of bit {bit} at {name} {place}")
+            same(
+                boxes,
+                ["written" if written != "-" else {"0": "zero", "1": "one"}[value]],
+                f"bit {bit} at {name} {place}",
+            )
+            same(
+                reads,
+                {"-": [], "r": ["read-line"], "h": ["hit"]}[read],
+                f"read of bit {bit} at {name} {place}",
+            )
 
 
 def compare_inside(page, tower, found, name, first, last):
     """Compares the bars inside operations, and the rows of numbers, with a second reader's; operations that are cut are left out."""
     length = max(int(look.split()[2]) for look in found if look.startswith(f"state {name} "))
-    pages = {kind: [found[f"{kind} {name} {place}"] for place in range(length + 1)] for kind in ("state", "bits")}
+    pages = {
+        kind: [found[f"{kind} {name} {place}"] for place in range(length + 1)]
+        for kind in ("state", "bits")
+    }
     inside = Inside(tower, {**pages, "history": found[f"history {name} {length}"]})
     depth, nests, rows = page.value(INSIDE)
-    whole = [it for it in inside.operations if first <= it.begun and (last == length or (it.ended is not None and it.ended < last))]
-    begun = {(it.process, place) for it in whole for place in range(it.begun + 1, (length if it.ended is None else it.ended) + 1)}
-    wanted = [[layer, it.process, part.begin, part.end, part.is_write, title] for it, layer, part, title in inside.nests()
-              if it in whole and layer in tower.layers[:depth]]
+    whole = [
+        it
+        for it in inside.operations
+        if first <= it.begun and (last == length or (it.ended is not None and it.ended < last))
+    ]
+    begun = {
+        (it.process, place)
+        for it in whole
+        for place in range(it.begun + 1, (length if it.ended is None else it.ended) + 1)
+    }
+    wanted = [
+        [layer, it.process, part.begin, part.end, part.is_write, title]
+        for it, layer, part, title in inside.nests()
+        if it in whole and layer in tower.layers[:depth]
+    ]
     drawn = [it for it in nests if (it[1], it[2]) in begun]
-    same(sorted(it for it in drawn if it not in wanted), sorted(it for it in wanted if it not in drawn), f"inside {name}")
+    same(
+        sorted(it for it in drawn if it not in wanted),
+        sorted(it for it in wanted if it not in drawn),
+        f"inside {name}",
+    )
     for row, boxes in rows:
         register = tower.registers.index(row) if row in tower.registers else 0
         bands = inside.bands(register)["number" if row in tower.registers else "best"]
         for begin, end, *box in boxes:
-            is_cut = any(part.begin < first and part.end >= begin for it in inside.operations for part in it.parts)
+            is_cut = any(
+                part.begin < first and part.end >= begin
+                for it in inside.operations
+                for part in it.parts
+            )
             for place in range(begin, end + 1):
-                holds(is_cut or tuple(box) == bands[place], f"{row} of {name} at {place}: {box}, wanted {bands[place]}")
+                holds(
+                    is_cut or tuple(box) == bands[place],
+                    f"{row} of {name} at {place}: {box}, wanted {bands[place]}",
+                )
 
 
 def compare(page, reader, name):
     """Compares the marks of the panel where the cursor is with the pages; returns how many steps were drawn."""
     (found, length), marks = reader.branch(name), page.value(MARKS)
     head = page.text(".panel.focus h2")
-    holds(head.startswith(f"{name} {length} step"), f"the head of {name}, which has {length} steps, is {head}")
+    holds(
+        head.startswith(f"{name} {length} step"),
+        f"the head of {name}, which has {length} steps, is {head}",
+    )
     if not marks["chips"]:
         return 0
     first, last = marks["from"], marks["to"]
-    history = [(int(line.split()[0]), line) for line in found[f"history {name} {length}"] if line != "none"]
-    bars = [re.sub(r"^(\d+) (p\d) invoke ", r"\1 \2 ", line) for at, line in history if " invoke " in line and at < last]
-    verdicts = [line.split()[-1] for line in found[f"verdict {name} {length}"] if re.match(r"\d", line)
-                and first <= int(line.split()[0]) < last]
-    same(marks["chips"], [line.split(" ", 1)[1] for line in found[f"steps {name} {length}"]][first:last], name)
-    holds(set(marks["bars"]) <= set(bars) and (first or len(marks["bars"]) == len(bars)), f"{name}: {marks['bars']} for {bars}")
+    history = [
+        (int(line.split()[0]), line) for line in found[f"history {name} {length}"] if line != "none"
+    ]
+    bars = [
+        re.sub(r"^(\d+) (p\d) invoke ", r"\1 \2 ", line)
+        for at, line in history
+        if " invoke " in line and at < last
+    ]
+    verdicts = [
+        line.split()[-1]
+        for line in found[f"verdict {name} {length}"]
+        if re.match(r"\d", line) and first <= int(line.split()[0]) < last
+    ]
+    same(
+        marks["chips"],
+        [line.split(" ", 1)[1] for line in found[f"steps {name} {length}"]][first:last],
+        name,
+    )
+    holds(
+        set(marks["bars"]) <= set(bars) and (first or len(marks["bars"]) == len(bars)),
+        f"{name}: {marks['bars']} for {bars}",
+    )
     same(sorted(marks["ticks"]), bit_actions(found, name, first, last), name)
     compare_rows(page, found, name, first, last)
     compare_inside(page, Tower(reader.tower.split("\n")[1]), found, name, first, last)
     for kind in KINDS:
-        same(marks[kind], sum(line.split()[2] == kind for at, line in history if first <= at < last), f"{name}, {kind}")
+        same(
+            marks[kind],
+            sum(line.split()[2] == kind for at, line in history if first <= at < last),
+            f"{name}, {kind}",
+        )
     same(sorted(marks["verdicts"]), sorted(verdicts), name)
     return last - first
 
@@ -112,15 +168,29 @@ def lit_writes(page, reader, name):
     for begun, writes in overlapped(found[f"history {name} {length}"]).items():
         if not page.count(f'.panel.focus .operation.read[data-at="{begun}"]'):
             continue
-        page.value(f"""document.querySelector('.panel.focus .operation.read[data-at="{begun}"]')
-          .dispatchEvent(new MouseEvent("click", {{ bubbles: true }}))""")
+        page.value(
+            f"""document.querySelector('.panel.focus .operation.read[data-at="{begun}"]')
+          .dispatchEvent(new MouseEvent("click", {{ bubbles: true }}))"""
+        )
         page.wait()
-        lit = page.value("[...document.querySelectorAll('.panel.focus .operation.lit')].map((it) => Number(it.dataset.at))")
-        drawn = page.value("[...document.querySelectorAll('.panel.focus .operation')].map((it) => Number(it.dataset.at))")
-        same(sorted(lit), sorted(it for it in writes if it in drawn), f"{name}, the read of step {begun}")
+        lit = page.value(
+            "[...document.querySelectorAll('.panel.focus .operation.lit')].map((it) => Number(it.dataset.at))"
+        )
+        drawn = page.value(
+            "[...document.querySelectorAll('.panel.focus .operation')].map((it) => Number(it.dataset.at))"
+        )
+        same(
+            sorted(lit),
+            sorted(it for it in writes if it in drawn),
+            f"{name}, the read of step {begun}",
+        )
         ends[begun] = page.said()
         holds("doesn't show why" not in ends[begun], ends[begun])
-        holds(any(f"{it}:" in ends[begun].lower() for it in {*verdicts.values()}) or "no verdict" in ends[begun], ends[begun])
+        holds(
+            any(f"{it}:" in ends[begun].lower() for it in {*verdicts.values()})
+            or "no verdict" in ends[begun],
+            ends[begun],
+        )
         page.key("Escape")
     return len(ends)
 
@@ -130,8 +200,16 @@ def all_documents(names):
     found = []
     for it in names:
         if it.startswith(("examples/", "lessons/")):
-            tower = next((f"{it}.{kind}" for kind in ("tower", "bench") if cases.path_of(it, kind, "")), None)
-            found.append((it, cases.read(tower).decode() if tower else NO_TOWER, cases.read(f"{it}.script").decode()))
+            tower = next(
+                (f"{it}.{kind}" for kind in ("tower", "bench") if cases.path_of(it, kind, "")), None
+            )
+            found.append(
+                (
+                    it,
+                    cases.read(tower).decode() if tower else NO_TOWER,
+                    cases.read(f"{it}.script").decode(),
+                )
+            )
     return found
 
 
@@ -141,8 +219,13 @@ def documents(page, program, names):
     for title, tower, script in all_documents(names):
         page.open(tower, script)
         reader = Reader(program, tower, script)
-        same(page.value("[...document.querySelectorAll('#show option')].map((it) => it.value)")[1:len(reader.lengths) + 1],
-             [f"only {it}" for it in reader.lengths], title)
+        same(
+            page.value("[...document.querySelectorAll('#show option')].map((it) => it.value)")[
+                1 : len(reader.lengths) + 1
+            ],
+            [f"only {it}" for it in reader.lengths],
+            title,
+        )
         for name in reader.lengths:
             page.fill("#show", f"only {name}" if len(reader.lengths) > 1 else "all")
             drawn += compare(page, reader, name)
@@ -166,7 +249,9 @@ def walk(page, chance):
     is_fork = keys[chosen].startswith("fork")
     if keys[chosen] == "chip":
         page.until("!document.querySelector('#menu').hidden")
-        actions = page.value("[...document.querySelectorAll('#menu button')].map((it) => it.dataset.stepAction || '')")
+        actions = page.value(
+            "[...document.querySelectorAll('#menu button')].map((it) => it.dataset.stepAction || '')"
+        )
         at = chance.randrange(len(actions))
         page.value(f"document.querySelectorAll('#menu button')[{at}].click()")
         is_fork = actions[at] == "fork"

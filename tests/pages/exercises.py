@@ -16,7 +16,10 @@ def to(page, branch, place):
     if not page.place().startswith(f"{branch},"):
         page.click(f'.panel[data-branch="{branch}"] h2 [data-select]')
     page.fill("#place", str(place))
-    holds(page.place().startswith(f"{branch}, place {place} "), f"{page.place()} isn't {branch} {place}")
+    holds(
+        page.place().startswith(f"{branch}, place {place} "),
+        f"{page.place()} isn't {branch} {place}",
+    )
 
 
 def insert(page, branch, place, step):
@@ -30,7 +33,9 @@ def replace(page, branch, place, step):
     # (a click on the step itself, even if it is scrolled away)
     chip = json.dumps(f'.panel[data-branch="{branch}"] .chip[data-step="{place}"]')
     page.until(f"document.querySelector({chip})")
-    page.value(f"document.querySelector({chip}).dispatchEvent(new MouseEvent('click', {{ bubbles: true }}))")
+    page.value(
+        f"document.querySelector({chip}).dispatchEvent(new MouseEvent('click', {{ bubbles: true }}))"
+    )
     page.until("!document.querySelector('#menu').hidden", f"step {place} opens no menu")
     page.fill("#menu input", step)
     page.click("#menu form button")
@@ -50,7 +55,7 @@ def do(page, command):
     elif name == "detach":
         page.button(command)
     elif name == "break":
-        page.fill('[data-key="break"]', command[len("break "):])
+        page.fill('[data-key="break"]', command[len("break ") :])
     elif name == "seek":
         page.button("seek")
     elif name == "go":
@@ -71,9 +76,17 @@ def to_lesson(page):
 def predict(page, begin):
     """Chooses the first option of each question; the program then marks the one that is right."""
     for number in range(page.count("#task fieldset")):
-        page.value(f"document.querySelectorAll('#task fieldset')[{number}].querySelector('input').click()")
+        page.value(
+            f"document.querySelectorAll('#task fieldset')[{number}].querySelector('input').click()"
+        )
         page.wait()
-        same(page.value(f"document.querySelectorAll('#task fieldset')[{number}].querySelectorAll('.met').length"), 1, begin)
+        same(
+            page.value(
+                f"document.querySelectorAll('#task fieldset')[{number}].querySelectorAll('.met').length"
+            ),
+            1,
+            begin,
+        )
 
 
 def solve(page, folder, begin):
@@ -98,12 +111,18 @@ def solved_by_clicks(page):
     """Each exercise is unmet at its start, and done once it is solved by clicks; its lesson then says so."""
     page.open()
     to_lesson(page)
-    folders = page.value("[...document.querySelectorAll('#study-list [data-study]')].map((it) => it.dataset.study)")
+    folders = page.value(
+        "[...document.querySelectorAll('#study-list [data-study]')].map((it) => it.dataset.study)"
+    )
     same(len(folders), 10)
     for folder in folders:
         page.click(f'#study-list [data-study="{folder}"]')
-        page.until(f"{DRAWN} && document.querySelector('#study-list [data-study=\\'{folder}\\'][aria-current]')")
-        begins = page.value("[...document.querySelectorAll('[data-begin]')].map((it) => it.dataset.begin)")
+        page.until(
+            f"{DRAWN} && document.querySelector('#study-list [data-study=\\'{folder}\\'][aria-current]')"
+        )
+        begins = page.value(
+            "[...document.querySelectorAll('[data-begin]')].map((it) => it.dataset.begin)"
+        )
         same(sorted({it.split()[1] for it in begins}), ["1", "2", "3"], folder)
         for begin in begins:
             solve(page, folder, begin)
@@ -115,8 +134,13 @@ def wrong_choice(page):
     """A prediction that isn't right is marked, with the one that is; until then what reads give is covered."""
     page.open()
     to_lesson(page)
-    page.until("document.querySelector('article.covered .verdict')", "a lesson's picture isn't covered")
-    same(page.value("getComputedStyle(document.querySelector('article .verdict')).visibility"), "hidden")
+    page.until(
+        "document.querySelector('article.covered .verdict')", "a lesson's picture isn't covered"
+    )
+    same(
+        page.value("getComputedStyle(document.querySelector('article .verdict')).visibility"),
+        "hidden",
+    )
     page.fill("#prediction", "0 or 1")
     page.click("[data-look]")
     same(page.count("article.covered"), 0)
@@ -141,10 +165,15 @@ def wrong_choice(page):
 def goals_in_words(page):
     """No goal of a lesson is shown as words of a page."""
     page.open()
-    texts = page.value("JSON.parse(document.querySelector('#data').textContent).lessons.flatMap((it) => "
-                       "it.exercises.flatMap((each) => each.parts.flatMap((part) => part.lines)))")
+    texts = page.value(
+        "JSON.parse(document.querySelector('#data').textContent).lessons.flatMap((it) => "
+        "it.exercises.flatMap((each) => each.parts.flatMap((part) => part.lines)))"
+    )
     goals = [it for it in texts if it.startswith("# goal")]
     holds(len(goals) >= 23, f"there are only {len(goals)} goals")
     page.open("tower 2\nsafe 0\n", "\n".join([*goals[:30], "0 join"]) + "\n")
     same(page.count("#task .goals li"), len(goals[:30]))
-    same([it for it in page.texts("#task .goals li") if "the page " in it or "can't be read" in it], [])
+    same(
+        [it for it in page.texts("#task .goals li") if "the page " in it or "can't be read" in it],
+        [],
+    )

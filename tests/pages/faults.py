@@ -10,11 +10,21 @@ from pages.live import IDLE, holds, same
 from pages.reader import Reader
 
 # A module whose one function has this code, of WebAssembly's instructions; its memory is the host's.
-BEFORE_CODE = bytes.fromhex("0061736d01000000 0105016000017f 0212 01 04686f7374 066d656d6f7279 020101 8040 03020100 0707010372756e0000".replace(" ", ""))
+BEFORE_CODE = bytes.fromhex(
+    "0061736d01000000 0105016000017f 0212 01 04686f7374 066d656d6f7279 020101 8040 03020100 0707010372756e0000".replace(
+        " ", ""
+    )
+)
 CODES = {"endless": "03400c000b000b", "trap": "000b", "deep": "10000b"}
-SENTENCES = {"trap": r"The program stopped by a fault: .*unreachable.*\.", "deep": r"The program ran out of stack\."}
+SENTENCES = {
+    "trap": r"The program stopped by a fault: .*unreachable.*\.",
+    "deep": r"The program ran out of stack\.",
+}
 DAMAGED, CHUNK = 1500, 25
-STOPPED, TOO_LONG = "The run was stopped.", r"The program took longer than [0-9]+ seconds and was stopped\."
+STOPPED, TOO_LONG = (
+    "The run was stopped.",
+    r"The program took longer than [0-9]+ seconds and was stopped\.",
+)
 FILES = ("lessons/01-safe-bit/safe", "examples/stamped", "examples/matrix", "examples/branches")
 # Is between the page and its worker: what the worker answers is changed by `damage`, if there is one.
 BETWEEN = """{ const Real = Worker;
@@ -115,7 +125,9 @@ def no_answer(page):
         page.value("document.querySelector('[data-key=\"p1 g 1 0\"]').click()")
         page.until("!document.querySelector('#busy').hidden")
         if is_stopped:
-            page.do("stop") if page.value(IDLE) else page.value("document.querySelector('[data-do=stop]').click()")
+            page.do("stop") if page.value(IDLE) else page.value(
+                "document.querySelector('[data-do=stop]').click()"
+            )
         page.wait()
         holds(re.fullmatch(sentence, page.said()), page.said())
         page.value("globalThis.isDeaf = false")
@@ -126,12 +138,24 @@ def no_answer(page):
 
 def damaged_files(page):
     """A tower file that the program refuses is said in a sentence, and can be mended."""
-    for tower, words in (("tower 3\nsafe 0\n", "1"), ("tower 2\nsafe 0\nq\n", "3"), ("tower 2\nmatrix 4 512 511 511\n", "2"), ("\u00e9", "1")):
+    for tower, words in (
+        ("tower 3\nsafe 0\n", "1"),
+        ("tower 2\nsafe 0\nq\n", "3"),
+        ("tower 2\nmatrix 4 512 511 511\n", "2"),
+        ("\u00e9", "1"),
+    ):
         page.open(ONE_READ, BEFORE_ITS_END)
-        page.value(f"location.hash = encodeURIComponent({json.dumps(json.dumps([tower, '0 join']))})")
+        page.value(
+            f"location.hash = encodeURIComponent({json.dumps(json.dumps([tower, '0 join']))})"
+        )
         page.until("document.querySelector('#said').className === 'refusal'")
         holds(words in page.said() and page.said().endswith("."), page.said())
-        same(page.document(), [tower, "0 join"] if page.value("document.querySelector('#file').value") == tower else page.document())
+        same(
+            page.document(),
+            [tower, "0 join"]
+            if page.value("document.querySelector('#file').value") == tower
+            else page.document(),
+        )
 
 
 def damaged_answers(page, program):

@@ -13,8 +13,17 @@ from pages.websocket import PATIENCE, Socket
 NAMES = ("firefox-esr", "firefox")
 LISTENS = re.compile(r"WebDriver BiDi listening on ws://127\.0\.0\.1:(\d+)")
 # how the protocol writes keys that have no character
-KEYS = {"Enter": "\ue007", "Escape": "\ue00c", "End": "\ue010", "Home": "\ue011", "ArrowLeft": "\ue012", "ArrowUp": "\ue013",
-        "ArrowRight": "\ue014", "ArrowDown": "\ue015", "Delete": "\ue017"}
+KEYS = {
+    "Enter": "\ue007",
+    "Escape": "\ue00c",
+    "End": "\ue010",
+    "Home": "\ue011",
+    "ArrowLeft": "\ue012",
+    "ArrowUp": "\ue013",
+    "ArrowRight": "\ue014",
+    "ArrowDown": "\ue015",
+    "Delete": "\ue017",
+}
 MODIFIERS = {2: "\ue009", 8: "\ue008"}
 
 
@@ -29,9 +38,17 @@ class Browser:
     def __init__(self, program):
         self.room = tempfile.mkdtemp(prefix="towerbench-")
         os.mkdir(f"{self.room}/profile")
-        words = ["--headless", "--remote-debugging-port=0", "--profile", f"{self.room}/profile", "about:blank"]
+        words = [
+            "--headless",
+            "--remote-debugging-port=0",
+            "--profile",
+            f"{self.room}/profile",
+            "about:blank",
+        ]
         with open(f"{self.room}/said", "wb") as said:
-            self.process = subprocess.Popen([program, *words], stdin=subprocess.DEVNULL, stdout=said, stderr=said)
+            self.process = subprocess.Popen(
+                [program, *words], stdin=subprocess.DEVNULL, stdout=said, stderr=said
+            )
         self.socket, self.number, self.complaints = Socket(self.port(), "/session"), 0, []
         self.ask("session.new", capabilities={})
         self.ask("session.subscribe", events=["log.entryAdded"])
@@ -66,30 +83,55 @@ class Browser:
     def value(self, expression):
         """Returns what an expression, or its promise, yields in the page."""
         text = f"(async () => JSON.stringify(await ({expression})))()"
-        answer = self.ask("script.evaluate", expression=text, target={"context": self.context}, awaitPromise=True)
+        answer = self.ask(
+            "script.evaluate", expression=text, target={"context": self.context}, awaitPromise=True
+        )
         if answer["type"] == "exception":
             raise ValueError(answer["exceptionDetails"]["text"][:400])
         return json.loads(answer["result"]["value"]) if "value" in answer["result"] else None
 
     def perform(self, kind, *actions, **more):
-        self.ask("input.performActions", context=self.context, actions=[{"type": kind, "id": kind, "actions": actions, **more}])
+        self.ask(
+            "input.performActions",
+            context=self.context,
+            actions=[{"type": kind, "id": kind, "actions": actions, **more}],
+        )
 
     def press(self, key, modifiers=0, **_):
-        held = [{"type": "keyDown", "value": it} for bit, it in MODIFIERS.items() if modifiers & bit]
+        held = [
+            {"type": "keyDown", "value": it} for bit, it in MODIFIERS.items() if modifiers & bit
+        ]
         value = KEYS.get(key, key)
-        self.perform("key", *held, {"type": "keyDown", "value": value}, {"type": "keyUp", "value": value},
-                     *({**it, "type": "keyUp"} for it in held))
+        self.perform(
+            "key",
+            *held,
+            {"type": "keyDown", "value": value},
+            {"type": "keyUp", "value": value},
+            *({**it, "type": "keyUp"} for it in held),
+        )
 
     def click(self, x, y):
-        self.perform("pointer", {"type": "pointerMove", "x": round(x), "y": round(y)}, {"type": "pointerDown", "button": 0},
-                     {"type": "pointerUp", "button": 0})
+        self.perform(
+            "pointer",
+            {"type": "pointerMove", "x": round(x), "y": round(y)},
+            {"type": "pointerDown", "button": 0},
+            {"type": "pointerUp", "button": 0},
+        )
 
     def size(self, width, height):
-        self.ask("browsingContext.setViewport", context=self.context, viewport={"width": width, "height": height})
+        self.ask(
+            "browsingContext.setViewport",
+            context=self.context,
+            viewport={"width": width, "height": height},
+        )
 
     def shot(self, path):
         with open(path, "wb") as file:
-            file.write(base64.b64decode(self.ask("browsingContext.captureScreenshot", context=self.context)["data"]))
+            file.write(
+                base64.b64decode(
+                    self.ask("browsingContext.captureScreenshot", context=self.context)["data"]
+                )
+            )
 
     def close(self):
         self.process.terminate()

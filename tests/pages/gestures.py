@@ -22,7 +22,10 @@ def first_screen(page):
     page.open()
     same(page.said(), ASKED)
     footer = page.text("footer")
-    holds(re.search(r"proved sources.*tested, not proved.*commit [0-9a-f]{12}.*kit \S+", footer), footer)
+    holds(
+        re.search(r"proved sources.*tested, not proved.*commit [0-9a-f]{12}.*kit \S+", footer),
+        footer,
+    )
     page.button("p1 g 1 0")
     holds(page.said().startswith("p1's read returned 0. Fresh: no write had returned"), page.said())
     same(page.count(".operation.lit"), 1)
@@ -55,9 +58,15 @@ def lesson_by_clicks(page, program):
     page.wait()
     same(page.texts("#tree .verdict text"), ["\u25cf 0", "\u25d0 1", "\u25b2 1"])
     tower, script = page.document()
-    looks = [line for line in cases.read(f"{LESSON}.script").decode().splitlines() if re.match("0 (bits|history|verdict) ", line)]
+    looks = [
+        line
+        for line in cases.read(f"{LESSON}.script").decode().splitlines()
+        if re.match("0 (bits|history|verdict) ", line)
+    ]
     made = program_answers(program, tower, script + "".join(f"{look}\n" for look in looks))
-    same(PAGES.findall(made)[-len(looks):], PAGES.findall(cases.read(f"{LESSON}.expected").decode()))
+    same(
+        PAGES.findall(made)[-len(looks) :], PAGES.findall(cases.read(f"{LESSON}.expected").decode())
+    )
     undo_and_redo(page, script)
 
 
@@ -87,9 +96,18 @@ def processes(page):
     page.button("p1 x 1")
     same(page.count(".mark.stop"), 1)
     same(page.count('[data-process="1"] [data-action="r 1"]'), 0)
-    same([it for it in page.script().splitlines() if " insert " in it],
-         ["0 insert main 0 w 0 1", "0 insert main 1 r 1", "0 insert main 2 g 0 0", "0 insert main 3 g 1 0", "0 insert main 4 g 1 1",
-          "0 insert main 5 g 0 0", "0 insert main 6 x 1"])
+    same(
+        [it for it in page.script().splitlines() if " insert " in it],
+        [
+            "0 insert main 0 w 0 1",
+            "0 insert main 1 r 1",
+            "0 insert main 2 g 0 0",
+            "0 insert main 3 g 1 0",
+            "0 insert main 4 g 1 1",
+            "0 insert main 5 g 0 0",
+            "0 insert main 6 x 1",
+        ],
+    )
     page.open("tower 2\nunary 12 1 0\n")
     page.fill('[data-key="p0 value"]', "11")
     page.button("p0 w")
@@ -99,7 +117,12 @@ def processes(page):
 def steps(page):
     """What the menu of a step has: remove, replace, flip, insert before, fork, the other choice on a branch."""
     page.open(ONE_READ + "g 1 0\n")
-    for action, line in (("flip", "replace main 4 g 1 1"), ("remove", "remove main 3"), ("before", "go main 2"), ("try", "fork main 3 other")):
+    for action, line in (
+        ("flip", "replace main 4 g 1 1"),
+        ("remove", "remove main 3"),
+        ("before", "go main 2"),
+        ("try", "fork main 3 other"),
+    ):
         step = {"flip": 4, "remove": 3, "before": 2, "try": 3}[action]
         page.click(f'.panel[data-branch=main] .chip[data-step="{step}"]')
         page.click(f'#menu [data-step-action="{action}"]')
@@ -119,8 +142,10 @@ def steps(page):
 
 def branches(page):
     """Select, compare, show alone, jump to the first own step, detach, drop."""
-    page.open(ONE_READ + "g 1 0\n", "0 join\n0 fork main 4 other\n0 insert other 4 g 1 1\n0 go main 0\n")
-    page.click('.panel[data-branch=other] [data-select]')
+    page.open(
+        ONE_READ + "g 1 0\n", "0 join\n0 fork main 4 other\n0 insert other 4 g 1 1\n0 go main 0\n"
+    )
+    page.click(".panel[data-branch=other] [data-select]")
     same(page.place(), "other, place 0 of 5")
     page.button("own other")
     same(page.place(), "other, place 4 of 5")
@@ -131,7 +156,7 @@ def branches(page):
     page.button("alone other")
     same(page.branches(), ["other"])
     page.fill("#show", "all")
-    about = '.panel[data-branch=other] h2 small'
+    about = ".panel[data-branch=other] h2 small"
     same(page.text(about), "5 steps, the first 4 shared with main")
     page.button("detach other")
     holds("0 detach other\n" in page.script(), page.script())
@@ -173,7 +198,12 @@ def keyboard(page):
     page.until("document.querySelector('#at').textContent === 'main, place 8 of 9'")
     page.wait()
     script = page.script()
-    for line in ("0 insert main 4 g 1 0", "0 fork main 4 other", "0 insert other 4 g 1 1", "0 insert main 6 w 0 1"):
+    for line in (
+        "0 insert main 4 g 1 0",
+        "0 fork main 4 other",
+        "0 insert other 4 g 1 1",
+        "0 insert main 6 w 0 1",
+    ):
         holds(f"{line}\n" in script, f"{line} isn't in {script}")
     page.value("document.querySelector('#scroll').focus()")
     page.key("f")
@@ -193,9 +223,11 @@ def keyboard(page):
 def drop_files(page, *paths):
     """Drops files on the page."""
     given = [(pathlib.Path(it).name, pathlib.Path(it).read_text(encoding="ascii")) for it in paths]
-    page.value(f"""(() => {{ const data = new DataTransfer();
+    page.value(
+        f"""(() => {{ const data = new DataTransfer();
       for (const [name, text] of {json.dumps(given)}) data.items.add(new File([text], name));
-      document.body.dispatchEvent(new DragEvent("drop", {{ bubbles: true, cancelable: true, dataTransfer: data }})); }})()""")
+      document.body.dispatchEvent(new DragEvent("drop", {{ bubbles: true, cancelable: true, dataTransfer: data }})); }})()"""
+    )
     page.wait()
 
 
@@ -205,7 +237,12 @@ def files(page, program):
     with tempfile.TemporaryDirectory() as room:
         page.chrome.ask("Browser.setDownloadBehavior", behavior="allow", downloadPath=room)
         folder = pathlib.Path(room)
-        for kind, ending in (("script", "script"), ("tower", "tower"), ("bench", "bench"), ("picture", "svg")):
+        for kind, ending in (
+            ("script", "script"),
+            ("tower", "tower"),
+            ("bench", "bench"),
+            ("picture", "svg"),
+        ):
             page.fill("#save", kind)
             for _ in range(200):
                 if (folder / f"schedule.{ending}").exists():
@@ -214,10 +251,19 @@ def files(page, program):
         tower, script = page.document()
         texts = {it.suffix[1:]: it.read_text(encoding="utf-8") for it in folder.iterdir()}
         # (a saved script says first on which tower it runs)
-        same((texts["tower"], texts["script"]), (tower, f"# tower: {'; '.join(tower.strip().splitlines())}\n{script}"))
-        same(Reader(program, texts["bench"], "").branch("other"), Reader(program, tower, script).branch("other"))
+        same(
+            (texts["tower"], texts["script"]),
+            (tower, f"# tower: {'; '.join(tower.strip().splitlines())}\n{script}"),
+        )
+        same(
+            Reader(program, texts["bench"], "").branch("other"),
+            Reader(program, tower, script).branch("other"),
+        )
         picture = xml.dom.minidom.parseString(texts["svg"])
-        holds(len(picture.getElementsByTagName("title")) > 3 and "var(" not in texts["svg"], "the picture isn't whole")
+        holds(
+            len(picture.getElementsByTagName("title")) > 3 and "var(" not in texts["svg"],
+            "the picture isn't whole",
+        )
     page.value("new Promise((done) => setTimeout(done, 500))")
     page.chrome.ask("Page.reload")
     page.until("document.readyState === 'complete'")
@@ -228,15 +274,27 @@ def files(page, program):
 
 def open_files(page):
     page.do("chooseOpen")
-    node = page.chrome.ask("DOM.querySelector", nodeId=page.chrome.ask("DOM.getDocument")["root"]["nodeId"], selector="#files")["nodeId"]
-    page.chrome.ask("DOM.setFileInputFiles", nodeId=node, files=[str(pathlib.Path("tests/rows/benches/bench-file.bench").resolve())])
+    node = page.chrome.ask(
+        "DOM.querySelector",
+        nodeId=page.chrome.ask("DOM.getDocument")["root"]["nodeId"],
+        selector="#files",
+    )["nodeId"]
+    page.chrome.ask(
+        "DOM.setFileInputFiles",
+        nodeId=node,
+        files=[str(pathlib.Path("tests/rows/benches/bench-file.bench").resolve())],
+    )
     page.until("document.querySelectorAll('.panel').length === 3")
     page.wait()
     same(page.branches(), ["main", "a", "b"])
     drop_files(page, "examples/unary.tower", "examples/unary.script")
     page.until("document.querySelector('#tower-line').textContent.startsWith('unary')")
     page.wait()
-    holds(page.script().strip() == cases.read("examples/unary.script").decode().strip() or page.count("#lesson:not([hidden])"), "the script isn't opened")
+    holds(
+        page.script().strip() == cases.read("examples/unary.script").decode().strip()
+        or page.count("#lesson:not([hidden])"),
+        "the script isn't opened",
+    )
 
 
 def sessions(page):
@@ -260,10 +318,17 @@ def typed(page):
     page.open(ONE_READ, BEFORE_ITS_END)
     page.click("[data-tab=text]")
     text = "0 join\n0 insert main 0 w 0 7\n0 leap\n0 go main 99\n"
-    page.value(f"""(() => {{ const it = document.querySelector("#script"); it.focus(); it.value = {json.dumps(text)};
-      it.dispatchEvent(new Event("input")); }})()""")
+    page.value(
+        f"""(() => {{ const it = document.querySelector("#script"); it.focus(); it.value = {json.dumps(text)};
+      it.dispatchEvent(new Event("input")); }})()"""
+    )
     page.until("document.querySelectorAll('#answer [data-line]').length === 3")
-    same(page.value("[...document.querySelectorAll('#answer [data-line]')].map((it) => Number(it.dataset.line))"), [2, 3, 4])
+    same(
+        page.value(
+            "[...document.querySelectorAll('#answer [data-line]')].map((it) => Number(it.dataset.line))"
+        ),
+        [2, 3, 4],
+    )
     same(page.value("document.querySelector('#script').value"), text)
     same(page.count("#gutter .wrong"), 3)
     page.click("[data-tab=table]")
@@ -278,7 +343,11 @@ def tower_limits(page):
     same(page.texts("#fields label b"), ["N", "VALUES", "TAG", "INNER"])
     for index, number in enumerate((4, 512, 511, 511)):
         page.fill(f"#fields label:nth-child({index + 1}) input", str(number))
-    holds(page.text("#tower-fault") and page.value("document.querySelector('#tower-dialog [value=begin]').disabled"), "it is taken")
+    holds(
+        page.text("#tower-fault")
+        and page.value("document.querySelector('#tower-dialog [value=begin]').disabled"),
+        "it is taken",
+    )
     page.click("#tower-dialog button[value='']")
     for kind, *numbers in (("copies", 2, 1), ("stamped", 3, 2), ("matrix", 2, 2, 0, 1)):
         page.choose_tower(kind, *numbers)
@@ -288,7 +357,9 @@ def tower_limits(page):
 def copies(page):
     """The script is copied."""
     page.open(ONE_READ, BEFORE_ITS_END)
-    page.value("""Object.defineProperty(navigator, "clipboard", { value: { writeText: async (text) => { globalThis.copied = text; } } }) && 0""")
+    page.value(
+        """Object.defineProperty(navigator, "clipboard", { value: { writeText: async (text) => { globalThis.copied = text; } } }) && 0"""
+    )
     page.fill("#save", "copy")
     page.until("globalThis.copied")
     same(page.value("globalThis.copied"), BEFORE_ITS_END)

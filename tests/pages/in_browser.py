@@ -6,33 +6,84 @@ import os
 import tempfile
 import threading
 
-from pages import build, chromium, depths, drawn, exercises, faults, firefox, gestures, lessons, sharing, sizes
+from pages import (
+    build,
+    chromium,
+    depths,
+    drawn,
+    exercises,
+    faults,
+    firefox,
+    gestures,
+    lessons,
+    sharing,
+    sizes,
+)
 from pages.live import Page
 from trials import Test
 
 ALL = {
-    "gestures": ("first_screen", "lesson_by_clicks", "processes", "steps", "branches", "breaks", "keyboard", "files", "sessions", "typed",
-                 "tower_limits", "copies", "paper"),
+    "gestures": (
+        "first_screen",
+        "lesson_by_clicks",
+        "processes",
+        "steps",
+        "branches",
+        "breaks",
+        "keyboard",
+        "files",
+        "sessions",
+        "typed",
+        "tower_limits",
+        "copies",
+        "paper",
+    ),
     "depths": ("layers", "reasons", "square", "scale", "refusals", "two_towers", "counted_pages"),
     "drawn": ("documents", "walks"),
     "exercises": ("solved_by_clicks", "wrong_choice", "goals_in_words"),
     "lessons": ("lessons", "exercises", "a_lesson_line_by_line", "policy"),
-    "sharing": ("links", "short_links", "one_file", "nothing_lost", "which_tower", "forty_files", "words", "room", "hostile_documents"),
+    "sharing": (
+        "links",
+        "short_links",
+        "one_file",
+        "nothing_lost",
+        "which_tower",
+        "forty_files",
+        "words",
+        "room",
+        "hostile_documents",
+    ),
     "faults": ("other_programs", "no_answer", "damaged_files", "damaged_answers"),
     "sizes": ("long_schedules", "large_documents"),
 }
 # What needs no more than both drivers have.
 IN_FIREFOX = {
-    "gestures": ("first_screen", "lesson_by_clicks", "processes", "steps", "branches", "breaks", "sessions", "typed", "tower_limits",
-                 "copies"),
+    "gestures": (
+        "first_screen",
+        "lesson_by_clicks",
+        "processes",
+        "steps",
+        "branches",
+        "breaks",
+        "sessions",
+        "typed",
+        "tower_limits",
+        "copies",
+    ),
     "drawn": ("documents",),
     "exercises": ("solved_by_clicks", "wrong_choice"),
     "lessons": ("lessons", "a_lesson_line_by_line"),
     "sharing": ("links", "nothing_lost", "which_tower", "forty_files"),
 }
 MODULES = {
-    "gestures": gestures, "depths": depths, "drawn": drawn, "exercises": exercises, "lessons": lessons, "faults": faults,
-    "sharing": sharing, "sizes": sizes,
+    "gestures": gestures,
+    "depths": depths,
+    "drawn": drawn,
+    "exercises": exercises,
+    "lessons": lessons,
+    "faults": faults,
+    "sharing": sharing,
+    "sizes": sizes,
 }
 
 
@@ -55,7 +106,10 @@ def fault_of(driver, work, file, given):
     path, browser = file.written(), driver.Browser(driver.found())
     try:
         page = Page(browser, path)
-        work(page, **{name: given[name] for name in inspect.signature(work).parameters if name != "page"})
+        work(
+            page,
+            **{name: given[name] for name in inspect.signature(work).parameters if name != "page"},
+        )
         return f"the console has: {browser.complaints[0]}" if browser.complaints else None
     finally:
         browser.close()
@@ -65,10 +119,18 @@ def tests_in(driver, chosen, label, file, given):
     if not driver.found():
         return [Test(f"{label}: it isn't here", None)]
     works = [getattr(MODULES[module], name) for module, names in chosen.items() for name in names]
-    return [Test(f"{label}: {it.__name__.replace('_', ' ')}", functools.partial(fault_of, driver, it, file, given)) for it in works]
+    return [
+        Test(
+            f"{label}: {it.__name__.replace('_', ' ')}",
+            functools.partial(fault_of, driver, it, file, given),
+        )
+        for it in works
+    ]
 
 
 def tests(names, program, scratch):
     """Returns the tests. names: those of the cases; program: the native one."""
     file, given = File(tempfile.mkdtemp(dir=scratch)), {"names": names, "program": program}
-    return tests_in(chromium, ALL, "Chromium", file, given) + tests_in(firefox, IN_FIREFOX, "Firefox", file, given)
+    return tests_in(chromium, ALL, "Chromium", file, given) + tests_in(
+        firefox, IN_FIREFOX, "Firefox", file, given
+    )

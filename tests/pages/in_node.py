@@ -18,8 +18,13 @@ from pages import build, random_inputs
 from trials import Test
 
 IS_A_FOLDER, IS_FULL, NO_FILE = 21, 28, 2
-SUBSTITUTES = {"/": {"error": IS_A_FOLDER}, "/dev": {"error": IS_A_FOLDER}, "/dev/full": {"error": IS_FULL}, "/dev/null": "",
-             "/no/such/folder/kept": {"refused": NO_FILE}}
+SUBSTITUTES = {
+    "/": {"error": IS_A_FOLDER},
+    "/dev": {"error": IS_A_FOLDER},
+    "/dev/full": {"error": IS_FULL},
+    "/dev/null": "",
+    "/no/such/folder/kept": {"refused": NO_FILE},
+}
 SEED, COUNT, SHOWN = 20, 2000, 3
 # little more than the module begins with
 LITTLE_MEMORY = 17 * 2**20
@@ -39,19 +44,43 @@ def ended(line):
     if "fault" in it:
         return Ended(None, b"", b"", {}, it["fault"])
     output, errors = (base64.b64decode(it[key]) for key in ("output", "errors"))
-    return Ended(it["status"], output, errors, {path: base64.b64decode(text) for path, text in it["written"].items()}, None)
+    return Ended(
+        it["status"],
+        output,
+        errors,
+        {path: base64.b64decode(text) for path, text in it["written"].items()},
+        None,
+    )
 
 
 def run_all(runs):
     """Returns how each run of the module ended."""
     with tempfile.NamedTemporaryFile("w", encoding="ascii") as file:
         for it in runs:
-            files = {path: coded(text) if isinstance(text, bytes) else text for path, text in it.files.items()}
-            given = {"words": [coded(word) for word in it.words], "files": files, "input": coded(it.input)}
-            print(json.dumps({**given, "mostMemory": it.most_memory} if it.most_memory else given), file=file)
+            files = {
+                path: coded(text) if isinstance(text, bytes) else text
+                for path, text in it.files.items()
+            }
+            given = {
+                "words": [coded(word) for word in it.words],
+                "files": files,
+                "input": coded(it.input),
+            }
+            print(
+                json.dumps({**given, "mostMemory": it.most_memory} if it.most_memory else given),
+                file=file,
+            )
         file.flush()
-        words = ["node", f"{build.TOP}/tests/pages/runs.mjs", f"{build.TOP}/page/machine.js", build.made_module(), file.name]
-        done = subprocess.run(words, stdout=subprocess.PIPE, stderr=subprocess.PIPE, text=True, check=False)
+        words = [
+            "node",
+            f"{build.TOP}/tests/pages/runs.mjs",
+            f"{build.TOP}/page/machine.js",
+            build.made_module(),
+            file.name,
+        ]
+        done = subprocess.run(
+            words, stdout=subprocess.PIPE, stderr=subprocess.PIPE, text=True, check=False
+        )
     if done.returncode:
         raise ValueError(f"node ended with status {done.returncode}: {done.stderr.strip()[-300:]}")
     return [ended(line) for line in done.stdout.splitlines()]
@@ -60,8 +89,18 @@ def run_all(runs):
 def run_of(case):
     """Returns a case's run in the module."""
     words = [*cases.ways(case)[0], *case.words]
-    files = {it: text if isinstance(text, dict) else text.encode() for it, text in SUBSTITUTES.items() if it in words}
-    files.update({it: cases.read(it) for it in words if it not in SUBSTITUTES and it != case.save and os.path.isfile(it)})
+    files = {
+        it: text if isinstance(text, dict) else text.encode()
+        for it, text in SUBSTITUTES.items()
+        if it in words
+    }
+    files.update(
+        {
+            it: cases.read(it)
+            for it in words
+            if it not in SUBSTITUTES and it != case.save and os.path.isfile(it)
+        }
+    )
     return Run([b"towerbench", *map(os.fsencode, words)], files, cases.read(case.script))
 
 
@@ -69,7 +108,12 @@ class Cases:
     """All cases in the module, which are run at once when the first is asked for."""
 
     def __init__(self, names, scratch):
-        self.names, self.scratch, self.found, self.turn = names, f"{scratch}/module", None, threading.Lock()
+        self.names, self.scratch, self.found, self.turn = (
+            names,
+            f"{scratch}/module",
+            None,
+            threading.Lock(),
+        )
 
     def all_found(self):
         with self.turn:
@@ -105,7 +149,13 @@ def native(program, given, room):
 
 
 def in_module(given):
-    words = [b"towerbench", b"--workers", b"0", *[b"tower"] * (given.tower is not None), *[b"--save", b"saved"] * given.is_saved]
+    words = [
+        b"towerbench",
+        b"--workers",
+        b"0",
+        *[b"tower"] * (given.tower is not None),
+        *[b"--save", b"saved"] * given.is_saved,
+    ]
     return Run(words, {} if given.tower is None else {"tower": given.tower}, given.script)
 
 
@@ -122,14 +172,22 @@ def fault_of_random_inputs(names, program):
     statuses = collections.Counter(it.status for it in wanted)
     if not {0, 1} <= set(statuses):
         return f"all of them end alike: {dict(statuses)}"
-    shown = [f"number {it}: {cases.first_difference(wanted[it].output, got[it].output) or (wanted[it], got[it])}"[:300] for it in odd[:SHOWN]]
+    shown = [
+        f"number {it}: {cases.first_difference(wanted[it].output, got[it].output) or (wanted[it], got[it])}"[
+            :300
+        ]
+        for it in odd[:SHOWN]
+    ]
     return f"{len(odd)} differ: {'; '.join(shown)}" if odd else None
 
 
 def fault_of_little_memory(names, scratch):
     """Returns which runs don't end with a status if memory is refused; None: all do, and some say that memory is short."""
     os.makedirs(f"{scratch}/little", exist_ok=True)
-    runs = [run_of(cases.case_of(it, f"{scratch}/little"))._replace(most_memory=LITTLE_MEMORY) for it in names]
+    runs = [
+        run_of(cases.case_of(it, f"{scratch}/little"))._replace(most_memory=LITTLE_MEMORY)
+        for it in names
+    ]
     found = dict(zip(names, run_all(runs)))
     faults = [f"{name}: {it.fault}" for name, it in found.items() if it.fault]
     are_short = any(b"40 Memory" in it.output or b"memory" in it.errors for it in found.values())
@@ -144,5 +202,13 @@ def tests(names, named, program, scratch, makes=True):
         return [Test("module: it isn't made from these sources (tools/page makes it)", None)]
     its = Cases(names, scratch)
     found = [Test(f"module {named(it)}", functools.partial(its.fault_of, it)) for it in names]
-    found.append(Test("module with little memory", functools.partial(fault_of_little_memory, names, scratch)))
-    return [Test(f"module {COUNT} random inputs", functools.partial(fault_of_random_inputs, names, program)), *found]
+    found.append(
+        Test("module with little memory", functools.partial(fault_of_little_memory, names, scratch))
+    )
+    return [
+        Test(
+            f"module {COUNT} random inputs",
+            functools.partial(fault_of_random_inputs, names, program),
+        ),
+        *found,
+    ]

@@ -18,8 +18,14 @@ from trials import Test
 SEED, COUNT, SHOWN = 81, 200, 3
 STEPS = {"matrix": 200}
 FEW_STEPS = 80
-TOWERS = (("safe 0", "safe 1"), ("copies 2 0", "copies 3 1"), ("regular 1 0", "regular 2 1"), ("unary 4 1 0", "unary 3 2 1", "unary 5 2 3"),
-          ("stamped 2 1", "stamped 2 2", "stamped 3 3"), ("matrix 2 2 1 3", "matrix 2 2 2 2", "matrix 3 2 1 1"))
+TOWERS = (
+    ("safe 0", "safe 1"),
+    ("copies 2 0", "copies 3 1"),
+    ("regular 1 0", "regular 2 1"),
+    ("unary 4 1 0", "unary 3 2 1", "unary 5 2 3"),
+    ("stamped 2 1", "stamped 2 2", "stamped 3 3"),
+    ("matrix 2 2 1 3", "matrix 2 2 2 2", "matrix 3 2 1 1"),
+)
 PROCESS = re.compile(r"p(\d) (?:idle|read|write \d+)(?: (stopped)|(?: next (..) (\d+)))?")
 STRANGE = re.compile("undefined|NaN|null|object")
 # what a column is wide in inside.mjs, and how far a bar's ends may be from its steps'
@@ -48,8 +54,14 @@ class Tower:
     @property
     def layers(self):
         copies = ["copies"] * (self.readers > 1)
-        return {"safe": [], "copies": copies, "regular": copies, "unary": ["regular", *copies], "stamped": ["unary", "regular"],
-                "matrix": ["stamped", "unary", "regular"]}[self.kind]
+        return {
+            "safe": [],
+            "copies": copies,
+            "regular": copies,
+            "unary": ["regular", *copies],
+            "stamped": ["unary", "regular"],
+            "matrix": ["stamped", "unary", "regular"],
+        }[self.kind]
 
     @property
     def registers(self):
@@ -61,7 +73,11 @@ class Tower:
 
     def tag(self, inner):
         """Returns the tag, the writer and the value of a tagged code."""
-        return inner // self.values // self.side, inner // self.values % self.side, inner % self.values
+        return (
+            inner // self.values // self.side,
+            inner // self.values % self.side,
+            inner % self.values,
+        )
 
     def tag_words(self, inner):
         return "tag {}, p{} wrote {}".format(*self.tag(inner))
@@ -85,7 +101,13 @@ class Part:
     """Bit actions in a row that belong together, from the place `begin` to the place `end`, whose step ends them if it `is_over`."""
 
     def __init__(self, parts, layer):
-        self.parts, self.layer, self.begin, self.end, self.is_over = parts, layer, parts[0].begin, parts[-1].end, parts[-1].is_over
+        self.parts, self.layer, self.begin, self.end, self.is_over = (
+            parts,
+            layer,
+            parts[0].begin,
+            parts[-1].end,
+            parts[-1].is_over,
+        )
         self.is_write, self.cell = parts[0].is_write, parts[0].cell
 
 
@@ -93,12 +115,26 @@ class Bit:
     """A write or a read of one safe bit."""
 
     def __init__(self, begin, is_write, cell):
-        self.begin, self.end, self.is_over, self.is_write, self.cell, self.parts = begin, begin, False, is_write, cell, []
+        self.begin, self.end, self.is_over, self.is_write, self.cell, self.parts = (
+            begin,
+            begin,
+            False,
+            is_write,
+            cell,
+            [],
+        )
 
 
 class Operation:
     def __init__(self, process, words, begun):
-        self.process, self.words, self.begun, self.ended, self.value, self.parts = process, words, begun, None, None, []
+        self.process, self.words, self.begun, self.ended, self.value, self.parts = (
+            process,
+            words,
+            begun,
+            None,
+            None,
+            [],
+        )
 
 
 class Inside:
@@ -150,28 +186,44 @@ class Inside:
     def parts_of(self, it):
         """Returns an operation's parts: for each number that it uses a part with a part for each bit."""
         size, readers = self.tower.size or self.tower.readers, self.tower.readers
-        bits = [Part(list(group), "regular") for _, group in
-                itertools.groupby(self.bits_of(it), lambda bit: (bit.is_write, bit.cell // readers))]
-        return [Part(list(group), "unary") for _, group in
-                itertools.groupby(bits, lambda bit: (bit.is_write, bit.cell // (size * readers)))]
+        bits = [
+            Part(list(group), "regular")
+            for _, group in itertools.groupby(
+                self.bits_of(it), lambda bit: (bit.is_write, bit.cell // readers)
+            )
+        ]
+        return [
+            Part(list(group), "unary")
+            for _, group in itertools.groupby(
+                bits, lambda bit: (bit.is_write, bit.cell // (size * readers))
+            )
+        ]
 
     def register(self, part):
         return part.cell // (self.tower.size * self.tower.readers)
 
     def memory(self, part, place, which):
         """Returns the last stamp (0) of a register's writer, or the best code (1) of its reader."""
-        return self.words[place][self.register(part) * (self.tower.size + 2) + self.tower.size + which]
+        return self.words[place][
+            self.register(part) * (self.tower.size + 2) + self.tower.size + which
+        ]
 
     def greatest(self, it):
         """Returns the greatest tagged code of the column that a matrix's operation read."""
-        return max(self.memory(one, one.end + 1, 1) % self.tower.tagged for one in it.parts if not one.is_write)
+        return max(
+            self.memory(one, one.end + 1, 1) % self.tower.tagged
+            for one in it.parts
+            if not one.is_write
+        )
 
     def tagged(self, it):
         """Returns the tagged code that a matrix's operation writes to its row."""
         code = self.greatest(it)
         if it.words == "read":
             return code
-        return ((self.tower.tag(code)[0] + 1) * self.tower.side + it.process) * self.tower.values + int(it.words.split()[1])
+        return (
+            (self.tower.tag(code)[0] + 1) * self.tower.side + it.process
+        ) * self.tower.values + int(it.words.split()[1])
 
     def written(self, it, part):
         """Returns the number that a part writes."""
@@ -197,17 +249,39 @@ class Inside:
         """Returns the words for the bits that a write of a number passes around one of its writes of bits."""
         ends = [self.index(one) for one in part.parts] + [-1] * part.is_over
         at = part.parts.index(bit)
-        groups = [range((ends[each - 1] if each else number + 1) - 1, ends[each], -1) for each in range(len(ends))]
-        found = [*groups[at], *(groups[at + 1] if bit is part.parts[-1] and at + 1 < len(groups) else [])]
+        groups = [
+            range((ends[each - 1] if each else number + 1) - 1, ends[each], -1)
+            for each in range(len(ends))
+        ]
+        found = [
+            *groups[at],
+            *(groups[at + 1] if bit is part.parts[-1] and at + 1 < len(groups) else []),
+        ]
         for one in found:
-            cell = self.register(part) * self.tower.size * self.tower.readers + one * self.tower.readers
-            assert self.bits[bit.begin][cell] == ("1" if one == number else "0"), f"bit {one} is passed"
+            cell = (
+                self.register(part) * self.tower.size * self.tower.readers
+                + one * self.tower.readers
+            )
+            assert self.bits[bit.begin][cell] == (
+                "1" if one == number else "0"
+            ), f"bit {one} is passed"
         zeros = sorted(set(found) - {number})
-        runs = [[one for _, one in group] for _, group in itertools.groupby(enumerate(zeros), lambda it: it[1] - it[0])]
-        names = ", ".join(f"{run[0]}" if len(run) == 1 else f"{run[0]}, {run[-1]}" if len(run) == 2 else f"{run[0]} to {run[-1]}"
-                          for run in runs)
+        runs = [
+            [one for _, one in group]
+            for _, group in itertools.groupby(enumerate(zeros), lambda it: it[1] - it[0])
+        ]
+        names = ", ".join(
+            f"{run[0]}"
+            if len(run) == 1
+            else f"{run[0]}, {run[-1]}"
+            if len(run) == 2
+            else f"{run[0]} to {run[-1]}"
+            for run in runs
+        )
         words = [f"bit {number} is 1"] * (number in found)
-        words += [f"{'bits' if len(zeros) > 1 else 'bit'} {names} {'are' if len(zeros) > 1 else 'is'} 0"] * bool(zeros)
+        words += [
+            f"{'bits' if len(zeros) > 1 else 'bit'} {names} {'are' if len(zeros) > 1 else 'is'} 0"
+        ] * bool(zeros)
         return f" (skipped: {', '.join(words)} already)" if words else ""
 
     def title_of_bit(self, it, part, bit):
@@ -221,7 +295,11 @@ class Inside:
         return f"bit {index} hit, chosen {value}" if is_hit else f"bit {index} is {value}"
 
     def title_of_copy(self, it, part, copy):
-        value = int(self.index(copy) == self.written(it, part)) if self.tower.size and copy.is_write else it.words.split()[-1]
+        value = (
+            int(self.index(copy) == self.written(it, part))
+            if self.tower.size and copy.is_write
+            else it.words.split()[-1]
+        )
         if copy.is_write:
             return f"copy for p{copy.cell % self.tower.readers + 1} := {value}"
         return f"its copy is {self.given(it, copy)[0]}" if copy.is_over else "its copy"
@@ -231,7 +309,11 @@ class Inside:
         if part.is_write:
             return f"write {self.tower.brief(self.written(it, part))}"
         index = self.index(part.parts[-1])
-        return f"scan up to bit {index}: {self.tower.brief(index) if noun else index}" if part.is_over else f"scan, at bit {index}"
+        return (
+            f"scan up to bit {index}: {self.tower.brief(index) if noun else index}"
+            if part.is_over
+            else f"scan, at bit {index}"
+        )
 
     def title_of_register(self, it, part):
         name = self.tower.registers[self.register(part)]
@@ -254,7 +336,11 @@ class Inside:
                         found.append((it, layer, part, titles[layer](it, part)))
                     for bit in part.parts if layer == "regular" else []:
                         found.append((it, layer, bit, self.title_of_bit(it, part, bit)))
-                    for copy in [one for bit in part.parts for one in bit.parts] if layer == "copies" else []:
+                    for copy in (
+                        [one for bit in part.parts for one in bit.parts]
+                        if layer == "copies"
+                        else []
+                    ):
                         found.append((it, layer, copy, self.title_of_copy(it, part, copy)))
         return found
 
@@ -265,10 +351,18 @@ class Inside:
             return it.words
         if kind == "matrix":
             has_row = any(one.is_write for one in it.parts)
-            return f"{it.words} = {self.tower.tag_words(self.tagged(it))}" if has_row else f"{it.words}: reads its column"
+            return (
+                f"{it.words} = {self.tower.tag_words(self.tagged(it))}"
+                if has_row
+                else f"{it.words}: reads its column"
+            )
         part = it.parts[0]
         if not is_read:
-            return f"{it.words} = {self.tower.named(self.written(it, part))}" if kind == "stamped" else it.words
+            return (
+                f"{it.words} = {self.tower.named(self.written(it, part))}"
+                if kind == "stamped"
+                else it.words
+            )
         if not part.is_over:
             return it.words
         found = self.index(part.parts[-1])
@@ -276,8 +370,11 @@ class Inside:
             return f"read: the first 1 that it found is bit {found}"
         if kind == "stamped":
             best = self.memory(part, part.end + 1, 1)
-            return f"read: found {self.tower.named(found)}" if best == found else \
-                f"read: found code {found}, but remembers {self.tower.named(best)}"
+            return (
+                f"read: found {self.tower.named(found)}"
+                if best == found
+                else f"read: found code {found}, but remembers {self.tower.named(best)}"
+            )
         value, is_hit = self.given(it, part.parts[0])
         return f"read: bit {part.parts[0].cell} {'was hit, chosen' if is_hit else 'is'} {value}"
 
@@ -285,23 +382,47 @@ class Inside:
         """Returns what each band of a register has at each place: words, and whether it is being written."""
         at = {"number": [], "best": [], "stamp": []}
         step = self.tower.size * self.tower.readers
-        writes = [(it, part) for it in self.operations for part in it.parts if part.is_write and self.register(part) == register]
+        writes = [
+            (it, part)
+            for it in self.operations
+            for part in it.parts
+            if part.is_write and self.register(part) == register
+        ]
         for place in range(self.length + 1):
-            going = [self.written(it, part) for it, part in writes if part.begin <= place <= part.end]
-            number = self.bits[place][register * step: (register + 1) * step: self.tower.readers].find("1")
+            going = [
+                self.written(it, part) for it, part in writes if part.begin <= place <= part.end
+            ]
+            number = self.bits[place][
+                register * step : (register + 1) * step : self.tower.readers
+            ].find("1")
             words = f"\u2192 {self.tower.named(going[0])}" if going else self.tower.named(number)
             at["number"].append((words, bool(going)))
             if self.tower.kind != "unary":
-                stamp, best = self.words[place][register * (self.tower.size + 2) + self.tower.size:][:2]
-                named = self.tower.tag_words(best % self.tower.tagged) if self.tower.side else self.tower.named(best)
+                stamp, best = self.words[place][
+                    register * (self.tower.size + 2) + self.tower.size :
+                ][:2]
+                named = (
+                    self.tower.tag_words(best % self.tower.tagged)
+                    if self.tower.side
+                    else self.tower.named(best)
+                )
                 at["best"].append((named, False))
                 at["stamp"].append((f"{stamp}", False))
         return at
 
     def scans(self, register):
         """Returns the reads of a register's bits: their places, and whether they were hit."""
-        parts = [(it, part) for it in self.operations for part in it.parts if not part.is_write and self.register(part) == register]
-        return sorted([bit.begin, bit.end, bit.is_over and self.given(it, bit)[1]] for it, part in parts for bit in part.parts)
+        parts = [
+            (it, part)
+            for it in self.operations
+            for part in it.parts
+            if not part.is_write and self.register(part) == register
+        ]
+        return sorted(
+            [bit.begin, bit.end, bit.is_over and self.given(it, bit)[1]]
+            for it, part in parts
+            for bit in part.parts
+        )
 
     def story_of_scan(self, it, part):
         runs = []
@@ -313,8 +434,14 @@ class Inside:
                     runs[-1][1] = index
                 else:
                     runs.append([index, index, value, is_hit])
-        words = [f"bit {a}, hit, chosen {value}" if is_hit else f"bit {a} = {value}" if a == b else f"bits {a} to {b} = {value}"
-                 for a, b, value, is_hit in runs]
+        words = [
+            f"bit {a}, hit, chosen {value}"
+            if is_hit
+            else f"bit {a} = {value}"
+            if a == b
+            else f"bits {a} to {b} = {value}"
+            for a, b, value, is_hit in runs
+        ]
         return f"Its scan read {'; '.join(words) or 'nothing'}"
 
     def story(self, it):
@@ -325,7 +452,11 @@ class Inside:
             value, is_hit = self.given(it, bit)
             cell = bit.parts[0].cell
             name = f"Its copy, bit {cell}," if self.tower.readers > 1 else f"Bit {cell}"
-            return f"{name} was being written, so it was given the choice {value}." if is_hit else f"{name} was {value}."
+            return (
+                f"{name} was being written, so it was given the choice {value}."
+                if is_hit
+                else f"{name} was {value}."
+            )
         if kind == "matrix":
             return self.story_of_column(it)
         first, found = self.story_of_scan(it, part), self.index(part.parts[-1])
@@ -333,11 +464,19 @@ class Inside:
             return f"{first}: the first 1 that it found is bit {found}."
         before, after = self.memory(part, part.begin, 1), self.memory(part, part.end + 1, 1)
         first, who = f"{first}: so it found {self.tower.named(found)}.", f"p{it.process}"
-        assert after == max(found, before) and after % self.tower.values == it.value, "the greater is kept and returned"
+        assert (
+            after == max(found, before) and after % self.tower.values == it.value
+        ), "the greater is kept and returned"
         if after != found:
-            return (f"{first} But {who} remembered {self.tower.named(after)}, which is greater, and gives that one's value, "
-                    f"{it.value}.")
-        how = "remembered that code already" if before == found else f"remembers it now, as it is greater than {before}"
+            return (
+                f"{first} But {who} remembered {self.tower.named(after)}, which is greater, and gives that one's value, "
+                f"{it.value}."
+            )
+        how = (
+            "remembered that code already"
+            if before == found
+            else f"remembers it now, as it is greater than {before}"
+        )
         return f"{first} {who} {how}."
 
     def story_of_column(self, it):
@@ -345,12 +484,18 @@ class Inside:
         for part in (one for one in it.parts if not one.is_write):
             best, found = self.memory(part, part.end + 1, 1), self.index(part.parts[-1])
             kept = "" if best == found else f" (remembered; its scan found code {found})"
-            words.append(f"{self.tower.registers[self.register(part)]}: {self.tower.tag_words(best % self.tower.tagged)}{kept}")
-        row = " and ".join(self.tower.registers[self.register(one)] for one in it.parts if one.is_write)
+            words.append(
+                f"{self.tower.registers[self.register(part)]}: {self.tower.tag_words(best % self.tower.tagged)}{kept}"
+            )
+        row = " and ".join(
+            self.tower.registers[self.register(one)] for one in it.parts if one.is_write
+        )
         code = self.greatest(it)
         assert self.tower.tag(code)[2] == it.value, "the greatest is returned"
-        return (f"It read its column: {'; '.join(words)}. The greatest is {self.tower.tag_words(code)}: it wrote that to its row, "
-                f"{row}, and gives its value, {it.value}.")
+        return (
+            f"It read its column: {'; '.join(words)}. The greatest is {self.tower.tag_words(code)}: it wrote that to its row, "
+            f"{row}, and gives its value, {it.value}."
+        )
 
 
 def first_odd(found, wanted, label):
@@ -358,21 +503,44 @@ def first_odd(found, wanted, label):
     odd = [it for it in found if it not in wanted][:2], [it for it in wanted if it not in found][:2]
     if any(odd):
         return f"{label}: drawn {odd[0]}, wanted {odd[1]}"
-    return None if len(found) == len(wanted) else f"{label}: {len(found)} drawn, {len(wanted)} wanted"
+    return (
+        None if len(found) == len(wanted) else f"{label}: {len(found)} drawn, {len(wanted)} wanted"
+    )
 
 
 def fault_of_nests(inside, drawn):
-    wanted = [(layer, it.process, part.begin, part.end, part.is_write, title) for it, layer, part, title in inside.nests()]
-    found = [(it["layer"], it["process"], it["from"], it["to"], " writes" in it["kind"], it["title"]) for it in drawn]
+    wanted = [
+        (layer, it.process, part.begin, part.end, part.is_write, title)
+        for it, layer, part, title in inside.nests()
+    ]
+    found = [
+        (it["layer"], it["process"], it["from"], it["to"], " writes" in it["kind"], it["title"])
+        for it in drawn
+    ]
     going = {(it["layer"], it["process"], it["from"]) for it in drawn if "going" in it["kind"]}
-    still = {(layer, it.process, part.begin) for it, layer, part, _ in inside.nests() if not part.is_over}
+    still = {
+        (layer, it.process, part.begin) for it, layer, part, _ in inside.nests() if not part.is_over
+    }
     hits = {(it["process"], it["from"]) for it in drawn if "is-hit" in it["kind"]}
-    were = {(it.process, part.begin) for it, layer, part, _ in inside.nests()
-            if layer == "regular" and not part.is_write and part.is_over and inside.given(it, part)[1]}
-    far = [it for it in drawn if abs(it["x"] - it["from"] * COLUMN) > GAP
-           or ("going" not in it["kind"] and abs(it["x"] + it["width"] - (it["to"] + 1) * COLUMN) > GAP)]
-    return first_odd(found, wanted, "bars") or first_odd(going, still, "bars that go on") or first_odd(hits, were, "hits") or \
-        (f"a bar isn't at its steps: {far[0]}" if far else None)
+    were = {
+        (it.process, part.begin)
+        for it, layer, part, _ in inside.nests()
+        if layer == "regular" and not part.is_write and part.is_over and inside.given(it, part)[1]
+    }
+    far = [
+        it
+        for it in drawn
+        if abs(it["x"] - it["from"] * COLUMN) > GAP
+        or (
+            "going" not in it["kind"] and abs(it["x"] + it["width"] - (it["to"] + 1) * COLUMN) > GAP
+        )
+    ]
+    return (
+        first_odd(found, wanted, "bars")
+        or first_odd(going, still, "bars that go on")
+        or first_odd(hits, were, "hits")
+        or (f"a bar isn't at its steps: {far[0]}" if far else None)
+    )
 
 
 def fault_of_rows(inside, drawn):
@@ -394,8 +562,12 @@ def fault_of_rows(inside, drawn):
                 left = 0 if begin == 0 else (begin - 0.5) * COLUMN
                 if abs(box["x"] - left) > GAP:
                     return f"{named[kind]}: a box isn't at its place {begin}: {box}"
-                at.update({place: (words, box["class"] == "written") for place in range(begin, end + 1)})
-            fault = first_odd([at.get(place) for place in range(inside.length + 1)], wanted, named[kind])
+                at.update(
+                    {place: (words, box["class"] == "written") for place in range(begin, end + 1)}
+                )
+            fault = first_odd(
+                [at.get(place) for place in range(inside.length + 1)], wanted, named[kind]
+            )
             if fault or [at.get(place) for place in range(inside.length + 1)] != wanted:
                 return fault or f"{named[kind]} has other places"
         if fault := first_odd(sorted(rows[name][name]["scans"]), scans, f"scans of {name}"):
@@ -410,19 +582,34 @@ def fault_of(tower, middle, made):
     stories = {(begun, process): words for begun, process, words in drawn["stories"]}
     returned = [it for it in inside.operations if it.value is not None]
     said = {(it.begun, it.process): inside.story(it) for it in returned}
-    faults = [fault_of_nests(inside, drawn["nests"]), fault_of_rows(inside, drawn["rows"]),
-              first_odd([(it["begun"], it["process"], it["words"]) for it in drawn["bars"]], bars, "words on bars"),
-              first_odd({it: stories.get(it) for it in said}.items(), said.items(), "sentences")]
+    faults = [
+        fault_of_nests(inside, drawn["nests"]),
+        fault_of_rows(inside, drawn["rows"]),
+        first_odd(
+            [(it["begun"], it["process"], it["words"]) for it in drawn["bars"]],
+            bars,
+            "words on bars",
+        ),
+        first_odd({it: stories.get(it) for it in said}.items(), said.items(), "sentences"),
+    ]
     # what begins after the middle is drawn alike from there, and what is cut says nothing strange
     later = [it for it in drawn["nests"] if begun_of(inside, it) >= middle]
     from_there = [it for it in made["middle"]["nests"] if begun_of(inside, it) >= middle]
     faults.append(first_odd(from_there, later, "bars from the middle"))
-    faults += [f"it says {words}" for words in texts_in(made) if STRANGE.search(words)] + drawn["notes"] + made["middle"]["notes"]
+    faults += (
+        [f"it says {words}" for words in texts_in(made) if STRANGE.search(words)]
+        + drawn["notes"]
+        + made["middle"]["notes"]
+    )
     return next((f"{tower}: {it}" for it in faults if it), None)
 
 
 def begun_of(inside, nest):
-    return max(it.begun for it in inside.operations if it.process == nest["process"] and it.begun < nest["from"])
+    return max(
+        it.begun
+        for it in inside.operations
+        if it.process == nest["process"] and it.begun < nest["from"]
+    )
 
 
 def texts_in(made):
@@ -461,7 +648,9 @@ def drawn(schedules):
         with open(f"{room}/schedules", "w", encoding="ascii") as file:
             file.writelines(f"{json.dumps(it)}\n" for it in schedules)
         words = ["node", f"{room}/inside.mjs", build.made_module(), f"{room}/schedules"]
-        with subprocess.Popen(words, stdout=subprocess.PIPE, stderr=subprocess.PIPE, text=True) as node:
+        with subprocess.Popen(
+            words, stdout=subprocess.PIPE, stderr=subprocess.PIPE, text=True
+        ) as node:
             yield from map(json.loads, node.stdout)
             errors = node.stderr.read()
     if node.returncode:
@@ -471,7 +660,9 @@ def drawn(schedules):
 def fault_of_kind(lines, count):
     """Returns what is wrong in what is drawn of random schedules of some towers; None: nothing."""
     chance, faults, tried = random.Random(f"{SEED} {lines[0]}"), [], 0
-    schedules = [(schedule(chance, lines[it % len(lines)]), chance.randrange(20, 50)) for it in range(count)]
+    schedules = [
+        (schedule(chance, lines[it % len(lines)]), chance.randrange(20, 50)) for it in range(count)
+    ]
     for (text, middle), made in zip(schedules, drawn(schedules)):
         tried += 1
         try:
@@ -482,11 +673,18 @@ def fault_of_kind(lines, count):
             faults.append(fault)
     if tried != count:
         return f"{tried} of {count} schedules were drawn"
-    return f"{len(faults)} of {count} schedules: {'; '.join(faults[:SHOWN])}"[:900] if faults else None
+    return (
+        f"{len(faults)} of {count} schedules: {'; '.join(faults[:SHOWN])}"[:900] if faults else None
+    )
 
 
 def tests():
     count = int(os.environ.get("SCHEDULES", COUNT))
     has_node = shutil.which("node")
-    return [Test(f"inside {it[0].split()[0]}, {count} schedules", (lambda it=it: fault_of_kind(it, count)) if has_node else None)
-            for it in TOWERS]
+    return [
+        Test(
+            f"inside {it[0].split()[0]}, {count} schedules",
+            (lambda it=it: fault_of_kind(it, count)) if has_node else None,
+        )
+        for it in TOWERS
+    ]

@@ -24,13 +24,17 @@ def first_caption(lines):
         if not line.startswith("#"):
             break
         if not DATA.match(line):
-            found.append(line[len(COMMENT):])
+            found.append(line[len(COMMENT) :])
     return " ".join(found)
 
 
 def lessons(page, names):
     """Each lesson is in the menu, begins before its first line with its caption, and can be played to its end."""
-    found = [it for it in names if it.startswith("lessons/") and it.count("/") == 2 and not it.endswith(SOLUTION)]
+    found = [
+        it
+        for it in names
+        if it.startswith("lessons/") and it.count("/") == 2 and not it.endswith(SOLUTION)
+    ]
     for name in found:
         script = cases.read(f"{name}.script").decode()
         page.open()
@@ -43,7 +47,10 @@ def lessons(page, names):
         page.do("lessonNext")
         page.do("lessonEnd")
         same(page.script().strip(), script.strip(), name)
-        holds(page.value("document.querySelector('#lesson-next').disabled"), f"{name} goes on after its end")
+        holds(
+            page.value("document.querySelector('#lesson-next').disabled"),
+            f"{name} goes on after its end",
+        )
     holds(len(found) >= 9, f"there are only {len(found)} lessons")
 
 
@@ -54,7 +61,9 @@ def exercises(page, names):
         page.open()
         page.do("chooseOpen")
         page.click(f'#open-dialog [data-open="{name[len("lessons/"):]}"]')
-        page.until(f"document.querySelector('#file').value === {json.dumps(tower)}", f"{name} isn't opened")
+        page.until(
+            f"document.querySelector('#file').value === {json.dumps(tower)}", f"{name} isn't opened"
+        )
         page.wait()
         same(page.script(), "", name)
         holds(page.value("document.querySelector('#lesson').hidden"), f"{name} is played")
@@ -63,7 +72,11 @@ def exercises(page, names):
 def a_lesson_line_by_line(page):
     """Lesson 1 is played line by line: each line is answered as its expected output has it."""
     name = "lessons/01-safe-bit/safe"
-    lines = [it for it in cases.read(f"{name}.script").decode().splitlines() if it and not it.startswith("#")]
+    lines = [
+        it
+        for it in cases.read(f"{name}.script").decode().splitlines()
+        if it and not it.startswith("#")
+    ]
     page.open()
     page.do("chooseOpen")
     page.click('#open-dialog [data-open="01-safe-bit/safe"]')
@@ -76,9 +89,15 @@ def a_lesson_line_by_line(page):
     same([line for line, _ in played], lines)
     # (a caption belongs to the lines below it)
     at = lines.index("0 fork other 5 same")
-    holds(captions[at].startswith("The same read while 0") and captions[at - 1].startswith("The other answer"), captions)
+    holds(
+        captions[at].startswith("The same read while 0")
+        and captions[at - 1].startswith("The other answer"),
+        captions,
+    )
     wanted = cases.read(f"{name}.expected").decode().splitlines()
-    same([line for _, answer in played for line in answer.split("\n")], [it.strip() for it in wanted])
+    same(
+        [line for _, answer in played for line in answer.split("\n")], [it.strip() for it in wanted]
+    )
 
 
 def policy(page):

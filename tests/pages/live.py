@@ -38,7 +38,11 @@ class Page:
 
     def open(self, tower=None, script="0 join\n"):
         """Opens the page with a document, or with its first screen."""
-        given = "" if tower is None else "#" + urllib.parse.quote(json.dumps([tower or NO_TOWER, script]), safe="")
+        given = (
+            ""
+            if tower is None
+            else "#" + urllib.parse.quote(json.dumps([tower or NO_TOWER, script]), safe="")
+        )
         self.chrome.open(self.address + given)
         self.wait()
 
@@ -59,7 +63,9 @@ class Page:
     def click(self, selector):
         """Clicks in the middle of what a selector finds, once it is there."""
         quoted = json.dumps(selector)
-        self.until(f"{IDLE} && document.querySelector({quoted})", f"nothing is there to click: {selector}")
+        self.until(
+            f"{IDLE} && document.querySelector({quoted})", f"nothing is there to click: {selector}"
+        )
         at = self.value(MIDDLE % quoted)
         holds(at, f"it can't be clicked: {selector}")
         self.chrome.click(*at)
@@ -90,7 +96,9 @@ class Page:
         return self.value(f"document.querySelector({json.dumps(selector)}).textContent")
 
     def texts(self, selector):
-        return self.value(f"[...document.querySelectorAll({json.dumps(selector)})].map((it) => it.textContent)")
+        return self.value(
+            f"[...document.querySelectorAll({json.dumps(selector)})].map((it) => it.textContent)"
+        )
 
     def count(self, selector):
         return self.value(f"document.querySelectorAll({json.dumps(selector)}).length")
@@ -117,13 +125,15 @@ class Page:
     def choose_tower(self, kind, *numbers):
         """Begins with a tower by the dialog."""
         self.do("chooseTower")
-        self.click(f'[name=kind][value={kind}]')
+        self.click(f"[name=kind][value={kind}]")
         for index, number in enumerate(numbers):
             self.fill(f"#fields label:nth-child({index + 1}) input", str(number))
         self.click("#tower-dialog button[value=begin]")
         line = " ".join(map(str, (kind, *numbers)))
-        self.until(f"document.querySelector('#tower-line').textContent === {json.dumps(line)} && "
-                   "document.querySelector('#at').textContent === 'main, place 0 of 0'")
+        self.until(
+            f"document.querySelector('#tower-line').textContent === {json.dumps(line)} && "
+            "document.querySelector('#at').textContent === 'main, place 0 of 0'"
+        )
         self.wait()
 
     def fork(self, name):
@@ -131,5 +141,7 @@ class Page:
         self.until("document.querySelector('#name-dialog').open")
         self.fill("#name", name)
         self.click("#name-dialog button[value=fork]")
-        self.until(f"document.querySelector('#at').textContent.startsWith({json.dumps(name + ',')})")
+        self.until(
+            f"document.querySelector('#at').textContent.startsWith({json.dumps(name + ',')})"
+        )
         self.wait()

@@ -6,8 +6,10 @@ import cases
 
 # What is longer only takes time.
 MOST_BYTES = 20000
-NUMBERS = ("0 1 2 3 5 17 255 256 65535 65536 4294967295 4294967296 9223372036854775807 18446744073709551615 18446744073709551616"
-           " -1 main w r").encode().split(b" ") + [b""]
+NUMBERS = (
+    "0 1 2 3 5 17 255 256 65535 65536 4294967295 4294967296 9223372036854775807 18446744073709551615 18446744073709551616"
+    " -1 main w r"
+).encode().split(b" ") + [b""]
 COUNTS_OF_CHANGES = (0, 1, 1, 2, 4, 8)
 # How often there is no file, a changed one, a second script and a save.
 NO_FILE, CHANGED_FILE, TWO_SCRIPTS, SAVED = 0.25, 0.4, 0.3, 0.3
@@ -48,7 +50,9 @@ def made(names, seed, count):
     """Returns `count` inputs, the same ones for the same cases and seed."""
     chance = random.Random(seed)
     scripts, towers = texts(names, ["script"]), texts(names, ["tower", "bench"])
-    lines, file_lines = (sorted({line for it in found for line in it.split(b"\n")}) for found in (scripts, towers))
+    lines, file_lines = (
+        sorted({line for it in found for line in it.split(b"\n")}) for found in (scripts, towers)
+    )
     found = []
     for _ in range(count):
         tower = None if chance.random() < NO_FILE else chance.choice(towers)

@@ -27,21 +27,37 @@ class Reader:
 
     def __init__(self, program, tower, script):
         self.program, self.tower, self.script = program, tower, script
-        self.lengths = {line.split()[0]: int(line.split()[1]) for line in self.ask("branches")["branches"]}
+        self.lengths = {
+            line.split()[0]: int(line.split()[1]) for line in self.ask("branches")["branches"]
+        }
 
     def ask(self, *looks):
         """Returns the lines of each page, by its look."""
         asked = "".join(f"{LOOK} {look}\n" for look in looks)
         text = program_answers(self.program, self.tower, f"{self.script}\n{asked}")
         answers = re.findall(rf"^{LOOK}: (.*)\n((?:  .*\n)*)", text, re.M)
-        named = {head.split(" of ")[0]: [line[2:] for line in lines.splitlines()] for head, lines in answers}
-        return {"branches" if head.startswith("branches") else head: it for head, it in named.items()}
+        named = {
+            head.split(" of ")[0]: [line[2:] for line in lines.splitlines()]
+            for head, lines in answers
+        }
+        return {
+            "branches" if head.startswith("branches") else head: it for head, it in named.items()
+        }
 
     def branch(self, name):
         """Returns all pages of a branch, and how long it is."""
         length = self.lengths[name]
-        looks = [f"{kind} {name} {at}" for kind in ("state", "pending", "bits") for at in range(length + 1)]
-        return self.ask(*looks, f"history {name} {length}", f"verdict {name} {length}", f"steps {name}"), length
+        looks = [
+            f"{kind} {name} {at}"
+            for kind in ("state", "pending", "bits")
+            for at in range(length + 1)
+        ]
+        return (
+            self.ask(
+                *looks, f"history {name} {length}", f"verdict {name} {length}", f"steps {name}"
+            ),
+            length,
+        )
 
 
 def bit_actions(found, name, first, last):
@@ -73,5 +89,8 @@ def overlapped(history):
         elif kind in ("return", "refused"):
             live[process][1], live.pop(process)[3] = int(step), kind == "refused"
     writes = [it for it in done if it[2] == "write" and not it[3]]
-    return {begun: [it[0] for it in writes if it[0] < end and (it[1] is None or it[1] > begun)]
-            for begun, end, kind, is_refused in done if kind == "read" and end is not None and not is_refused}
+    return {
+        begun: [it[0] for it in writes if it[0] < end and (it[1] is None or it[1] > begun)]
+        for begun, end, kind, is_refused in done
+        if kind == "read" and end is not None and not is_refused
+    }

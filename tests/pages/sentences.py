@@ -20,17 +20,29 @@ INITIAL = 0
 NEVER = 10**9
 SHOWN = 3
 # ended: NEVER if it goes on; value: what is written or what is returned
-Operation = collections.namedtuple("Operation", "process kind value begun ended is_refused", defaults=[False])
+Operation = collections.namedtuple(
+    "Operation", "process kind value begun ended is_refused", defaults=[False]
+)
 # What the page may say of a fresh read, in parts
-SOURCE = re.compile(r"Fresh: (?:write (\d+) returned at step (\d+), the last write to return|no write had returned) before the read "
-                    r"began at step (\d+)(?:, and (\d+) is the initial value)?\.(?: (.*))?")
-NEWER = re.compile(r"Fresh doesn't mean newest: write (\d+) overlaps the read, which returned the older value\.")
+SOURCE = re.compile(
+    r"Fresh: (?:write (\d+) returned at step (\d+), the last write to return|no write had returned) before the read "
+    r"began at step (\d+)(?:, and (\d+) is the initial value)?\.(?: (.*))?"
+)
+NEWER = re.compile(
+    r"Fresh doesn't mean newest: write (\d+) overlaps the read, which returned the older value\."
+)
 SAME = re.compile(r"write (\d+), which overlaps the read, wrote that value too\.")
-INVERSION = re.compile(r"This is a new-old inversion: p(\d) had already read (\d+), at step (\d+)\.")
-OVERLAP = re.compile(r"Overlap: write (\d+) began at step (\d+)(?: and hadn't returned when the read began at step (\d+)|"
-                     r", before the read returned at step (\d+))\.")
-STRAY = re.compile(r"Stray: no write of (\d+) overlaps the read, and (?:write (\d+) was the last write before it|no write had returned "
-                   r"before it, and (\d+) isn't the initial value)\.")
+INVERSION = re.compile(
+    r"This is a new-old inversion: p(\d) had already read (\d+), at step (\d+)\."
+)
+OVERLAP = re.compile(
+    r"Overlap: write (\d+) began at step (\d+)(?: and hadn't returned when the read began at step (\d+)|"
+    r", before the read returned at step (\d+))\."
+)
+STRAY = re.compile(
+    r"Stray: no write of (\d+) overlaps the read, and (?:write (\d+) was the last write before it|no write had returned "
+    r"before it, and (\d+) isn't the initial value)\."
+)
 
 
 class Judge:
@@ -40,7 +52,9 @@ class Judge:
         self.operations, self.read = operations, read
         writes = [it for it in operations if it.kind == "write" and not it.is_refused]
         self.over = self.overlapped(read)
-        self.last = max((it for it in writes if it.ended < read.begun), key=lambda it: it.begun, default=None)
+        self.last = max(
+            (it for it in writes if it.ended < read.begun), key=lambda it: it.begun, default=None
+        )
         self.fresh = self.last.value if self.last else INITIAL
 
     def overlapped(self, read):
@@ -64,7 +78,9 @@ class Judge:
         """The earlier reads that are of a newer write, whichever writes both are of."""
         reads = (it for it in self.operations if it.kind == "read" and it.ended < self.read.begun)
         judged = ((it, Judge(self.operations, it).sources) for it in reads)
-        return [it for it, found in judged if found and self.sources and min(found) > max(self.sources)]
+        return [
+            it for it, found in judged if found and self.sources and min(found) > max(self.sources)
+        ]
 
     def newer(self, value):
         """Returns whether a write of a value overlaps the read and is newer than whatever it is of."""
@@ -77,17 +93,29 @@ def fault_of_fresh(judge, words):
     if not found:
         return "it has no reason"
     value, ended, began, initial, more = found.groups()
-    last = (str(judge.last.value), str(judge.last.ended), None) if judge.last else (None, None, str(INITIAL))
+    last = (
+        (str(judge.last.value), str(judge.last.ended), None)
+        if judge.last
+        else (None, None, str(INITIAL))
+    )
     if (value, ended, initial) != last or int(began) != read.begun or read.value != judge.fresh:
         return "its source is another"
     is_newer = any(judge.newer(it) for it in VALUES)
     if not more:
         return "it leaves out a write" if judge.over else None
     if it := NEWER.fullmatch(more):
-        return None if judge.newer(int(it[1])) and not judge.inversions else "it isn't so that a newer write overlaps it"
+        return (
+            None
+            if judge.newer(int(it[1])) and not judge.inversions
+            else "it isn't so that a newer write overlaps it"
+        )
     if it := SAME.fullmatch(more):
         is_there = any(each.value == int(it[1]) == read.value for each in judge.over)
-        return None if is_there and not is_newer and not judge.inversions else "no write wrote that value too"
+        return (
+            None
+            if is_there and not is_newer and not judge.inversions
+            else "no write wrote that value too"
+        )
     if it := INVERSION.fullmatch(more):
         wanted = [(each.process, each.value, each.ended) for each in judge.inversions]
         return None if tuple(map(int, it.groups())) in wanted else "there is no inversion"
@@ -99,10 +127,16 @@ def fault_of_overlap(judge, words):
     if not found:
         return "it has no reason"
     value, begun, began, ended = (None if it is None else int(it) for it in found.groups())
-    is_there = any((it.value, it.begun) == (value, begun) and value == read.value for it in judge.over)
+    is_there = any(
+        (it.value, it.begun) == (value, begun) and value == read.value for it in judge.over
+    )
     if began is not None:
         return None if is_there and begun < began == read.begun else "no such write overlaps it"
-    return None if is_there and read.begun < begun < ended == read.ended else "no such write overlaps it"
+    return (
+        None
+        if is_there and read.begun < begun < ended == read.ended
+        else "no such write overlaps it"
+    )
 
 
 def fault_of_stray(judge, words):
@@ -111,7 +145,11 @@ def fault_of_stray(judge, words):
         return "it has no reason"
     value, last, initial = (None if it is None else int(it) for it in found.groups())
     wanted = (judge.last.value, None) if judge.last else (None, value)
-    is_so = value == judge.read.value and (last, initial) == wanted and all(it.value != value for it in judge.over)
+    is_so = (
+        value == judge.read.value
+        and (last, initial) == wanted
+        and all(it.value != value for it in judge.over)
+    )
     return None if is_so and value != judge.fresh else "it isn't stray so"
 
 
@@ -131,11 +169,16 @@ def orders(threads):
 
 def histories_of(writes, readers, ending, values=VALUES):
     """Yields the histories of some writes and reads. readers: the process of each read; ending: of the last write."""
-    names = [("w", it) for it in range(writes)], *([("r", it) for it, who in enumerate(readers) if who == p] for p in sorted(set(readers)))
+    names = [("w", it) for it in range(writes)], *(
+        [("r", it) for it, who in enumerate(readers) if who == p] for p in sorted(set(readers))
+    )
     is_short = ending in ("refused", "at once")
     last, threads = ("w", writes - 1), []
     for names_of_one in names:
-        ends = [[(it, "begin")] + [(it, "end")] * (it != last or ending == "whole") for it in names_of_one]
+        ends = [
+            [(it, "begin")] + [(it, "end")] * (it != last or ending == "whole")
+            for it in names_of_one
+        ]
         threads.append([event for it in ends for event in it])
     for order in orders(threads):
         steps = {event: step for step, event in enumerate(order)}
@@ -144,9 +187,19 @@ def histories_of(writes, readers, ending, values=VALUES):
             for at in range(writes):
                 begun, is_last = steps[("w", at), "begin"], ("w", at) == last
                 ended = begun if is_last and is_short else steps.get((("w", at), "end"), NEVER)
-                made.append(Operation(0, "write", given[at], begun, ended, is_last and ending == "refused"))
+                made.append(
+                    Operation(0, "write", given[at], begun, ended, is_last and ending == "refused")
+                )
             for at, who in enumerate(readers):
-                made.append(Operation(who, "read", given[writes + at], steps[("r", at), "begin"], steps[("r", at), "end"]))
+                made.append(
+                    Operation(
+                        who,
+                        "read",
+                        given[writes + at],
+                        steps[("r", at), "begin"],
+                        steps[("r", at), "end"],
+                    )
+                )
             yield sorted(made, key=lambda it: it.begun), len(order)
 
 
@@ -166,10 +219,16 @@ def pages_of(operations, length):
         events.append((it.begun, 0, f"{it.begun} p{it.process} invoke {name}"))
         if it.ended == NEVER:
             continue
-        end = "refused spent stamped" if it.is_refused else f"return {'written' if it.kind == 'write' else it.value}"
+        end = (
+            "refused spent stamped"
+            if it.is_refused
+            else f"return {'written' if it.kind == 'write' else it.value}"
+        )
         events.append((it.ended, 1, f"{it.ended} p{it.process} {end}"))
         if it.kind == "read":
-            verdicts.append((it.ended, f"{it.ended} p{it.process} {it.value} {Judge(operations, it).verdict}"))
+            verdicts.append(
+                (it.ended, f"{it.ended} p{it.process} {it.value} {Judge(operations, it).verdict}")
+            )
     return [it[-1] for it in sorted(events)], [it[-1] for it in sorted(verdicts)], length
 
 
@@ -177,8 +236,14 @@ def sentences(lines):
     """Returns what the page says of each history's reads, by the step at which each begins."""
     with tempfile.TemporaryDirectory() as room:
         build.put_modules(room, "sentences.mjs")
-        done = subprocess.run(["node", f"{room}/sentences.mjs"], input="".join(lines), stdout=subprocess.PIPE, stderr=subprocess.PIPE,
-                              text=True, check=False)
+        done = subprocess.run(
+            ["node", f"{room}/sentences.mjs"],
+            input="".join(lines),
+            stdout=subprocess.PIPE,
+            stderr=subprocess.PIPE,
+            text=True,
+            check=False,
+        )
     if done.returncode:
         raise ValueError(f"node ended with status {done.returncode}: {done.stderr.strip()[-300:]}")
     return [json.loads(it) for it in done.stdout.splitlines()]
@@ -208,11 +273,21 @@ def fault_of_sentences():
         return f"{len(made)} histories have {len(said)} answers"
     faults = [it for it in map(lambda it, words: fault_of_history(it[0], *words), made, said) if it]
     kinds = collections.Counter(words.split(":")[0] for _, reads in said for _, words in reads)
-    has_all = set(kinds) == {"Fresh", "Overlap", "Stray"} and any("inversion" in words for _, reads in said for _, words in reads)
+    has_all = set(kinds) == {"Fresh", "Overlap", "Stray"} and any(
+        "inversion" in words for _, reads in said for _, words in reads
+    )
     if not has_all:
         return f"of {len(made)} histories it says {dict(kinds)}"
-    return f"{len(faults)} of {len(made)} histories: {'; '.join(faults[:SHOWN])}"[:900] if faults else None
+    return (
+        f"{len(faults)} of {len(made)} histories: {'; '.join(faults[:SHOWN])}"[:900]
+        if faults
+        else None
+    )
 
 
 def tests():
-    return [Test("sentences of every small history", fault_of_sentences if shutil.which("node") else None)]
+    return [
+        Test(
+            "sentences of every small history", fault_of_sentences if shutil.which("node") else None
+        )
+    ]

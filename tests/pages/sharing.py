@@ -27,7 +27,7 @@ def hash_of(page, base=BASE):
     """Returns what follows the address in the dialog's link."""
     page.fill("#share-base", base)
     page.until(f"document.querySelector('#share-link').value.startsWith({json.dumps(base + '#z')})")
-    return page.value("document.querySelector('#share-link').value")[len(base):]
+    return page.value("document.querySelector('#share-link').value")[len(base) :]
 
 
 def links(page):
@@ -47,12 +47,23 @@ def links(page):
     page.wait()
     holds(QUESTION in page.text("#task"), "the question isn't shown")
     same(page.document(), [SAFE, f"# {QUESTION}\n# {GOAL}\n0 join\n"])
-    same(page.value("[...document.querySelectorAll('#task [data-met]')].map((it) => it.dataset.met)"), ["false"])
+    same(
+        page.value(
+            "[...document.querySelectorAll('#task [data-met]')].map((it) => it.dataset.met)"
+        ),
+        ["false"],
+    )
     page.click("#place")
     page.key("End")
     page.click('[data-action="g 1 1"]')
     page.until("document.querySelector('#task [role=status]')")
-    for spoilt in (found[:-9], found[:40] + ("A" if found[40] != "A" else "B") + found[41:], found + "@", "#%5B1%2C2%5D", "#%"):
+    for spoilt in (
+        found[:-9],
+        found[:40] + ("A" if found[40] != "A" else "B") + found[41:],
+        found + "@",
+        "#%5B1%2C2%5D",
+        "#%",
+    ):
         page.chrome.open(page.address + spoilt)
         page.wait()
         holds(page.said().startswith("This link is damaged"), f"{spoilt[:30]}: {page.said()}")
@@ -71,7 +82,7 @@ def short_links(page):
     share(page)
     found = len(BASE + hash_of(page))
     holds(found <= MOST_LINK, f"the link of exercise 5.3 has {found} characters")
-    size = pathlib.Path(page.address[len("file://"):]).stat().st_size
+    size = pathlib.Path(page.address[len("file://") :]).stat().st_size
     holds(size <= MOST_PAGE, f"the page has {size} bytes")
 
 
@@ -91,8 +102,14 @@ def one_file(page):
         page.wait()
         page.chrome.open(f"file://{saved}")
         page.wait()
-        same(page.document(), [SAFE, f"# {QUESTION}\n# {GOAL}\n# student: Anna Example\n0 join\n{STRAY}"])
-        holds("Anna Example" in page.text("#task") and page.count("#task [role=status]"), page.text("#task"))
+        same(
+            page.document(),
+            [SAFE, f"# {QUESTION}\n# {GOAL}\n# student: Anna Example\n0 join\n{STRAY}"],
+        )
+        holds(
+            "Anna Example" in page.text("#task") and page.count("#task [role=status]"),
+            page.text("#task"),
+        )
         (pathlib.Path(room) / "again.html").write_bytes(saved.read_bytes())
         page.open()
         drop(page, [("again.html", saved.read_text(encoding="utf-8"))])
@@ -100,9 +117,11 @@ def one_file(page):
 
 
 def drop(page, given):
-    page.value(f"""(() => {{ const data = new DataTransfer();
+    page.value(
+        f"""(() => {{ const data = new DataTransfer();
       for (const [name, text] of {json.dumps(given)}) data.items.add(new File([text], name));
-      document.body.dispatchEvent(new DragEvent("drop", {{ bubbles: true, cancelable: true, dataTransfer: data }})); }})()""")
+      document.body.dispatchEvent(new DragEvent("drop", {{ bubbles: true, cancelable: true, dataTransfer: data }})); }})()"""
+    )
     page.wait()
 
 
@@ -148,8 +167,16 @@ def forty_files(page):
     page.open(SAFE, f"# {QUESTION}\n# {GOAL}\n0 join\n")
     given = []
     for number in range(38):
-        lines = [f"# tower: {'; '.join(SAFE.strip().splitlines())}", f"# {QUESTION}", f"# {GOAL}", f"# student: Student {number}", "0 join"]
-        given.append((f"s{number:02}.script", "\n".join(lines) + f"\n0 insert main 4 g 1 {number % 2}\n"))
+        lines = [
+            f"# tower: {'; '.join(SAFE.strip().splitlines())}",
+            f"# {QUESTION}",
+            f"# {GOAL}",
+            f"# student: Student {number}",
+            "0 join",
+        ]
+        given.append(
+            (f"s{number:02}.script", "\n".join(lines) + f"\n0 insert main 4 g 1 {number % 2}\n")
+        )
     given.append(("bad.script", "# tower: tower 2; nothing 0\n0 join\n"))
     given.append(("none.html", "<p>no document</p>"))
     drop(page, given)
@@ -157,7 +184,10 @@ def forty_files(page):
     same(page.text("#class-count"), "40 files, 19 meet all goals")
     same(page.count("#class-table tbody tr"), 40)
     same(page.count("#class-table .wrong"), 2)
-    same(page.texts("#class-table [data-class=s01], #class-table [data-class=s02]"), ["Student 1", "Student 2"])
+    same(
+        page.texts("#class-table [data-class=s01], #class-table [data-class=s02]"),
+        ["Student 1", "Student 2"],
+    )
     page.value(FOLDED)
     page.click("#class-copy")
     page.until("globalThis.copied")
@@ -174,11 +204,22 @@ def words(page):
     """Each word on the screen is explained when it is pointed at, and in the help."""
     page.open(SAFE, f"0 join\n{STRAY}0 go main 5\n")
     page.chrome.ask("Input.dispatchMouseEvent", type="mouseMoved", x=5, y=5)
-    for selector, word in ((".verdict[data-verdict]", "stray"), (".tick", "ws"), (".chip", "w"), ("#at", "place"), ("#here details h3", "state")):
-        at = page.value(f"(() => {{ const it = document.querySelector({json.dumps(selector)}).getBoundingClientRect();"
-                        " return [it.x + it.width / 2, it.y + it.height / 2]; })()")
+    for selector, word in (
+        (".verdict[data-verdict]", "stray"),
+        (".tick", "ws"),
+        (".chip", "w"),
+        ("#at", "place"),
+        ("#here details h3", "state"),
+    ):
+        at = page.value(
+            f"(() => {{ const it = document.querySelector({json.dumps(selector)}).getBoundingClientRect();"
+            " return [it.x + it.width / 2, it.y + it.height / 2]; })()"
+        )
         page.chrome.ask("Input.dispatchMouseEvent", type="mouseMoved", x=at[0], y=at[1])
-        page.until(f"document.querySelector('#word:not([hidden]) b')?.textContent === {json.dumps(word)}", f"{word} isn't explained")
+        page.until(
+            f"document.querySelector('#word:not([hidden]) b')?.textContent === {json.dumps(word)}",
+            f"{word} isn't explained",
+        )
     page.do("help")
     holds(page.count("#all-words dt") >= 30, "the help lacks words")
 
@@ -208,33 +249,78 @@ def room(page):
 
 def hostile(rounds=200):
     """Returns documents that do harm if a text is taken for markup, for a number or for short."""
-    markup = ["<img src=x onerror=console.log(1)>", "</script><script>console.log(2)</script>", "\u202e\u0000\ufffd", "${alert(1)}", "'\"`;//"]
+    markup = [
+        "<img src=x onerror=console.log(1)>",
+        "</script><script>console.log(2)</script>",
+        "\u202e\u0000\ufffd",
+        "${alert(1)}",
+        "'\"`;//",
+    ]
     made = []
     for number in range(rounds):
         bad, kind = markup[number % len(markup)], number % 10
         lines = ["0 join"]
         if kind == 0:
-            lines = [f"# {bad}", f"# goal: {bad}", f"# student: {bad}", f"# exercise: {bad} 1 {bad}", "0 join"]
+            lines = [
+                f"# {bad}",
+                f"# goal: {bad}",
+                f"# student: {bad}",
+                f"# exercise: {bad} 1 {bad}",
+                "0 join",
+            ]
         elif kind == 1:
-            lines = [f"# ask: {bad}", *(f"# option: {bad} {it} if main: verdict has \"{bad}\"" for it in range(40)), "0 join"]
+            lines = [
+                f"# ask: {bad}",
+                *(f'# option: {bad} {it} if main: verdict has "{bad}"' for it in range(40)),
+                "0 join",
+            ]
         elif kind == 2:
             lines = ["# goal: some: " + "same read: " * (number * 50) + 'verdict has "x"', "0 join"]
         elif kind == 3:
-            lines = [f"# goal: some: verdict has \"{'x' * 1000 * number}\"", "# " + "y" * 1000 * number, "0 join"]
+            lines = [
+                f"# goal: some: verdict has \"{'x' * 1000 * number}\"",
+                "# " + "y" * 1000 * number,
+                "0 join",
+            ]
         elif kind == 4:
             lines += [f"0 fork main 0 b{it}" for it in range(20 * number)]
         elif kind == 5:
-            lines += [f"0 insert main {it} {step}" for it, step in enumerate(["w 0 1", "g 0 0", "r 1", "g 1 0"] * (2 * number))]
-            lines.insert(0, '# goal: every: same read: history has "chosen" then "return", verdict has "fresh"')
+            lines += [
+                f"0 insert main {it} {step}"
+                for it, step in enumerate(["w 0 1", "g 0 0", "r 1", "g 1 0"] * (2 * number))
+            ]
+            lines.insert(
+                0,
+                '# goal: every: same read: history has "chosen" then "return", verdict has "fresh"',
+            )
         elif kind == 6:
-            lines = [f"# predicted 1: {bad}", "# ask 1: a", "# option 1: a if main: verdict has", f"0 {bad}", f"0 fork main 0 {bad}"]
+            lines = [
+                f"# predicted 1: {bad}",
+                "# ask 1: a",
+                "# option 1: a if main: verdict has",
+                f"0 {bad}",
+                f"0 fork main 0 {bad}",
+            ]
         elif kind == 7:
-            lines = [f"# tower: {bad}; {bad}", *["# goal: some: verdict has no \"a\" then \"b\"" for _ in range(10 * number)], "0 join"]
+            lines = [
+                f"# tower: {bad}; {bad}",
+                *['# goal: some: verdict has no "a" then "b"' for _ in range(10 * number)],
+                "0 join",
+            ]
         elif kind == 8:
-            lines = ["#" * 10 * number, "# goal 999: zzz: cursor has 999999999 \"a\"", "# goal: some: history 999999999 has \"a\""]
+            lines = [
+                "#" * 10 * number,
+                '# goal 999: zzz: cursor has 999999999 "a"',
+                '# goal: some: history 999999999 has "a"',
+            ]
         else:
             lines = ["# `0 " + bad + "` and `0 insert main 0 w 0 1` ```" + "`" * number, "0 join"]
-        tower = [SAFE, "tower 2\nunary 3 1 0\n", f"tower 2\nsafe 0\n{bad}\n", "tower 2\nstamped 2 2\n"][number % 4 if kind != 5 else 0]
+        tower = [
+            SAFE,
+            "tower 2\nunary 3 1 0\n",
+            f"tower 2\nsafe 0\n{bad}\n",
+            "tower 2\nstamped 2 2\n",
+        ][number % 4 if kind != 5 else 0]
         made.append((tower, "\n".join(lines) + "\n"))
     return made
 
@@ -248,6 +334,8 @@ def hostile_documents(page):
         said = page.value("document.querySelector('#said').textContent.length")
         drawn = page.value("document.querySelectorAll('.panel .lanes').length")
         holds(said or drawn, f"document {number} shows neither a sentence nor a picture")
-        odd = page.value("document.querySelectorAll('#top img, #top script, main img, aside img, dialog img').length")
+        odd = page.value(
+            "document.querySelectorAll('#top img, #top script, main img, aside img, dialog img').length"
+        )
         same(odd, 0, f"document {number}")
     same(cases.first_difference(b"", "".join(page.chrome.complaints).encode()), None)

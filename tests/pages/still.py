@@ -26,10 +26,18 @@ def drawn():
     """Returns the picture's bytes."""
     with tempfile.TemporaryDirectory() as room:
         build.put_modules(room, "still.mjs")
-        words = ["node", f"{room}/still.mjs", build.made_module(), f"{LESSON}.tower", f"{LESSON}.script"]
+        words = [
+            "node",
+            f"{room}/still.mjs",
+            build.made_module(),
+            f"{LESSON}.tower",
+            f"{LESSON}.script",
+        ]
         done = subprocess.run(words, stdout=subprocess.PIPE, stderr=subprocess.PIPE, check=False)
     if done.returncode:
-        raise ValueError(f"node ended with status {done.returncode}: {done.stderr.decode().strip()[-300:]}")
+        raise ValueError(
+            f"node ended with status {done.returncode}: {done.stderr.decode().strip()[-300:]}"
+        )
     return done.stdout
 
 

@@ -13,9 +13,13 @@ class Socket:
         self.link = socket.create_connection(("127.0.0.1", port), PATIENCE)
         self.file = self.link.makefile("rb")
         key = base64.b64encode(os.urandom(16)).decode()
-        self.link.sendall((f"GET {path} HTTP/1.1\r\nHost: 127.0.0.1:{port}\r\nUpgrade: websocket\r\n"
-                           f"Connection: Upgrade\r\nSec-WebSocket-Key: {key}\r\n"
-                           "Sec-WebSocket-Version: 13\r\n\r\n").encode())
+        self.link.sendall(
+            (
+                f"GET {path} HTTP/1.1\r\nHost: 127.0.0.1:{port}\r\nUpgrade: websocket\r\n"
+                f"Connection: Upgrade\r\nSec-WebSocket-Key: {key}\r\n"
+                "Sec-WebSocket-Version: 13\r\n\r\n"
+            ).encode()
+        )
         while self.file.readline().strip():
             pass
 
@@ -37,9 +41,9 @@ class Socket:
         while True:
             first, size = struct.unpack("!BB", self.file.read(2))
             if size == MEDIUM:
-                size, = struct.unpack("!H", self.file.read(2))
+                (size,) = struct.unpack("!H", self.file.read(2))
             elif size == LONG:
-                size, = struct.unpack("!Q", self.file.read(8))
+                (size,) = struct.unpack("!Q", self.file.read(8))
             message += self.file.read(size)
             if first & LAST_FRAME:
                 return message.decode()

@@ -115,13 +115,20 @@ def table(lines, place):
     """Takes a table, and returns it."""
     rows = [it for it in lines.take_while(lambda it: it.startswith("|")) if not RULE.match(it)]
     kinds = ["th", *["td"] * (len(rows) - 1)]
-    made = ["".join(f"<{kind}>{spans(cell, place)}</{kind}>" for cell in cells(row)) for kind, row in zip(kinds, rows)]
+    made = [
+        "".join(f"<{kind}>{spans(cell, place)}</{kind}>" for cell in cells(row))
+        for kind, row in zip(kinds, rows)
+    ]
     return "<table>\n" + "\n".join(f"<tr>{it}</tr>" for it in made) + "\n</table>"
 
 
 def is_begun(line):
     """Returns whether a line begins something other than the paragraph or item before it."""
-    return not line.strip() or bool(ITEM.match(line) or FENCE.match(line) or HEADING.match(line) or FOLD.match(line)) or line.startswith("|")
+    return (
+        not line.strip()
+        or bool(ITEM.match(line) or FENCE.match(line) or HEADING.match(line) or FOLD.match(line))
+        or line.startswith("|")
+    )
 
 
 def items(lines, place):
@@ -129,7 +136,10 @@ def items(lines, place):
     first, made = ITEM.match(lines.left[0]), []
     while lines.left and ITEM.match(lines.left[0]):
         head = lines.left.popleft()
-        text = [ITEM.sub("", head), *(it.strip() for it in lines.take_while(lambda it: not is_begun(it)))]
+        text = [
+            ITEM.sub("", head),
+            *(it.strip() for it in lines.take_while(lambda it: not is_begun(it))),
+        ]
         made.append(f"<li>{spans(' '.join(text), place)}</li>")
     number = first.group(1)
     begin, end = (f'<ol start="{number}">', "</ol>") if number else ("<ul>", "</ul>")
@@ -143,7 +153,9 @@ def block(lines, place):
     if FENCE.match(line):
         return fenced(lines)
     if line.startswith(INDENT):
-        return preformatted(it[len(INDENT):] for it in lines.take_while(lambda it: it.startswith(INDENT)))
+        return preformatted(
+            it[len(INDENT) :] for it in lines.take_while(lambda it: it.startswith(INDENT))
+        )
     if line.startswith("|"):
         return table(lines, place)
     if ITEM.match(line):

@@ -18,5 +18,7 @@ def short(text):
         found = [it for it in body.split("\n") if not it.startswith(HEADS) and not RULE.match(it)]
         rows = [f"- {CELL.match(it).group(1)}" for it in found if CELL.match(it)]
         first = body.strip().split("\n\n")[0]
-        made.append("\n\n".join([title, *([] if CELL.match(first) else [first]), "\n".join(rows)]) + "\n")
+        made.append(
+            "\n\n".join([title, *([] if CELL.match(first) else [first]), "\n".join(rows)]) + "\n"
+        )
     return "\n".join(made)
