@@ -645,7 +645,7 @@ ranks_linearize initial history ranks = record {
   refused = λ o n layer ends. refused_out initial history ranks o _ layer ends;
   unreturned = λ o is none. pending_out initial history ranks o is none;
   one_each = λ o x h k same. no_ties initial history ranks o x h k same;
-  in_time = λ o x n end ends h late in_it. timely initial history ranks o x n end ends h late in_it;
+  in_time = λ o x n end ends h late in_it. timely initial history ranks o x n end ends h (omega (arith, late)) in_it;
   reads = λ o n v is ends. value_of_read initial history ranks o n v is ends;
 }
 
