@@ -1,6 +1,6 @@
 -- Worked examples of definitions which state that something exists: for each, one that holds, and
 -- one that nearly does.
-use Rattle.std.proofs.Common.{ℕ, ◌≡◌, ◌++◌, ◌<◌, Bool, true, false, true≢false, List, [], ◌∷◌, inr, ⊎_elim, drop, slice_index_or, ap, refl, sym, ◌∙◌, subst, arith}
+use Rattle.std.proofs.Common.{ℕ, zero, suc, ◌+◌, Option, Some, None, ◌≡◌, ◌++◌, ◌<◌, Bool, true, false, true≢false, List, [], ◌∷◌, inr, ⊎_elim, drop, slice_index_or, ap, refl, sym, ◌∙◌, subst, arith}
 use Rattle.std.proofs.Common.{nat_lt, ltb-true}
 use mathlib.Core.Bool.{◌&&◌}
 use Rattle.std.specs.List.{list_any}
@@ -8,7 +8,7 @@ use Rattle.std.proofs.lemmas.List.Elements.{All-nil, All-cons, All-head}
 use Rattle.frames.specs.declared.types.Op.{Op}
 use Rattle.frames.specs.declared.types.Op.TheVariants.{Write, Read}
 use Rattle.frames.specs.declared.types.Layer.{Layer}
-use Rattle.frames.specs.declared.types.Layer.TheVariants.{Stamped}
+use Rattle.frames.specs.declared.types.Layer.TheVariants.{Stamped, Matrix}
 use Rattle.frames.specs.declared.types.Event.{Event}
 use Rattle.frames.specs.declared.types.Event.TheVariants.{Invoke, Got, Wrote, Refused, Stop}
 use Rattle.frames.specs.declared.types.Step.{Step}
@@ -24,6 +24,9 @@ use Rattle.frames.specs.Recorded.{AllFit, recorded}
 use Rattle.frames.specs.correctness.Verdicts.{verdicts}
 use Rattle.pages.specs.VerdictWords.{begins_or_ends, IsQuiet, InProgress, Follows, ReturnedRead, IsLastWritten, IsVerdictOn, EndsBy, IsOverlapping, IsJudged}
 use Rattle.pages.specs.LawWords.{IsWrite, AreNumbered}
+use Rattle.pages.specs.Linearizability.{Operation, EndsIn, Order, IsWriteBefore, IsLastWrite, IsValueAt, HasLinearization}
+use Rattle.pages.specs.Linearizability as linear
+use Rattle.pages.proofs.Linearizations.{is_own, ranks_linearize}
 use Rattle.pages.specs.Strays.{AreVerdictsOn}
 
 abbrev Events : Type 0
@@ -321,3 +324,188 @@ AreVerdictsOn-fails h = by h.steps h.fit h.judged
     by : (steps : List Step) → AllFit unused steps → read_verdict ∷ [] ≡ verdicts h.value (recorded unused h.value steps) → ⊥
     by [] fit e = none e
     by (s ∷ steps) fit e = no_step s (All-head (λ s. fits_step unused s ≡ true) s steps fit)
+
+-- process 1 reads 1, while process 0 is writing it
+abbrev pending_write : Events
+pending_write = writes ∷ reads ∷ (3, Got 1 1) ∷ []
+
+-- Operation: event number 1 invokes a read
+Operation-holds : Operation pending_write
+Operation-holds = record { number = 1; process = 1; op = Read; invoked = refl }
+
+-- Operation: no event invokes one
+Operation-fails : Operation ((3, Got 1 1) ∷ []) → ⊥
+Operation-fails a = by a.number a.invoked
+  where
+    by : (n : ℕ) → linear.event_at ((3, Got 1 1) ∷ []) n ≡ Some (Invoke a.process a.op) → ⊥
+    by zero e = cc
+    by (suc n) e = cc
+
+-- the write first, and then the read
+abbrev by_number : Order
+by_number = record { has = λ n. true; place = λ n. n }
+
+-- the write of 1 is at place 0, and so before place 1
+IsLastWrite-holds : IsLastWrite pending_write by_number 1 1
+IsLastWrite-holds = record {
+  write = record { number = 0; process = 0; op = Write 1; invoked = refl };
+  it = record { writes = refl; in_it = refl; before = omega arith };
+  last = λ other u w. let before = w.before in omega (arith, before);
+}
+
+-- no write is before place 0
+IsLastWrite-fails : IsLastWrite pending_write by_number 0 1 → ⊥
+IsLastWrite-fails h = let before = h.it.before in omega (arith, before)
+
+-- HasLinearization: the pending write is in the order, and the read comes after it
+HasLinearization-holds : HasLinearization 0 pending_write
+HasLinearization-holds = ranks_linearize 0 pending_write (0, (Some 1, ((omega arith, refl), (None, (tt, (Some 1, ((omega arith, refl), tt)))))))
+
+-- one more than the value of the write that an event invokes; 0 for any other event
+abbrev written_by : Option Event → ℕ
+written_by (Some (Invoke p (Write v))) = v + 1
+written_by e = 0
+
+-- what invokes a write of v
+invokes_write : {history : Events} (v : ℕ) (a : Operation history) → a.op ≡ Write v → written_by (linear.event_at history a.number) ≡ v + 1
+invokes_write v a is = ap written_by (a.invoked ∙ ap (λ o. Some (Invoke a.process o)) is)
+
+-- while process 0 is writing 1, process 1 reads it, and then process 2 the older 0
+abbrev new_then_old : Events
+new_then_old = writes ∷ reads ∷ (3, Got 1 1) ∷ (4, Invoke 2 Read) ∷ (5, Got 2 0) ∷ []
+
+-- HasLinearization fails: the write comes before the first read, and so before the second
+HasLinearization-fails : HasLinearization 0 new_then_old → ⊥
+HasLinearization-fails h = ⊎_elim older (λ none. ⊎_elim (newer none.0) (λ start. not_initial start.1) (h.reads first 2 1 refl ended)) (h.reads second 4 0 refl ends)
+  where
+    first : Operation new_then_old
+    first = record { number = 1; process = 1; op = Read; invoked = refl }
+
+    second : Operation new_then_old
+    second = record { number = 3; process = 2; op = Read; invoked = refl }
+
+    ended : EndsIn first 2 (Got 1 1)
+    ended = record { later = omega arith; there = refl; own = refl; first = λ k other low high. absurd (omega (arith, low, high)) }
+
+    ends : EndsIn second 4 (Got 2 0)
+    ends = record { later = omega arith; there = refl; own = refl; first = λ k other low high. absurd (omega (arith, low, high)) }
+
+    not_initial : ◌≡◌ {A = ℕ} 1 0 → ⊥
+    not_initial e = omega (arith, e)
+
+    no_zero : (n : ℕ) → written_by (linear.event_at new_then_old n) ≡ 0 + 1 → ⊥
+    no_zero zero e = omega (arith, e)
+    no_zero (suc zero) e = omega (arith, e)
+    no_zero (suc (suc zero)) e = omega (arith, e)
+    no_zero (suc (suc (suc zero))) e = omega (arith, e)
+    no_zero (suc (suc (suc (suc zero)))) e = omega (arith, e)
+    no_zero (suc (suc (suc (suc (suc n))))) e = omega (arith, e)
+
+    older : IsLastWrite new_then_old h.order (h.order.place 3) 0 → ⊥
+    older l = no_zero l.write.number (invokes_write 0 l.write l.it.writes)
+
+    newer : ((other : Operation new_then_old) (u : ℕ) → IsWriteBefore h.order (h.order.place 3) u other → ⊥) → IsLastWrite new_then_old h.order (h.order.place 1) 1 → ⊥
+    newer none l =
+        let before = l.it.before in
+        let less = h.in_time first second 2 (Got 1 1) ended refl (omega arith) (h.returned second 4 (Got 2 0) ends refl) in
+        none l.write 1 (record { writes = l.it.writes; in_it = l.it.in_it; before = omega (arith, before, less) })
+
+-- a write of 1 returns, and then a read gives 0
+abbrev lost_write : Events
+lost_write = writes ∷ (1, Wrote 0) ∷ reads ∷ (3, Got 1 0) ∷ []
+
+-- HasLinearization fails: the write comes before the read
+lost_write-fails : HasLinearization 0 lost_write → ⊥
+lost_write-fails h = ⊎_elim older (λ none. none.0 write 1 (record { writes = refl; in_it = h.returned write 1 (Wrote 0) done refl; before = first })) (h.reads read 3 0 refl ends)
+  where
+    write : Operation lost_write
+    write = record { number = 0; process = 0; op = Write 1; invoked = refl }
+
+    read : Operation lost_write
+    read = record { number = 2; process = 1; op = Read; invoked = refl }
+
+    done : EndsIn write 1 (Wrote 0)
+    done = record { later = omega arith; there = refl; own = refl; first = λ k other low high. absurd (omega (arith, low, high)) }
+
+    ends : EndsIn read 3 (Got 1 0)
+    ends = record { later = omega arith; there = refl; own = refl; first = λ k other low high. absurd (omega (arith, low, high)) }
+
+    first : h.order.place 0 < h.order.place 2
+    first = h.in_time write read 1 (Wrote 0) done refl (omega arith) (h.returned read 3 (Got 1 0) ends refl)
+
+    no_zero : (n : ℕ) → written_by (linear.event_at lost_write n) ≡ 0 + 1 → ⊥
+    no_zero zero e = omega (arith, e)
+    no_zero (suc zero) e = omega (arith, e)
+    no_zero (suc (suc zero)) e = omega (arith, e)
+    no_zero (suc (suc (suc zero))) e = omega (arith, e)
+    no_zero (suc (suc (suc (suc n)))) e = omega (arith, e)
+
+    older : IsLastWrite lost_write h.order (h.order.place 2) 0 → ⊥
+    older l = no_zero l.write.number (invokes_write 0 l.write l.it.writes)
+
+-- a read gives 1, and then 1 is written
+abbrev early_read : Events
+early_read = (0, Invoke 1 Read) ∷ (1, Got 1 1) ∷ (2, Invoke 0 (Write 1)) ∷ (3, Wrote 0) ∷ []
+
+-- HasLinearization fails: the write comes after the read
+early_read-fails : HasLinearization 0 early_read → ⊥
+early_read-fails h = ⊎_elim later (λ none. not_initial none.1) (h.reads read 1 1 refl ends)
+  where
+    read : Operation early_read
+    read = record { number = 0; process = 1; op = Read; invoked = refl }
+
+    ends : EndsIn read 1 (Got 1 1)
+    ends = record { later = omega arith; there = refl; own = refl; first = λ k other low high. absurd (omega (arith, low, high)) }
+
+    not_initial : ◌≡◌ {A = ℕ} 1 0 → ⊥
+    not_initial e = omega (arith, e)
+
+    is_later : (n : ℕ) → written_by (linear.event_at early_read n) ≡ 1 + 1 → 1 < n
+    is_later zero e = absurd (omega (arith, e))
+    is_later (suc zero) e = absurd (omega (arith, e))
+    is_later (suc (suc n)) e = omega arith
+
+    later : IsLastWrite early_read h.order (h.order.place 0) 1 → ⊥
+    later l =
+        let before = l.it.before in
+        let after = h.in_time read l.write 1 (Got 1 1) ends refl (is_later l.write.number (invokes_write 1 l.write l.it.writes)) l.it.in_it in
+        omega (arith, before, after)
+
+-- a read gives 1 while 1 is being written, and then the write is refused
+abbrev refused_was_read : Events
+refused_was_read = writes ∷ reads ∷ (3, Got 1 1) ∷ (4, Refused 0 Matrix) ∷ []
+
+-- HasLinearization fails: the refused write isn't in the order
+refused_was_read-fails : HasLinearization 0 refused_was_read → ⊥
+refused_was_read-fails h = ⊎_elim from_it (λ none. not_initial none.1) (h.reads read 2 1 refl ends)
+  where
+    write : Operation refused_was_read
+    write = record { number = 0; process = 0; op = Write 1; invoked = refl }
+
+    read : Operation refused_was_read
+    read = record { number = 1; process = 1; op = Read; invoked = refl }
+
+    ends : EndsIn read 2 (Got 1 1)
+    ends = record { later = omega arith; there = refl; own = refl; first = λ k other low high. absurd (omega (arith, low, high)) }
+
+    not_initial : ◌≡◌ {A = ℕ} 1 0 → ⊥
+    not_initial e = omega (arith, e)
+
+    between : (k : ℕ) (other : Event) → 0 < k → k < 3 → linear.event_at refused_was_read k ≡ Some other → begins_or_ends 0 other ≡ false
+    between zero other low high e = absurd (omega (arith, low))
+    between (suc zero) other low high e = sym (ap (is_own 0) e)
+    between (suc (suc zero)) other low high e = sym (ap (is_own 0) e)
+    between (suc (suc (suc k))) other low high e = absurd (omega (arith, high))
+
+    out : h.order.has 0 ≡ false
+    out = h.refused write 3 Matrix (record { later = omega arith; there = refl; own = refl; first = between })
+
+    at_zero : (n : ℕ) → written_by (linear.event_at refused_was_read n) ≡ 1 + 1 → n ≡ 0
+    at_zero zero e = refl
+    at_zero (suc zero) e = absurd (omega (arith, e))
+    at_zero (suc (suc zero)) e = absurd (omega (arith, e))
+    at_zero (suc (suc (suc zero))) e = absurd (omega (arith, e))
+    at_zero (suc (suc (suc (suc n)))) e = absurd (omega (arith, e))
+
+    from_it : IsLastWrite refused_was_read h.order (h.order.place 1) 1 → ⊥
+    from_it l = true≢false (sym l.it.in_it ∙ ap h.order.has (at_zero l.write.number (invokes_write 1 l.write l.it.writes)) ∙ out)

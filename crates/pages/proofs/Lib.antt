@@ -8,3 +8,4 @@ pub mod VerdictHistories
 pub mod LawWords
 pub mod AtomicWords
 mod Examples
+pub mod Linearizations

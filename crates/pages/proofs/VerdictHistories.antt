@@ -1,7 +1,8 @@
--- What a register with one writer records is a history of such a register, event by event.
+-- What a register records is a well-formed history, event by event; and that of a register with one
+-- writer, if it is such a register.
 use Rattle.std.proofs.Common.{◌≡◌, ℕ, zero, suc, ◌+◌, ◌<◌, Bool, true, false, ◌&&◌, List, [], ◌∷◌, ◌++◌, length, Option, Some, None, ◌⊎◌, inl, inr, refl, sym, ap, subst, ◌∙◌, true≢false, arith, eq-eqb, get_or, replicate, append_assoc}
 use Rattle.std.specs.Prelude.{◌==◌, nat_lt}
-use Rattle.std.specs.List.{list_any}
+use Rattle.std.specs.List.{list_any, list_all}
 use Rattle.std.proofs.lemmas.Bool.{cases_eq, and_parts, ltb-true, or_parts, ne_eqb}
 use Rattle.std.proofs.lemmas.Bool.Decides.{nat_tests}
 use Rattle.std.proofs.lemmas.List.{append-nil, get_or-set_same, get_or-set_other}
@@ -31,7 +32,7 @@ use Rattle.frames.specs.laws.OneWriter.{writer_zero, reader_some}
 use Rattle.frames.specs.Recorded.{at_index, indexed}
 use Rattle.frames.specs.Recorded.{AllFit}
 use Rattle.frames.specs.Recorded.{first_configuration, recorded}
-use Rattle.pages.specs.VerdictWords.{begins_or_ends, IsQuiet, InProgress, has_role, Follows, IsOneWriterHistory, RecordsHistories, RecordsJudged}
+use Rattle.pages.specs.VerdictWords.{begins_or_ends, IsQuiet, InProgress, has_role, Follows, IsWellFormed, RecordsWellFormed, RecordsHistories, RecordsJudged}
 use Rattle.pages.proofs.VerdictKnown.{no_event, with_event, progress_still}
 use Rattle.pages.proofs.VerdictOverlaps.{parted_at, goes_on}
 use Rattle.pages.proofs.VerdictWords.{judged_in_words}
@@ -48,13 +49,18 @@ only_one [] since x y h = (refl, cc h)
 only_one (z ∷ []) since x y h = cc h
 only_one (z ∷ w ∷ s) since x y h = cc h
 
-no_history : IsOneWriterHistory []
-no_history = record { roles = refl; follows = λ earlier i e later s. absurd (no_event earlier (i, e) later s) }
+-- a well-formed history; and if `One` holds, then each process has its role in it
+record IsHistory (One : Type 0) (events : List (ℕ × Event)) : Type 0 where
+  roles : One → list_all (λ e. has_role e.1) events ≡ true
+  follows : IsWellFormed events
+
+no_history : {One : Type 0} → IsHistory One []
+no_history = record { roles = λ one. refl; follows = λ earlier i e later s. absurd (no_event earlier (i, e) later s) }
 
 -- an event that can follow makes a longer history
-history_with : (before : List (ℕ × Event)) (i : ℕ) (e : Event) → IsOneWriterHistory before → Follows before e → has_role e ≡ true → IsOneWriterHistory (with_event before i e)
+history_with : {One : Type 0} (before : List (ℕ × Event)) (i : ℕ) (e : Event) → IsHistory One before → Follows before e → (One → has_role e ≡ true) → IsHistory One (with_event before i e)
 history_with before i e h f r = record {
-  roles = list_all-append (λ x. has_role x.1) before ((i, e) ∷ []) ∙ ap (λ b. b && (has_role e && true)) h.roles ∙ ap (λ b. b && true) r;
+  roles = λ one. list_all-append (λ x. has_role x.1) before ((i, e) ∷ []) ∙ ap (λ b. b && (has_role e && true)) (h.roles one) ∙ ap (λ b. b && true) (r one);
   follows = λ earlier j d later s. elim (parted_at before ((i, e) ∷ []) earlier later (j, d) s) [
     | inl second ↦
         let one = only_one second.0 later (i, e) (j, d) second.2 in
@@ -103,22 +109,22 @@ pends_ended p before i e t n = λ o w. elim (progress_before p o before i e w) [
 
 -- After events of process p are added, the events still are a history, and determine what p has
 -- pending. The other processes have pending what they had.
-record Tells (p : ℕ) (before after : List (ℕ × Event)) (x : Option Op) : Type 0 where
-  history : IsOneWriterHistory after
+record Tells (One : Type 0) (p : ℕ) (before after : List (ℕ × Event)) (x : Option Op) : Type 0 where
+  history : IsHistory One after
   own : Pends p after x
   others : (q : ℕ) (y : Option Op) → ¬ (q ≡ p) → Pends q before y → Pends q after y
 
-tells_nothing : (p : ℕ) (before : List (ℕ × Event)) (x : Option Op) → IsOneWriterHistory before → Pends p before x → Tells p before (before ++ []) x
-tells_nothing p before x h own =
-    subst (λ after. Tells p before after x) (sym (append-nil before)) (record { history = h; own = own; others = λ q y other is. is })
+tells_nothing : {One : Type 0} (p : ℕ) (before : List (ℕ × Event)) (x : Option Op) → IsHistory One before → Pends p before x → Tells One p before (before ++ []) x
+tells_nothing {One = One} p before x h own =
+    subst (λ after. Tells One p before after x) (sym (append-nil before)) (record { history = h; own = own; others = λ q y other is. is })
 
-tells_more : (p : ℕ) (before first after : List (ℕ × Event)) (x y : Option Op) → Tells p before first x → Tells p first after y → Tells p before after y
+tells_more : {One : Type 0} (p : ℕ) (before first after : List (ℕ × Event)) (x y : Option Op) → Tells One p before first x → Tells One p first after y → Tells One p before after y
 tells_more p before first after x y a b =
     record { history = b.history; own = b.own; others = λ q z other is. b.others q z other (a.others q z other is) }
 
 -- one event of a process
-tells_event : (p : ℕ) (before : List (ℕ × Event)) (i : ℕ) (e : Event) (x : Option Op) → IsOneWriterHistory before → Follows before e → has_role e ≡ true
-    → ((q : ℕ) → ¬ (q ≡ p) → begins_or_ends q e ≡ false) → Pends p (with_event before i e) x → Tells p before (with_event before i e) x
+tells_event : {One : Type 0} (p : ℕ) (before : List (ℕ × Event)) (i : ℕ) (e : Event) (x : Option Op) → IsHistory One before → Follows before e → (One → has_role e ≡ true)
+    → ((q : ℕ) → ¬ (q ≡ p) → begins_or_ends q e ≡ false) → Pends p (with_event before i e) x → Tells One p before (with_event before i e) x
 tells_event p before i e x h f r alone own =
     record { history = history_with before i e h f r; own = own; others = λ q y other is. pends_still q y before i e (alone q other) is }
 
@@ -126,14 +132,17 @@ tells_event p before i e x h f r alone own =
 abbrev with_events : List (ℕ × Event) → ℕ → StepEvents → List (ℕ × Event)
 with_events before i events = before ++ (at_index i events.first ++ at_index i events.second)
 
-module _ {P : Type 0} (b : Behaviour P) (one : HasOneWriter b) where
-  role_of : (p : ℕ) (o : Op) → b.suits p o ≡ true → has_role (Invoke p o) ≡ true
-  role_of p (op.Write v) h = eq-eqb p 0 (writer_zero b.values b.processes p v (one p (op.Write v) h))
-  role_of p op.Read h = let some = reader_some b.values b.processes p (one p op.Read h) in grind (arith, nat_tests)
+module _ {P : Type 0} (b : Behaviour P) where
+  abbrev One : Type 0
+  One = HasOneWriter b
+
+  role_of : (p : ℕ) (o : Op) → b.suits p o ≡ true → One → has_role (Invoke p o) ≡ true
+  role_of p (op.Write v) h one = eq-eqb p 0 (writer_zero b.values b.processes p v (one p (op.Write v) h))
+  role_of p op.Read h one = let some = reader_some b.values b.processes p (one p op.Read h) in grind (arith, nat_tests)
 
   -- the end of an operation in progress
   tells_end : (Reached : P → Type 0) (p : ℕ) (o : Op) (next : Next P) (before : List (ℕ × Event)) (i : ℕ) → b.suits p o ≡ true → ReachedOrAnswered Reached (Answers b.values o) next
-      → IsOneWriterHistory before → InProgress p o before → Tells p before (before ++ at_index i (return_of p next)) (op_of (still_running o next))
+      → IsHistory One before → InProgress p o before → Tells One p before (before ++ at_index i (return_of p next)) (op_of (still_running o next))
   tells_end Reached p o (Pending point) before i fits well h w = tells_nothing p before (Some o) h w
   tells_end Reached p (op.Write v) (Done (Value x)) before i fits well h w = absurd well
   tells_end Reached p op.Read (Done (Value x)) before i fits well h w =
@@ -144,54 +153,54 @@ module _ {P : Type 0} (b : Behaviour P) (one : HasOneWriter b) where
       (pends_ended p before i (Wrote p) (eq-eqb p p refl) (λ o same. cc same))
   tells_end Reached p op.Read (Done Written) before i fits well h w = absurd well
   tells_end Reached p o (Done (Spent layer)) before i fits well h w =
-      tells_event p before i (Refused p layer) None h (o, w) refl (λ q other. ne_eqb p q (λ same. other (sym same)))
+      tells_event p before i (Refused p layer) None h (o, w) (λ one. refl) (λ q other. ne_eqb p q (λ same. other (sym same)))
       (pends_ended p before i (Refused p layer) (eq-eqb p p refl) (λ o same. cc same))
 
   -- an event that is nobody's turn, and nothing else
-  tells_only : (p : ℕ) (before : List (ℕ × Event)) (i : ℕ) (e : Event) (x : Option Op) → IsOneWriterHistory before → Follows before e → has_role e ≡ true → ((q : ℕ) → begins_or_ends q e ≡ false)
-      → Pends p before x → Tells p before (with_events before i (in_order (Some e) None)) x
+  tells_only : (p : ℕ) (before : List (ℕ × Event)) (i : ℕ) (e : Event) (x : Option Op) → IsHistory One before → Follows before e → (One → has_role e ≡ true) → ((q : ℕ) → begins_or_ends q e ≡ false)
+      → Pends p before x → Tells One p before (with_events before i (in_order (Some e) None)) x
   tells_only p before i e x h f r nobody own = tells_event p before i e x h f r (λ q other. nobody q) (pends_still p x before i e (nobody p) own)
 
   module _ (Holds : Memory → Type 0) (Reaches : ℕ → Op → P → Type 0) (lawful : IsLawful b Holds Reaches) where
-    tells_invoking : (p : ℕ) (o : Op) (slot : Option (Running P)) (m : Memory) (before : List (ℕ × Event)) (i : ℕ) → Holds m → b.suits p o ≡ true → IsOneWriterHistory before → Pends p before (op_of slot)
-        → Tells p before (with_events before i (invoking b p o slot m).events) (op_of (invoking b p o slot m).running)
+    tells_invoking : (p : ℕ) (o : Op) (slot : Option (Running P)) (m : Memory) (before : List (ℕ × Event)) (i : ℕ) → Holds m → b.suits p o ≡ true → IsHistory One before → Pends p before (op_of slot)
+        → Tells One p before (with_events before i (invoking b p o slot m).events) (op_of (invoking b p o slot m).running)
     tells_invoking p o None m before i holds fits h own =
         let next = (b.begins p o m).next in
         let first = tells_event p before i (Invoke p o) (Some o) h own (role_of p o fits) (λ q other. ne_eqb p q (λ same. other (sym same))) (pends_invoked p o before i) in
         let rest = tells_end (Reaches p o) p o next (with_event before i (Invoke p o)) i fits (lawful.begins_well p o m holds fits).may_be_at first.history first.own in
-        subst (λ after. Tells p before after (op_of (still_running o next))) (append_assoc before ((i, Invoke p o) ∷ []) (at_index i (return_of p next)))
+        subst (λ after. Tells One p before after (op_of (still_running o next))) (append_assoc before ((i, Invoke p o) ∷ []) (at_index i (return_of p next)))
         (tells_more p before (with_event before i (Invoke p o)) _ (Some o) (op_of (still_running o next)) first rest)
-    tells_invoking p o (Some r) m before i holds fits h own = tells_only p before i (Void p Busy) (Some r.op) h tt refl (λ q. refl) own
+    tells_invoking p o (Some r) m before i holds fits h own = tells_only p before i (Void p Busy) (Some r.op) h tt (λ one. refl) (λ q. refl) own
 
     tells_acted : (p : ℕ) (o : Op) (chosen : Option (ℕ × Bool)) (next : Next P) (before : List (ℕ × Event)) (i : ℕ) → b.suits p o ≡ true → ReachedOrAnswered (Reaches p o) (Answers b.values o) next
-        → IsOneWriterHistory before → InProgress p o before → Tells p before (with_events before i (in_order (chosen_of p chosen) (return_of p next))) (op_of (still_running o next))
+        → IsHistory One before → InProgress p o before → Tells One p before (with_events before i (in_order (chosen_of p chosen) (return_of p next))) (op_of (still_running o next))
     tells_acted p o None next before i fits well h own =
-        subst (λ events. Tells p before (before ++ events) (op_of (still_running o next))) (sym (append-nil (at_index i (return_of p next))))
+        subst (λ events. Tells One p before (before ++ events) (op_of (still_running o next))) (sym (append-nil (at_index i (return_of p next))))
         (tells_end (Reaches p o) p o next before i fits well h own)
     tells_acted p o (Some bit) next before i fits well h own =
         let e = Chosen p bit.0 bit.1 in
-        let first = tells_only p before i e (Some o) h tt refl (λ q. refl) own in
+        let first = tells_only p before i e (Some o) h tt (λ one. refl) (λ q. refl) own in
         let rest = tells_end (Reaches p o) p o next (with_event before i e) i fits well first.history first.own in
-        subst (λ after. Tells p before after (op_of (still_running o next))) (append_assoc before ((i, e) ∷ []) (at_index i (return_of p next)))
+        subst (λ after. Tells One p before after (op_of (still_running o next))) (append_assoc before ((i, e) ∷ []) (at_index i (return_of p next)))
         (tells_more p before (with_event before i e) _ (Some o) (op_of (still_running o next)) first rest)
 
-    tells_going : (p : ℕ) (choice : Bool) (slot : Option (Running P)) (m : Memory) (before : List (ℕ × Event)) (i : ℕ) → Holds m → IsReached Reaches p slot → IsOneWriterHistory before
-        → Pends p before (op_of slot) → Tells p before (with_events before i (going b p choice slot m).events) (op_of (going b p choice slot m).running)
-    tells_going p choice None m before i holds reached h own = tells_only p before i (Void p Idle) None h tt refl (λ q. refl) own
+    tells_going : (p : ℕ) (choice : Bool) (slot : Option (Running P)) (m : Memory) (before : List (ℕ × Event)) (i : ℕ) → Holds m → IsReached Reaches p slot → IsHistory One before
+        → Pends p before (op_of slot) → Tells One p before (with_events before i (going b p choice slot m).events) (op_of (going b p choice slot m).running)
+    tells_going p choice None m before i holds reached h own = tells_only p before i (Void p Idle) None h tt (λ one. refl) (λ q. refl) own
     tells_going p choice (Some r) m before i holds reached h own =
         let moved = b.goes r.point choice m in
         tells_acted p r.op moved.chosen moved.next before i (lawful.reached_suits p r.op r.point reached) (lawful.goes_well p r.op r.point choice m holds reached).may_be_at h own
 
-    tells_acting : (s : Step) (slot : Option (Running P)) (m : Memory) (before : List (ℕ × Event)) (i : ℕ) → fits_step b s ≡ true → Holds m → IsReached Reaches (process_of s) slot → IsOneWriterHistory before
-        → Pends (process_of s) before (op_of slot) → Tells (process_of s) before (with_events before i (acting b s slot m).events) (op_of (acting b s slot m).running)
+    tells_acting : (s : Step) (slot : Option (Running P)) (m : Memory) (before : List (ℕ × Event)) (i : ℕ) → fits_step b s ≡ true → Holds m → IsReached Reaches (process_of s) slot → IsHistory One before
+        → Pends (process_of s) before (op_of slot) → Tells One (process_of s) before (with_events before i (acting b s slot m).events) (op_of (acting b s slot m).running)
     tells_acting (step.Write p v) slot m before i fits holds reached h own = tells_invoking p (op.Write v) slot m before i holds fits h own
     tells_acting (step.Read p) slot m before i fits holds reached h own = tells_invoking p op.Read slot m before i holds fits h own
     tells_acting (step.Go p c) slot m before i fits holds reached h own = tells_going p (c == 1) slot m before i holds reached h own
-    tells_acting (step.Stop p) slot m before i fits holds reached h own = tells_only p before i (Stop p) (op_of slot) h tt refl (λ q. refl) own
+    tells_acting (step.Stop p) slot m before i fits holds reached h own = tells_only p before i (Stop p) (op_of slot) h tt (λ one. refl) (λ q. refl) own
 
     tells_acting_unless : (stopped : Bool) (s : Step) (slot : Option (Running P)) (m : Memory) (before : List (ℕ × Event)) (i : ℕ) → fits_step b s ≡ true → Holds m → IsReached Reaches (process_of s) slot
-        → IsOneWriterHistory before → Pends (process_of s) before (op_of slot) → Tells (process_of s) before (with_events before i (acting_unless stopped b s slot m).events) (op_of (acting_unless stopped b s slot m).running)
-    tells_acting_unless true s slot m before i fits holds reached h own = tells_only (process_of s) before i (Void (process_of s) Stopped) (op_of slot) h tt refl (λ q. refl) own
+        → IsHistory One before → Pends (process_of s) before (op_of slot) → Tells One (process_of s) before (with_events before i (acting_unless stopped b s slot m).events) (op_of (acting_unless stopped b s slot m).running)
+    tells_acting_unless true s slot m before i fits holds reached h own = tells_only (process_of s) before i (Void (process_of s) Stopped) (op_of slot) h tt (λ one. refl) (λ q. refl) own
     tells_acting_unless false s slot m before i fits holds reached h own = tells_acting s slot m before i fits holds reached h own
 
     -- the process of a fitting step is there
@@ -206,7 +215,7 @@ module _ {P : Type 0} (b : Behaviour P) (one : HasOneWriter b) where
     Tracks before c = (p : ℕ) → Pends p before (op_of (running_at p c))
 
     tracks_step : {R : Type 0} (c : Configuration R P) (s : Step) (before : List (ℕ × Event)) (i : ℕ) → process_of s < length c.running
-        → Tells (process_of s) before (with_events before i (events_of b c s)) (op_of (acted_on b c s).running)
+        → Tells One (process_of s) before (with_events before i (events_of b c s)) (op_of (acted_on b c s).running)
         → Tracks before c → Tracks (with_events before i (events_of b c s)) (stepped b c s)
     tracks_step c s before i there tells was q =
         elim (cases_eq q (process_of s)) as (λ _. Pends q (with_events before i (events_of b c s)) (op_of (running_at q (stepped b c s)))) [
@@ -214,16 +223,16 @@ module _ {P : Type 0} (b : Behaviour P) (one : HasOneWriter b) where
           | inr other ↦ rw (get_or-set_other c.running (process_of s) q (acted_on b c s).running None other) (tells.others q (op_of (running_at q c)) other (was q))
         ]
 
-    history_from : {R : Type 0} (c : Configuration R P) (steps : List Step) (before : List (ℕ × Event)) (i : ℕ) → IsConfiguration b Holds Reaches c → AllFit b steps → IsOneWriterHistory before → Tracks before c
-        → IsOneWriterHistory (before ++ indexed i (history b c steps))
-    history_from c [] before i is fit h was = subst IsOneWriterHistory (sym (append-nil before)) h
+    history_from : {R : Type 0} (c : Configuration R P) (steps : List Step) (before : List (ℕ × Event)) (i : ℕ) → IsConfiguration b Holds Reaches c → AllFit b steps → IsHistory One before → Tracks before c
+        → IsHistory One (before ++ indexed i (history b c steps))
+    history_from c [] before i is fit h was = subst (IsHistory One) (sym (append-nil before)) h
     history_from c (s ∷ steps) before i is fit h was =
         let fits : fits_step b s ≡ true = All-head (λ x. fits_step b x ≡ true) s steps fit in
         let p = process_of s in
         let tells = tells_acting_unless (is_stopped p c) s (running_at p c) c.memory before i fits is.holds (is.reached p) h (was p) in
         let after = with_events before i (events_of b c s) in
         let later = indexed (i + 1) (history b (stepped b c s) steps) in
-        subst IsOneWriterHistory (append_assoc before (at_index i (events_of b c s).first ++ at_index i (events_of b c s).second) later)
+        subst (IsHistory One) (append_assoc before (at_index i (events_of b c s).first ++ at_index i (events_of b c s).second) later)
         (history_from (stepped b c s) steps after (i + 1) (step_keeps b Holds Reaches lawful c s is fits) (All-tail (λ x. fits_step b x ≡ true) s steps fit) tells.history
         (tracks_step c s before i (subst (λ n. p < n) (sym is.each) (process_there s fits)) tells was))
 
@@ -232,10 +241,16 @@ module _ {P : Type 0} (b : Behaviour P) (one : HasOneWriter b) where
     nothing_there (suc n) zero = refl
     nothing_there (suc n) (suc p) = nothing_there n p
 
-    pub records_histories : RecordsHistories b
-    records_histories value steps lt fit =
+    whole : (value : ℕ) (steps : List Step) → value < b.values → AllFit b steps → IsHistory One (recorded b value steps)
+    whole value steps lt fit =
         history_from (first_configuration b value) steps [] 0 (initial_keeps b Holds Reaches lawful tt value (b.initial value) (replicate b.processes None) (replicate b.processes false) lt refl refl refl) fit no_history
         (λ p. subst (λ slot. Pends p [] (op_of slot)) (sym (nothing_there b.processes p)) (λ o w. no_event w.earlier (w.step, Invoke p o) w.since w.split))
 
-    pub records_judged : RecordsJudged b
-    records_judged value steps lt fit = judged_in_words value (recorded b value steps) (records_histories value steps lt fit)
+    pub records_well_formed : RecordsWellFormed b
+    records_well_formed value steps lt fit = (whole value steps lt fit).follows
+
+    pub records_histories : HasOneWriter b → RecordsHistories b
+    records_histories one value steps lt fit = let h = whole value steps lt fit in record { roles = h.roles one; follows = h.follows }
+
+    pub records_judged : HasOneWriter b → RecordsJudged b
+    records_judged one value steps lt fit = judged_in_words value (recorded b value steps) (records_histories one value steps lt fit)

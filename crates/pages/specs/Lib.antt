@@ -5,3 +5,4 @@ pub mod Pages
 pub mod Strays
 pub mod VerdictWords
 pub mod LawWords
+pub mod Linearizability

@@ -3,6 +3,7 @@
 #![tactic(auto)]
 
 pub mod breakpoint;
+pub mod laws;
 pub mod page;
 pub mod query;
 pub mod verdict;

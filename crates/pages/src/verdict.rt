@@ -6,7 +6,7 @@ ghost use Rattle.frames.specs.OneWriter.{HasOneWriter};
 ghost use Rattle.frames.specs.correctness.Regularity.{IsAtomic, IsRegular, IsSafe};
 ghost use Rattle.frames.specs.correctness.Verdicts as spec;
 ghost use Rattle.pages.specs.LawWords.{IsAtomicInWords, IsRegularInWords, IsSafeInWords};
-ghost use Rattle.pages.specs.VerdictWords.{IsOneWriterHistory, AreJudged, RecordsHistories, RecordsJudged};
+ghost use Rattle.pages.specs.VerdictWords.{IsOneWriterHistory, AreJudged, RecordsHistories, RecordsJudged, RecordsWellFormed};
 
 use checkpoints::slices::following;
 use frames::register::Register;
@@ -253,10 +253,12 @@ pub fn verdicts_in_words()
         → AreJudged initial history }
 {}
 
-/// If a register has one writer, then what it records on any fitting steps, from any initial value,
-/// is a history of a register with one writer (`IsOneWriterHistory`). On this history, `verdicts`
-/// gives the right verdict on each returned read, and no other verdicts (`AreJudged`).
+/// What a register records on any fitting steps, from any initial value, is a well-formed history
+/// (`IsWellFormed`). If the register has one writer, then it is a history of such a register
+/// (`IsOneWriterHistory`). On this history, `verdicts` gives the right verdict on each returned
+/// read, and no other verdicts (`AreJudged`).
 pub fn recorded_in_words<R: Register>(register: &R)
+    ensures well_formed { RecordsWellFormed (R.behaviour register.now) }
     ensures histories { HasOneWriter (R.behaviour register.now)
         → RecordsHistories (R.behaviour register.now) }
     ensures judged { HasOneWriter (R.behaviour register.now)

@@ -8,6 +8,7 @@ ghost use Rattle.frames.specs.correctness.Regularity.{NeverStray};
 ghost use Rattle.frames.specs.correctness.Regularity.{IsAtomic, IsRegular, IsSafe};
 ghost use Rattle.frames.specs.correctness.ReportedActions.{ReportsActions};
 ghost use Rattle.matrix.specs.Rows.{RefusesNoRow};
+ghost use Rattle.pages.specs.Linearizability.{IsLinearizable};
 ghost use Rattle.unary_number.specs.Scans.{AlwaysFinds};
 ghost use Rattle.views.specs.Looks.{NeverShowsStray};
 
@@ -15,6 +16,7 @@ use crate::{CopiesTower, MatrixTower, RegularTower, StampedTower, UnaryTower};
 use frames::laws::{never_stray, safe};
 use frames::register::{Behaves, Register};
 use matrix::Matrix;
+use pages::laws::linearizable;
 use stamped::Stamped;
 use views::laws::never_shows_stray;
 
@@ -78,13 +80,16 @@ pub fn matrix_over_stamped<S: Register>(register: &Matrix<Stamped<S>>)
 {}
 
 /// A matrix tower is atomic for many processes, and none of its rows is refused in its midst, as
-/// `matrix_over_stamped` says.
+/// `matrix_over_stamped` says. So it is linearizable, in Herlihy and Wing's words: no ranks are in
+/// that clause.
 pub fn matrix_is_atomic(register: &MatrixTower)
     ensures atomic { IsAtomicForMany (⟦<MatrixTower as Behaves>⟧.behaviour register.now) }
+    ensures linearizable { IsLinearizable (⟦<MatrixTower as Behaves>⟧.behaviour register.now) }
     ensures rows { RefusesNoRow (⟦<MatrixTower as Behaves>⟧.behaviour register.now) }
 {
     unary_is_regular(&register.below.below);
     matrix_over_stamped(register);
+    linearizable(register);
 }
 
 /// If each step of each branch fits the tower, then from any initial value no page of a regular,

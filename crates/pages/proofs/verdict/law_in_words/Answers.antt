@@ -6,14 +6,14 @@ use Rattle.pages.proofs.verdict.law_in_words.Goals as goal
 pub returns-clause-safe : goal.returns-clause-safe
 returns-clause-safe g c =
     let r = c.args.register.now in
-    safe_words_alike (g.R.Behaves.behaviour r) (λ one. records_histories (g.R.Behaves.behaviour r) one (g.R.Register.Holds r) (g.R.Register.Reaches r) (g.met.R.Register.lawful r))
+    safe_words_alike (g.R.Behaves.behaviour r) (records_histories (g.R.Behaves.behaviour r) (g.R.Register.Holds r) (g.R.Register.Reaches r) (g.met.R.Register.lawful r))
 
 pub returns-clause-regular : goal.returns-clause-regular
 returns-clause-regular g c =
     let r = c.args.register.now in
-    regular_words_alike (g.R.Behaves.behaviour r) (λ one. records_histories (g.R.Behaves.behaviour r) one (g.R.Register.Holds r) (g.R.Register.Reaches r) (g.met.R.Register.lawful r))
+    regular_words_alike (g.R.Behaves.behaviour r) (records_histories (g.R.Behaves.behaviour r) (g.R.Register.Holds r) (g.R.Register.Reaches r) (g.met.R.Register.lawful r))
 
 pub returns-clause-atomic : goal.returns-clause-atomic
 returns-clause-atomic g c =
     let r = c.args.register.now in
-    atomic_words_alike (g.R.Behaves.behaviour r) (λ one. records_histories (g.R.Behaves.behaviour r) one (g.R.Register.Holds r) (g.R.Register.Reaches r) (g.met.R.Register.lawful r))
+    atomic_words_alike (g.R.Behaves.behaviour r) (records_histories (g.R.Behaves.behaviour r) (g.R.Register.Holds r) (g.R.Register.Reaches r) (g.met.R.Register.lawful r))

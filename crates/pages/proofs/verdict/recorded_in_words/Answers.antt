@@ -1,12 +1,17 @@
-use Rattle.pages.proofs.VerdictHistories.{records_histories, records_judged}
+use Rattle.pages.proofs.VerdictHistories.{records_well_formed, records_histories, records_judged}
 use Rattle.pages.proofs.verdict.recorded_in_words.Goals as goal
+
+pub returns-clause-well_formed : goal.returns-clause-well_formed
+returns-clause-well_formed g c =
+    let r = c.args.register.now in
+    records_well_formed (g.R.Behaves.behaviour r) (g.R.Register.Holds r) (g.R.Register.Reaches r) (g.met.R.Register.lawful r)
 
 pub returns-clause-histories : goal.returns-clause-histories
 returns-clause-histories g c =
     let r = c.args.register.now in
-    λ one. records_histories (g.R.Behaves.behaviour r) one (g.R.Register.Holds r) (g.R.Register.Reaches r) (g.met.R.Register.lawful r)
+    records_histories (g.R.Behaves.behaviour r) (g.R.Register.Holds r) (g.R.Register.Reaches r) (g.met.R.Register.lawful r)
 
 pub returns-clause-judged : goal.returns-clause-judged
 returns-clause-judged g c =
     let r = c.args.register.now in
-    λ one. records_judged (g.R.Behaves.behaviour r) one (g.R.Register.Holds r) (g.R.Register.Reaches r) (g.met.R.Register.lawful r)
+    records_judged (g.R.Behaves.behaviour r) (g.R.Register.Holds r) (g.R.Register.Reaches r) (g.met.R.Register.lawful r)

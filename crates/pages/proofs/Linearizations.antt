@@ -1,0 +1,653 @@
+-- A history whose operations can be given ranks has a linearization. Each rank has `size` places: the
+-- first is that of the write with this rank, and the reads with this rank follow by their numbers.
+use Rattle.std.proofs.Common.{◌≡◌, ℕ, zero, suc, ◌+◌, ◌<◌, ◌≤◌, ◌==◌, Bool, true, false, List, [], ◌∷◌, length, Option, Some, None, is_some, unwrap_or, max, ◌⊎◌, inl, inr, refl, sym, ap, subst, ◌∙◌, true≢false, arith, eq-eqb}
+use Rattle.std.specs.Prelude.{if◌then◌else◌}
+use Rattle.std.proofs.lemmas.Bool.{eqb-true, cases_lt, cases_eq}
+use Rattle.frames.specs.declared.types.Op.{Op}
+use Rattle.frames.specs.declared.types.Op.TheVariants as op
+use Rattle.frames.specs.declared.types.Layer.{Layer}
+use Rattle.frames.specs.declared.types.Event.{Event}
+use Rattle.frames.specs.declared.types.Event.TheVariants.{Invoke, Got, Wrote, Refused, Void, Stop, Chosen}
+use Rattle.frames.specs.Behaviour.{Behaviour}
+use Rattle.frames.specs.Recorded.{recorded}
+use Rattle.frames.specs.correctness.Ranks.{Ranking, at_first, HasRank, after_rank, Ranked, HasRanks, IsAtomicForMany}
+use Rattle.frames.proofs.Pointwise.{put, put_same, put_other}
+use Rattle.pages.specs.VerdictWords.{begins_or_ends}
+use Rattle.pages.specs.Linearizability.{event_at, Operation, EndsIn, is_return, Order, IsWriteBefore, IsLastWrite, IsValueAt, HasLinearization, IsLinearizable}
+
+-- what is known before event number n, and the rank that this event is given
+abbrev state_at : (r : Ranking) (events : List (ℕ × Event)) → Ranked r events → ℕ → Ranking
+state_at r [] h n = r
+state_at r (e ∷ es) h zero = r
+state_at r (e ∷ es) h (suc n) = state_at (after_rank r e.1 h.0) es h.1.1 n
+
+abbrev given_at : (r : Ranking) (events : List (ℕ × Event)) → Ranked r events → ℕ → Option ℕ
+given_at r [] h n = None
+given_at r (e ∷ es) h zero = h.0
+given_at r (e ∷ es) h (suc n) = given_at (after_rank r e.1 h.0) es h.1.1 n
+
+state_first : (r : Ranking) (events : List (ℕ × Event)) (h : Ranked r events) → state_at r events h 0 ≡ r
+state_first r [] h = refl
+state_first r (e ∷ es) h = refl
+
+-- what one event of a ranked history does
+abbrev Does : Ranking → Option ℕ → Ranking → Event → Type 0
+Does r n z e = HasRank r e n × (z ≡ after_rank r e n)
+
+does_at : (r : Ranking) (events : List (ℕ × Event)) (h : Ranked r events) (n : ℕ) (e : Event) → event_at events n ≡ Some e → Does (state_at r events h n) (given_at r events h n) (state_at r events h (suc n)) e
+does_at r [] h n e at = absurd (cc at)
+does_at r (x ∷ es) h zero e at =
+    subst (Does r h.0 (state_at (after_rank r x.1 h.0) es h.1.1 0)) (ap (λ (o : Option Event). unwrap_or o x.1) at) (h.1.0, state_first (after_rank r x.1 h.0) es h.1.1)
+does_at r (x ∷ es) h (suc n) e at = does_at (after_rank r x.1 h.0) es h.1.1 n e at
+
+stays_at : (r : Ranking) (events : List (ℕ × Event)) (h : Ranked r events) (n : ℕ) → event_at events n ≡ None → state_at r events h (suc n) ≡ state_at r events h n
+stays_at r [] h n at = refl
+stays_at r (x ∷ es) h zero at = absurd (cc at)
+stays_at r (x ∷ es) h (suc n) at = stays_at (after_rank r x.1 h.0) es h.1.1 n at
+
+within : (events : List (ℕ × Event)) (n : ℕ) (e : Event) → event_at events n ≡ Some e → n < length events
+within [] n e at = absurd (cc at)
+within (x ∷ es) zero e at = omega arith
+within (x ∷ es) (suc n) e at = let rest = within es n e at in omega (arith, rest)
+
+-- ranks fall nowhere, and the value of a rank stays
+top_grows : (r : Ranking) (e : Event) (n : Option ℕ) → HasRank r e n → r.top ≤ (after_rank r e n).top
+top_grows r (Invoke p (op.Write v)) (Some n) h = omega arith
+top_grows r (Invoke p (op.Write v)) None h = omega arith
+top_grows r (Invoke p op.Read) n h = omega arith
+top_grows r (Got p v) (Some n) h = omega arith
+top_grows r (Got p v) None h = absurd h
+top_grows r (Wrote p) (Some n) h = omega arith
+top_grows r (Wrote p) None h = absurd h
+top_grows r (Refused p layer) n h = omega arith
+top_grows r (Void p reason) n h = omega arith
+top_grows r (Stop p) n h = omega arith
+top_grows r (Chosen p bit v) n h = omega arith
+
+no_value : (v : ℕ) → None ≡ Some v → ⊥
+no_value v e = cc
+
+value_stays : (r : Ranking) (e : Event) (n : Option ℕ) (m v : ℕ) → HasRank r e n → r.values m ≡ Some v → (after_rank r e n).values m ≡ Some v
+value_stays r (Invoke p (op.Write u)) (Some n) m v h is = elim (cases_eq m n) [
+  | inl same ↦ absurd (no_value v (sym h.1 ∙ sym (ap r.values same) ∙ is))
+  | inr other ↦ put_other n m (Some u) r.values other ∙ is
+]
+value_stays r (Invoke p (op.Write u)) None m v h is = is
+value_stays r (Invoke p op.Read) n m v h is = is
+value_stays r (Got p u) (Some n) m v h is = is
+value_stays r (Got p u) None m v h is = is
+value_stays r (Wrote p) (Some n) m v h is = is
+value_stays r (Wrote p) None m v h is = is
+value_stays r (Refused p layer) n m v h is = is
+value_stays r (Void p reason) n m v h is = is
+value_stays r (Stop p) n m v h is = is
+value_stays r (Chosen p bit u) n m v h is = is
+
+-- a value that has a rank had it before, or is that of a write with this rank
+abbrev Gets : Ranking → Event → Option ℕ → ℕ → ℕ → Type 0
+Gets r e n m v = (r.values m ≡ Some v) ⊎ ((p : ℕ) × ((e ≡ Invoke p (op.Write v)) × (n ≡ Some m)))
+
+value_from : (r : Ranking) (e : Event) (n : Option ℕ) (m v : ℕ) → (after_rank r e n).values m ≡ Some v → Gets r e n m v
+value_from r (Invoke p (op.Write u)) (Some n) m v is = elim (cases_eq m n) as (λ _. Gets r (Invoke p (op.Write u)) (Some n) m v) [
+  | inl same ↦
+      let now : Some u ≡ Some v = sym (put_same n (Some u) r.values) ∙ sym (ap (put n (Some u) r.values) same) ∙ is in
+      inr (p, (ap (λ (o : Option ℕ). Invoke p (op.Write (unwrap_or o u))) now, ap Some (sym same)))
+  | inr other ↦ inl (sym (put_other n m (Some u) r.values other) ∙ is)
+]
+value_from r (Invoke p (op.Write u)) None m v is = inl is
+value_from r (Invoke p op.Read) n m v is = inl is
+value_from r (Got p u) (Some n) m v is = inl is
+value_from r (Got p u) None m v is = inl is
+value_from r (Wrote p) (Some n) m v is = inl is
+value_from r (Wrote p) None m v is = inl is
+value_from r (Refused p layer) n m v is = inl is
+value_from r (Void p reason) n m v is = inl is
+value_from r (Stop p) n m v is = inl is
+value_from r (Chosen p bit u) n m v is = inl is
+
+-- what is known of a process is the same after an event that neither begins nor ends an operation
+-- of the process
+abbrev Same : ℕ → Ranking → Ranking → Type 0
+Same p r z = (z.mine p ≡ r.mine p) × (z.floor p ≡ r.floor p)
+
+differs : (p q : ℕ) → (q == p) ≡ false → p ≡ q → ⊥
+differs p q t same = true≢false (sym (eq-eqb q p (sym same)) ∙ t)
+
+own_stays : (p : ℕ) (r : Ranking) (e : Event) (n : Option ℕ) → begins_or_ends p e ≡ false → Same p r (after_rank r e n)
+own_stays p r (Invoke q (op.Write v)) (Some n) t =
+    (put_other q p (Some n) r.mine (differs p q t), put_other q p r.top r.floor (differs p q t))
+own_stays p r (Invoke q (op.Write v)) None t =
+    (put_other q p None r.mine (differs p q t), put_other q p r.top r.floor (differs p q t))
+own_stays p r (Invoke q op.Read) n t = (put_other q p None r.mine (differs p q t), put_other q p r.top r.floor (differs p q t))
+own_stays p r (Got q v) (Some n) t = (refl, refl)
+own_stays p r (Got q v) None t = (refl, refl)
+own_stays p r (Wrote q) (Some n) t = (put_other q p None r.mine (differs p q t), refl)
+own_stays p r (Wrote q) None t = (refl, refl)
+own_stays p r (Refused q layer) n t = (refl, refl)
+own_stays p r (Void q reason) n t = (refl, refl)
+own_stays p r (Stop q) n t = (refl, refl)
+own_stays p r (Chosen q bit v) n t = (refl, refl)
+
+-- the rank of a write that is invoked, if any, and what was the greatest rank then, are kept
+begun : (p v : ℕ) (r : Ranking) (n : Option ℕ) → ((after_rank r (Invoke p (op.Write v)) n).mine p ≡ n) × ((after_rank r (Invoke p (op.Write v)) n).floor p ≡ r.top)
+begun p v r (Some n) = (put_same p (Some n) r.mine, put_same p r.top r.floor)
+begun p v r None = (put_same p None r.mine, put_same p r.top r.floor)
+
+-- what holds at i, and at each number after a number from i at which it holds, holds from i on
+from : (Q : ℕ → Type 0) (i : ℕ) → Q i → ((k : ℕ) → i ≤ k → Q k → Q (suc k)) → (j : ℕ) → i ≤ j → Q j
+from Q i base next zero low = subst Q (let none : i ≡ 0 = omega (arith, low) in none) base
+from Q i base next (suc j) low = elim (cases_eq i (suc j)) as (λ _. Q (suc j)) [
+  | inl same ↦ subst Q same base
+  | inr other ↦ let less : i ≤ j = grind (arith, low, other) in next j less (from Q i base next j less)
+]
+
+-- the place of the operations with rank n, if each rank has `size` places
+abbrev places : ℕ → ℕ → ℕ
+places size zero = 0
+places size (suc n) = size + places size n
+
+places_grow : (size m n : ℕ) → m < n → size + places size m ≤ places size n
+places_grow size m zero less = absurd (omega (arith, less))
+places_grow size m (suc n) less = elim (cases_lt m n) as (λ _. size + places size m ≤ places size (suc n)) [
+  | inl under ↦ let rest = places_grow size m n under in omega (arith, rest)
+  | inr over ↦ let same : m ≡ n = omega (arith, less, over) in subst (λ k. size + places size m ≤ size + places size k) same (omega arith)
+]
+
+-- operations are in the order of their ranks, and of their turns within a rank
+comes_before : (size m n s t : ℕ) → s < size → m ≤ n → (m ≡ n → s < t) → places size m + s < places size n + t
+comes_before size m n s t small low turns = elim (cases_lt m n) as (λ _. places size m + s < places size n + t) [
+  | inl under ↦ let more = places_grow size m n under in omega (arith, small, more)
+  | inr over ↦
+      let same : m ≡ n = omega (arith, low, over) in
+      let turn : s < t = turns same in
+      let alike : places size m ≡ places size n = ap (places size) same in
+      omega (arith, turn, alike)
+]
+
+places_rise : (size m n : ℕ) → m ≤ n → places size m ≤ places size n
+places_rise size m n low = elim (cases_lt m n) as (λ _. places size m ≤ places size n) [
+  | inl under ↦ let more = places_grow size m n under in omega (arith, more)
+  | inr over ↦ let same : m ≡ n = omega (arith, low, over) in subst (λ k. places size m ≤ places size k) same (omega arith)
+]
+
+-- the rank of a read that an event returns
+abbrev got : Option Event → Option ℕ → Option ℕ
+got (Some (Got p v)) n = n
+got o n = None
+
+-- whether it is an event by which a process begins or ends an operation
+abbrev pub is_own : ℕ → Option Event → Bool
+is_own p None = false
+is_own p (Some e) = begins_or_ends p e
+
+some_of : (o : Option ℕ) → is_some o ≡ true → (n : ℕ) × (o ≡ Some n)
+some_of (Some n) h = (n, refl)
+some_of None h = absurd (true≢false (sym h))
+
+got_read : (e : Event) (n : Option ℕ) → is_some (got (Some e) n) ≡ true → (p : ℕ) × ((v : ℕ) × (e ≡ Got p v))
+got_read (Got p v) n h = (p, (v, refl))
+got_read (Invoke p o) n h = absurd (true≢false (sym h))
+got_read (Wrote p) n h = absurd (true≢false (sym h))
+got_read (Refused p layer) n h = absurd (true≢false (sym h))
+got_read (Void p reason) n h = absurd (true≢false (sym h))
+got_read (Stop p) n h = absurd (true≢false (sym h))
+got_read (Chosen p bit v) n h = absurd (true≢false (sym h))
+
+module _ (initial : ℕ) (history : List (ℕ × Event)) (ranks : HasRanks initial history) where
+  abbrev first : ℕ
+  first = ranks.0
+
+  abbrev state : ℕ → Ranking
+  state n = state_at (at_first first initial) history ranks.1 n
+
+  abbrev given : ℕ → Option ℕ
+  given n = given_at (at_first first initial) history ranks.1 n
+
+  does : (n : ℕ) (e : Event) → event_at history n ≡ Some e → Does (state n) (given n) (state (suc n)) e
+  does n e at = does_at (at_first first initial) history ranks.1 n e at
+
+  at_start : state 0 ≡ at_first first initial
+  at_start = state_first (at_first first initial) history ranks.1
+
+  still : (n : ℕ) → event_at history n ≡ None → state (suc n) ≡ state n
+  still n at = stays_at (at_first first initial) history ranks.1 n at
+
+  -- what each event keeps
+  kept : (Q : Ranking → Type 0) (n : ℕ) → ((e : Event) → event_at history n ≡ Some e → HasRank (state n) e (given n) → Q (after_rank (state n) e (given n))) → Q (state n) → Q (state (suc n))
+  kept Q n keeps was = by (event_at history n) refl
+    where
+      by : (o : Option Event) → event_at history n ≡ o → Q (state (suc n))
+      by None at = subst Q (sym (still n at)) was
+      by (Some e) at = let done = does n e at in subst Q (sym done.1) (keeps e at done.0)
+
+  top_rises : (i j : ℕ) → i ≤ j → (state i).top ≤ (state j).top
+  top_rises i j low = from (λ k. (state i).top ≤ (state k).top) i (omega arith)
+      (λ k less is. kept (λ r. (state i).top ≤ r.top) k (λ e at h. let more = top_grows (state k) e (given k) h in omega (arith, is, more)) is) j low
+
+  value_kept : (i j n v : ℕ) → i ≤ j → (state i).values n ≡ Some v → (state j).values n ≡ Some v
+  value_kept i j n v low is = from (λ k. (state k).values n ≡ Some v) i is
+      (λ k less was. kept (λ r. r.values n ≡ Some v) k (λ e at h. value_stays (state k) e (given k) n v h was) was) j low
+
+  -- what is known of a process is the same until the process begins or ends an operation
+  own_kept : (p i n : ℕ) → i < n → ((k : ℕ) (e : Event) → i < k → k < n → event_at history k ≡ Some e → begins_or_ends p e ≡ false) → Same p (state (suc i)) (state n)
+  own_kept p i n less quiet = from (λ k. k ≤ n → Same p (state (suc i)) (state k)) (suc i) (λ high. (refl, refl))
+      (λ k low was high. let before : k ≤ n = omega (arith, high) in kept (Same p (state (suc i))) k (λ e at h.
+      let one = own_stays p (state k) e (given k) (quiet k e (omega (arith, low)) (omega (arith, high)) at) in
+      let all = was before in
+      (one.0 ∙ all.0, one.1 ∙ all.1)) (was before)) n (omega (arith, less)) (omega arith)
+
+  -- a rank's value is the initial one, or that of a write with this rank
+  abbrev Writes : ℕ → ℕ → Type 0
+  Writes n v = (i : ℕ) × ((p : ℕ) × ((event_at history i ≡ Some (Invoke p (op.Write v))) × (given i ≡ Some n)))
+
+  abbrev Origin : ℕ → ℕ → Type 0
+  Origin n v = ((n ≡ first) × (v ≡ initial)) ⊎ Writes n v
+
+  origin : (j n v : ℕ) → (state j).values n ≡ Some v → Origin n v
+  origin zero n v is = elim (cases_eq n first) as (λ _. Origin n v) [
+    | inl same ↦ inl (
+      same,
+      (
+          let now : Some initial ≡ Some v = sym (put_same first (Some initial) (λ k. None)) ∙ sym (ap (put first (Some initial) (λ k. None)) same) ∙ sym (ap (λ (r : Ranking). r.values n) at_start) ∙ is in
+          sym (ap (λ (o : Option ℕ). unwrap_or o initial) now)),
+    )
+    | inr other ↦ absurd (no_value v (sym (put_other first n (Some initial) (λ k. None) other) ∙ sym (ap (λ (r : Ranking). r.values n) at_start) ∙ is))
+  ]
+  origin (suc j) n v is = by (origin j n v) (event_at history j) refl
+    where
+      by : ((state j).values n ≡ Some v → Origin n v) → (o : Option Event) → event_at history j ≡ o → Origin n v
+      by earlier None at = earlier (subst (λ (r : Ranking). r.values n ≡ Some v) (still j at) is)
+      by earlier (Some e) at =
+          let done = does j e at in
+          elim (value_from (state j) e (given j) n v (subst (λ (r : Ranking). r.values n ≡ Some v) done.1 is)) as (λ _. Origin n v) [
+            | inl was ↦ earlier was
+            | inr now ↦ inr (j, (now.0, (at ∙ ap Some now.1.0, now.1.1)))
+          ]
+
+  -- a write's rank is above those of all operations that had returned, and no later write has it
+  record IsWriteAt (i n v : ℕ) : Type 0 where
+    above : (state i).top < n
+    new : (state i).values n ≡ None
+    value : (state (suc i)).values n ≡ Some v
+
+  write_at : (i p n v : ℕ) → event_at history i ≡ Some (Invoke p (op.Write v)) → given i ≡ Some n → IsWriteAt i n v
+  write_at i p n v at is =
+      let done : Does (state i) (Some n) (state (suc i)) (Invoke p (op.Write v)) = subst (λ g. Does (state i) g (state (suc i)) (Invoke p (op.Write v))) is (does i (Invoke p (op.Write v)) at) in
+      record { above = done.0.0; new = done.0.1; value = ap (λ (r : Ranking). r.values n) done.1 ∙ put_same n (Some v) (state i).values }
+
+  not_again : (i j n u v : ℕ) → i < j → IsWriteAt i n u → IsWriteAt j n v → ⊥
+  not_again i j n u v less a b = no_value u (sym b.new ∙ value_kept (suc i) j n u (omega (arith, less)) a.value)
+
+  one_write : (i j n u v : ℕ) → IsWriteAt i n u → IsWriteAt j n v → i ≡ j
+  one_write i j n u v a b = elim (cases_lt i j) as (λ _. i ≡ j) [
+    | inl less ↦ absurd (not_again i j n u v less a b)
+    | inr more ↦ elim (cases_eq i j) as (λ _. i ≡ j) [
+      | inl same ↦ same
+      | inr other ↦ absurd (not_again j i n v u (grind (arith, more, other)) b a)
+    ]
+  ]
+
+  -- the rank of a read that process p has invoked is that of its return, looked for from event k on
+  abbrev scan : ℕ → ℕ → ℕ → Option ℕ
+  scan p zero k = None
+  scan p (suc m) k = if is_own p (event_at history k) then got (event_at history k) (given k) else scan p m (suc k)
+
+  unowned : (p k : ℕ) → ((e : Event) → event_at history k ≡ Some e → begins_or_ends p e ≡ false) → is_own p (event_at history k) ≡ false
+  unowned p k quiet = by (event_at history k) refl
+    where
+      by : (o : Option Event) → event_at history k ≡ o → is_own p o ≡ false
+      by None at = refl
+      by (Some e) at = quiet e at
+
+  scan_ends : (p m k j : ℕ) (e : Event) → k ≤ j → j < k + m → event_at history j ≡ Some e → begins_or_ends p e ≡ true
+      → ((i : ℕ) (other : Event) → k ≤ i → i < j → event_at history i ≡ Some other → begins_or_ends p other ≡ false) → scan p m k ≡ got (Some e) (given j)
+  scan_ends p zero k j e low high at own quiet = let f : ⊥ = omega (arith, low, high) in absurd f
+  scan_ends p (suc m) k j e low high at own quiet = elim (cases_eq k j) as (λ _. scan p (suc m) k ≡ got (Some e) (given j)) [
+    | inl same ↦
+        ap (λ o. if is_own p o then got o (given k) else scan p m (suc k)) (ap (event_at history) same ∙ at)
+        ∙ ap (λ b. if b then got (Some e) (given k) else scan p m (suc k)) own ∙ ap (λ i. got (Some e) (given i)) same
+    | inr other ↦
+        let less : k < j = grind (arith, low, other) in
+        ap (λ b. if b then got (event_at history k) (given k) else scan p m (suc k)) (unowned p k (λ x there. quiet k x (omega arith) less there))
+        ∙ scan_ends p m (suc k) j e (omega (arith, less)) (omega (arith, high)) at own (λ i x after before there. quiet i x (omega (arith, after)) before there)
+  ]
+
+  abbrev Gives : Operation history → Type 0
+  Gives o = (j : ℕ) × ((v : ℕ) × EndsIn o j (Got o.process v))
+
+  scan_found : (o : Operation history) (m k : ℕ) → o.number < k → ((i : ℕ) (other : Event) → o.number < i → i < k → event_at history i ≡ Some other → begins_or_ends o.process other ≡ false)
+      → is_some (scan o.process m k) ≡ true → Gives o
+  scan_found o zero k low quiet found = absurd (true≢false (sym found))
+  scan_found o (suc m) k low quiet found =
+      by (λ none rest. scan_found o m (suc k) (omega (arith, low)) (later none) rest) (event_at history k) refl found
+    where
+      later : is_own o.process (event_at history k) ≡ false → (i : ℕ) (other : Event) → o.number < i → i < suc k → event_at history i ≡ Some other → begins_or_ends o.process other ≡ false
+      later none i x after before there = elim (cases_eq i k) as (λ _. begins_or_ends o.process x ≡ false) [
+        | inl same ↦ ap (is_own o.process) (sym there ∙ ap (event_at history) same) ∙ none
+        | inr other ↦ quiet i x after (grind (arith, before, other)) there
+      ]
+
+      Further : Type 0
+      Further = is_own o.process (event_at history k) ≡ false → is_some (scan o.process m (suc k)) ≡ true → Gives o
+
+      here : Further → (e : Event) → event_at history k ≡ Some e → (b : Bool) → begins_or_ends o.process e ≡ b → is_some (if b then got (Some e) (given k) else scan o.process m (suc k)) ≡ true → Gives o
+      here further e at true own rest =
+          let read = got_read e (given k) rest in
+          let same : read.0 ≡ o.process = eqb-true read.0 o.process (sym (ap (begins_or_ends o.process) read.1.1) ∙ own) in
+          let is : e ≡ Got o.process read.1.0 = read.1.1 ∙ ap (λ q. Got q read.1.0) same in
+          (k, (read.1.0, record { later = low; there = at ∙ ap Some is; own = ap (begins_or_ends o.process) (sym is) ∙ own; first = quiet }))
+      here further e at false own rest = further (ap (is_own o.process) at ∙ own) rest
+
+      by : Further → (x : Option Event) → event_at history k ≡ x → is_some (if is_own o.process x then got x (given k) else scan o.process m (suc k)) ≡ true → Gives o
+      by further None at rest = further (ap (is_own o.process) at) rest
+      by further (Some e) at rest = here further e at (begins_or_ends o.process e) refl rest
+
+  -- the rank of an operation, and its turn among those with this rank
+  abbrev rank_by : ℕ → Option Event → Option ℕ
+  rank_by i (Some (Invoke p (op.Write v))) = given i
+  rank_by i (Some (Invoke p op.Read)) = scan p (length history) (suc i)
+  rank_by i o = None
+
+  abbrev turn_by : ℕ → Option Event → ℕ
+  turn_by i (Some (Invoke p op.Read)) = suc i
+  turn_by i o = 0
+
+  abbrev size : ℕ
+  size = suc (length history)
+
+  abbrev rank : ℕ → Option ℕ
+  rank i = rank_by i (event_at history i)
+
+  abbrev turn : ℕ → ℕ
+  turn i = turn_by i (event_at history i)
+
+  abbrev order : Order
+  order = record { has = λ i. is_some (rank i); place = λ i. places size (unwrap_or (rank i) 0) + turn i }
+
+  -- an operation of the order has its place by its rank; a write has the first of these places
+  record HasPlace (o : Operation history) (m t : ℕ) : Type 0 where
+    ranked : rank o.number ≡ Some m
+    turns : turn o.number ≡ t
+    place : order.place o.number ≡ places size m + t
+
+  has_place : (o : Operation history) (m t : ℕ) → rank o.number ≡ Some m → turn o.number ≡ t → HasPlace o m t
+  has_place o m t r s = record {
+    ranked = r;
+    turns = s;
+    place = ap (λ (x : Option ℕ). places size (unwrap_or x 0) + turn o.number) r ∙ ap (λ u. places size m + u) s;
+  }
+
+  small_turn : (o : Operation history) → suc o.number < size
+  small_turn o = let in_it = within history o.number (Invoke o.process o.op) o.invoked in omega (arith, in_it)
+
+  -- a write of the order
+  record IsWritten (o : Operation history) (v m : ℕ) : Type 0 where
+    placed : HasPlace o m 0
+    at : IsWriteAt o.number m v
+
+  invokes : (o : Operation history) (x : Op) → o.op ≡ x → event_at history o.number ≡ Some (Invoke o.process x)
+  invokes o x is = o.invoked ∙ ap (λ y. Some (Invoke o.process y)) is
+
+  write_given : (o : Operation history) (v : ℕ) → o.op ≡ op.Write v → rank o.number ≡ given o.number
+  write_given o v is = ap (rank_by o.number) (invokes o (op.Write v) is)
+
+  written : (o : Operation history) (v m : ℕ) → o.op ≡ op.Write v → rank o.number ≡ Some m → IsWritten o v m
+  written o v m is r = record {
+    placed = has_place o m 0 r (ap (turn_by o.number) (invokes o (op.Write v) is));
+    at = write_at o.number o.process m v (invokes o (op.Write v) is) (sym (write_given o v is) ∙ r);
+  }
+
+  -- a read of the order: its rank is that of the value which it gives, and not below those of all
+  -- operations that had returned when it was invoked
+  record IsRead (o : Operation history) (n v m : ℕ) : Type 0 where
+    placed : HasPlace o m (suc o.number)
+    low : (state o.number).top ≤ m
+    value : (state n).values m ≡ Some v
+    high : m ≤ (state (suc n)).top
+
+  read_given : (o : Operation history) (n : ℕ) (e : Event) → o.op ≡ op.Read → EndsIn o n e → rank o.number ≡ got (Some e) (given n)
+  read_given o n e is ends =
+      ap (rank_by o.number) (invokes o op.Read is)
+      ∙ scan_ends o.process (length history) (suc o.number) n e (let later = ends.later in omega (arith, later)) (let in_it = within history n e ends.there in omega (arith, in_it)) ends.there ends.own
+      (λ i other after before there. ends.first i other (omega (arith, after)) before there)
+
+  read : (o : Operation history) (n v : ℕ) → o.op ≡ op.Read → EndsIn o n (Got o.process v) → (m : ℕ) × IsRead o n v m
+  read o n v is ends = by (given n) refl
+    where
+      p : ℕ
+      p = o.process
+
+      began : Does (state o.number) (given o.number) (state (suc o.number)) (Invoke o.process op.Read)
+      began = does o.number (Invoke o.process op.Read) (invokes o op.Read is)
+
+      floor : (state n).floor o.process ≡ (state o.number).top
+      floor = (own_kept o.process o.number n ends.later ends.first).1 ∙ ap (λ (r : Ranking). r.floor o.process) began.1 ∙ put_same o.process (state o.number).top (state o.number).floor
+
+      by : (g : Option ℕ) → given n ≡ g → (m : ℕ) × IsRead o n v m
+      by None none = absurd ((subst (λ g. Does (state n) g (state (suc n)) (Got o.process v)) none (does n (Got o.process v) ends.there)).0)
+      by (Some m) some =
+          let done : Does (state n) (Some m) (state (suc n)) (Got o.process v) = subst (λ g. Does (state n) g (state (suc n)) (Got o.process v)) some (does n (Got o.process v) ends.there) in
+          let top : (state (suc n)).top ≡ max (state n).top m = ap (λ (r : Ranking). r.top) done.1 in
+          let lowest : (state n).floor o.process ≤ m = done.0.0 in (
+            m,
+            record {
+              placed = has_place o m (suc o.number) (read_given o n (Got o.process v) is ends ∙ some) (ap (turn_by o.number) (invokes o op.Read is));
+              low = omega (arith, lowest, floor);
+              value = done.0.1;
+              high = omega (arith, top);
+            },
+          )
+
+  -- the rank that a write took is known until it ends
+  write_kept : (o : Operation history) (v n : ℕ) (e : Event) → o.op ≡ op.Write v → EndsIn o n e → (state n).mine o.process ≡ rank o.number
+  write_kept o v n e is ends =
+      (own_kept o.process o.number n ends.later ends.first).0
+      ∙ ap (λ (r : Ranking). r.mine o.process) (does o.number (Invoke o.process (op.Write v)) (invokes o (op.Write v) is)).1
+      ∙ (begun o.process v (state o.number) (given o.number)).0 ∙ sym (write_given o v is)
+
+  -- a returned operation is in the order, and its rank is not above the greatest then
+  record IsReturned (o : Operation history) (n : ℕ) : Type 0 where
+    of : ℕ
+    in_turn : ℕ
+    placed : HasPlace o of in_turn
+    high : of ≤ (state (suc n)).top
+    early : in_turn ≤ suc o.number
+
+  returned_write : (o : Operation history) (n v : ℕ) → o.op ≡ op.Write v → EndsIn o n (Wrote o.process) → IsReturned o n
+  returned_write o n v is ends = by (given n) refl
+    where
+      by : (g : Option ℕ) → given n ≡ g → IsReturned o n
+      by None none = absurd ((subst (λ g. Does (state n) g (state (suc n)) (Wrote o.process)) none (does n (Wrote o.process) ends.there)).0)
+      by (Some m) some =
+          let done : Does (state n) (Some m) (state (suc n)) (Wrote o.process) = subst (λ g. Does (state n) g (state (suc n)) (Wrote o.process)) some (does n (Wrote o.process) ends.there) in
+          let top : (state (suc n)).top ≡ max (state n).top m = ap (λ (r : Ranking). r.top) done.1 in
+          record {
+            of = m;
+            in_turn = 0;
+            placed = (written o v m is (sym (write_kept o v n (Wrote o.process) is ends) ∙ done.0)).placed;
+            high = omega (arith, top);
+            early = omega arith;
+          }
+
+  returned : (o : Operation history) (n : ℕ) (end : Event) → EndsIn o n end → is_return o.op end ≡ true → IsReturned o n
+  returned o n end ends h = by o.op refl end ends h
+    where
+      by : (x : Op) → o.op ≡ x → (e : Event) → EndsIn o n e → is_return x e ≡ true → IsReturned o n
+      by (op.Write v) is (Wrote q) ends h = returned_write o n v is (subst (λ r. EndsIn o n (Wrote r)) (eqb-true q o.process ends.own) ends)
+      by op.Read is (Got q v) ends h =
+          let r = read o n v is (subst (λ r. EndsIn o n (Got r v)) (eqb-true q o.process ends.own) ends) in
+          record { of = r.0; in_turn = suc o.number; placed = r.1.placed; high = r.1.high; early = omega arith }
+      by (op.Write v) is e ends h = absurd (true≢false (sym h))
+      by op.Read is e ends h = absurd (true≢false (sym h))
+
+  refused_out : (o : Operation history) (n : ℕ) (layer : Layer) → EndsIn o n (Refused o.process layer) → order.has o.number ≡ false
+  refused_out o n layer ends = by o.op refl
+    where
+      by : (x : Op) → o.op ≡ x → order.has o.number ≡ false
+      by (op.Write v) is = ap is_some (sym (write_kept o v n (Refused o.process layer) is ends) ∙ (does n (Refused o.process layer) ends.there).0)
+      by op.Read is = ap is_some (read_given o n (Refused o.process layer) is ends)
+
+  gives : (o : Operation history) → o.op ≡ op.Read → order.has o.number ≡ true → Gives o
+  gives o is h =
+      scan_found o (length history) (suc o.number) (omega arith) (λ i other after before there. let f : ⊥ = omega (arith, after, before) in absurd f)
+      (sym (ap (λ x. is_some (rank_by o.number x)) (invokes o op.Read is)) ∙ h)
+
+  pending_out : (o : Operation history) → o.op ≡ op.Read → ((n v : ℕ) → ¬ EndsIn o n (Got o.process v)) → order.has o.number ≡ false
+  pending_out o is none = by (order.has o.number) refl
+    where
+      by : (b : Bool) → order.has o.number ≡ b → order.has o.number ≡ false
+      by true h = let g = gives o is h in absurd (none g.0 g.1.0 g.1.1)
+      by false h = h
+
+  -- an operation of the order: a write in the first turn of its rank, or a read in a turn of its own
+  abbrev Kind : Operation history → ℕ → ℕ → Type 0
+  Kind o m s = ((s ≡ 0) × ((v : ℕ) × IsWriteAt o.number m v)) ⊎ (s ≡ suc o.number)
+
+  record IsIn (o : Operation history) : Type 0 where
+    of : ℕ
+    in_turn : ℕ
+    placed : HasPlace o of in_turn
+    low : (state o.number).top ≤ of
+    kind : Kind o of in_turn
+
+  is_in : (o : Operation history) → order.has o.number ≡ true → IsIn o
+  is_in o h = by o.op refl
+    where
+      by : (x : Op) → o.op ≡ x → IsIn o
+      by (op.Write v) is =
+          let m = some_of (rank o.number) h in
+          let w = written o v m.0 is m.1 in
+          let above = w.at.above in
+          record { of = m.0; in_turn = 0; placed = w.placed; low = omega (arith, above); kind = inl (refl, (v, w.at)) }
+      by op.Read is =
+          let g = gives o is h in
+          let r = read o g.0 g.1.0 is g.1.1 in
+          record { of = r.0; in_turn = suc o.number; placed = r.1.placed; low = r.1.low; kind = inr refl }
+
+  turn_small : (o : Operation history) (m s : ℕ) → Kind o m s → s < size
+  turn_small o m s (inl w) = let zero_turn = w.0 in omega (arith, zero_turn)
+  turn_small o m s (inr r) = let small = small_turn o in omega (arith, small, r)
+
+  -- at the rank that was the greatest when it was invoked, it is a read
+  turn_late : (o : Operation history) (m s : ℕ) → Kind o m s → m ≤ (state o.number).top → s ≡ suc o.number
+  turn_late o m s (inl w) high = let above = w.1.1.above in let f : ⊥ = omega (arith, above, high) in absurd f
+  turn_late o m s (inr r) high = r
+
+  timely : (o x : Operation history) (n : ℕ) (end : Event) → EndsIn o n end → is_return o.op end ≡ true → n < x.number → order.has x.number ≡ true → order.place o.number < order.place x.number
+  timely o x n end ends h late in_it =
+      let a = returned o n end ends h in
+      let b = is_in x in_it in
+      let first_place = a.placed.place in
+      let second_place = b.placed.place in
+      let rises = top_rises (suc n) x.number (omega (arith, late)) in
+      let high = a.high in
+      let low = b.low in
+      let early = a.early in
+      let small = small_turn o in
+      let after = ends.later in
+      let less = comes_before size a.of b.of a.in_turn b.in_turn (omega (arith, early, small)) (omega (arith, high, rises, low))
+      (λ same. let turn = turn_late x b.of b.in_turn b.kind (omega (arith, same, high, rises)) in omega (arith, early, turn, late, after)) in
+      omega (arith, less, first_place, second_place)
+
+  same_kind : (o x : Operation history) (m s : ℕ) → Kind o m s → Kind x m s → o.number ≡ x.number
+  same_kind o x m s (inl a) (inl b) = one_write o.number x.number m a.1.0 b.1.0 a.1.1 b.1.1
+  same_kind o x m s (inr a) (inr b) = omega (arith, a, b)
+  same_kind o x m s (inl a) (inr b) = let zero_turn = a.0 in let f : ⊥ = omega (arith, zero_turn, b) in absurd f
+  same_kind o x m s (inr a) (inl b) = let zero_turn = b.0 in let f : ⊥ = omega (arith, zero_turn, a) in absurd f
+
+  -- an operation at no later place than another has no greater rank
+  rank_low : (o x : Operation history) (a : IsIn o) (b : IsIn x) → order.place o.number ≤ order.place x.number → a.of ≤ b.of
+  rank_low o x a b low = elim (cases_lt b.of a.of) as (λ _. a.of ≤ b.of) [
+    | inl under ↦
+        let less = comes_before size b.of a.of b.in_turn a.in_turn (turn_small x b.of b.in_turn b.kind) (omega (arith, under)) (λ same. absurd (omega (arith, same, under))) in
+        let first_place = a.placed.place in
+        let second_place = b.placed.place in
+        let f : ⊥ = omega (arith, less, low, first_place, second_place) in absurd f
+    | inr over ↦ over
+  ]
+
+  no_ties : (o x : Operation history) → order.has o.number ≡ true → order.has x.number ≡ true → order.place o.number ≡ order.place x.number → o.number ≡ x.number
+  no_ties o x h k same =
+      let a = is_in o h in
+      let b = is_in x k in
+      let low = rank_low o x a b (omega (arith, same)) in
+      let high = rank_low x o b a (omega (arith, same)) in
+      let one : b.of ≡ a.of = omega (arith, low, high) in
+      let alike : places size b.of ≡ places size a.of = ap (places size) one in
+      let first_place = a.placed.place in
+      let second_place = b.placed.place in
+      let turns : b.in_turn ≡ a.in_turn = omega (arith, alike, first_place, second_place, same) in
+      same_kind o x a.of a.in_turn a.kind (subst (λ m. Kind x m a.in_turn) one (subst (λ s. Kind x b.of s) turns b.kind))
+
+  -- the write that a read follows, or the initial value
+  value_of_read : (o : Operation history) (n v : ℕ) → o.op ≡ op.Read → EndsIn o n (Got o.process v) → IsValueAt initial history order (order.place o.number) v
+  value_of_read o n v is ends =
+      elim (origin n m v r.value) as (λ _. IsValueAt initial history order (order.place o.number) v) [
+        | inl start ↦ inr ((λ other u w. none other u w start.0), start.1)
+        | inr w ↦ inl (write w)
+      ]
+    where
+      m : ℕ
+      m = (read o n v is ends).0
+
+      r : IsRead o n v (read o n v is ends).0
+      r = (read o n v is ends).1
+
+      -- a write before the read's place has no greater rank
+      under : (other : Operation history) (u : ℕ) → IsWriteBefore order (order.place o.number) u other → (k : ℕ) × (IsWritten other u k × (k ≤ m))
+      under other u w =
+          let k = some_of (rank other.number) w.in_it in
+          let wrote = written other u k.0 w.writes k.1 in (
+            k.0,
+            (
+              wrote,
+              elim (cases_lt m k.0) as (λ _. k.0 ≤ m) [
+                | inl less ↦
+                    let after = comes_before size m k.0 (suc o.number) 0 (small_turn o) (omega (arith, less)) (λ same. absurd (omega (arith, same, less))) in
+                    let before = w.before in
+                    let first_place = wrote.placed.place in
+                    let second_place = r.placed.place in
+                    let f : ⊥ = omega (arith, after, before, first_place, second_place) in absurd f
+                | inr over ↦ over
+              ],
+            ),
+          )
+
+      none : (other : Operation history) (u : ℕ) → IsWriteBefore order (order.place o.number) u other → m ≡ first → ⊥
+      none other u w start =
+          let k = under other u w in
+          let above = k.1.0.at.above in
+          let rises = top_rises 0 other.number (omega arith) in
+          let least : (state 0).top ≡ first = ap (λ (r : Ranking). r.top) at_start in
+          let low = k.1.1 in
+          omega (arith, above, rises, least, low, start)
+
+      write : Writes m v → IsLastWrite history order (order.place o.number) v
+      write w =
+          let it : Operation history = record { number = w.0; process = w.1.0; op = op.Write v; invoked = w.1.1.0 } in
+          let wrote = written it v m refl (write_given it v refl ∙ w.1.1.1) in
+          let first_place = wrote.placed.place in
+          let second_place = r.placed.place in
+          record {
+            write = it;
+            it = record { writes = refl; in_it = ap is_some wrote.placed.ranked; before = omega (arith, first_place, second_place) };
+            last = λ other u x.
+                let k = under other u x in
+                let low = places_rise size k.0 m k.1.1 in
+                let third_place = k.1.0.placed.place in
+                omega (arith, low, third_place, first_place);
+          }
+
+pub ranks_linearize : (initial : ℕ) (history : List (ℕ × Event)) → HasRanks initial history → HasLinearization initial history
+ranks_linearize initial history ranks = record {
+  order = order initial history ranks;
+  returned = λ o n end ends h. ap is_some (returned initial history ranks o n end ends h).placed.ranked;
+  refused = λ o n layer ends. refused_out initial history ranks o _ layer ends;
+  unreturned = λ o is none. pending_out initial history ranks o is none;
+  one_each = λ o x h k same. no_ties initial history ranks o x h k same;
+  in_time = λ o x n end ends h late in_it. timely initial history ranks o x n end ends h (omega (arith, late)) in_it;
+  reads = λ o n v is ends. value_of_read initial history ranks o n v is ends;
+}
+
+pub linearizes : {P : Type 0} (b : Behaviour P) → IsAtomicForMany b → IsLinearizable b
+linearizes b ranked = λ value steps within fit. ranks_linearize value (recorded b value steps) (ranked value steps within fit)
