@@ -6,6 +6,7 @@ mod answer;
 mod bench_source;
 mod ending;
 mod fault;
+pub mod laws;
 mod opening;
 mod program;
 mod running;

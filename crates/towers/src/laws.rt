@@ -10,7 +10,6 @@ ghost use Rattle.frames.specs.correctness.ReportedActions.{ReportsActions};
 ghost use Rattle.matrix.specs.Rows.{RefusesNoRow};
 ghost use Rattle.pages.specs.Linearizability.{IsLinearizable};
 ghost use Rattle.unary_number.specs.Scans.{AlwaysFinds};
-ghost use Rattle.views.specs.Looks.{NeverShowsStray};
 
 use crate::{CopiesTower, MatrixTower, RegularTower, StampedTower, UnaryTower};
 use frames::laws::{never_stray, safe};
@@ -18,7 +17,6 @@ use frames::register::{Behaves, Register};
 use matrix::Matrix;
 use pages::laws::linearizable;
 use stamped::Stamped;
-use views::laws::never_shows_stray;
 
 /// Copies of a safe bit are safe: a read that no write overlaps gives the value written last before
 /// it. They have one writer and refuse no operation.
@@ -90,22 +88,6 @@ pub fn matrix_is_atomic(register: &MatrixTower)
     unary_is_regular(&register.below.below);
     matrix_over_stamped(register);
     linearizable(register);
-}
-
-/// If each step of each branch fits the tower, then from any initial value no page of a regular,
-/// unary or stamped tower shows a stray read: a read that gives neither the value written last
-/// before it nor the value of a write that overlaps it.
-pub fn pages_show_no_stray(bit: &RegularTower, number: &UnaryTower, register: &StampedTower)
-    ensures regular { NeverShowsStray (⟦<RegularTower as Behaves>⟧.behaviour bit.now) }
-    ensures unary { NeverShowsStray (⟦<UnaryTower as Behaves>⟧.behaviour number.now) }
-    ensures stamped { NeverShowsStray (⟦<StampedTower as Behaves>⟧.behaviour register.now) }
-{
-    regular_is_regular(bit);
-    never_shows_stray(bit);
-    unary_is_regular(number);
-    never_shows_stray(number);
-    stamped_is_atomic(register);
-    never_shows_stray(register);
 }
 
 /// Copies of a safe bit report their actions: an invocation changes no cell; the next action that

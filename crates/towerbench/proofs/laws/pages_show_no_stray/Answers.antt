@@ -1,5 +1,5 @@
 use Rattle.std.proofs.Common.{inl, inr}
-use Rattle.towers.proofs.laws.pages_show_no_stray.Goals as goal
+use Rattle.towerbench.proofs.laws.pages_show_no_stray.Goals as goal
 
 pub returns-clause-regular : goal.returns-clause-regular
 returns-clause-regular c = c.never_shows_stray.ensures (inl c.regular_is_regular.ensures.regular)

@@ -1,0 +1,24 @@
+//! A law of what pages show, for the towers that have a verdict other than stray.
+
+ghost use Rattle.views.specs.Looks.{NeverShowsStray};
+
+use frames::register::Behaves;
+use towers::laws::{regular_is_regular, stamped_is_atomic, unary_is_regular};
+use towers::{RegularTower, StampedTower, UnaryTower};
+use views::laws::never_shows_stray;
+
+/// If each step of each branch fits the tower, then from any initial value no page of a regular,
+/// unary or stamped tower shows a stray read: a read that gives neither the value written last
+/// before it nor the value of a write that overlaps it.
+pub fn pages_show_no_stray(bit: &RegularTower, number: &UnaryTower, register: &StampedTower)
+    ensures regular { NeverShowsStray (⟦<RegularTower as Behaves>⟧.behaviour bit.now) }
+    ensures unary { NeverShowsStray (⟦<UnaryTower as Behaves>⟧.behaviour number.now) }
+    ensures stamped { NeverShowsStray (⟦<StampedTower as Behaves>⟧.behaviour register.now) }
+{
+    regular_is_regular(bit);
+    never_shows_stray(bit);
+    unary_is_regular(number);
+    never_shows_stray(number);
+    stamped_is_atomic(register);
+    never_shows_stray(register);
+}
