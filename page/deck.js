@@ -1,6 +1,7 @@
 // What can be done next: buttons of each process, breaks, sessions, and what can be done with a
 // step. `does` are the gestures; each button says which step it adds to the script.
 import { flipped } from "./document.js";
+import { TYPED_STEP } from "./grammar.js";
 import { between } from "./pages.js";
 import { reasonOf } from "./reading.js";
 import { refusalReason } from "./refused.js";
@@ -14,7 +15,6 @@ import { here, now, runHere, setView } from "./state.js";
 export const FEW_VALUES = 8;
 const STEP_WORDS = "A step is w P V (process P writes V), r P (P reads), g P C (P's next action, " +
   "with choice C) or x P (P stops)";
-const STEP_PATTERN = "w [0-9] [0-9]+|r [0-9]|g [0-9] [01]|x [0-9]";
 export const ACTIONS = { ws: "starts to write bit", we: "ends its write of bit",
   rs: "starts to read bit", re: "ends its read of bit" };
 // a button; its key finds it again when all is made again, so that it keeps the focus
@@ -172,7 +172,7 @@ function menu(index, does) {
   const isChoice = step.startsWith("g"), isChosen = events.some((it) => it.includes(" chosen "));
   const others = now.model.sharers(branch, index).map((it) => it.name).join(", ");
   const said = (words) => element("small", {}, words);
-  const input = element("input", { value: step, "aria-label": "another step", pattern: STEP_PATTERN,
+  const input = element("input", { value: step, "aria-label": "another step", pattern: TYPED_STEP,
     oninvalid: ({ target }) => target.setCustomValidity(STEP_WORDS),
     oninput: ({ target }) => target.setCustomValidity("") });
   const done = (gesture) => () => { closeMenu(); gesture(); };

@@ -9,9 +9,10 @@ import { one } from "./elements.js";
 import { answer, stop } from "./engine.js";
 import { exerciseNamed, lessonsOf } from "./exercises.js";
 import { chooseOpen, chooseTower, keepDocument, leaveAddress, lessonOf } from "./files.js";
+import { SESSIONS } from "./grammar.js";
 import { remember, remembered } from "./kept.js";
 import { lessonStep, putLesson } from "./lessons.js";
-import { Model, SESSIONS, stepsToEnd } from "./model.js";
+import { Model, stepsToEnd } from "./model.js";
 import { documentOf, textsOf } from "./opened.js";
 import { light, shown } from "./picture.js";
 import { present } from "./room.js";
@@ -246,7 +247,7 @@ export function show(choice) {
   const names = choice.split(" ").slice(1);
   return choice === "all" || names.includes(here().name) ? redraw(true) : focusOn(names[0]);
 }
-export function compare(name) {
+function compare(name) {
   const { view, model } = now, at = here().name, branch = model.branch(name);
   if (view.show.startsWith("compare ")) return show("all");
   const near = () => branch.parent || model.branches.find((it) => it !== branch);
@@ -261,7 +262,7 @@ function switchTheme() {
   one("#theme").textContent = THEMES[style.colorScheme];
 }
 export const actAs = (who) => act(() => { setNow({ who }); clear(); return draw(); });
-export const nextSession = (way) => actAs((now.who + way + SESSIONS.length) % SESSIONS.length);
+export const nextSession = (way) => actAs((now.who + way + SESSIONS) % SESSIONS);
 const play = (way) => act(() => { clear(); return now.lesson && change(lessonStep(way)); });
 // what the buttons with data-do do; `name` is the branch of the panel that has the button, or the
 // cursor's

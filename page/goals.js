@@ -7,6 +7,9 @@
 // after `then` of a later line; COUNT: exactly as many lines. One branch meets all groups. Clauses
 // after `same read:` are about one read: the events from its invocation to its end, and its
 // verdict; after `same write:` about one write, and the verdicts of reads that return during it.
+import { NAME } from "./grammar.js";
+
+const SCOPE = new RegExp(`^${NAME}$`);
 const OF_PLACES = ["verdict", "history", "state", "bits", "pending"];
 const PAGES = [...OF_PLACES, "steps", "branches", "cursor"], OF_OPERATIONS = ["verdict", "history"];
 const TOKEN = /"([^"]*)"|[a-z][a-z0-9]*|[0-9]+|[:;,]|\S/g, NUMBER = /^[0-9]{1,9}$/;
@@ -56,7 +59,7 @@ export function goalIn(text) {
   try {
     if (text.length > MOST_TEXT) throw new Unreadable(`it is longer than ${MOST_TEXT} characters`);
     const tokens = new Tokens(text), scope = tokens.take().whole, groups = [];
-    if (!/^[a-z][a-z0-9]{0,15}$/.test(scope))
+    if (!SCOPE.test(scope))
       throw new Unreadable("it begins with some, every or a branch's name");
     tokens.need(":");
     do groups.push(groupIn(tokens)); while (tokens.takes(";"));

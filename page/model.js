@@ -1,13 +1,14 @@
 // What the program says of a document: its answer to each line, the branches, the cursors, and
 // pages as they are wanted.
 import { placeOf } from "./document.js";
+import { SESSIONS } from "./grammar.js";
 import { Codes } from "./layers.js";
 import { LOOK, answersIn, between, cursorIn, firstDifference, forestIn } from "./pages.js";
 import { pageIn, pairedAnswers, sharedCells } from "./pages.js";
 import { faultInWords, refusalOf } from "./refusals.js";
 import { shapeOf } from "./towers.js";
 
-export const SESSIONS = between(0, 16);
+const EVERY_SESSION = between(0, SESSIONS);
 // at most this many lines of pages are kept
 const MOST_KEPT = 2000000;
 // a file with more steps than the program takes by default is run with a higher limit
@@ -24,7 +25,7 @@ export class Model {
   // The answers to a document; a fault of the file, or of the whole run, is thrown. What `before`
   // has of it stays.
   static async of(document, ask, before) {
-    const cursors = SESSIONS.map((who) => `${who} cursor`);
+    const cursors = EVERY_SESSION.map((who) => `${who} cursor`);
     const asked = [...document.lines, ...cursors, `${LOOK} branches`];
     const made = await answered(ask, document.tower, linesOf(asked));
     const { bench } = made, isSame = before && before.bench === bench;
@@ -44,9 +45,9 @@ export class Model {
   understand(found) {
     const { document } = this, many = document.lines.length;
     this.answers = found.slice(0, many);
-    this.cursors = SESSIONS.map((who) => this.cursorOf(found[many + who]));
+    this.cursors = EVERY_SESSION.map((who) => this.cursorOf(found[many + who]));
     // (the page branches: what its first line says, and each branch)
-    const { first = "", lines = [] } = found[many + SESSIONS.length] || {};
+    const { first = "", lines = [] } = found[many + SESSIONS] || {};
     this.branchLines = [first.replace(/^[0-9]+: /, ""), ...lines];
     const wordsOf = (it, index) => it && refusalOf(it.first, document.lines[index]);
     const refused = this.answers.map((it, index) =>

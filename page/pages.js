@@ -1,11 +1,10 @@
 // What the program's answers say, as data. Nothing is worked out that no page says; a line that
 // isn't known is noted.
 import { framesIn } from "./frames.js";
+import { NAME, NUMBER, STEP, whole } from "./grammar.js";
 
 // the session that asks for pages: none that can join
 export const LOOK = 999999999;
-const NUMBER = "(?:0|[1-9][0-9]{0,8})";
-const whole = (pattern) => new RegExp(`^(?:${pattern})$`);
 const NEXT_ACTION = `next (ws|we|rs|re) (${NUMBER})`;
 const PROCESS = whole(`p([0-9]) (idle|read|write (${NUMBER}))(?: (stopped)| ${NEXT_ACTION})?`);
 const HAPPENS = ["invoke read", `invoke write ${NUMBER}`, `return ${NUMBER}`, "return written",
@@ -17,8 +16,7 @@ const WORDS = whole(`words (?:-|${NUMBER}(?: ${NUMBER})*)`);
 const BITS = /^bits [01]+$/;
 const VERDICT = whole(`(${NUMBER} p[0-9] ${NUMBER}) (fresh|overlap|stray)`);
 const UNDEFINED = "undefined for matrix";
-const STEP = whole(`w [0-9] ${NUMBER}|r [0-9]|g [0-9] [01]|x [0-9]`);
-const BRANCH = whole(`branch ([a-z][a-z0-9]{0,15}) (${NUMBER}) (${NUMBER})`);
+const STEP_LINE = whole(STEP), BRANCH = whole(`branch (${NAME}) (${NUMBER}) (${NUMBER})`);
 const CURSOR = whole(`${NUMBER}: cursor (\\S+) (${NUMBER}) breaks ${NUMBER}`);
 export const between = (from, to) =>
   [...Array(Math.max(0, to - from)).keys()].map((it) => it + from);
@@ -66,7 +64,7 @@ export function forestIn(bench) {
       if (shared > (parent ? parent.length : 0))
         throw new Error(`A branch shares steps that aren't there: ${begin}`);
       branches.push(new Branch(match[1], parent, shared, branches.length));
-    } else if (STEP.test(line) && branches.length) branches.at(-1).own.push(line);
+    } else if (STEP_LINE.test(line) && branches.length) branches.at(-1).own.push(line);
     else throw new Error(`The saved branches have a line that isn't known: ${begin}`);
   }
   if (!branches.length) throw new Error("The program saved no branches.");
