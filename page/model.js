@@ -70,8 +70,8 @@ export class Model {
   }
   // the place that the last line is about, if it is a session's own and isn't refused
   placeOfLastLine(who) {
-    const { lines } = this.document, line = placeOf(lines.findLast((it) => it && it[0] !== "#"));
-    const isRefused = this.refusals.at(-1)?.line === lines.length;
+    const { lines } = this.document, last = lines.findLastIndex((it) => it && it[0] !== "#");
+    const line = placeOf(lines[last]), isRefused = this.refusals.at(-1)?.line === last + 1;
     const branch = line && line.who === who && !isRefused && this.branch(line.name);
     return branch && { name: branch.name, place: Math.min(line.place, branch.length) };
   }
