@@ -9,3 +9,4 @@ pub mod LawWords
 pub mod AtomicWords
 mod Examples
 pub mod Linearizations
+pub mod Rankings

@@ -67,7 +67,7 @@ top_grows r (Chosen p bit v) n h = omega arith
 no_value : (v : ℕ) → None ≡ Some v → ⊥
 no_value v e = cc
 
-value_stays : (r : Ranking) (e : Event) (n : Option ℕ) (m v : ℕ) → HasRank r e n → r.values m ≡ Some v → (after_rank r e n).values m ≡ Some v
+pub value_stays : (r : Ranking) (e : Event) (n : Option ℕ) (m v : ℕ) → HasRank r e n → r.values m ≡ Some v → (after_rank r e n).values m ≡ Some v
 value_stays r (Invoke p (op.Write u)) (Some n) m v h is = elim (cases_eq m n) [
   | inl same ↦ absurd (no_value v (sym h.1 ∙ sym (ap r.values same) ∙ is))
   | inr other ↦ put_other n m (Some u) r.values other ∙ is
@@ -107,13 +107,13 @@ value_from r (Chosen p bit u) n m v is = inl is
 
 -- what is known of a process is the same after an event that neither begins nor ends an operation
 -- of the process
-abbrev Same : ℕ → Ranking → Ranking → Type 0
+abbrev pub Same : ℕ → Ranking → Ranking → Type 0
 Same p r z = (z.mine p ≡ r.mine p) × (z.floor p ≡ r.floor p)
 
 differs : (p q : ℕ) → (q == p) ≡ false → p ≡ q → ⊥
 differs p q t same = true≢false (sym (eq-eqb q p (sym same)) ∙ t)
 
-own_stays : (p : ℕ) (r : Ranking) (e : Event) (n : Option ℕ) → begins_or_ends p e ≡ false → Same p r (after_rank r e n)
+pub own_stays : (p : ℕ) (r : Ranking) (e : Event) (n : Option ℕ) → begins_or_ends p e ≡ false → Same p r (after_rank r e n)
 own_stays p r (Invoke q (op.Write v)) (Some n) t =
     (put_other q p (Some n) r.mine (differs p q t), put_other q p r.top r.floor (differs p q t))
 own_stays p r (Invoke q (op.Write v)) None t =

@@ -4,6 +4,7 @@ ghost use Rattle.std.specs.Prelude.{◌≡◌, ℕ, List};
 ghost use Rattle.frames.specs.correctness.Ranks.{HasRanks, IsAtomicForMany};
 ghost use Rattle.frames.specs.declared.types.Event.{Event};
 ghost use Rattle.pages.specs.Linearizability.{HasLinearization, IsLinearizable};
+ghost use Rattle.pages.specs.VerdictWords.{IsWellFormed};
 
 use frames::register::Register;
 
@@ -16,8 +17,11 @@ pub fn linearizable<R: Register>(register: &R)
     ensures { IsLinearizable (R.behaviour register.now) }
 {}
 
-/// If the operations of a history can be given ranks, then the history has a linearization.
+/// If the operations of a history can be given ranks, then the history has a linearization; and if
+/// the history is well-formed, also the other way round.
 pub fn linearized()
-    ensures { (initial : ℕ) (history : List (ℕ × Event)) → HasRanks initial history
+    ensures linear { (initial : ℕ) (history : List (ℕ × Event)) → HasRanks initial history
         → HasLinearization initial history }
+    ensures ranked { (initial : ℕ) (history : List (ℕ × Event)) → IsWellFormed history
+        → HasLinearization initial history → HasRanks initial history }
 {}

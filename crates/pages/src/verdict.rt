@@ -3,9 +3,11 @@
 ghost use Rattle.std.specs.Prelude.{◌≡◌, ◌↔◌, ℕ, List, ◌++◌, IfOk, OnOk};
 ghost use Rattle.frames.specs.declared.types.Event.{Event};
 ghost use Rattle.frames.specs.OneWriter.{HasOneWriter};
+ghost use Rattle.frames.specs.correctness.Ranks.{IsAtomicForMany};
 ghost use Rattle.frames.specs.correctness.Regularity.{IsAtomic, IsRegular, IsSafe};
 ghost use Rattle.frames.specs.correctness.Verdicts as spec;
 ghost use Rattle.pages.specs.LawWords.{IsAtomicInWords, IsRegularInWords, IsSafeInWords};
+ghost use Rattle.pages.specs.Linearizability.{IsLinearizable};
 ghost use Rattle.pages.specs.VerdictWords.{IsOneWriterHistory, AreJudged, RecordsHistories, RecordsJudged, RecordsWellFormed};
 
 use checkpoints::slices::following;
@@ -268,12 +270,15 @@ pub fn recorded_in_words<R: Register>(register: &R)
 /// Safe, regular and atomic are each defined twice. One definition is in Lamport's words, by the
 /// order in which operations are invoked and return. The other is by a summary (`Known`) of the
 /// events before a read returns. The summary has the value written last (at first the initial one),
-/// the value being written, the values of the writes that returned, and the reads invoked. The two
-/// definitions of each are equivalent, for any register.
+/// the value being written, the values of the writes that returned, and the reads invoked. Atomic
+/// for many processes is also defined twice: by ranks, and as linearizable in Herlihy and Wing's
+/// words. The two definitions of each are equivalent, for any register.
 pub fn law_in_words<R: Register>(register: &R)
     ensures safe { IsSafe (R.behaviour register.now) ↔ IsSafeInWords (R.behaviour register.now) }
     ensures regular { IsRegular (R.behaviour register.now) ↔ IsRegularInWords
         (R.behaviour register.now) }
     ensures atomic { IsAtomic (R.behaviour register.now) ↔ IsAtomicInWords
+        (R.behaviour register.now) }
+    ensures linearizable { IsAtomicForMany (R.behaviour register.now) ↔ IsLinearizable
         (R.behaviour register.now) }
 {}

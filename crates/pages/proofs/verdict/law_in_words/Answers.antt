@@ -1,6 +1,7 @@
-use Rattle.pages.proofs.VerdictHistories.{records_histories}
+use Rattle.pages.proofs.VerdictHistories.{records_well_formed, records_histories}
 use Rattle.pages.proofs.LawWords.{safe_words_alike, regular_words_alike}
 use Rattle.pages.proofs.AtomicWords.{atomic_words_alike}
+use Rattle.pages.proofs.Rankings.{linearizable_alike}
 use Rattle.pages.proofs.verdict.law_in_words.Goals as goal
 
 pub returns-clause-safe : goal.returns-clause-safe
@@ -17,3 +18,8 @@ pub returns-clause-atomic : goal.returns-clause-atomic
 returns-clause-atomic g c =
     let r = c.args.register.now in
     atomic_words_alike (g.R.Behaves.behaviour r) (records_histories (g.R.Behaves.behaviour r) (g.R.Register.Holds r) (g.R.Register.Reaches r) (g.met.R.Register.lawful r))
+
+pub returns-clause-linearizable : goal.returns-clause-linearizable
+returns-clause-linearizable g c =
+    let r = c.args.register.now in
+    linearizable_alike (g.R.Behaves.behaviour r) (records_well_formed (g.R.Behaves.behaviour r) (g.R.Register.Holds r) (g.R.Register.Reaches r) (g.met.R.Register.lawful r))
