@@ -40,7 +40,15 @@ ROWS = (
 NUMBERS_OF_WORKERS = (0, 4)
 # How many growths are refused in a row if it isn't one, and on which rows.
 MORE_IN_A_ROW = {
-    2: ("bench-file", "breaks", "detach-replace", "shared-insert", "thousand-steps-filled"),
+    2: (
+        "bench-file",
+        "breaks",
+        "detach-replace",
+        "first-run-and-edits",
+        "late-run",
+        "shared-insert",
+        "thousand-steps-filled",
+    ),
     6: ("bench-file", "breaks", "script-lines", "shared-insert", "thousand-steps-filled"),
 }
 # A crate whose tests are tried if no source is newer than they are, a test's name, and how many
