@@ -9,9 +9,10 @@ script may be
 - a front of such answers, and the fault `towerbench: memory` with status 1;
 - nothing at all, and the fault of the file or of the opening, `40 Memory`, with status 1;
 - if the branches are saved, the whole answers, and the fault `towerbench: memory` with status 1.
-Nothing else. The saved file is the one with ample memory, unless a line was refused; if a
-run ends by a fault, the file is as it was. Rows through the calls of the desk and of the chart are
-tried by the built tests of their crates (tests/built.py), which say themselves what may be answered.
+Nothing else; and if a look or a fill has another refusal due, it isn't answered `40 Memory`. The
+saved file is the one with ample memory, unless a line was refused; if a run ends by a fault, the
+file is as it was. Rows through the calls of the desk and of the chart are tried by the built tests
+of their crates (tests/built.py), which say themselves what may be answered.
 """
 import collections
 import os
@@ -22,6 +23,13 @@ import tempfile
 
 import cases
 
+# Rows of one look or fill, which has a refusal due: it is never answered 40 Memory.
+REFUSED_OTHERWISE = (
+    "first-fill-without-branch",
+    "first-look-without-branch",
+    "first-look-without-place",
+    "first-look-without-session",
+)
 # The rows that are tried, and all examples: with these numbers of workers if their words give none.
 ROWS = (
     "thousand-steps-filled",
@@ -36,6 +44,7 @@ ROWS = (
     "refusals",
     "script-lines",
     "shared-insert",
+    *REFUSED_OTHERWISE,
 )
 NUMBERS_OF_WORKERS = (0, 4)
 # How many growths are refused in a row if it isn't one, and on which rows.
@@ -199,6 +208,12 @@ def fault_of_run(ran, answers, refused):
     return None
 
 
+def fault_of_order(trial, ran):
+    """Returns how a refusal isn't the first that is due, or None."""
+    is_due = os.path.basename(trial.name) in REFUSED_OTHERWISE
+    return "another refusal is due" if is_due and REFUSED in ran.output else None
+
+
 def fault_of_save(case, ran):
     """Returns how what a run saved isn't as it may be, or None."""
     if not case.save:
@@ -225,7 +240,8 @@ def fault_of_script(trial, program, refuse, scratch):
         if case.save:
             cases.put_kept(case.save)
         ran = cases.run(program, words, case.script, environment)
-        wrong = fault_of_run(ran, ample, refused()) or fault_of_save(case, ran)
+        wrong = fault_of_run(ran, ample, refused())
+        wrong = wrong or fault_of_order(trial, ran) or fault_of_save(case, ran)
         if wrong:
             raise Odd(f"from growth {number} on, {refused()} refused: {wrong}: {said(ran)}")
         return ran.status == 0 and ran.output == case.output

@@ -5,7 +5,6 @@ use Rattle.conversation.specs.declared.fault.StreamFault.TheVariants.{Read, Writ
 use Rattle.conversation.specs.Moments.{Streams, streams}
 use Rattle.conversation.specs.Scripts.{Definition, answers_to, IsLineAnswer}
 use Rattle.std.specs.Prelude.{⊤, IfErr, OnOk, Result, Ok, Err}
-use Rattle.std.specs.Result.{IsErr, IsErrAnd}
 use Rattle.conversation.specs.declared.fault.StreamFault.{StreamFault}
 use Rattle.conversation.specs.Answering.{HasAnswered, Reached, Finished}
 use Rattle.conversation.specs.Conversations.{Leaves, EndsWithFault, IsFront}
@@ -31,9 +30,6 @@ module _ {W : Type 0} (define : Definition W) (start : W) where
   }
 
   module _ (before after : Streams) (count : ℕ) (world : W) (lines : ℕ) (line : List ℕ) (r : Reached define start before after count world lines line) where
-    pub reached_at : (other : ℕ) → count ≡ other → Reached define start before after other world lines line
-    reached_at other e = subst (λ n. Reached define start before after n world lines line) e r
-
     pub reached_kept : (next : Option (List ℕ)) → Consumes after.unread next [] → Reached define start before (streams next after.written) count world lines line
     reached_kept next k = record { seen = r.seen; text = r.text; read = consumes_kept before.unread after.unread next r.seen r.read k; counted = r.counted; wrote = r.wrote; reported = r.reported }
 
@@ -169,9 +165,3 @@ module _ {W : Type 0} (define : Definition W) (start : W) where
     pub finished : (r : Result ⊤ StreamFault) → Finished define start before after left r → IsEnd r
     finished (Ok done) h = record { done = h; fault = tt }
     finished (Err e) h = record { done = tt; fault = h }
-
-    -- if a call has the fault e, the conversation ends with that fault
-    pub ends_with_fault : (r : Result ⊤ StreamFault) (e : StreamFault) (Is : StreamFault → Type 0) → IsErr r → IsErrAnd r Is → ((x : StreamFault) → Is x → x ≡ e)
-        → EndsWithFault (answers_to define start) e before after → IsEnd r
-    ends_with_fault (Ok done) e Is h k same b = absurd k
-    ends_with_fault (Err x) e Is h k same b = record { done = tt; fault = subst (λ f. EndsWithFault (answers_to define start) f before after) (sym (same x k)) b }

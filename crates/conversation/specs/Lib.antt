@@ -2,3 +2,4 @@ pub mod Scripts
 pub mod Moments
 pub mod Conversations
 pub mod Answering
+pub mod Amounts

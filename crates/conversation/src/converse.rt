@@ -1,18 +1,20 @@
 //! A conversation: a script is read in pieces; after each piece, the answers to the lines that end
 //! in it are written together.
 
-ghost use Rattle.std.specs.Prelude.{◌≡◌, ◌++◌, ◌∷◌, [], ◌<◌, ◌≤◌, ◌+◌, ◌^◌, ℕ, List, Option, OnOk, OnErr, IfOk, IfErr, IfSome, MatchOption, length, take};
+ghost use Rattle.std.specs.Prelude.{◌≡◌, ◌++◌, ◌∷◌, [], ◌<◌, ◌≤◌, ◌+◌, ◌^◌, ℕ, List, Option, OnOk, OnErr, IfOk, IfErr, MatchOption, ◌⊎◌, length, take};
 ghost use Rattle.std.specs.Io.KnownBytes.{Appends, Consumes, IsAtEnd};
 ghost use Rattle.conversation.specs.declared.limits.TheConstants.{KEPT_BYTES, MOST_SCRIPT_BYTES};
 ghost use Rattle.conversation.specs.Moments.{Streams, streams};
 ghost use Rattle.conversation.specs.Scripts.{answers_to, AnswersBy, IsLineAnswer};
 ghost use Rattle.conversation.specs.Answering.{HasNoEnd, kept_with, AnswersFurther, Reached, TurnsTo, Finished};
 ghost use Rattle.conversation.specs.Conversations.{Leaves, EndsWithFault, WroteFront};
+ghost use Rattle.conversation.specs.Amounts.{MayEndBy, nothing};
 
 use crate::answering::Answers;
 use crate::fault::StreamFault;
-use crate::limits::{KEPT_BYTES, MOST_READS, MOST_SCRIPT_BYTES};
-use crate::streams::{read_piece, write_whole};
+use crate::limits::KEPT_BYTES;
+use crate::streams::write_whole;
+use crate::taken::Taken;
 use bstr::ByteSlice;
 use std::alloc::{AllocError, Global};
 use std::io::{Read, Write};
@@ -176,6 +178,8 @@ impl Conversation {
         ensures out { OnOk result (self.new.out.items ≡ []) }
         ensures lines { self.new.lines ≤ self.old.lines + length piece.now }
         ensures alone { A.alone answers.old → OnOk result (A.alone answers.new) }
+        ensures fault { IfErr result
+            (λ e. (e ≡ StreamFault.Memory) ⊎ (e ≡ StreamFault.Write)) }
         ensures turned { A.alone answers.old
             → (start : A.Worlds) (before : Streams) (unread next : Option (List ℕ)) (count : ℕ)
             → Consumes unread next piece.now → count + length piece.now ≤ MOST_SCRIPT_BYTES
@@ -206,6 +210,8 @@ impl Conversation {
         requires callable { F.IsAlwaysCallable answer.now }
         requires answers { AnswersBy A.alone A.define A.world (F.post answer.now) }
         ensures alone { A.alone answers.old → OnOk result (A.alone answers.new) }
+        ensures fault { IfErr result
+            (λ e. (e ≡ StreamFault.Memory) ⊎ (e ≡ StreamFault.Write)) }
         ensures ended { A.alone answers.old
             → (start : A.Worlds) (before : Streams) (unread : Option (List ℕ)) (count : ℕ)
             → count < MOST_SCRIPT_BYTES → IsAtEnd unread
@@ -245,7 +251,8 @@ fn first_line(text: &[u8]) -> Option<(&[u8], &[u8])>
 /// Answers a script: reads it in pieces from `reader`, calls `answer` for each line, and writes the
 /// answers to `writer`. The answers to the lines that end in one read are written before the next
 /// read. While nobody else changes what lines see, each call of `answer` that returns Ok has to
-/// answer its line as `A::define` says.
+/// answer its line as `A::define` says. `taken` has to say that nothing was read yet, and counts
+/// what is read.
 ///
 /// If nobody else changes what lines see, then on success the whole script was read, the answers to
 /// all its lines were written, the world is the one that these lines leave, and still nobody else
@@ -253,9 +260,9 @@ fn first_line(text: &[u8]) -> Option<(&[u8], &[u8])>
 ///
 /// # Errors
 ///
-/// Read or Write if a stream fails; TooLong if the script has `MOST_SCRIPT_BYTES` bytes or more, or
-/// takes more than `MOST_READS` reads; Memory if memory runs out. If nobody else changes what lines
-/// see, only a prefix of the answers was then written.
+/// Read or Write if a stream fails; TooLong exactly if `MOST_SCRIPT_BYTES` bytes were read, or
+/// `MOST_READS` reads were made, without an end; Memory if memory runs out. If nobody else changes
+/// what lines see, only a prefix of the answers was then written.
 pub fn converse<
     A: Answers,
     F: Fn(&mut A, u32, &[u8], &mut Vec<u8>) -> Result<(), AllocError>,
@@ -266,10 +273,12 @@ pub fn converse<
     answers: &mut A,
     answer: &F,
     reader: &mut R,
+    taken: &mut Taken,
     writer: &mut W,
 ) -> Result<(), StreamFault>
     requires callable { F.IsAlwaysCallable answer.now }
     requires answers { AnswersBy A.alone A.define A.world (F.post answer.now) }
+    requires unread { taken.old ≡ nothing }
     ensures done { A.alone answers.old → OnOk result (Leaves A.define
         (A.world answers.old) (A.world answers.new)
         (streams (R.remaining reader.old) (W.contents writer.old))
@@ -279,23 +288,19 @@ pub fn converse<
         (answers_to A.define (A.world answers.old)) e
         (streams (R.remaining reader.old) (W.contents writer.old))
         (streams (R.remaining reader.new) (W.contents writer.new))) }
+    ensures limits { IfErr result (λ e. MayEndBy e taken.new) }
 {
     let mut conversation = Conversation::new(alloc);
     let mut buffer = [0; PIECE_BYTES];
-    let mut room = MOST_SCRIPT_BYTES;
-    for _ in 0..MOST_READS {
-        let most = PIECE_BYTES.min(room as usize);
-        let Ok(taken) = read_piece(reader, &mut buffer, most) else {
+    'reads: while taken.may_go_on() {
+        let most = PIECE_BYTES.min(taken.room() as usize);
+        let Ok(piece) = taken.read_piece(reader, &mut buffer, most) else {
             return Err(StreamFault::Read);
         };
-        let Some(count) = taken else {
+        let Some(count) = piece else {
             return conversation.finish(answers, answer, writer);
         };
         conversation.turn(answers, answer, &buffer[..count], writer)?;
-        room -= count as u32;
-        if room == 0 {
-            return Err(StreamFault::TooLong);
-        }
     }
     Err(StreamFault::TooLong)
 }

@@ -7,3 +7,4 @@ pub mod converse;
 pub mod fault;
 pub mod limits;
 pub mod streams;
+pub mod taken;

@@ -1,37 +1,11 @@
-//! One read from a stream, and a write of given bytes in full to a stream.
+//! A write of given bytes in full to a stream.
 
-ghost use Rattle.std.specs.Prelude.{◌≡◌, [], ◌<◌, ◌≤◌, ℕ, List, OnErr, OnOk, IfOk, IfErr, IfSome, MatchOption, length, take};
-ghost use Rattle.std.specs.Io.KnownBytes.{Appends, Consumes, IsAtEnd};
-ghost use Rattle.conversation.specs.Conversations.{IsFront, WroteFront};
+ghost use Rattle.std.specs.Prelude.{◌≡◌, OnErr, OnOk, IfErr};
+ghost use Rattle.std.specs.Io.KnownBytes.{Appends};
+ghost use Rattle.conversation.specs.Conversations.{WroteFront};
 
 use crate::fault::StreamFault;
-use std::io::{ErrorKind, Read, Write};
-
-/// Reads once, at most `most` bytes, into the front of `buffer`. Returns how many bytes were read,
-/// which is 0 if the read was interrupted; or `None` at the reader's end. If the read fails,
-/// returns the error Read, and nothing was taken from the reader.
-pub(crate) fn read_piece<R: Read>(
-    reader: &mut R,
-    buffer: &mut [u8],
-    most: usize,
-) -> Result<Option<usize>, StreamFault>
-    requires some { 0 < most }
-    requires room { most ≤ length buffer.old }
-    ensures bound { IfOk result (λ taken. IfSome taken (λ n. n ≤ most)) }
-    ensures bytes { IfOk result (λ taken. MatchOption taken
-        (Consumes (R.remaining reader.old) (R.remaining reader.new) []
-        × IsAtEnd (R.remaining reader.new))
-        (λ n. Consumes (R.remaining reader.old) (R.remaining reader.new) (take n buffer.new))) }
-    ensures kept { OnErr result (Consumes (R.remaining reader.old) (R.remaining reader.new) []) }
-    ensures fault { IfErr result (λ e. e ≡ StreamFault.Read) }
-{
-    match reader.read(&mut buffer[..most]) {
-        Ok(0) => Ok(None),
-        Ok(n) => Ok(Some(n)),
-        Err(e) if e.kind() == ErrorKind::Interrupted => Ok(Some(0)),
-        Err(_) => Err(StreamFault::Read),
-    }
-}
+use std::io::Write;
 
 /// Writes all of `bytes`, in as many writes as are needed. If a write fails or takes no bytes,
 /// returns the error Write; then only a prefix of `bytes` was written.

@@ -1,5 +1,6 @@
 -- What a legal history says about the reply to its last call.
-use Rattle.std.proofs.Common.{suc, subst, ◌≡◌, ◌⊎◌, ℕ, ◌+◌, ◌≤◌, Bool, true, false, nat_le, List, [], ◌∷◌, ◌++◌, length, Option, refl, sym, ap, ◌∙◌, arith, inl, inr}
+use Rattle.std.proofs.Common.{suc, subst, ◌≡◌, ◌⊎◌, ℕ, ◌+◌, ◌<◌, ◌≤◌, Bool, true, false, nat_le, List, [], ◌∷◌, ◌++◌, length, Option, refl, sym, ap, ◌∙◌, arith, inl, inr}
+use Rattle.std.proofs.lemmas.Bool.Decides.{nat_tests}
 use Rattle.schedule_trie.specs.declared.refusal.Refusal.TheVariants.{LogFull, Memory}
 use Rattle.sessions.specs.declared.command.Command.{Command}
 use Rattle.sessions.specs.declared.log.Entry.{Entry}
@@ -36,6 +37,17 @@ module _ {P : Type 0} where
   counted_calls : (w : World P) (log : List Entry) → IsLegal w log → IsCounted w (world_after w log) (length log)
   counted_calls w [] h = (omega arith, refl)
   counted_calls w (e ∷ log) h = one_more (is_full w) w e (length log) (world_after w (e ∷ log)) refl h.0 h.1 (counted_calls (acted_by e w).world log h.2)
+
+  -- if fewer calls were logged than the limit allows, since none was, the log isn't full
+  pub not_full : (w : World P) (found : List Entry) → w.logged ≡ 0 → IsLegal w found → length found < w.limits.log → is_full (world_after w found) ≡ false
+  not_full w found fresh legal room =
+      let count = counted_calls w found legal in
+      let limit : (world_after w found).limits.log ≡ w.limits.log = ap (λ l. l.log) count.1 in
+      let many = count.0 in
+      short (world_after w found).limits.log (world_after w found).logged (omega arith)
+    where
+      short : (most count : ℕ) → count < most → nat_le most count ≡ false
+      short most count h = grind (arith, nat_tests)
 
   module _ (w : World P) (chair who : ℕ) (guard : Option ℕ) (command : Command) (found : List Entry) (fresh : w.logged ≡ 0) where
     answers_so : (reply : Reply) → IsLegal w found → IsLegal w (logged (entry chair who guard command reply) found) → (reply ≡ No LogFull → length found ≡ w.limits.log)

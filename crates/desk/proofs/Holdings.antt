@@ -27,7 +27,7 @@ use Rattle.desk.specs.Histories.{IsHistory, seen, own_calls}
 use Rattle.desk.specs.Works.{IsAct, IsReading, IsLook, IsAnswer, ShowsNoStrayOf, IsPaged, NeedsBranch}
 use Rattle.desk.specs.Chairs.{Finds, KeepsSeen, Received, Reads, Looked, Filled}
 use Rattle.desk.proofs.Lists.{calls_as, calls_append, length_items, same_first, calls_begin}
-use Rattle.desk.proofs.Works.{paged_so, paged_no_stray}
+use Rattle.desk.proofs.Works.{paged_so}
 use Rattle.desk.proofs.Logged.{put, put_under, legal_found, logged_last}
 use Rattle.desk.proofs.Answering.{replies_so}
 
@@ -129,20 +129,25 @@ module _ {R P : Type 0} (is : R → Behaviour P) (first : Held R P) (v w : View 
       reported = r.reported;
     }
 
-  module _ (query : Query) (at : ℕ) (slip : Result Page Refusal) (h : IsHistory is first v.seen) (held : Holding made_under (λ before after. IsLook is query before after at slip) v w)
-      (result : Result Page Refusal) (paged : IsPaged slip result) where
+  module _ (query : Query) (at : ℕ) (slip : Result Page Refusal) (h : IsHistory is first v.seen) (held : Holding made_under (λ before after. IsLook is query before after at slip) v w) where
     abbrev asked : ℕ → World P → Type 0
     asked n world = (at ≡ n) × IsAnswer world query slip × ShowsNoStrayOf world slip
 
-    pub looked_so : Looked is first query v w (record { at = at; result = result }) × IsHistory is first w.seen
+    pub looked_so : Looked is first query v w (record { at = at; result = slip }) × IsHistory is first w.seen
     looked_so =
         let reads = reads_on asked h held in
-        (reads_more asked (λ n world. (at ≡ n) × IsAnswer world query result) (λ n world told. (told.0, paged_so world query slip result paged told.1)) reads.0, reads.1)
+        (reads_more asked (λ n world. (at ≡ n) × IsAnswer world query slip) (λ n world told. (told.0, told.1)) reads.0, reads.1)
 
-    pub looked_no_stray : IsRegularOrAtomic (opening_of is first).tower → IfOk result ShowsNoStray
+    pub looked_no_stray : IsRegularOrAtomic (opening_of is first).tower → IfOk slip ShowsNoStray
     looked_no_stray lawful =
         let reads = (reads_on asked h held).0 in
-        paged_no_stray slip result paged (reads.answers.2 (subst IsRegularOrAtomic (sym (tower_after (opening_of is first) reads.found)) lawful))
+        reads.answers.2 (subst IsRegularOrAtomic (sym (tower_after (opening_of is first) reads.found)) lawful)
+
+  -- the page of a look that found this answers as the look does
+  pub looked_on : (query : Query) (at : ℕ) (slip result : Result Page Refusal) → IsPaged slip result → Looked is first query v w (record { at = at; result = slip })
+      → Looked is first query v w (record { at = at; result = result })
+  looked_on query at slip result paged =
+      reads_more (λ n world. (at ≡ n) × IsAnswer world query slip) (λ n world. (at ≡ n) × IsAnswer world query result) (λ n world told. (told.0, paged_so world query slip result paged told.1))
 
 -- a fill: first a reading that needs the branch, then steps that keep what the chair has seen
 pub filled_so : {R P A : Type 0} (is : R → Behaviour P) (first : Held R P) (v u w : View (Item R P)) (branch : List ℕ) (planned : Result A Refusal) (result : Result Report Refusal)

@@ -20,6 +20,7 @@ use Rattle.sessions.specs.Books.{Held, opening_of}
 use Rattle.sessions.specs.Logs.{IsLegal, entry, logged, world_after}
 use Rattle.desk.specs.declared.item.Item.{Item}
 use Rattle.desk.specs.declared.receipt.Receipt.{Receipt}
+use Rattle.desk.specs.declared.receipt.Answer.{Answer}
 use Rattle.desk.specs.declared.receipt.Saved.{Saved}
 use Rattle.desk.specs.Items.{items}
 
@@ -39,6 +40,10 @@ ShowsNoStrayOf w answer = IsRegularOrAtomic w.tower → IfOk answer ShowsNoStray
 abbrev pub answer_by : {R : Type 0} → Result (Slipped R) Refusal → Result Page Refusal
 answer_by (Ok slip) = Ok slip.page
 answer_by (Err r) = Err r
+
+-- the answer of a look that found a history of length n, and has determined this
+abbrev pub answer_at : {R : Type 0} → ℕ → Result (Slipped R) Refusal → Answer
+answer_at n slip = record { at = n; result = answer_by slip }
 
 -- what can result from making the page of a look: the page, or Memory; if the look was refused, the
 -- same refusal

@@ -17,7 +17,7 @@ ghost use Rattle.sessions.specs.Books.{opening_of};
 ghost use Rattle.desk.specs.Items.{items, made_under};
 ghost use Rattle.desk.specs.Histories.{seen};
 ghost use Rattle.pages.specs.Strays.{IsRegularOrAtomic, ShowsNoStray};
-ghost use Rattle.desk.specs.Works.{IsPaged, answer_by};
+ghost use Rattle.desk.specs.Works.{IsPaged, answer_at, answer_by};
 ghost use Rattle.desk.specs.Chairs.{IsChairOf, Received, Looked, book_at_first};
 
 use crate::act::Act;
@@ -192,9 +192,31 @@ impl<R: Register> Desk<R> {
             → IfOk result.result ShowsNoStray }
         ensures owns { OwnsItsCalls made_under (view chair.new) }
     {
-        let (at, slip) = self.turn.with(rt, chair, &mut Look { alloc, query });
+        let (at, slip) = self.slip(rt, alloc, chair, query);
         let result = paged(alloc, lens, slip);
         Answer { at, result }
+    }
+
+    /// Waits for the turn and looks, as `look` does, but makes no page. Returns the length of the
+    /// history that the look found, and a slip, from which the page is made later; or why the look
+    /// is refused, or Memory. So a caller can make its lens after it knows that there is a page.
+    pub fn slip<W: Wait>(
+        &self,
+        rt: &W,
+        alloc: Global,
+        chair: &mut Chair<R>,
+        query: Query,
+    ) -> (u64, Result<Slip<R>, Refusal>)
+        requires { IsChairOf R.behaviour self.now chair.old }
+        ensures chair { IsChairOf R.behaviour self.now chair.new }
+        ensures looked { Looked R.behaviour (book_at_first self.now) query (view chair.old)
+            (view chair.new) (answer_at result.0 result.1) }
+        ensures never_stray { IsRegularOrAtomic
+            (opening_of R.behaviour (book_at_first self.now)).tower
+            → IfOk (answer_by result.1) ShowsNoStray }
+        ensures owns { OwnsItsCalls made_under (view chair.new) }
+    {
+        self.turn.with(rt, chair, &mut Look { alloc, query })
     }
 
     /// Reads how long the history is now, without waiting. The length is at least that of what the

@@ -6,6 +6,7 @@ ghost use Rattle.std.specs.Prelude.{◌≡◌, ◌++◌, OnOk, codes};
 use conversation::answering::Answers;
 use conversation::converse::converse;
 use conversation::fault::StreamFault;
+use conversation::taken::Taken;
 use std::alloc::{AllocError, Global};
 use std::cell::Cell;
 use std::io;
@@ -51,7 +52,8 @@ fn nod_to<R: Read, W: Write>(
     let nodding = |_: &mut Nodding, number: u32, _: &[u8], out: &mut Vec<u8>| nod(
         refused, number, out,
     );
-    converse(alloc, &mut Nodding, &nodding, reader, writer).err()
+    let mut taken = Taken::nothing();
+    converse(alloc, &mut Nodding, &nodding, reader, &mut taken, writer).err()
 }
 
 /// How many writes there were, how many bytes they took, and how many writes there were at the last

@@ -9,7 +9,8 @@ use Rattle.pages.specs.declared.page.Page.{Page}
 use Rattle.pages.specs.Pages.{page_text}
 use Rattle.sessions.specs.declared.reply.Reply.TheVariants.{No}
 use Rattle.sessions.specs.World.{World}
-use Rattle.sessions.specs.Acts.{CommandResult, command_result}
+use Rattle.sessions.specs.declared.command.Command.{Command}
+use Rattle.sessions.specs.Acts.{CommandResult, command_result, is_full}
 use Rattle.sessions.specs.Looks.{looked_in, shown_in}
 use Rattle.script.specs.declared.call.Request.{Request}
 use Rattle.script.specs.declared.call.Request.TheVariants.{Act, Look, Fill}
@@ -28,43 +29,53 @@ text_of session (Some page) = page_text session page
 abbrev pub shown_text : {P : Type 0} → ℕ → Query → World P → List ℕ
 shown_text session query w = text_of session (shown_in w query)
 
--- the answer to a look: the text of its refusal, if the look is refused; otherwise `page`, the text
--- of its page
-abbrev pub page_unless : Result Forest Refusal → ℕ → List ℕ → List ℕ
-page_unless (Ok f) session page = page
-page_unless (Err r) session page = answer_text session (No r)
+-- this text; or, if memory ran out, that of the refusal Memory
+abbrev pub unless_memory : Bool → ℕ → List ℕ → List ℕ
+unless_memory false session text = text
+unless_memory true session text = answer_text session (No Memory)
 
--- the answer to a look, given whether memory ran out: if so, the refusal Memory; otherwise the text
--- of its page, or of its own refusal
+-- the answer to a look, given whether memory ran out: if the look is refused, the text of its
+-- refusal; otherwise the text of its page, or the refusal Memory if memory ran out
 abbrev pub look_text : Bool → ℕ → Result Forest Refusal → List ℕ → List ℕ
-look_text false session result page = page_unless result session page
-look_text true session result page = answer_text session (No Memory)
+look_text memory session (Ok f) page = unless_memory memory session page
+look_text memory session (Err r) page = answer_text session (No r)
 
 -- the answer to a fill, given whether memory ran out, and the index of the fill's branch (`None` if
--- there is no such branch). If memory ran out, the answer is the refusal Memory. Otherwise it is
--- `filled` if there is such a branch, and the refusal NoBranch if there is none.
+-- there is no such branch): without a branch, the refusal NoBranch; otherwise `filled`, or the
+-- refusal Memory if memory ran out
 abbrev pub fill_text : Bool → ℕ → Option ℕ → List ℕ
-fill_text false session None = answer_text session (No NoBranch)
-fill_text false session (Some index) = filled_text session
-fill_text true session index = answer_text session (No Memory)
+fill_text memory session None = answer_text session (No NoBranch)
+fill_text memory session (Some index) = unless_memory memory session (filled_text session)
 
 -- the result of a session's command as an answer: the world after the command, and the line with
 -- its reply
 abbrev pub replied : {P : Type 0} → ℕ → CommandResult P → Answered (World P)
 replied session a = record { world = a.world; text = answer_text session a.reply }
 
--- the answer to a request and the world after it, if memory doesn't run out: a command is answered
--- by its reply, a look by its page or its refusal, and a fill by `filled` or NoBranch
-abbrev pub performed : {P : Type 0} → ℕ → Request → World P → Answered (World P)
-performed session (Act guard command) w = replied session (command_result session guard command w)
-performed session (Look query) w = record { world = w; text = page_unless (looked_in w query) session (shown_text session query w) }
-performed session (Fill branch) w = record { world = w; text = fill_text false session (index_of w.forest.branches branch) }
+-- the result of a command that was refused memory, given whether the log is full, and the command's
+-- own result: if the log is full, its own result, which is LogFull; otherwise the refusal Memory,
+-- and the world is unchanged
+abbrev pub without_memory : {P : Type 0} → Bool → CommandResult P → World P → CommandResult P
+without_memory true own w = own
+without_memory false own w = record { world = w; reply = No Memory }
 
--- the answer to a call and the world after it, given whether memory ran out. If it did, the answer
--- is the refusal Memory, and the world is unchanged.
+-- the result of a session's command, given whether the command was refused memory
+abbrev pub carried_out : {P : Type 0} → Bool → ℕ → Option ℕ → Command → World P → CommandResult P
+carried_out false session guard command w = command_result session guard command w
+carried_out true session guard command w = without_memory (is_full w) (command_result session guard command w) w
+
+-- the answer to a request and the world after it, given whether memory ran out: a command is
+-- answered by its reply, a look by its page or its refusal, and a fill by `filled` or NoBranch. If
+-- memory ran out, the answer is the refusal Memory, and the world is unchanged; but a full log, and
+-- each reason to refuse a look or a fill, come before Memory.
+abbrev pub performed : {P : Type 0} → Bool → ℕ → Request → World P → Answered (World P)
+performed memory session (Act guard command) w = replied session (carried_out memory session guard command w)
+performed memory session (Look query) w = record { world = w; text = look_text memory session (looked_in w query) (shown_text session query w) }
+performed memory session (Fill branch) w = record { world = w; text = fill_text memory session (index_of w.forest.branches branch) }
+
+-- the answer to a call and the world after it, given whether memory ran out
 abbrev pub answer_call : {P : Type 0} → Bool → Call → World P → Answered (World P)
-answer_call false c w = performed c.session c.request w
-answer_call true c w = record { world = w; text = answer_text c.session (No Memory) }
+answer_call memory c w = performed memory c.session c.request w
 
 -- the answer to line `n` and the world after it, given what the line says, and whether memory ran
 -- out (`memory`)

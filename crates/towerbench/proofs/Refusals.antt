@@ -4,7 +4,7 @@ use Rattle.std.specs.Prelude.{⊤}
 use Rattle.std.specs.declared.alloc.AllocError.{AllocError}
 use Rattle.schedule_trie.specs.declared.refusal.Refusal.{Refusal}
 use Rattle.schedule_trie.specs.declared.refusal.Refusal.TheVariants.{Memory}
-use Rattle.schedule_trie.specs.Forest.{Forest}
+use Rattle.schedule_trie.specs.Forest.{Forest, IsRefused}
 use Rattle.sessions.specs.declared.reply.Reply.TheVariants.{No}
 use Rattle.sessions.specs.World.{World}
 use Rattle.sessions.specs.Looks.{looked_in, shown_in}
@@ -12,15 +12,15 @@ use Rattle.pages.specs.declared.page.Page.{Page}
 use Rattle.pages.specs.declared.query.Query.{Query}
 use Rattle.pages.specs.Pages.{page_text}
 use Rattle.script.specs.Texts.{answer_text}
-use Rattle.script.specs.Answers.{look_text, page_unless, shown_text, text_of}
+use Rattle.script.specs.Answers.{look_text, shown_text, text_of}
 
 pub refused_so : (looked : Result Forest Refusal) (session : ℕ) (r : Refusal) (result : Result ⊤ AllocError) (before after page : List ℕ)
-    → (looked ≡ Err r) ⊎ (r ≡ Memory) → OnOk result (after ≡ before ++ answer_text session (No r))
+    → IsRefused looked r → OnOk result (after ≡ before ++ answer_text session (No r))
     → OnOk result ((memory : Bool) × (after ≡ before ++ look_text memory session looked page))
-refused_so looked session r (Ok done) before after page (inl e) pushed = (false, pushed ∙ ap (λ l. before ++ page_unless l session page) (sym e))
-refused_so looked session r (Ok done) before after page (inr e) pushed = (true, pushed ∙ ap (λ x. before ++ answer_text session (No x)) e)
-refused_so looked session r (Err x) before after page (inl e) pushed = tt
-refused_so looked session r (Err x) before after page (inr e) pushed = tt
+refused_so looked session r (Err x) before after page why pushed = tt
+refused_so looked session r (Ok done) before after page (inl e) pushed = (false, pushed ∙ ap (λ l. before ++ look_text false session l page) (sym e))
+refused_so (Ok f) session r (Ok done) before after page (inr h) pushed = (true, pushed ∙ ap (λ x. before ++ answer_text session (No x)) h.0)
+refused_so (Err x) session r (Ok done) before after page (inr h) pushed = absurd (let clash : false ≡ true = h.1 in cc)
 
 pub shown_so : {P : Type 0} (w : World P) (query : Query) (session : ℕ) (page : Page) (result : Result ⊤ AllocError) (before after : List ℕ)
     → looked_in w query ≡ Ok w.forest → Some page ≡ shown_in w query
@@ -28,5 +28,6 @@ pub shown_so : {P : Type 0} (w : World P) (query : Query) (session : ℕ) (page 
     → OnOk result ((memory : Bool) × (after ≡ before ++ look_text memory session (looked_in w query) (shown_text session query w)))
 shown_so w query session page (Err x) before after found shown pushed = tt
 shown_so w query session page (Ok done) before after found shown (inl pushed) =
-    (false, pushed ∙ ap (λ o. before ++ text_of session o) shown ∙ ap (λ l. before ++ page_unless l session (shown_text session query w)) (sym found))
-shown_so w query session page (Ok done) before after found shown (inr pushed) = (true, pushed)
+    (false, pushed ∙ ap (λ o. before ++ text_of session o) shown ∙ ap (λ l. before ++ look_text false session l (shown_text session query w)) (sym found))
+shown_so w query session page (Ok done) before after found shown (inr pushed) =
+    (true, pushed ∙ ap (λ l. before ++ look_text true session l (shown_text session query w)) (sym found))

@@ -1,16 +1,15 @@
 -- What a chair that has every share knows from a desk's calls.
-use Rattle.std.proofs.Common.{◌≡◌, ◌⊎◌, ◌∙◌, ℕ, List, length, Option, Result, Ok, Err, IfOk, OnOk, IfErr, sym, ap, subst, ⊎_elim, inl, inr}
+use Rattle.std.proofs.Common.{◌≡◌, ◌∙◌, ℕ, Bool, true, false, List, length, Option, Result, Ok, Err, IfOk, OnOk, IfErr, refl, sym, ap, subst, ⊎_elim}
 use Rattle.std.specs.Prelude.{Some}
 use Rattle.frames.specs.Behaviour.{Behaviour}
 use Rattle.schedule_trie.specs.declared.refusal.Refusal.{Refusal}
-use Rattle.schedule_trie.specs.declared.refusal.Refusal.TheVariants.{Memory}
+use Rattle.schedule_trie.specs.Forest.{IsRefused}
 use Rattle.pages.specs.declared.page.Page.{Page}
 use Rattle.pages.specs.declared.query.Query.{Query}
 use Rattle.sessions.specs.declared.command.Command.{Command}
 use Rattle.sessions.specs.declared.log.Entry.{Entry}
-use Rattle.sessions.specs.declared.reply.Reply.TheVariants.{No}
 use Rattle.sessions.specs.World.{World}
-use Rattle.sessions.specs.Acts.{command_result}
+use Rattle.sessions.specs.Acts.{CommandResult, command_result, is_full}
 use Rattle.sessions.specs.Books.{Held, opening_of}
 use Rattle.sessions.specs.Looks.{looked_in, shown_in}
 use Rattle.sessions.specs.Saves.{IsSaved}
@@ -25,6 +24,9 @@ use Rattle.desk.specs.declared.report.Report.{Report}
 use Rattle.desk.specs.Chairs.{Received, Looked, SavedFrom, Filled}
 use Rattle.desk.specs.Histories.{seen}
 use Rattle.desk.specs.Works.{IsAnswer, IsSaving, NeedsBranch}
+use Rattle.desk.proofs.Answering.{not_full}
+use Rattle.desk.proofs.Logged.{legal_found}
+use Rattle.script.specs.Answers.{carried_out, without_memory}
 
 module _ {P : Type 0} (w : World P) (query : Query) where
   pub shown : (r : Result Page Refusal) → IsAnswer w query r → IfOk r (λ page. Some page ≡ shown_in w query)
@@ -35,20 +37,26 @@ module _ {P : Type 0} (w : World P) (query : Query) where
   found (Ok page) a = a.0
   found (Err r) a = tt
 
-  pub refused : (r : Result Page Refusal) → IsAnswer w query r → IfErr r (λ e. (looked_in w query ≡ Err e) ⊎ (e ≡ Memory))
+  pub refused : (r : Result Page Refusal) → IsAnswer w query r → IfErr r (IsRefused (looked_in w query))
   refused (Ok page) a = tt
-  refused (Err r) a = ⊎_elim (λ h. inl h) (λ h. inr h.0) a
+  refused (Err r) a = a
 
 module _ {R P : Type 0} (is : R → Behaviour P) (first : Held R P) (v w : View (Item R P)) where
   -- a command by a chair that has every share acts on the world after the history that the chair
   -- had seen, and leaves the world after the history that the chair has then seen
   pub received_answers : (who : ℕ) (guard : Option ℕ) (command : Command) (receipt : Receipt) → Received is first who guard command v w receipt → HasAll v.shares
-      → (command_result who guard command (world_after (opening_of is first) (seen v)) ≡ record { world = world_after (opening_of is first) (seen w); reply = receipt.reply })
-      ⊎ ((receipt.reply ≡ No Memory) × (world_after (opening_of is first) (seen w) ≡ world_after (opening_of is first) (seen v)))
+      → (memory : Bool) × (carried_out memory who guard command (world_after (opening_of is first) (seen v)) ≡ record { world = world_after (opening_of is first) (seen w); reply = receipt.reply })
   received_answers who guard command receipt r all =
       let same : seen v ≡ r.found = sym (r.finds.whole all) in
-      rw same (⊎_elim (λ done. inl done)
-      (λ wanting. inr (wanting, ap (world_after (opening_of is first)) (r.sees ∙ ap (λ reply. logged (entry (chair_number v.shares) who guard command reply) r.found) wanting))) r.replies)
+      let opening : World P = opening_of is first in
+      rw same (⊎_elim (λ done. (false, done))
+      (λ none_left.
+      let call : Entry = entry (chair_number v.shares) who guard command receipt.reply in
+      let room : is_full (world_after opening r.found) ≡ false = not_full opening r.found refl (legal_found opening call r.found r.legal) (r.room none_left) in
+      let kept : world_after opening (seen w) ≡ world_after opening r.found =
+      ap (world_after opening) (r.sees ∙ ap (λ reply. logged (entry (chair_number v.shares) who guard command reply) r.found) none_left) in
+      let own : CommandResult P = command_result who guard command (world_after opening r.found) in
+      (true, ap (λ full. without_memory full own (world_after opening r.found)) room ∙ (λ i. record { world = sym kept i; reply = sym none_left i }))) r.replies)
 
   -- a look by such a chair is answered from the world after the history that the chair had seen
   pub looked_answers : (query : Query) (answer : Answer) → Looked is first query v w answer → HasAll v.shares → IsAnswer (world_after (opening_of is first) (seen v)) query answer.result

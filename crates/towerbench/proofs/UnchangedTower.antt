@@ -6,15 +6,14 @@ use Rattle.schedule_trie.specs.declared.refusal.Refusal.{Refusal}
 use Rattle.schedule_trie.specs.declared.refusal.Refusal.TheVariants as refusal
 use Rattle.sessions.specs.declared.command.Command.{Command}
 use Rattle.sessions.specs.World.{World}
-use Rattle.sessions.specs.Acts.{answered, first_refusal, left_by, refusals, refused}
+use Rattle.sessions.specs.Acts.{CommandResult, answered, command_result, first_refusal, is_full, left_by, refusals, refused}
 use Rattle.sessions.specs.Edits.{edit_of}
 use Rattle.script.specs.declared.call.Request.{Request}
 use Rattle.script.specs.declared.call.Request.TheVariants.{Act, Look, Fill}
-use Rattle.script.specs.declared.call.Call.{Call}
 use Rattle.script.specs.declared.call.Line.{Line}
 use Rattle.script.specs.declared.call.Line.TheVariants as line
 use Rattle.script.specs.Lines.{read_line}
-use Rattle.script.specs.Answers.{answer_line, answer_call, answer_to, performed}
+use Rattle.script.specs.Answers.{carried_out, answer_line, answer_to, performed, without_memory}
 use Rattle.conversation.specs.Scripts.{Marks, ScriptProgress, after_lines, beginning, next_line}
 
 -- world v has the tower and the limits of world w
@@ -54,19 +53,23 @@ module _ {P : Type 0} where
   by_answer None who c w = by_edit (edit_of c) who c w
   by_answer (Some r) who c w = by_refusal r w
 
-  by_request : (session : ℕ) (r : Request) (w : World P) → IsOn w (performed session r w).world
-  by_request session (Act guard c) w = by_answer (first_refusal (refusals session guard c w)) session c w
-  by_request session (Look query) w = same w
-  by_request session (Fill branch) w = same w
+  by_room : (full : Bool) (own : CommandResult P) (w : World P) → IsOn w own.world → IsOn w (without_memory full own w).world
+  by_room true own w h = h
+  by_room false own w h = same w
 
-  by_call : (memory : Bool) (c : Call) (w : World P) → IsOn w (answer_call memory c w).world
-  by_call false c w = by_request c.session c.request w
-  by_call true c w = same w
+  by_act : (memory : Bool) (session : ℕ) (guard : Option ℕ) (c : Command) (w : World P) → IsOn w (carried_out memory session guard c w).world
+  by_act false session guard c w = by_answer (first_refusal (refusals session guard c w)) session c w
+  by_act true session guard c w = by_room (is_full w) (command_result session guard c w) w (by_answer (first_refusal (refusals session guard c w)) session c w)
+
+  by_request : (memory : Bool) (session : ℕ) (r : Request) (w : World P) → IsOn w (performed memory session r w).world
+  by_request memory session (Act guard c) w = by_act memory session guard c w
+  by_request memory session (Look query) w = same w
+  by_request memory session (Fill branch) w = same w
 
   by_line : (memory : Bool) (n : ℕ) (l : Line) (w : World P) → IsOn w (answer_to memory n l w).world
   by_line memory n line.Blank w = same w
   by_line memory n line.Bad w = same w
-  by_line memory n (line.Call c) w = by_call memory c w
+  by_line memory n (line.Call c) w = by_request memory c.session c.request w
 
   by_lines : (marks : Marks) (lines : List (List ℕ)) (p : ScriptProgress (World P)) → IsOn p.world (fold (next_line answer_line marks) p lines).world
   by_lines marks [] p = same p.world

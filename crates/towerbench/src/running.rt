@@ -16,6 +16,7 @@ use crate::opening::{Fate, Opening, Reporting, Setup};
 use crate::seat::Seat;
 use crate::serving::serve_at;
 use command_line::Options;
+use conversation::taken::Taken;
 use frames::register::Register;
 use frames::safe::Safe;
 use std::alloc::{AllocError, Global};
@@ -140,7 +141,7 @@ where
         Ok(seat) => seat,
         Err(refusal) => return Err(Fault::Refused(refusal)),
     };
-    match serve_at(alloc, &mut seat, reader, writer) {
+    match serve_at(alloc, &mut seat, reader, &mut Taken::nothing(), writer) {
         Ok(()) => {}
         Err(fault) => return Err(of_stream(fault)),
     }

@@ -1,14 +1,14 @@
 //! A seat: a desk and one of its chairs, by which a script's lines are answered.
 
-ghost use Rattle.std.specs.Prelude.{◌≡◌, ◌≤◌, ◌⊎◌, Some, Ok, OnOk, IfOk, IfErr, Err};
+ghost use Rattle.std.specs.Prelude.{◌≡◌, ◌≤◌, Bool, Some, Ok, OnOk, IfOk, IfErr};
 ghost use Rattle.schedule_trie.specs.Forest.{IsRefused};
 ghost use Rattle.schedule_trie.specs.Limbs.{forest_of, loaded};
-ghost use Rattle.sessions.specs.Acts.{command_result};
 ghost use Rattle.sessions.specs.Looks.{looked_in, shown_in};
 ghost use Rattle.sessions.specs.Saves.{IsSaved};
 ghost use Rattle.turn.specs.Chairs.{view};
 ghost use Rattle.desk.specs.Chairs.{IsChairOf};
-ghost use Rattle.desk.specs.Works.{NeedsBranch};
+ghost use Rattle.desk.specs.Works.{IsPaged, NeedsBranch, answer_by};
+ghost use Rattle.script.specs.Answers.{carried_out};
 ghost use Rattle.command_line.specs.Ranges.{limits_of};
 ghost use Rattle.towerbench.specs.Openings.{CanOpen, opening_world};
 ghost use Rattle.towerbench.specs.Seats.{IsAlone, seated, world_at};
@@ -29,6 +29,7 @@ use turn::Counted;
 use views::lens::Lens;
 use views::page::Page;
 use views::query::Query;
+use views::slip::Slip;
 
 /// A desk, and a chair at it (one caller's part of the desk). If the chair holds every share (all
 /// 16, under which calls are counted), no one else calls the desk; so each call finds just the
@@ -112,7 +113,8 @@ impl<'a, R: Register, W> Seat<'a, R, W> {
 
 impl<R: Register, W: Wait> Seat<'_, R, W> {
     /// Carries out a session's command, if its guard `if_at` allows that, and returns the reply. If
-    /// the chair holds every share, and the reply is the refusal Memory, the world hasn't changed.
+    /// the chair holds every share, the reply is Memory only if the log isn't full, and the world
+    /// hasn't changed then.
     pub(crate) fn act(
         &mut self,
         alloc: Global,
@@ -120,10 +122,9 @@ impl<R: Register, W: Wait> Seat<'_, R, W> {
         if_at: Option<u64>,
         command: &Command,
     ) -> Reply
-        ensures acts { let w = world_at R.behaviour self.old in IsAlone self.old →
-            (command_result session if_at command.now w
-            ≡ record { world = world_at R.behaviour self.new; reply = result })
-            ⊎ ((result ≡ Reply.No Refusal.Memory) × (world_at R.behaviour self.new ≡ w)) }
+        ensures acts { let w = world_at R.behaviour self.old in IsAlone self.old → (memory : Bool)
+            × (carried_out memory session if_at command.now w
+            ≡ record { world = world_at R.behaviour self.new; reply = result }) }
         ensures alone { IsAlone self.old → IsAlone self.new }
     {
         let receipt = self
@@ -138,26 +139,21 @@ impl<R: Register, W: Wait> Seat<'_, R, W> {
     /// # Errors
     ///
     /// NoSession for the cursor of a session that hasn't joined; NoBranch; NoPlace if the place is
-    /// after the branch's last place; Memory.
+    /// after the branch's last place; otherwise Memory, if memory runs out.
     pub(crate) fn look(&mut self, alloc: Global, query: Query) -> Result<Page, Refusal>
         ensures page { IsAlone self.old → IfOk result (λ page.
             Some page ≡ shown_in (world_at R.behaviour self.old) query) }
         ensures found { let w = world_at R.behaviour self.old in
             IsAlone self.old → OnOk result (looked_in w query ≡ Ok w.forest) }
-        ensures err { IsAlone self.old → IfErr result (λ r.
-            (looked_in (world_at R.behaviour self.old) query ≡ Err r) ⊎ (r ≡ Refusal.Memory)) }
+        ensures err { IsAlone self.old
+            → IfErr result (IsRefused (looked_in (world_at R.behaviour self.old) query)) }
         ensures kept { IsAlone self.old → world_at R.behaviour self.new
             ≡ world_at R.behaviour self.old }
         ensures alone { IsAlone self.old → IsAlone self.new }
     {
-        let Ok(mut lens) = lens_of(alloc, self.lens.take()) else {
-            return Err(Refusal::Memory);
-        };
-        let answer = self
-            .desk
-            .look(self.rt, alloc, &mut self.chair, &mut lens, query);
-        self.lens = Some(lens);
-        answer.result
+        // The lens is made after the slip, so that its memory is refused after any other refusal.
+        let (_, slip) = self.desk.slip(self.rt, alloc, &mut self.chair, query);
+        paged(alloc, &mut self.lens, slip)
     }
 
     /// The limbs of the branches (each limb is a branch as a file stores it), in the order in which
@@ -198,6 +194,27 @@ where
     {
         self.desk
             .fill(self.rt, alloc, &mut self.chair, branch, self.thieves)
+    }
+}
+
+/// Makes the page of a slip (what a look found) with `lens`, or with a new lens if that is `None`.
+/// If the look is refused, returns that refusal; if memory runs out, Memory.
+fn paged<R: Register>(
+    alloc: Global,
+    lens: &mut Option<Lens<R>>,
+    slip: Result<Slip<R>, Refusal>,
+) -> Result<Page, Refusal>
+    ensures { IsPaged (answer_by slip) result }
+{
+    let slip = slip?;
+    let Ok(mut own) = lens_of(alloc, lens.take()) else {
+        return Err(Refusal::Memory);
+    };
+    let page = slip.into_page(alloc, &mut own);
+    *lens = Some(own);
+    match page {
+        Ok(page) => Ok(page),
+        Err(AllocError) => Err(Refusal::Memory),
     }
 }
 

@@ -1,6 +1,7 @@
 //! Serving a script at a desk.
 
 ghost use Rattle.std.specs.Prelude.{◌≡◌, ◌≤◌, OnOk, IfErr};
+ghost use Rattle.conversation.specs.Amounts.{MayEndBy, nothing};
 ghost use Rattle.conversation.specs.Conversations.{IsAnswered, Leaves, EndsWithFault};
 ghost use Rattle.conversation.specs.Moments.{streams};
 ghost use Rattle.conversation.specs.Scripts.{answers_to, IsLineAnswer};
@@ -16,6 +17,7 @@ use crate::fault::{Fault, of_stream};
 use crate::seat::Seat;
 use conversation::converse::converse;
 use conversation::fault::StreamFault;
+use conversation::taken::Taken;
 use desk::{Chair, Desk};
 use frames::register::Register;
 use std::alloc::Global;
@@ -28,8 +30,9 @@ use std::thread::Threads;
 /// the chair holds all 16 shares, the first line finds the world after the history of logged calls
 /// that the chair has seen; and if the result is then `Ok`, the answers to all lines of the script
 /// were written. At most 4 `thieves` (threads that take jobs) help with fills; if the result is
-/// `Ok`, and no line was refused memory, the answers don't depend on their number. The desk and the
-/// chair are dropped.
+/// `Ok`, and no line was refused memory, the answers don't depend on their number. A look or a fill
+/// is refused memory only if no other refusal is due, and a command only if the log isn't full. The
+/// desk and the chair are dropped.
 ///
 /// # Errors
 ///
@@ -61,22 +64,25 @@ where
     ensures of_streams { IfErr result IsOfStreams }
 {
     let mut seat = Seat::new(rt, desk, chair, thieves);
-    match serve_at(alloc, &mut seat, reader, writer) {
+    match serve_at(alloc, &mut seat, reader, &mut Taken::nothing(), writer) {
         Ok(()) => Ok(()),
         Err(fault) => Err(of_stream(fault)),
     }
 }
 
 /// Answers a script at a seat. If the seat's chair holds every share, and the script ends well, the
-/// seat's world is then the one that the script's lines leave.
+/// seat's world is then the one that the script's lines leave. `taken` has to say that nothing was
+/// read yet, and counts what is read; the fault is TooLong only if that reached a limit.
 pub(crate) fn serve_at<B: Register + Send + Sync, H: Threads + Wait + Sync, R: Read, W: Write>(
     alloc: Global,
     seat: &mut Seat<'_, B, H>,
     reader: &mut R,
+    taken: &mut Taken,
     writer: &mut W,
 ) -> Result<(), StreamFault>
 where
     B::Pending: Send + Sync,
+    requires unread { taken.old ≡ nothing }
     ensures done { IsAlone seat.old → OnOk result (Leaves answer_line
         (world_at B.behaviour seat.old) (world_at B.behaviour seat.new)
         (streams (R.remaining reader.old) (W.contents writer.old))
@@ -86,6 +92,7 @@ where
         (answers_to answer_line (world_at B.behaviour seat.old)) e
         (streams (R.remaining reader.old) (W.contents writer.old))
         (streams (R.remaining reader.new) (W.contents writer.new))) }
+    ensures limits { IfErr result (λ e. MayEndBy e taken.new) }
 {
     let answering = |seat: &mut Seat<'_, B, H>, number: u32, line: &[u8], out: &mut Vec<
         u8,
@@ -95,5 +102,5 @@ where
             out.new.items
             × IsAlone seat.new) }
     { answer(alloc, seat, number, line, out) };
-    converse(alloc, seat, &answering, reader, writer)
+    converse(alloc, seat, &answering, reader, taken, writer)
 }
