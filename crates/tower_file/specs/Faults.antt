@@ -6,24 +6,24 @@ use Rattle.tower_file.specs.declared.fault.FaultKind.TheVariants.{NotAscii, BadH
 use Rattle.tower_file.specs.declared.fault.FileFault.{FileFault}
 
 -- a fault's number, and its name, which is spelled like the variant
-abbrev pub number_and_name : FaultKind → ℕ × List ℕ
-number_and_name NotAscii = (10, codes "NotAscii")
-number_and_name BadHeader = (11, codes "BadHeader")
-number_and_name UnknownTower = (12, codes "UnknownTower")
-number_and_name BadField = (13, codes "BadField")
-number_and_name BadStep = (14, codes "BadStep")
-number_and_name BadSize = (15, codes "BadSize")
-number_and_name BadBranch = (16, codes "BadBranch")
-number_and_name Tangled = (17, codes "Tangled")
-number_and_name Memory = (40, codes "Memory")
+abbrev pub fault_number_and_name : FaultKind → ℕ × List ℕ
+fault_number_and_name NotAscii = (10, codes "NotAscii")
+fault_number_and_name BadHeader = (11, codes "BadHeader")
+fault_number_and_name UnknownTower = (12, codes "UnknownTower")
+fault_number_and_name BadField = (13, codes "BadField")
+fault_number_and_name BadStep = (14, codes "BadStep")
+fault_number_and_name BadSize = (15, codes "BadSize")
+fault_number_and_name BadBranch = (16, codes "BadBranch")
+fault_number_and_name Tangled = (17, codes "Tangled")
+fault_number_and_name Memory = (40, codes "Memory")
 
 -- a fault's number
 abbrev pub fault_number : FaultKind → ℕ
-fault_number kind = (number_and_name kind).0
+fault_number kind = (fault_number_and_name kind).0
 
 -- a fault's name
 abbrev pub fault_name : FaultKind → List ℕ
-fault_name kind = (number_and_name kind).1
+fault_name kind = (fault_number_and_name kind).1
 
 -- what a kind of fault prints: its number, a space and its name
 abbrev pub kind_display : FaultKind → List ℕ
