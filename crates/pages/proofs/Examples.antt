@@ -24,7 +24,7 @@ use Rattle.frames.specs.Recorded.{AllFit, recorded}
 use Rattle.frames.specs.correctness.Verdicts.{verdicts}
 use Rattle.pages.specs.VerdictWords.{begins_or_ends, IsQuiet, InProgress, Follows, ReturnedRead, IsLastWritten, IsVerdictOn, EndsBy, IsOverlapping, IsJudged}
 use Rattle.pages.specs.LawWords.{IsWrite, AreNumbered}
-use Rattle.pages.specs.Linearizability.{Operation, EndsIn, Order, IsWriteBefore, IsLastWrite, IsValueAt, HasLinearization}
+use Rattle.pages.specs.Linearizability.{Operation, EndsAt, Order, IsWriteBefore, IsLastWrite, IsValueAt, HasLinearization}
 use Rattle.pages.specs.Linearizability as linear
 use Rattle.pages.proofs.Linearizations.{is_own, ranks_linearize}
 use Rattle.pages.specs.Strays.{AreVerdictsOn}
@@ -384,10 +384,10 @@ HasLinearization-fails h = ⊎_elim older (λ none. ⊎_elim (newer none.0) (λ 
     second : Operation new_then_old
     second = record { number = 3; process = 2; op = Read; invoked = refl }
 
-    ended : EndsIn first 2 (Got 1 1)
+    ended : EndsAt first 2 (Got 1 1)
     ended = record { later = omega arith; there = refl; own = refl; first = λ k other low high. absurd (omega (arith, low, high)) }
 
-    ends : EndsIn second 4 (Got 2 0)
+    ends : EndsAt second 4 (Got 2 0)
     ends = record { later = omega arith; there = refl; own = refl; first = λ k other low high. absurd (omega (arith, low, high)) }
 
     not_initial : ◌≡◌ {A = ℕ} 1 0 → ⊥
@@ -424,10 +424,10 @@ lost_write-fails h = ⊎_elim older (λ none. none.0 write 1 (record { writes = 
     read : Operation lost_write
     read = record { number = 2; process = 1; op = Read; invoked = refl }
 
-    done : EndsIn write 1 (Wrote 0)
+    done : EndsAt write 1 (Wrote 0)
     done = record { later = omega arith; there = refl; own = refl; first = λ k other low high. absurd (omega (arith, low, high)) }
 
-    ends : EndsIn read 3 (Got 1 0)
+    ends : EndsAt read 3 (Got 1 0)
     ends = record { later = omega arith; there = refl; own = refl; first = λ k other low high. absurd (omega (arith, low, high)) }
 
     first : h.order.place 0 < h.order.place 2
@@ -454,7 +454,7 @@ early_read-fails h = ⊎_elim later (λ none. not_initial none.1) (h.reads read 
     read : Operation early_read
     read = record { number = 0; process = 1; op = Read; invoked = refl }
 
-    ends : EndsIn read 1 (Got 1 1)
+    ends : EndsAt read 1 (Got 1 1)
     ends = record { later = omega arith; there = refl; own = refl; first = λ k other low high. absurd (omega (arith, low, high)) }
 
     not_initial : ◌≡◌ {A = ℕ} 1 0 → ⊥
@@ -485,7 +485,7 @@ refused_was_read-fails h = ⊎_elim from_it (λ none. not_initial none.1) (h.rea
     read : Operation refused_was_read
     read = record { number = 1; process = 1; op = Read; invoked = refl }
 
-    ends : EndsIn read 2 (Got 1 1)
+    ends : EndsAt read 2 (Got 1 1)
     ends = record { later = omega arith; there = refl; own = refl; first = λ k other low high. absurd (omega (arith, low, high)) }
 
     not_initial : ◌≡◌ {A = ℕ} 1 0 → ⊥

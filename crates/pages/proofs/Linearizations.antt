@@ -13,7 +13,7 @@ use Rattle.frames.specs.Recorded.{recorded}
 use Rattle.frames.specs.correctness.Ranks.{Ranking, at_first, HasRank, after_rank, Ranked, HasRanks, IsAtomicForMany}
 use Rattle.frames.proofs.Pointwise.{put, put_same, put_other}
 use Rattle.pages.specs.VerdictWords.{begins_or_ends}
-use Rattle.pages.specs.Linearizability.{event_at, Operation, EndsIn, is_return, Order, IsWriteBefore, IsLastWrite, IsValueAt, HasLinearization, IsLinearizable}
+use Rattle.pages.specs.Linearizability.{event_at, Operation, EndsAt, is_return, Order, IsWriteBefore, IsLastWrite, IsValueAt, HasLinearization, IsLinearizable}
 
 -- what is known before event number n, and the rank that this event is given
 abbrev state_at : (r : Ranking) (events : List (ℕ × Event)) → Ranked r events → ℕ → Ranking
@@ -313,7 +313,7 @@ module _ (initial : ℕ) (history : List (ℕ × Event)) (ranks : HasRanks initi
   ]
 
   abbrev Gives : Operation history → Type 0
-  Gives o = (j : ℕ) × ((v : ℕ) × EndsIn o j (Got o.process v))
+  Gives o = (j : ℕ) × ((v : ℕ) × EndsAt o j (Got o.process v))
 
   scan_found : (o : Operation history) (m k : ℕ) → o.number < k → ((i : ℕ) (other : Event) → o.number < i → i < k → event_at history i ≡ Some other → begins_or_ends o.process other ≡ false)
       → is_some (scan o.process m k) ≡ true → Gives o
@@ -405,13 +405,13 @@ module _ (initial : ℕ) (history : List (ℕ × Event)) (ranks : HasRanks initi
     value : (state n).values m ≡ Some v
     high : m ≤ (state (suc n)).top
 
-  read_given : (o : Operation history) (n : ℕ) (e : Event) → o.op ≡ op.Read → EndsIn o n e → rank o.number ≡ got (Some e) (given n)
+  read_given : (o : Operation history) (n : ℕ) (e : Event) → o.op ≡ op.Read → EndsAt o n e → rank o.number ≡ got (Some e) (given n)
   read_given o n e is ends =
       ap (rank_by o.number) (invokes o op.Read is)
       ∙ scan_ends o.process (length history) (suc o.number) n e (let later = ends.later in omega (arith, later)) (let in_it = within history n e ends.there in omega (arith, in_it)) ends.there ends.own
       (λ i other after before there. ends.first i other (omega (arith, after)) before there)
 
-  read : (o : Operation history) (n v : ℕ) → o.op ≡ op.Read → EndsIn o n (Got o.process v) → (m : ℕ) × IsRead o n v m
+  read : (o : Operation history) (n v : ℕ) → o.op ≡ op.Read → EndsAt o n (Got o.process v) → (m : ℕ) × IsRead o n v m
   read o n v is ends = by (given n) refl
     where
       p : ℕ
@@ -439,7 +439,7 @@ module _ (initial : ℕ) (history : List (ℕ × Event)) (ranks : HasRanks initi
           )
 
   -- the rank that a write took is known until it ends
-  write_kept : (o : Operation history) (v n : ℕ) (e : Event) → o.op ≡ op.Write v → EndsIn o n e → (state n).mine o.process ≡ rank o.number
+  write_kept : (o : Operation history) (v n : ℕ) (e : Event) → o.op ≡ op.Write v → EndsAt o n e → (state n).mine o.process ≡ rank o.number
   write_kept o v n e is ends =
       (own_kept o.process o.number n ends.later ends.first).0
       ∙ ap (λ (r : Ranking). r.mine o.process) (does o.number (Invoke o.process (op.Write v)) (invokes o (op.Write v) is)).1
@@ -453,7 +453,7 @@ module _ (initial : ℕ) (history : List (ℕ × Event)) (ranks : HasRanks initi
     high : of ≤ (state (suc n)).top
     early : in_turn ≤ suc o.number
 
-  returned_write : (o : Operation history) (n v : ℕ) → o.op ≡ op.Write v → EndsIn o n (Wrote o.process) → IsReturned o n
+  returned_write : (o : Operation history) (n v : ℕ) → o.op ≡ op.Write v → EndsAt o n (Wrote o.process) → IsReturned o n
   returned_write o n v is ends = by (given n) refl
     where
       by : (g : Option ℕ) → given n ≡ g → IsReturned o n
@@ -469,18 +469,18 @@ module _ (initial : ℕ) (history : List (ℕ × Event)) (ranks : HasRanks initi
             early = omega arith;
           }
 
-  returned : (o : Operation history) (n : ℕ) (end : Event) → EndsIn o n end → is_return o.op end ≡ true → IsReturned o n
+  returned : (o : Operation history) (n : ℕ) (end : Event) → EndsAt o n end → is_return o.op end ≡ true → IsReturned o n
   returned o n end ends h = by o.op refl end ends h
     where
-      by : (x : Op) → o.op ≡ x → (e : Event) → EndsIn o n e → is_return x e ≡ true → IsReturned o n
-      by (op.Write v) is (Wrote q) ends h = returned_write o n v is (subst (λ r. EndsIn o n (Wrote r)) (eqb-true q o.process ends.own) ends)
+      by : (x : Op) → o.op ≡ x → (e : Event) → EndsAt o n e → is_return x e ≡ true → IsReturned o n
+      by (op.Write v) is (Wrote q) ends h = returned_write o n v is (subst (λ r. EndsAt o n (Wrote r)) (eqb-true q o.process ends.own) ends)
       by op.Read is (Got q v) ends h =
-          let r = read o n v is (subst (λ r. EndsIn o n (Got r v)) (eqb-true q o.process ends.own) ends) in
+          let r = read o n v is (subst (λ r. EndsAt o n (Got r v)) (eqb-true q o.process ends.own) ends) in
           record { of = r.0; in_turn = suc o.number; placed = r.1.placed; high = r.1.high; early = omega arith }
       by (op.Write v) is e ends h = absurd (true≢false (sym h))
       by op.Read is e ends h = absurd (true≢false (sym h))
 
-  refused_out : (o : Operation history) (n : ℕ) (layer : Layer) → EndsIn o n (Refused o.process layer) → order.has o.number ≡ false
+  refused_out : (o : Operation history) (n : ℕ) (layer : Layer) → EndsAt o n (Refused o.process layer) → order.has o.number ≡ false
   refused_out o n layer ends = by o.op refl
     where
       by : (x : Op) → o.op ≡ x → order.has o.number ≡ false
@@ -492,7 +492,7 @@ module _ (initial : ℕ) (history : List (ℕ × Event)) (ranks : HasRanks initi
       scan_found o (length history) (suc o.number) (omega arith) (λ i other after before there. let f : ⊥ = omega (arith, after, before) in absurd f)
       (sym (ap (λ x. is_some (rank_by o.number x)) (invokes o op.Read is)) ∙ h)
 
-  pending_out : (o : Operation history) → o.op ≡ op.Read → ((n v : ℕ) → ¬ EndsIn o n (Got o.process v)) → order.has o.number ≡ false
+  pending_out : (o : Operation history) → o.op ≡ op.Read → ((n v : ℕ) → ¬ EndsAt o n (Got o.process v)) → order.has o.number ≡ false
   pending_out o is none = by (order.has o.number) refl
     where
       by : (b : Bool) → order.has o.number ≡ b → order.has o.number ≡ false
@@ -533,7 +533,7 @@ module _ (initial : ℕ) (history : List (ℕ × Event)) (ranks : HasRanks initi
   turn_late o m s (inl w) high = let above = w.1.1.above in let f : ⊥ = omega (arith, above, high) in absurd f
   turn_late o m s (inr r) high = r
 
-  timely : (o x : Operation history) (n : ℕ) (end : Event) → EndsIn o n end → is_return o.op end ≡ true → n < x.number → order.has x.number ≡ true → order.place o.number < order.place x.number
+  timely : (o x : Operation history) (n : ℕ) (end : Event) → EndsAt o n end → is_return o.op end ≡ true → n < x.number → order.has x.number ≡ true → order.place o.number < order.place x.number
   timely o x n end ends h late in_it =
       let a = returned o n end ends h in
       let b = is_in x in_it in
@@ -580,7 +580,7 @@ module _ (initial : ℕ) (history : List (ℕ × Event)) (ranks : HasRanks initi
       same_kind o x a.of a.in_turn a.kind (subst (λ m. Kind x m a.in_turn) one (subst (λ s. Kind x b.of s) turns b.kind))
 
   -- the write that a read follows, or the initial value
-  value_of_read : (o : Operation history) (n v : ℕ) → o.op ≡ op.Read → EndsIn o n (Got o.process v) → IsValueAt initial history order (order.place o.number) v
+  value_of_read : (o : Operation history) (n v : ℕ) → o.op ≡ op.Read → EndsAt o n (Got o.process v) → IsValueAt initial history order (order.place o.number) v
   value_of_read o n v is ends =
       elim (origin n m v r.value) as (λ _. IsValueAt initial history order (order.place o.number) v) [
         | inl start ↦ inr ((λ other u w. none other u w start.0), start.1)

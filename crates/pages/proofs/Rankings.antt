@@ -14,7 +14,7 @@ use Rattle.frames.specs.Recorded.{recorded}
 use Rattle.frames.specs.correctness.Ranks.{Ranking, at_first, HasRank, after_rank, Ranked, HasRanks, IsAtomicForMany}
 use Rattle.frames.proofs.Pointwise.{put_same, put_other}
 use Rattle.pages.specs.VerdictWords.{begins_or_ends, IsQuiet, InProgress, IsWellFormed, RecordsWellFormed}
-use Rattle.pages.specs.Linearizability.{event_at, Operation, EndsIn, IsWriteBefore, IsLastWrite, IsValueAt, HasLinearization, IsLinearizable}
+use Rattle.pages.specs.Linearizability.{event_at, Operation, EndsAt, IsWriteBefore, IsLastWrite, IsValueAt, HasLinearization, IsLinearizable}
 use Rattle.pages.proofs.Linearizations.{value_stays, own_stays, linearizes}
 
 -- events by their numbers, in a list that is split
@@ -58,7 +58,7 @@ op_at i p o at = record { number = i; process = p; op = o; invoked = at }
 
 -- event number n ends an operation o of process p
 abbrev Ended : List (ℕ × Event) → ℕ → Op → ℕ → Event → Type 0
-Ended history p o n e = (i : ℕ) × ((at : event_at history i ≡ Some (Invoke p o)) × EndsIn (op_at i p o at) n e)
+Ended history p o n e = (i : ℕ) × ((at : event_at history i ≡ Some (Invoke p o)) × EndsAt (op_at i p o at) n e)
 
 ended_from : (history : List (ℕ × Event)) (p : ℕ) (o : Op) (n : ℕ) (e : Event) (s : IsSplit history n e) → begins_or_ends p e ≡ true → InProgress p o s.earlier → Ended history p o n e
 ended_from history p o n e s own w = (length w.earlier, (invoked, record { later = before; there = there; own = own; first = first }))

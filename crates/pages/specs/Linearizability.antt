@@ -29,7 +29,7 @@ pub record Operation (history : List (ℕ × Event)) : Type 0 where
 
 -- the operation `a` ends in event number n, which is `end`: the first event after its invocation by
 -- which its process begins or ends an operation
-pub record EndsIn {history : List (ℕ × Event)} (a : Operation history) (n : ℕ) (end : Event) : Type 0 where
+pub record EndsAt {history : List (ℕ × Event)} (a : Operation history) (n : ℕ) (end : Event) : Type 0 where
   pub later : a.number < n
   pub there : event_at history n ≡ Some end
   pub own : begins_or_ends a.process end ≡ true
@@ -69,12 +69,12 @@ IsValueAt initial history order n v =
 -- the order, nor are reads that haven't returned. No two operations have the same place.
 pub record HasLinearization (initial : ℕ) (history : List (ℕ × Event)) : Type 0 where
   pub order : Order
-  pub returned : (a : Operation history) (n : ℕ) (end : Event) → EndsIn a n end → is_return a.op end ≡ true → order.has a.number ≡ true
-  pub refused : (a : Operation history) (n : ℕ) (layer : Layer) → EndsIn a n (Refused a.process layer) → order.has a.number ≡ false
-  pub unreturned : (a : Operation history) → a.op ≡ op.Read → ((n v : ℕ) → ¬ EndsIn a n (Got a.process v)) → order.has a.number ≡ false
+  pub returned : (a : Operation history) (n : ℕ) (end : Event) → EndsAt a n end → is_return a.op end ≡ true → order.has a.number ≡ true
+  pub refused : (a : Operation history) (n : ℕ) (layer : Layer) → EndsAt a n (Refused a.process layer) → order.has a.number ≡ false
+  pub unreturned : (a : Operation history) → a.op ≡ op.Read → ((n v : ℕ) → ¬ EndsAt a n (Got a.process v)) → order.has a.number ≡ false
   pub one_each : (a b : Operation history) → order.has a.number ≡ true → order.has b.number ≡ true → order.place a.number ≡ order.place b.number → a.number ≡ b.number
-  pub in_time : (a b : Operation history) (n : ℕ) (end : Event) → EndsIn a n end → is_return a.op end ≡ true → n < b.number → order.has b.number ≡ true → order.place a.number < order.place b.number
-  pub reads : (a : Operation history) (n v : ℕ) → a.op ≡ op.Read → EndsIn a n (Got a.process v) → IsValueAt initial history order (order.place a.number) v
+  pub in_time : (a b : Operation history) (n : ℕ) (end : Event) → EndsAt a n end → is_return a.op end ≡ true → n < b.number → order.has b.number ≡ true → order.place a.number < order.place b.number
+  pub reads : (a : Operation history) (n v : ℕ) → a.op ≡ op.Read → EndsAt a n (Got a.process v) → IsValueAt initial history order (order.place a.number) v
 
 -- on every list of fitting steps, from every initial value, what the register records has a
 -- linearization
