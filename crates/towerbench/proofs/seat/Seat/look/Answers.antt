@@ -14,10 +14,10 @@ use Rattle.towerbench.proofs.seat.Seat.look.Goals as goal
 -- the result is a possible answer to the look
 answers : (g : Over) (c : goal.After-paged g) → IsAlone c.args.self.now → IsAnswer (world_at g.R.Behaves.behaviour c.args.self.now) c.args.query c.paged.result
 answers g c alone =
-    let slip = c.slip.result in
+    let slip = c.slip-slip.result in
     paged_so (world_at g.R.Behaves.behaviour c.args.self.now) c.args.query (answer_by slip.1) c.paged.result c.paged.ensures
     (subst (λ (s : Seated g.row.R.Denot g.row.R-Pending.Denot). IsAlone s → IsAnswer (world_at g.R.Behaves.behaviour s) c.args.query (answer_by slip.1)) c.self.view_is
-    (looked_answers g.R.Behaves.behaviour c.self.inside.desk.first.value (view c.self.inside.chair) (view c.slip.new.chair) c.args.query (answer_at slip.0 slip.1) c.slip.ensures.looked) alone)
+    (looked_answers g.R.Behaves.behaviour c.self.inside.desk.first.value (view c.self.inside.chair) (view c.slip-slip.new.chair) c.args.query (answer_at slip.0 slip.1) c.slip-slip.ensures.looked) alone)
 
 pub returns-clause-page : goal.returns-clause-page
 returns-clause-page g c = λ alone. shown (world_at g.R.Behaves.behaviour c.args.self.now) c.args.query c.paged.result (answers g c alone)
@@ -32,11 +32,11 @@ pub returns-clause-kept : goal.returns-clause-kept
 returns-clause-kept g c =
     let is = g.R.Behaves.behaviour in
     let first = c.self.inside.desk.first.value in
-    let after = world_after (opening_of is first) (seen (view c.slip.new.chair)) in
+    let after = world_after (opening_of is first) (seen (view c.slip-slip.new.chair)) in
     subst (λ (s : Seated g.row.R.Denot g.row.R-Pending.Denot). IsAlone s → after ≡ world_at is s) c.self.view_is
-    (λ all. ap (world_after (opening_of is first)) (looked_sees is first (view c.self.inside.chair) (view c.slip.new.chair) c.args.query (answer_at c.slip.result.0 c.slip.result.1) c.slip.ensures.looked all))
+    (λ all. ap (world_after (opening_of is first)) (looked_sees is first (view c.self.inside.chair) (view c.slip-slip.new.chair) c.args.query (answer_at c.slip-slip.result.0 c.slip-slip.result.1) c.slip-slip.ensures.looked all))
 
 pub returns-clause-alone : goal.returns-clause-alone
 returns-clause-alone g c =
-    subst (λ (s : Seated g.row.R.Denot g.row.R-Pending.Denot). IsAlone s → HasAll (view c.slip.new.chair).shares) c.self.view_is
-    (λ all. subst HasAll (sym c.slip.ensures.looked.shares) all)
+    subst (λ (s : Seated g.row.R.Denot g.row.R-Pending.Denot). IsAlone s → HasAll (view c.slip-slip.new.chair).shares) c.self.view_is
+    (λ all. subst HasAll (sym c.slip-slip.ensures.looked.shares) all)
