@@ -18,8 +18,8 @@ use Rattle.frames.specs.Behaviour.{Behaviour}
 use Rattle.frames.specs.Fitting.{process_of}
 use Rattle.frames.specs.Configuration.{Configuration, running_at, is_stopped, events_of, is_ready, is_enabled, acting, acting_unless, invoking, going, return_of, chosen_of, in_order}
 use Rattle.answers.specs.declared.question.Question.{Question}
-use Rattle.answers.specs.Questions.{event_in, events_in, ended_by, next_of, stops_in, IsAllowed, AreAllowed}
-use Rattle.answers.specs.States.{counts, invocation, step_by}
+use Rattle.answers.specs.Questions.{event_in, events_in, outcomes_by, next_of, stops_in, IsAllowed, AreAllowed}
+use Rattle.answers.specs.States.{ended_counts, invoking_step, step_by}
 
 module _ (q : Question) where
   pub allowed_append : (before xs ys : List Event) → AreAllowed q before xs → AreAllowed q (before ++ xs) ys → AreAllowed q before (xs ++ ys)
@@ -38,20 +38,20 @@ module _ (q : Question) where
   IsPermitted ended (step.Go p c) = ⊤
   IsPermitted ended (step.Stop p) = stops_in q p ≡ true
 
-  invocation_permitted : (ended : ℕ → ℕ) (p : ℕ) (o : Op) → next_of q ended p ≡ Some o → IsPermitted ended (invocation p o)
+  invocation_permitted : (ended : ℕ → ℕ) (p : ℕ) (o : Op) → next_of q ended p ≡ Some o → IsPermitted ended (invoking_step p o)
   invocation_permitted ended p (op.Write v) h = h
   invocation_permitted ended p op.Read h = h
 
-  by_next : (ended : ℕ → ℕ) (p : ℕ) (n : Option Op) (s : Step) → next_of q ended p ≡ n → option_map (invocation p) n ≡ Some s → IsPermitted ended s
+  by_next : (ended : ℕ → ℕ) (p : ℕ) (n : Option Op) (s : Step) → next_of q ended p ≡ n → option_map (invoking_step p) n ≡ Some s → IsPermitted ended s
   by_next ended p None s e h = absurd (none-some s h)
-  by_next ended p (Some o) s e h = subst (IsPermitted ended) (same_Some (invocation p o) s h) (invocation_permitted ended p o e)
+  by_next ended p (Some o) s e h = subst (IsPermitted ended) (same_Some (invoking_step p o) s h) (invocation_permitted ended p o e)
 
   by_stop : (ended : ℕ → ℕ) (p : ℕ) (t : Bool) (s : Step) → stops_in q p ≡ t → (if t then Some (step.Stop p) else None) ≡ Some s → IsPermitted ended s
   by_stop ended p true s e h = subst (IsPermitted ended) (same_Some (step.Stop p) s h) e
   by_stop ended p false s e h = absurd (none-some s h)
 
   by_kind : (ended : ℕ → ℕ) (p : ℕ) (a b c : Bool) (s : Step)
-      → (if a then Some (step.Go p 0) else if b then Some (step.Go p 1) else if c then option_map (invocation p) (next_of q ended p) else if stops_in q p then Some (step.Stop p) else None) ≡ Some s
+      → (if a then Some (step.Go p 0) else if b then Some (step.Go p 1) else if c then option_map (invoking_step p) (next_of q ended p) else if stops_in q p then Some (step.Stop p) else None) ≡ Some s
       → IsPermitted ended s
   by_kind ended p true b c s h = subst (IsPermitted ended) (same_Some (step.Go p 0) s h) tt
   by_kind ended p false true c s h = subst (IsPermitted ended) (same_Some (step.Go p 1) s h) tt
@@ -59,8 +59,8 @@ module _ (q : Question) where
   by_kind ended p false false false s h = by_stop ended p (stops_in q p) s refl h
 
   -- a step that a label names is permitted
-  pub named_permitted : (answers : List (List Outcome)) (p kind : ℕ) (s : Step) → step_by q answers p kind ≡ Some s → IsPermitted (counts answers) s
-  named_permitted answers p kind s h = by_kind (counts answers) p (kind == 0) (kind == 1) (kind == 2) s h
+  pub named_permitted : (answers : List (List Outcome)) (p kind : ℕ) (s : Step) → step_by q answers p kind ≡ Some s → IsPermitted (ended_counts answers) s
+  named_permitted answers p kind s h = by_kind (ended_counts answers) p (kind == 0) (kind == 1) (kind == 2) s h
 
   -- what a permitted step records is allowed
   return_allowed : {P : Type 0} (before : List Event) (who : ℕ) (next : Next P) → AreAllowed q before (event_in (return_of who next))
@@ -81,7 +81,7 @@ module _ (q : Question) where
 
   module _ (before : List Event) where
     abbrev pub ended_before : ℕ → ℕ
-    ended_before r = length (ended_by r before)
+    ended_before r = length (outcomes_by r before)
 
     invoking_allowed : {P : Type 0} (b : Behaviour P) (who : ℕ) (o : Op) (running : Option (Running P)) (m : Memory)
         → next_of q ended_before who ≡ Some o → AreAllowed q before (events_in (invoking b who o running m).events)

@@ -9,7 +9,7 @@ use Rattle.frames.specs.Behaviour.{Behaviour, IsLawful}
 use Rattle.breadth_first.specs.declared.mark.Mark.{Mark}
 use Rattle.breadth_first.specs.Paths.{LeadsBy}
 use Rattle.answers.specs.declared.question.Question.{Question}
-use Rattle.answers.specs.States.{StateOf, IsRun, first_state, moved, step_by}
+use Rattle.answers.specs.States.{StateOf, IsStateOfRun, first_state, moved, step_by}
 use Rattle.answers.specs.Gathered.{IsBuilding}
 use Rattle.answers.proofs.Schedules.{run_first, run_moves, step_taken}
 
@@ -82,7 +82,7 @@ module _ {R P : Type 0} (is : R → Behaviour P) (b : Behaviour P) (q : Question
   none_taken steps left result t e = none-some t.step (sym e ∙ t.given)
 
   -- at the end
-  pub built : (steps : List Step) (k : StateOf R P) → IsBuilding is b q keys index steps [] → slice_get keys index ≡ Some k → IsRun is b q.value q steps k
+  pub built : (steps : List Step) (k : StateOf R P) → IsBuilding is b q keys index steps [] → slice_get keys index ≡ Some k → IsStateOfRun is b q.value q steps k
   built steps k was stored =
       let same : was.key ≡ k = same_Some was.key k (sym was.stored ∙ stored) in
-      subst (IsRun is b q.value q steps) (sym was.leads ∙ same) was.run
+      subst (IsStateOfRun is b q.value q steps) (sym was.leads ∙ same) was.run

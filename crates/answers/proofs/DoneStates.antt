@@ -15,8 +15,8 @@ use Rattle.frames.specs.Recorded.{Alone, shown}
 use Rattle.breadth_first.specs.declared.mark.Mark.{Mark}
 use Rattle.breadth_first.specs.Paths.{IsAllReached, depth_at}
 use Rattle.answers.specs.declared.question.Question.{Question}
-use Rattle.answers.specs.Questions.{IsThrough, IsScheduleOf, HasAnswers, events_after, ended_by, operations_of}
-use Rattle.answers.specs.States.{StateOf, IsAt, IsRun, IsDone, alone, counts, first_state, is_over, moved}
+use Rattle.answers.specs.Questions.{IsThrough, IsScheduleOf, HasAnswers, events_after, outcomes_by, operations_of}
+use Rattle.answers.specs.States.{StateOf, IsStateAfter, IsStateOfRun, AreAllOver, alone, ended_counts, first_state, is_over, moved}
 use Rattle.answers.specs.laws.StateLaws.{SameState, state_eq, state_decides}
 use Rattle.answers.proofs.Schedules.{at_first, walk, IsWalked}
 
@@ -35,20 +35,20 @@ over_whole s r n m (inl e) = ap (λ t. t || (is_none r && n == m)) e
 over_whole s r n m (inr e) = (λ i. s || (is_none (e.0 i) && e.1 i == m)) ∙ (ap (λ t. s || t) (eq-eqb m m refl) ∙ or_true s)
 
 module _ {R P : Type 0} (is : R → Behaviour P) (b : Behaviour P) (q : Question) where
-  over_through : (steps : List Step) (x : StateOf R P) (p : ℕ) → IsAt is b q.value steps x → is_over q x p ≡ true → IsThrough b q steps p
-  over_through steps x p at h = elim (over_parts (is_stopped p x.configuration) (running_at p x.configuration) (counts x.answers p) (length (operations_of q p)) h) [
+  over_through : (steps : List Step) (x : StateOf R P) (p : ℕ) → IsStateAfter is b q.value steps x → is_over q x p ≡ true → IsThrough b q steps p
+  over_through steps x p at h = elim (over_parts (is_stopped p x.configuration) (running_at p x.configuration) (ended_counts x.answers p) (length (operations_of q p)) h) [
     | inl e ↦ inl (ap (λ (c : Alone P). is_stopped p c) (sym at.shows) ∙ e)
     | inr e ↦ inr (ap (λ (c : Alone P). running_at p c) (sym at.shows) ∙ e.0, ap length (sym (at.answered p)) ∙ e.1)
   ]
 
-  through_over : (steps : List Step) (x : StateOf R P) (p : ℕ) → IsAt is b q.value steps x → IsThrough b q steps p → is_over q x p ≡ true
-  through_over steps x p at h = over_whole (is_stopped p x.configuration) (running_at p x.configuration) (counts x.answers p) (length (operations_of q p)) (elim h [
+  through_over : (steps : List Step) (x : StateOf R P) (p : ℕ) → IsStateAfter is b q.value steps x → IsThrough b q steps p → is_over q x p ≡ true
+  through_over steps x p at h = over_whole (is_stopped p x.configuration) (running_at p x.configuration) (ended_counts x.answers p) (length (operations_of q p)) (elim h [
     | inl e ↦ inl (ap (λ (c : Alone P). is_stopped p c) at.shows ∙ e)
     | inr e ↦ inr (ap (λ (c : Alone P). running_at p c) at.shows ∙ e.0, ap length (at.answered p) ∙ e.1)
   ])
 
   -- the steps to a done state are a schedule of what is asked
-  pub done_schedule : (steps : List Step) (x : StateOf R P) → IsRun is b q.value q steps x → IsDone b q x → IsScheduleOf b q steps
+  pub done_schedule : (steps : List Step) (x : StateOf R P) → IsStateOfRun is b q.value q steps x → AreAllOver b q x → IsScheduleOf b q steps
   done_schedule steps x run done = record {
     fit = run.fit;
     allowed = run.allowed;
@@ -56,7 +56,7 @@ module _ {R P : Type 0} (is : R → Behaviour P) (b : Behaviour P) (q : Question
   }
 
   -- and the state has its answers
-  pub at_answers : (steps : List Step) (x : StateOf R P) → IsAt is b q.value steps x → HasAnswers b q.value steps x.answers
+  pub at_answers : (steps : List Step) (x : StateOf R P) → IsStateAfter is b q.value steps x → HasAnswers b q.value steps x.answers
   at_answers steps x at = record { for_each = at.each; in_order = at.answered }
 
   -- a done state with a schedule's answers is found, no deeper than the schedule is long
@@ -64,7 +64,7 @@ module _ {R P : Type 0} (is : R → Behaviour P) (b : Behaviour P) (q : Question
     pub index : ℕ
     pub key : StateOf R P
     pub stored : slice_get keys index ≡ Some key
-    pub done : IsDone b q key
+    pub done : AreAllOver b q key
     pub answers : HasAnswers b q.value steps key.answers
     pub within : depth_at marks index ≤ length steps
 
@@ -73,7 +73,7 @@ module _ {R P : Type 0} (is : R → Behaviour P) (b : Behaviour P) (q : Question
     same_over x k p e i = over_at (e.configuration.stopped i) (e.configuration.running i) (e.answers i)
       where
         over_at : List Bool → List (Option (Running P)) → List (List Outcome) → Bool
-        over_at stopped running answers = slice_index_or stopped p false || (is_none (slice_index_or running p None) && counts answers p == length (operations_of q p))
+        over_at stopped running answers = slice_index_or stopped p false || (is_none (slice_index_or running p None) && ended_counts answers p == length (operations_of q p))
 
     pub met : (Holds : Memory → Type 0) (Reach : ℕ → Op → P → Type 0) → IsLawful b Holds Reach → (r : R) → is r ≡ b → (keys : List (StateOf R P)) (marks : List Mark)
         → IsAllReached (b.processes * 4) (λ x l. moved (is x.configuration.register) q x l) (state_eq E F) (first_state b q.value r) keys marks

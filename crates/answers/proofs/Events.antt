@@ -18,7 +18,7 @@ use Rattle.frames.specs.Behaviour.{Behaviour}
 use Rattle.frames.specs.Fitting.{process_of}
 use Rattle.frames.specs.Recorded.{AllFit, first_configuration, shown}
 use Rattle.frames.specs.Configuration.{Configuration, running_at, is_stopped, fits_step, stepped, replayed, events_of, history, acting, acting_unless, invoking, going, return_of, chosen_of, in_order}
-use Rattle.answers.specs.Questions.{event_in, events_in, all_events, events_after, ended_in, ended_by}
+use Rattle.answers.specs.Questions.{event_in, events_in, all_events, events_after, outcomes_in, outcomes_by}
 
 -- a change past a list's end changes nothing
 pub set_past : {X : Type 0} (xs : List X) (i : ℕ) (x : X) → length xs ≤ i → set xs i x ≡ xs
@@ -26,9 +26,9 @@ set_past [] i x h = refl
 set_past (y ∷ ys) zero x h = absurd (omega (arith, h))
 set_past (y ∷ ys) (suc i) x h = ap (λ l. y ∷ l) (set_past ys i x (omega (arith, h)))
 
-pub ended_append : (p : ℕ) (xs ys : List Event) → ended_by p (xs ++ ys) ≡ ended_by p xs ++ ended_by p ys
+pub ended_append : (p : ℕ) (xs ys : List Event) → outcomes_by p (xs ++ ys) ≡ outcomes_by p xs ++ outcomes_by p ys
 ended_append p [] ys = refl
-ended_append p (x ∷ xs) ys = ap (λ l. ended_in p x ++ l) (ended_append p xs ys) ∙ sym (append_assoc (ended_in p x) (ended_by p xs) (ended_by p ys))
+ended_append p (x ∷ xs) ys = ap (λ l. outcomes_in p x ++ l) (ended_append p xs ys) ∙ sym (append_assoc (outcomes_in p x) (outcomes_by p xs) (outcomes_by p ys))
 
 all_append : (xs : List StepEvents) (y : StepEvents) → all_events (xs ++ y ∷ []) ≡ all_events xs ++ events_in y
 all_append [] y = append-nil (events_in y)
@@ -58,39 +58,39 @@ module _ {P : Type 0} (b : Behaviour P) (value : ℕ) where
 
 -- a step of process `who` ends no operation of another process r
 module _ (r : ℕ) where
-  return_other : {P : Type 0} (who : ℕ) (next : Next P) → (who == r) ≡ false → ended_by r (event_in (return_of who next)) ≡ []
+  return_other : {P : Type 0} (who : ℕ) (next : Next P) → (who == r) ≡ false → outcomes_by r (event_in (return_of who next)) ≡ []
   return_other who (Pending p) e = refl
   return_other who (Done (Value v)) e = ap (λ t. (if t then Value v ∷ [] else []) ++ []) e
   return_other who (Done Written) e = ap (λ t. (if t then Written ∷ [] else []) ++ []) e
   return_other who (Done (Spent layer)) e = ap (λ t. (if t then Spent layer ∷ [] else []) ++ []) e
 
   chosen_other : {P : Type 0} (who : ℕ) (chosen : Option (ℕ × Bool)) (next : Next P) → (who == r) ≡ false
-      → ended_by r (events_in (in_order (chosen_of who chosen) (return_of who next))) ≡ []
-  chosen_other who None next e = ap (ended_by r) (append-nil (event_in (return_of who next))) ∙ return_other who next e
+      → outcomes_by r (events_in (in_order (chosen_of who chosen) (return_of who next))) ≡ []
+  chosen_other who None next e = ap (outcomes_by r) (append-nil (event_in (return_of who next))) ∙ return_other who next e
   chosen_other who (Some bit) next e = return_other who next e
 
   going_other : {P : Type 0} (b : Behaviour P) (who : ℕ) (choice : Bool) (running : Option (Running P)) (m : Memory) → (who == r) ≡ false
-      → ended_by r (events_in (going b who choice running m).events) ≡ []
+      → outcomes_by r (events_in (going b who choice running m).events) ≡ []
   going_other b who choice None m e = refl
   going_other b who choice (Some run) m e = chosen_other who (b.goes run.point choice m).chosen (b.goes run.point choice m).next e
 
   invoking_other : {P : Type 0} (b : Behaviour P) (who : ℕ) (o : Op) (running : Option (Running P)) (m : Memory) → (who == r) ≡ false
-      → ended_by r (events_in (invoking b who o running m).events) ≡ []
+      → outcomes_by r (events_in (invoking b who o running m).events) ≡ []
   invoking_other b who o None m e = return_other who (b.begins who o m).next e
   invoking_other b who o (Some run) m e = refl
 
   acting_other : {P : Type 0} (b : Behaviour P) (s : Step) (running : Option (Running P)) (m : Memory) → (process_of s == r) ≡ false
-      → ended_by r (events_in (acting b s running m).events) ≡ []
+      → outcomes_by r (events_in (acting b s running m).events) ≡ []
   acting_other b (step.Write p v) running m e = invoking_other b p (op.Write v) running m e
   acting_other b (step.Read p) running m e = invoking_other b p op.Read running m e
   acting_other b (step.Go p c) running m e = going_other b p (c == 1) running m e
   acting_other b (step.Stop p) running m e = refl
 
   unless_other : {P : Type 0} (stopped : Bool) (b : Behaviour P) (s : Step) (running : Option (Running P)) (m : Memory) → (process_of s == r) ≡ false
-      → ended_by r (events_in (acting_unless stopped b s running m).events) ≡ []
+      → outcomes_by r (events_in (acting_unless stopped b s running m).events) ≡ []
   unless_other true b s running m e = refl
   unless_other false b s running m e = acting_other b s running m e
 
   pub events_other : {R P : Type 0} (b : Behaviour P) (c : Configuration R P) (s : Step) → (process_of s == r) ≡ false
-      → ended_by r (events_in (events_of b c s)) ≡ []
+      → outcomes_by r (events_in (events_of b c s)) ≡ []
   events_other b c s e = unless_other (is_stopped (process_of s) c) b s (running_at (process_of s) c) c.memory e

@@ -12,9 +12,9 @@ use Rattle.breadth_first.specs.Paths.{depth_at}
 use Rattle.answers.specs.declared.found.Possible.{Possible}
 use Rattle.answers.specs.declared.question.Question.{Question}
 use Rattle.answers.specs.Questions.{IsScheduleOf, HasAnswers}
-use Rattle.answers.specs.Answers.{IsSound, IsListed, IsAnswered}
+use Rattle.answers.specs.Answers.{HasItsSchedule, IsListed, AllAnswered}
 use Rattle.answers.specs.Gathered.{IsCovered, IsGathered}
-use Rattle.answers.specs.States.{StateOf, IsDone}
+use Rattle.answers.specs.States.{StateOf, AreAllOver}
 use Rattle.answers.specs.laws.StateLaws.{answers_eq, answers_decide}
 use Rattle.answers.proofs.DoneStates.{IsMet}
 
@@ -23,7 +23,7 @@ old_or_new : {X : Type 0} (xs : List X) (y : X) (i : ℕ) (x : X) → slice_get 
 old_or_new [] y zero x h = inr (refl, same_Some y x h)
 old_or_new [] y (suc i) x h = absurd (none-some x h)
 old_or_new (z ∷ zs) y zero x h = inl h
-old_or_new (z ∷ zs) y (suc i) x h = elim (old_or_new zs y i x h) [ | inl p ↦ inl p | inr q ↦ inr (ap suc q.0, q.1) ]
+old_or_new (z ∷ zs) y (suc i) x h = elim (old_or_new zs y i x h) [ inl p ↦ inl p | inr q ↦ inr (ap suc q.0, q.1) ]
 
 stays : {X : Type 0} (xs : List X) (y : X) (i : ℕ) (x : X) → slice_get xs i ≡ Some x → slice_get (xs ++ y ∷ []) i ≡ Some x
 stays [] y i x h = absurd (none-some x h)
@@ -69,7 +69,7 @@ module _ {R P : Type 0} (b : Behaviour P) (q : Question) (keys : List (StateOf R
     here = slice_get_within keys at k stored
 
     -- a state whose answers needn't be listed again
-    pub gathered_skip : (IsDone b q k → IsCovered found k (depth_at marks at)) → IsGathered b q keys marks (at + 1) found
+    pub gathered_skip : (AreAllOver b q k → IsCovered found k (depth_at marks at)) → IsGathered b q keys marks (at + 1) found
     gathered_skip covered = record {
       sound = g.sound;
       early = λ i a h j le lt. g.early i a h j (omega (arith, le)) lt;
@@ -80,11 +80,11 @@ module _ {R P : Type 0} (b : Behaviour P) (q : Question) (keys : List (StateOf R
       once = g.once;
     }
       where
-        last : (j : ℕ) (x : StateOf R P) → j ≡ at → slice_get keys j ≡ Some x → IsDone b q x → IsCovered found x (depth_at marks j)
+        last : (j : ℕ) (x : StateOf R P) → j ≡ at → slice_get keys j ≡ Some x → AreAllOver b q x → IsCovered found x (depth_at marks j)
         last j x e s done =
             let same : k ≡ x = same_Some k x (sym stored ∙ (ap (slice_get keys) (sym e) ∙ s)) in
             subst (λ n. IsCovered found x (depth_at marks n)) (sym e)
-            (subst (λ (y : StateOf R P). IsCovered found y (depth_at marks at)) same (covered (subst (IsDone b q) (sym same) done)))
+            (subst (λ (y : StateOf R P). IsCovered found y (depth_at marks at)) same (covered (subst (AreAllOver b q) (sym same) done)))
 
     -- its answers are listed already
     pub covered_listed : list_any (λ (a : Possible). answers_eq a.answers.items k.answers) found ≡ true → IsCovered found k (depth_at marks at)
@@ -98,7 +98,7 @@ module _ {R P : Type 0} (b : Behaviour P) (q : Question) (keys : List (StateOf R
           shortest = g.early p.0 p.1.0 p.1.1.0 at (omega arith) here;
         }
 
-    module _ (a : Possible) (sound : IsSound b q a) (answers : a.answers.items ≡ k.answers) (long : length a.steps.items ≡ depth_at marks at)
+    module _ (a : Possible) (sound : HasItsSchedule b q a) (answers : a.answers.items ≡ k.answers) (long : length a.steps.items ≡ depth_at marks at)
         (new : list_any (λ (c : Possible). answers_eq c.answers.items k.answers) found ≡ false) where
       differs : (i : ℕ) (c : Possible) → slice_get found i ≡ Some c → c.answers.items ≡ a.answers.items → ⊥
       differs i c h e =
@@ -109,7 +109,7 @@ module _ {R P : Type 0} (b : Behaviour P) (q : Question) (keys : List (StateOf R
 
       pub gathered_push : IsGathered b q keys marks (at + 1) (found ++ a ∷ [])
       gathered_push = record {
-        sound = λ i c h. elim (old_or_new found a i c h) [ | inl p ↦ g.sound i c p | inr r ↦ subst (IsSound b q) r.1 sound ];
+        sound = λ i c h. elim (old_or_new found a i c h) [ inl p ↦ g.sound i c p | inr r ↦ subst (HasItsSchedule b q) r.1 sound ];
         early = λ i c h j le lt. elim (old_or_new found a i c h) [
           | inl p ↦ g.early i c p j (omega (arith, le)) lt
           | inr r ↦ late c r.1 j (omega (arith, le)) lt
@@ -150,7 +150,7 @@ module _ {R P : Type 0} (b : Behaviour P) (q : Question) (keys : List (StateOf R
 
   -- once all states are gathered, all answers are listed
   pub gathered_all : (is : R → Behaviour P) (at : ℕ) (found : List Possible) → IsGathered b q keys marks at found → length keys ≤ at
-      → ((steps : List Step) → IsScheduleOf b q steps → IsMet is b q keys marks steps) → IsAnswered b q found
+      → ((steps : List Step) → IsScheduleOf b q steps → IsMet is b q keys marks steps) → AllAnswered b q found
   gathered_all is at found g all met = record {
     sound = g.sound;
     complete = λ steps schedule. listed steps (met steps schedule);

@@ -5,3 +5,4 @@ pub mod DoneStates
 pub mod Gathering
 pub mod Building
 pub mod Searching
+mod Examples

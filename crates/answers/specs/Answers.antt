@@ -10,7 +10,7 @@ use Rattle.answers.specs.declared.question.Question.{Question}
 use Rattle.answers.specs.Questions.{operations_of, IsScheduleOf, HasAnswers}
 
 -- the schedule of a list of answers is one of what is asked, and has these answers
-pub record IsSound {P : Type 0} (b : Behaviour P) (q : Question) (a : Possible) : Type 0 where
+pub record HasItsSchedule {P : Type 0} (b : Behaviour P) (q : Question) (a : Possible) : Type 0 where
   pub schedule : IsScheduleOf b q a.steps.items
   pub answers : HasAnswers b q.value a.steps.items a.answers.items
 
@@ -24,7 +24,7 @@ pub record IsListed {P : Type 0} (b : Behaviour P) (q : Question) (found : List 
 
 -- Just the possible answers are listed, each once, with a schedule as short as any: each list has its
 -- schedule; and whatever the schedule of what is asked, its answers are listed.
-pub record IsAnswered {P : Type 0} (b : Behaviour P) (q : Question) (found : List Possible) : Type 0 where
-  pub sound : (i : ℕ) (a : Possible) → slice_get found i ≡ Some a → IsSound b q a
+pub record AllAnswered {P : Type 0} (b : Behaviour P) (q : Question) (found : List Possible) : Type 0 where
+  pub sound : (i : ℕ) (a : Possible) → slice_get found i ≡ Some a → HasItsSchedule b q a
   pub complete : (steps : List Step) → IsScheduleOf b q steps → IsListed b q found steps
   pub once : (i j : ℕ) (a c : Possible) → slice_get found i ≡ Some a → slice_get found j ≡ Some c → a.answers.items ≡ c.answers.items → i ≡ j

@@ -6,8 +6,8 @@ use Rattle.breadth_first.specs.declared.mark.Mark.{Mark}
 use Rattle.breadth_first.specs.Paths.{depth_at, AreTooMany, IsAllReached, LeadsBy}
 use Rattle.answers.specs.declared.found.Possible.{Possible}
 use Rattle.answers.specs.declared.question.Question.{Question}
-use Rattle.answers.specs.Answers.{IsSound}
-use Rattle.answers.specs.States.{StateOf, IsDone, IsRun, first_state, moved}
+use Rattle.answers.specs.Answers.{HasItsSchedule}
+use Rattle.answers.specs.States.{StateOf, AreAllOver, IsStateOfRun, first_state, moved}
 use Rattle.answers.specs.laws.StateLaws.{state_eq}
 
 -- the answers of state k are listed, with at most d steps
@@ -20,9 +20,9 @@ pub record IsCovered {R P : Type 0} (found : List Possible) (k : StateOf R P) (d
 
 -- the answers of the done states before index `at` are listed
 pub record IsGathered {R P : Type 0} (b : Behaviour P) (q : Question) (keys : List (StateOf R P)) (marks : List Mark) (at : ℕ) (found : List Possible) : Type 0 where
-  pub sound : (i : ℕ) (a : Possible) → slice_get found i ≡ Some a → IsSound b q a
+  pub sound : (i : ℕ) (a : Possible) → slice_get found i ≡ Some a → HasItsSchedule b q a
   pub early : (i : ℕ) (a : Possible) → slice_get found i ≡ Some a → (j : ℕ) → at ≤ j → j < length keys → length a.steps.items ≤ depth_at marks j
-  pub covers : (j : ℕ) (k : StateOf R P) → j < at → slice_get keys j ≡ Some k → IsDone b q k → IsCovered found k (depth_at marks j)
+  pub covers : (j : ℕ) (k : StateOf R P) → j < at → slice_get keys j ≡ Some k → AreAllOver b q k → IsCovered found k (depth_at marks j)
   pub once : (i j : ℕ) (a c : Possible) → slice_get found i ≡ Some a → slice_get found j ≡ Some c → a.answers.items ≡ c.answers.items → i ≡ j
 
 -- these steps lead to a state from which the marks that are left lead to the node at `index`
@@ -30,7 +30,7 @@ pub record IsBuilding {R P : Type 0} (is : R → Behaviour P) (b : Behaviour P) 
   pub state : StateOf R P
   pub key : StateOf R P
   pub stored : slice_get keys index ≡ Some key
-  pub run : IsRun is b q.value q steps state
+  pub run : IsStateOfRun is b q.value q steps state
   pub leads : LeadsBy (b.processes * 4) (λ x l. moved (is x.configuration.register) q x l) keys state left key
 
 module _ {R P : Type 0} (is : R → Behaviour P) (E : R → R → Bool) (F : P → P → Bool) (q : Question) (r : R) where

@@ -37,16 +37,16 @@ events_after b value steps = all_events (history b (first_configuration b value)
 
 -- the outcome of process p's operation that ends in this event, as a list of one item; an empty list
 -- if none ends
-abbrev pub ended_in : ℕ → Event → List Outcome
-ended_in p (Got q v) = if q == p then Value v ∷ [] else []
-ended_in p (Wrote q) = if q == p then Written ∷ [] else []
-ended_in p (Refused q layer) = if q == p then Spent layer ∷ [] else []
-ended_in p _ = []
+abbrev pub outcomes_in : ℕ → Event → List Outcome
+outcomes_in p (Got q v) = if q == p then Value v ∷ [] else []
+outcomes_in p (Wrote q) = if q == p then Written ∷ [] else []
+outcomes_in p (Refused q layer) = if q == p then Spent layer ∷ [] else []
+outcomes_in p _ = []
 
 -- the outcomes of process p's operations that end in these events, in order
-abbrev pub ended_by : ℕ → List Event → List Outcome
-ended_by p [] = []
-ended_by p (e ∷ es) = ended_in p e ++ ended_by p es
+abbrev pub outcomes_by : ℕ → List Event → List Outcome
+outcomes_by p [] = []
+outcomes_by p (e ∷ es) = outcomes_in p e ++ outcomes_by p es
 
 -- the operations in a list, if there is a list
 abbrev pub operations_in : Option (Vec Op) → List Op
@@ -74,7 +74,7 @@ stops_in q p = list_any (λ r. p == r) q.may_stop.items
 -- After the events `before`, an event is allowed. An invocation has to be that of the process's next
 -- operation, and only some processes may stop.
 abbrev pub IsAllowed : Question → List Event → Event → Type 0
-IsAllowed q before (Invoke p o) = next_of q (λ r. length (ended_by r before)) p ≡ Some o
+IsAllowed q before (Invoke p o) = next_of q (λ r. length (outcomes_by r before)) p ≡ Some o
 IsAllowed q before (Stop p) = stops_in q p ≡ true
 IsAllowed q before _ = ⊤
 
@@ -88,7 +88,7 @@ abbrev pub IsThrough : {P : Type 0} → Behaviour P → Question → List Step �
 IsThrough b q steps p =
     (is_stopped p (shown b q.value steps) ≡ true)
     ⊎ ((running_at p (shown b q.value steps) ≡ None)
-    × (length (ended_by p (events_after b q.value steps)) ≡ length (operations_of q p)))
+    × (length (outcomes_by p (events_after b q.value steps)) ≡ length (operations_of q p)))
 
 -- A schedule of what is asked: fitting steps, in which each process invokes just its operations, in
 -- order, and each after those that it has to follow; only processes that may stop do; and in the end
@@ -101,7 +101,7 @@ pub record IsScheduleOf {P : Type 0} (b : Behaviour P) (q : Question) (steps : L
 -- the lists in `answers` are the outcomes of the operations that each process ends in these steps
 pub record HasAnswers {P : Type 0} (b : Behaviour P) (value : ℕ) (steps : List Step) (answers : List (List Outcome)) : Type 0 where
   pub for_each : length answers ≡ b.processes
-  pub in_order : (p : ℕ) → slice_index_or answers p [] ≡ ended_by p (events_after b value steps)
+  pub in_order : (p : ℕ) → slice_index_or answers p [] ≡ outcomes_by p (events_after b value steps)
 
 -- whether there is such an operation
 abbrev pub is_named : Question → Nth → Bool
@@ -113,7 +113,7 @@ are_named q a = is_named q a.later && is_named q a.earlier
 
 -- A question fits a register: its initial value is one of the register's values, there are no more
 -- lists than processes, each operation fits its process, and `after` names operations that are asked.
-pub record Fits {P : Type 0} (b : Behaviour P) (q : Question) : Type 0 where
+pub record FitsQuestion {P : Type 0} (b : Behaviour P) (q : Question) : Type 0 where
   pub value : q.value < b.values
   pub lists : length q.operations.items ≤ b.processes
   pub suit : (p : ℕ) → list_all (b.suits p) (operations_of q p) ≡ true

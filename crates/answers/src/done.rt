@@ -3,7 +3,7 @@
 ghost use Rattle.std.specs.Prelude.{◌≡◌, ℕ, true, length};
 ghost use Rattle.std.specs.Bool.{Decides};
 ghost use Rattle.answers.specs.Questions.{operations_of};
-ghost use Rattle.answers.specs.States.{is_over, IsDone};
+ghost use Rattle.answers.specs.States.{is_over, AreAllOver};
 
 use crate::moves::{Moves, ended};
 use crate::question::Question;
@@ -31,7 +31,7 @@ fn is_over<R: Register>(question: &Question, state: &State<R>, p: u32) -> bool
 /// Whether each process has stopped, or is idle and has ended all its operations.
 pub(crate) fn is_done<'q, R: Register>(moves: &Moves<'q, R>, state: &State<R>) -> bool
     ensures { Decides result
-        (IsDone (R.behaviour moves.now.register) moves.now.question.now state.now) }
+        (AreAllOver (R.behaviour moves.now.register) moves.now.question.now state.now) }
 {
     for p in 0..moves.register.processes() {
         if !is_over(moves.question, state, p) {

@@ -5,10 +5,10 @@ ghost use Rattle.std.specs.List.{list_any};
 ghost use Rattle.breadth_first.specs.Paths.{depth_at};
 ghost use Rattle.answers.specs.declared.found.Unfound.TheVariants.{TooMany, Unfit};
 ghost use Rattle.answers.specs.laws.StateLaws.{answers_eq};
-ghost use Rattle.answers.specs.Questions.{Fits};
+ghost use Rattle.answers.specs.Questions.{FitsQuestion};
 ghost use Rattle.answers.specs.States as spec;
-ghost use Rattle.answers.specs.States.{StateOf, IsRun, first_state};
-ghost use Rattle.answers.specs.Answers.{IsAnswered};
+ghost use Rattle.answers.specs.States.{StateOf, IsStateOfRun, first_state};
+ghost use Rattle.answers.specs.Answers.{AllAnswered};
 ghost use Rattle.answers.specs.Gathered.{AreTooManyStates, IsBuilding, IsGathered, IsSearched};
 
 use crate::done::is_done;
@@ -108,7 +108,7 @@ fn steps_to<'q, R: Register>(
     requires there { index < length reached.now.nodes.keys }
     ensures run { IfOk result (λ steps. (k : StateOf R R.Pending)
         → slice_get reached.now.nodes.keys index ≡ Some k
-        → IsRun R.behaviour (R.behaviour moves.now.register) moves.now.question.now.value
+        → IsStateOfRun R.behaviour (R.behaviour moves.now.register) moves.now.question.now.value
         moves.now.question.now steps.items k) }
     ensures long { IfOk result (λ steps. length steps.items
         ≡ depth_at reached.now.marks.items index) }
@@ -185,7 +185,7 @@ fn gather<'q, R: Register>(
         moves.now.question.now moves.now.register
         reached.now.nodes.keys reached.now.marks.items }
     requires few { length reached.now.nodes.keys ≤ most }
-    ensures { IfOk result (λ found. IsAnswered (R.behaviour moves.now.register)
+    ensures { IfOk result (λ found. AllAnswered (R.behaviour moves.now.register)
         moves.now.question.now found.items) }
 {
     let mut found = Vec::new(alloc);
@@ -226,13 +226,9 @@ fn explore<'q, R: Register>(
 }
 
 /// All answers to a question whose initial value is one of the register's values.
-fn answer<'q, R: Register>(
-    alloc: Global,
-    moves: &Moves<'q, R>,
-    most: u32,
-) -> Result<Found, Unfound>
+fn answer<'q, R: Register>(alloc: Global, moves: &Moves<'q, R>, most: u32) -> Result<Found, Unfound>
     requires { moves.now.question.now.value < (R.behaviour moves.now.register).values }
-    ensures answered { IfOk result (λ f. IsAnswered (R.behaviour moves.now.register)
+    ensures answered { IfOk result (λ f. AllAnswered (R.behaviour moves.now.register)
         moves.now.question.now f.possible.items) }
     ensures few { IfOk result (λ f. f.states ≤ most) }
     ensures fit { result ≡ Err Unfit → ⊥ }
@@ -259,11 +255,11 @@ pub fn find<R: Register>(
     question: &Question,
     most_states: u32,
 ) -> Result<Found, Unfound>
-    ensures answered { IfOk result (λ f. IsAnswered (R.behaviour register.now) question.now
+    ensures answered { IfOk result (λ f. AllAnswered (R.behaviour register.now) question.now
         f.possible.items) }
     ensures few { IfOk result (λ f. f.states ≤ most_states) }
-    ensures fits { IfOk result (λ _. Fits (R.behaviour register.now) question.now) }
-    ensures unfit { result ≡ Err Unfit → Fits (R.behaviour register.now) question.now → ⊥ }
+    ensures fits { IfOk result (λ _. FitsQuestion (R.behaviour register.now) question.now) }
+    ensures unfit { result ≡ Err Unfit → FitsQuestion (R.behaviour register.now) question.now → ⊥ }
     ensures too_many { result ≡ Err TooMany → AreTooManyStates R.behaviour R.PartialEq.eq
         R.Pending.PartialEq.eq question.now register.now most_states }
 {

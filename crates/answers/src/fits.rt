@@ -3,7 +3,7 @@
 ghost use Rattle.std.specs.Prelude.{◌≡◌, ℕ, ◌≤◌, ◌&&◌, true, length};
 ghost use Rattle.std.specs.Bool.{Decides};
 ghost use Rattle.std.specs.List.{list_all};
-ghost use Rattle.answers.specs.Questions.{Fits, are_named, is_named, operations_of};
+ghost use Rattle.answers.specs.Questions.{FitsQuestion, are_named, is_named, operations_of};
 
 use crate::done::op_count;
 use crate::question::{After, Nth, Question};
@@ -60,13 +60,16 @@ fn are_named(question: &Question, after: &After) -> bool
 fn all_named(question: &Question) -> bool
     ensures { result ≡ list_all (are_named question.now) question.now.after.items }
 {
-    question.after.iter().all(|after| are_named(question, after))
+    question
+        .after
+        .iter()
+        .all(|after| are_named(question, after))
 }
 
 /// Whether the question fits the register: its initial value is one of the register's values, each
 /// operation fits its process, which exists, and `after` names operations that are asked.
 pub fn fits<R: Register>(register: &R, question: &Question) -> bool
-    ensures { Decides result (Fits (R.behaviour register.now) question.now) }
+    ensures { Decides result (FitsQuestion (R.behaviour register.now) question.now) }
 {
     if question.value >= register.values() {
         return false;

@@ -3,8 +3,8 @@
 ghost use Rattle.std.specs.Prelude.{◌≡◌, ◌<◌, ◌++◌, [], true, IfOk, OnOk, slice_get, slice_index_or, slice_set};
 ghost use Rattle.std.specs.List.{list_all};
 ghost use Rattle.frames.specs.Configuration.{is_enabled, fits_step};
-ghost use Rattle.answers.specs.Questions.{allows, next_of, operations_of, stops_in, ended_by, event_in, events_in};
-ghost use Rattle.answers.specs.States.{advanced, counts, invocation, option_list, step_by};
+ghost use Rattle.answers.specs.Questions.{allows, next_of, operations_of, stops_in, outcomes_by, event_in, events_in};
+ghost use Rattle.answers.specs.States.{advanced, ended_counts, invoking_step, option_list, step_by};
 
 use crate::outcomes::Outcomes;
 use crate::question::{After, Question};
@@ -61,7 +61,7 @@ impl<'q, R: Register> Graph for Moves<'q, R> {
 
 /// The number of operations that process `p` has ended.
 pub(crate) fn ended(answers: &[Outcomes], p: u32) -> usize
-    ensures { result ≡ counts answers.now p }
+    ensures { result ≡ ended_counts answers.now p }
 {
     match answers.get(p as usize) {
         Some(outcomes) => outcomes.len(),
@@ -71,7 +71,7 @@ pub(crate) fn ended(answers: &[Outcomes], p: u32) -> usize
 
 /// Whether `after` lets process `p` invoke its next operation.
 fn allows(answers: &[Outcomes], p: u32, after: &After) -> bool
-    ensures { result ≡ allows (counts answers.now) p after.now }
+    ensures { result ≡ allows (ended_counts answers.now) p after.now }
 {
     let later = after.later;
     let is_next = later.process == p && later.index as usize == ended(answers, p);
@@ -81,7 +81,7 @@ fn allows(answers: &[Outcomes], p: u32, after: &After) -> bool
 
 /// Whether these let process `p` invoke its next operation.
 fn all_allow(answers: &[Outcomes], p: u32, after: &[After]) -> bool
-    ensures { result ≡ list_all (allows (counts answers.now) p) after.now }
+    ensures { result ≡ list_all (allows (ended_counts answers.now) p) after.now }
 {
     after.iter().all(|after| allows(answers, p, after))
 }
@@ -108,7 +108,7 @@ fn nth_op(question: &Question, p: u32, index: usize) -> Option<Op>
 
 /// The operation that process `p` may invoke if it is idle.
 fn next_op(question: &Question, answers: &[Outcomes], p: u32) -> Option<Op>
-    ensures { result ≡ next_of question.now (counts answers.now) p }
+    ensures { result ≡ next_of question.now (ended_counts answers.now) p }
 {
     if all_allow(answers, p, &question.after) {
         nth_op(question, p, ended(answers, p))
@@ -125,8 +125,8 @@ fn may_stop(question: &Question, p: u32) -> bool
 }
 
 /// The step by which process `p` invokes `op`.
-fn invocation(p: u32, op: Op) -> Step
-    ensures { result ≡ invocation p op }
+fn invoking_step(p: u32, op: Op) -> Step
+    ensures { result ≡ invoking_step p op }
 {
     match op {
         Op::Write(v) => Step::Write { p, v },
@@ -136,7 +136,12 @@ fn invocation(p: u32, op: Op) -> Step
 
 /// The step of process `p` that `kind` names: a bit action with choice 0 or 1, the invocation of its
 /// next operation, or a stop.
-pub(crate) fn step_by(question: &Question, answers: &[Outcomes], p: u32, kind: usize) -> Option<Step>
+pub(crate) fn step_by(
+    question: &Question,
+    answers: &[Outcomes],
+    p: u32,
+    kind: usize,
+) -> Option<Step>
     ensures { result ≡ step_by question.now answers.now p kind }
 {
     match kind {
@@ -144,7 +149,7 @@ pub(crate) fn step_by(question: &Question, answers: &[Outcomes], p: u32, kind: u
         1 => Some(Step::Go { p, c: 1 }),
         2 => {
             let op = next_op(question, answers, p)?;
-            Some(invocation(p, op))
+            Some(invoking_step(p, op))
         }
         _ => {
             if may_stop(question, p) {
@@ -203,8 +208,8 @@ pub(crate) fn copies(alloc: Global, answers: &[Outcomes]) -> Result<Vec<Outcomes
 }
 
 /// The outcome of process `p`'s operation that ends in this event, if one does.
-fn ended_in(p: u32, event: Option<Event>) -> Option<Outcome>
-    ensures { option_list result ≡ ended_by p (event_in event) }
+fn outcomes_in(p: u32, event: Option<Event>) -> Option<Outcome>
+    ensures { option_list result ≡ outcomes_by p (event_in event) }
 {
     match event? {
         Event::Got(q, v) if q == p => Some(Outcome::Value(v)),
@@ -241,7 +246,7 @@ fn with_events(
     events: StepEvents,
 ) -> Result<Outcomes, AllocError>
     ensures { IfOk result
-        (λ o. o ≡ slice_index_or answers.now p [] ++ ended_by p (events_in events)) }
+        (λ o. o ≡ slice_index_or answers.now p [] ++ outcomes_by p (events_in events)) }
 {
     let mut own = own(alloc, answers, p)?;
     add(&mut own, p, events.first)?;
@@ -251,9 +256,9 @@ fn with_events(
 
 /// Adds the outcome of process `p`'s operation that ends in this event, if one does.
 fn add(outcomes: &mut Outcomes, p: u32, event: Option<Event>) -> Result<(), AllocError>
-    ensures { OnOk result (outcomes.new ≡ outcomes.old ++ ended_by p (event_in event)) }
+    ensures { OnOk result (outcomes.new ≡ outcomes.old ++ outcomes_by p (event_in event)) }
 {
-    match ended_in(p, event) {
+    match outcomes_in(p, event) {
         Some(outcome) => outcomes.push(outcome),
         None => Ok(()),
     }

@@ -23,7 +23,7 @@ use Rattle.frames.specs.Equality.{configuration_eq, configuration_per, configura
 use Rattle.std.proofs.lemmas.Bool.Decides.{Decides-eqb}
 use Rattle.answers.specs.declared.question.Question.{Question}
 use Rattle.answers.specs.Digests.{with_cells, with_words}
-use Rattle.answers.specs.States.{StateOf, moved, moved_by, advanced, step_by, with_events}
+use Rattle.answers.specs.States.{StateOf, moved, moved_if, advanced, step_by, with_events}
 
 -- whether two outcomes are equal
 abbrev pub outcome_eq : Outcome → Outcome → Bool
@@ -123,13 +123,18 @@ module _ {R P : Type 0} (E : R → R → Bool) (F : P → P → Bool) where
       by_test : (b : Behaviour P) (x y : StateOf R P) (s : Step) (t : Bool) (z : StateOf R P) → SameState E x y
           → (if t then Some (advanced b x s) else None) ≡ Some z
           → (w : StateOf R P) × (((if t then Some (advanced b y s) else None) ≡ Some w) × (state_eq z w ≡ true))
-      by_test b x y s true z same h =
-          (advanced b y s, (refl, (state_decides z (advanced b y s)).1
-            (subst (λ (n : StateOf R P). SameState E n (advanced b y s)) (same_Some (advanced b x s) z h) (advanced_same b x y s same))))
+      by_test b x y s true z same h = (
+        advanced b y s,
+        (
+          refl,
+          (state_decides z (advanced b y s)).1
+              (subst (λ (n : StateOf R P). SameState E n (advanced b y s)) (same_Some (advanced b x s) z h) (advanced_same b x y s same)),
+        ),
+      )
       by_test b x y s false z same h = absurd (none-some z h)
 
-      by_step : (b : Behaviour P) (x y : StateOf R P) (o : Option Step) (z : StateOf R P) → SameState E x y → moved_by b x o ≡ Some z
-          → (w : StateOf R P) × ((moved_by b y o ≡ Some w) × (state_eq z w ≡ true))
+      by_step : (b : Behaviour P) (x y : StateOf R P) (o : Option Step) (z : StateOf R P) → SameState E x y → moved_if b x o ≡ Some z
+          → (w : StateOf R P) × ((moved_if b y o ≡ Some w) × (state_eq z w ≡ true))
       by_step b x y None z same h = absurd (none-some z h)
       by_step b x y (Some s) z same h =
           let test = enabled_same b x y s same in
@@ -143,5 +148,5 @@ module _ {R P : Type 0} (E : R → R → Bool) (F : P → P → Bool) where
           let same = (state_decides x y).0 h in
           let step_x = step_by q x.answers (l / 4) (l % 4) in
           subst (λ (b : Behaviour P). (w : StateOf R P) × ((moved b q y l ≡ Some w) × (state_eq z w ≡ true))) (alike x.configuration.register y.configuration.register same.configuration.register)
-          (subst (λ (a : List (List Outcome)). (w : StateOf R P) × ((moved_by (is x.configuration.register) y (step_by q a (l / 4) (l % 4)) ≡ Some w) × (state_eq z w ≡ true))) same.answers
+          (subst (λ (a : List (List Outcome)). (w : StateOf R P) × ((moved_if (is x.configuration.register) y (step_by q a (l / 4) (l % 4)) ≡ Some w) × (state_eq z w ≡ true))) same.answers
           (by_step (is x.configuration.register) x y (step_by q x.answers (l / 4) (l % 4)) z same m))

@@ -23,4 +23,4 @@ returns g c =
     gathered_all b q keys marks g.R.Behaves.behaviour c.loop-index.index c.loop-index.found.items c.loop-index.invariant
     (elim c.loop-index-test.branch [ else-loop-index-test w ↦ omega arith | then-loop-index-test+then-index-len w ↦ omega arith ])
     (met g.R.Behaves.behaviour b q g.R.PartialEq.eq g.R.Pending.PartialEq.eq g.met.R.Register.same_pending (g.R.Register.Holds r) (g.R.Register.Reaches r) (g.met.R.Register.lawful r) r refl
-      keys marks c.requires.searched.all)
+    keys marks c.requires.searched.all)

@@ -1,8 +1,7 @@
-use Rattle.std.proofs.Common.{◌≡◌, ◌+◌, List, slice_get, true, false, Some, sym, ap, subst, ◌∙◌, true≢false}
+use Rattle.std.proofs.Common.{◌≡◌, ◌+◌, slice_get, Some, sym, ap, subst, ◌∙◌, true≢false}
 use Rattle.std.specs.List.{list_any}
-use Rattle.frames.specs.declared.types.Outcome.{Outcome}
 use Rattle.answers.specs.declared.found.Possible.{Possible}
-use Rattle.answers.specs.Answers.{IsSound}
+use Rattle.answers.specs.Answers.{HasItsSchedule}
 use Rattle.answers.specs.Gathered.{IsGathered}
 use Rattle.answers.specs.Questions.{HasAnswers}
 use Rattle.answers.specs.States.{StateOf}
@@ -25,8 +24,8 @@ returns-then-is_listed g c =
     gathered_skip b c.args.moves.now.question.now c.args.reached.now.nodes.keys c.args.reached.now.marks.items
     c.requires.searched.all.sorted c.args.index c.args.found.now.items c.requires.gathered k (sym c.in-Some.ensures.key)
     (λ done. covered_listed b c.args.moves.now.question.now c.args.reached.now.nodes.keys c.args.reached.now.marks.items
-      c.requires.searched.all.sorted c.args.index c.args.found.now.items c.requires.gathered k (sym c.in-Some.ensures.key)
-      ((λ i. list_any (λ (a : Possible). answers_eq a.answers.items (sym answers i)) (sym c.deref.ensures.value i)) ∙ (sym c.is_listed.ensures ∙ c.if-is_listed.true)))
+    c.requires.searched.all.sorted c.args.index c.args.found.now.items c.requires.gathered k (sym c.in-Some.ensures.key)
+    ((λ i. list_any (λ (a : Possible). answers_eq a.answers.items (sym answers i)) (sym c.deref.ensures.value i)) ∙ (sym c.is_listed.ensures ∙ c.if-is_listed.true)))
 
 pub returns : goal.returns
 returns g c =
@@ -41,10 +40,10 @@ returns g c =
     let copied : c.in-Ok-copies.answers.items ≡ k.answers = c.in-Ok-copies.ensures ∙ (c.deref-3.ensures.value ∙ ap (λ (s : StateOf _ _). s.answers) c.state.view_is) in
     let a : Possible = record { answers = c.in-Ok-copies.answers; steps = c.in-Ok.steps } in
     let run = c.in-Ok.ensures.run k stored in
-    let sound : IsSound b q a = record {
+    let sound : HasItsSchedule b q a = record {
       schedule = done_schedule g.R.Behaves.behaviour b q c.in-Ok.steps.items k run (c.is_done.ensures.0 c.if-not-is_done.false);
       answers = subst (HasAnswers b q.value c.in-Ok.steps.items) (sym copied) (at_answers g.R.Behaves.behaviour b q c.in-Ok.steps.items k run.at);
     } in
     subst (IsGathered b q keys marks (c.args.index + 1)) (sym c.in-Ok-push.ensures.items)
     (gathered_push b q keys marks c.requires.searched.all.sorted c.args.index c.args.found.now.items c.requires.gathered k stored a sound copied c.in-Ok.ensures.long
-      ((λ i. list_any (λ (p : Possible). answers_eq p.answers.items (sym answers i)) (sym c.deref.ensures.value i)) ∙ (sym c.is_listed.ensures ∙ c.if-is_listed.false)))
+    ((λ i. list_any (λ (p : Possible). answers_eq p.answers.items (sym answers i)) (sym c.deref.ensures.value i)) ∙ (sym c.is_listed.ensures ∙ c.if-is_listed.false)))

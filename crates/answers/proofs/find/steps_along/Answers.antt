@@ -1,7 +1,6 @@
-use Rattle.std.proofs.Common.{◌≡◌, ◌+◌, [], List, Option, None, drop, length, sym, ap, subst, ◌∙◌}
+use Rattle.std.proofs.Common.{◌+◌, List, drop, length, sym, ap, subst, ◌∙◌}
 use Rattle.std.proofs.lemmas.List.{drop_all, length_push}
 use Rattle.frames.specs.declared.types.Step.{Step}
-use Rattle.breadth_first.specs.declared.mark.Mark.{Mark}
 use Rattle.answers.specs.Gathered.{IsBuilding}
 use Rattle.answers.proofs.Building.{label_at, taken_at, taken_step, none_taken}
 use Rattle.answers.proofs.find.steps_along.Goals as goal

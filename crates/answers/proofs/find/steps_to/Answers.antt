@@ -1,4 +1,4 @@
-use Rattle.std.proofs.Common.{◌≡◌, [], List, refl, sym, subst, ap, ◌∙◌, length}
+use Rattle.std.proofs.Common.{[], List, refl, sym, subst, ap, ◌∙◌, length}
 use Rattle.breadth_first.specs.declared.mark.Mark.{Mark}
 use Rattle.answers.specs.Gathered.{IsBuilding}
 use Rattle.answers.proofs.Building.{building_there, built}
