@@ -1,0 +1,96 @@
+-- The events of steps, and the outcomes that end in them.
+use Rattle.std.proofs.Common.{◌≡◌, ℕ, zero, suc, ◌<◌, ◌≤◌, Bool, true, false, List, [], ◌∷◌, ◌++◌, length, set, Option, Some, None, refl, sym, ap, ◌∙◌, append_assoc, arith, if◌then◌else◌, ◌==◌}
+use Rattle.std.proofs.lemmas.List.{append-nil}
+use Rattle.std.proofs.lemmas.List.Elements.{All-append, All-cons}
+use Rattle.safe_bit.specs.Memory.{Memory}
+use Rattle.frames.specs.declared.types.Op.{Op}
+use Rattle.frames.specs.declared.types.Op.TheVariants as op
+use Rattle.frames.specs.declared.types.Outcome.{Outcome}
+use Rattle.frames.specs.declared.types.Outcome.TheVariants.{Value, Written, Spent}
+use Rattle.frames.specs.declared.types.Next.{Next}
+use Rattle.frames.specs.declared.types.Next.TheVariants.{Pending, Done}
+use Rattle.frames.specs.declared.types.Event.{Event}
+use Rattle.frames.specs.declared.types.StepEvents.{StepEvents}
+use Rattle.frames.specs.declared.types.Step.{Step}
+use Rattle.frames.specs.declared.types.Step.TheVariants as step
+use Rattle.frames.specs.declared.running.Running.{Running}
+use Rattle.frames.specs.Behaviour.{Behaviour}
+use Rattle.frames.specs.Fitting.{process_of}
+use Rattle.frames.specs.Recorded.{AllFit, first_configuration, shown}
+use Rattle.frames.specs.Configuration.{Configuration, running_at, is_stopped, fits_step, stepped, replayed, events_of, history, acting, acting_unless, invoking, going, return_of, chosen_of, in_order}
+use Rattle.answers.specs.Questions.{event_in, events_in, all_events, events_after, outcomes_in, outcomes_by}
+
+-- a change past a list's end changes nothing
+pub set_past : {X : Type 0} (xs : List X) (i : ℕ) (x : X) → length xs ≤ i → set xs i x ≡ xs
+set_past [] i x h = refl
+set_past (y ∷ ys) zero x h = absurd (omega (arith, h))
+set_past (y ∷ ys) (suc i) x h = ap (λ l. y ∷ l) (set_past ys i x (omega (arith, h)))
+
+pub ended_append : (p : ℕ) (xs ys : List Event) → outcomes_by p (xs ++ ys) ≡ outcomes_by p xs ++ outcomes_by p ys
+ended_append p [] ys = refl
+ended_append p (x ∷ xs) ys = ap (λ l. outcomes_in p x ++ l) (ended_append p xs ys) ∙ sym (append_assoc (outcomes_in p x) (outcomes_by p xs) (outcomes_by p ys))
+
+all_append : (xs : List StepEvents) (y : StepEvents) → all_events (xs ++ y ∷ []) ≡ all_events xs ++ events_in y
+all_append [] y = append-nil (events_in y)
+all_append (x ∷ xs) y = ap (λ l. events_in x ++ l) (all_append xs y) ∙ sym (append_assoc (events_in x) (all_events xs) (events_in y))
+
+replayed_push : {R P : Type 0} (b : Behaviour P) (xs : List Step) (s : Step) (c : Configuration R P) → replayed b c (xs ++ s ∷ []) ≡ stepped b (replayed b c xs) s
+replayed_push b [] s c = refl
+replayed_push b (x ∷ xs) s c = replayed_push b xs s (stepped b c x)
+
+history_push : {R P : Type 0} (b : Behaviour P) (xs : List Step) (s : Step) (c : Configuration R P)
+    → history b c (xs ++ s ∷ []) ≡ history b c xs ++ events_of b (replayed b c xs) s ∷ []
+history_push b [] s c = refl
+history_push b (x ∷ xs) s c = ap (λ es. events_of b c x ∷ es) (history_push b xs s (stepped b c x))
+
+pub fit_push : {P : Type 0} (b : Behaviour P) (xs : List Step) (s : Step) → AllFit b xs → fits_step b s ≡ true → AllFit b (xs ++ s ∷ [])
+fit_push b xs s h f =
+    All-append (λ s. fits_step b s ≡ true) xs (s ∷ []) h (All-cons (λ s. fits_step b s ≡ true) s [] f (λ k d lt. absurd (omega (arith, lt))))
+
+module _ {P : Type 0} (b : Behaviour P) (value : ℕ) where
+  pub shown_more : (steps : List Step) (s : Step) → shown b value (steps ++ s ∷ []) ≡ stepped b (shown b value steps) s
+  shown_more steps s = replayed_push b steps s (first_configuration b value)
+
+  pub events_more : (steps : List Step) (s : Step) → events_after b value (steps ++ s ∷ []) ≡ events_after b value steps ++ events_in (events_of b (shown b value steps) s)
+  events_more steps s =
+      ap all_events (history_push b steps s (first_configuration b value))
+      ∙ all_append (history b (first_configuration b value) steps) (events_of b (shown b value steps) s)
+
+-- a step of process `who` ends no operation of another process r
+module _ (r : ℕ) where
+  return_other : {P : Type 0} (who : ℕ) (next : Next P) → (who == r) ≡ false → outcomes_by r (event_in (return_of who next)) ≡ []
+  return_other who (Pending p) e = refl
+  return_other who (Done (Value v)) e = ap (λ t. (if t then Value v ∷ [] else []) ++ []) e
+  return_other who (Done Written) e = ap (λ t. (if t then Written ∷ [] else []) ++ []) e
+  return_other who (Done (Spent layer)) e = ap (λ t. (if t then Spent layer ∷ [] else []) ++ []) e
+
+  chosen_other : {P : Type 0} (who : ℕ) (chosen : Option (ℕ × Bool)) (next : Next P) → (who == r) ≡ false
+      → outcomes_by r (events_in (in_order (chosen_of who chosen) (return_of who next))) ≡ []
+  chosen_other who None next e = ap (outcomes_by r) (append-nil (event_in (return_of who next))) ∙ return_other who next e
+  chosen_other who (Some bit) next e = return_other who next e
+
+  going_other : {P : Type 0} (b : Behaviour P) (who : ℕ) (choice : Bool) (running : Option (Running P)) (m : Memory) → (who == r) ≡ false
+      → outcomes_by r (events_in (going b who choice running m).events) ≡ []
+  going_other b who choice None m e = refl
+  going_other b who choice (Some run) m e = chosen_other who (b.goes run.point choice m).chosen (b.goes run.point choice m).next e
+
+  invoking_other : {P : Type 0} (b : Behaviour P) (who : ℕ) (o : Op) (running : Option (Running P)) (m : Memory) → (who == r) ≡ false
+      → outcomes_by r (events_in (invoking b who o running m).events) ≡ []
+  invoking_other b who o None m e = return_other who (b.begins who o m).next e
+  invoking_other b who o (Some run) m e = refl
+
+  acting_other : {P : Type 0} (b : Behaviour P) (s : Step) (running : Option (Running P)) (m : Memory) → (process_of s == r) ≡ false
+      → outcomes_by r (events_in (acting b s running m).events) ≡ []
+  acting_other b (step.Write p v) running m e = invoking_other b p (op.Write v) running m e
+  acting_other b (step.Read p) running m e = invoking_other b p op.Read running m e
+  acting_other b (step.Go p c) running m e = going_other b p (c == 1) running m e
+  acting_other b (step.Stop p) running m e = refl
+
+  unless_other : {P : Type 0} (stopped : Bool) (b : Behaviour P) (s : Step) (running : Option (Running P)) (m : Memory) → (process_of s == r) ≡ false
+      → outcomes_by r (events_in (acting_unless stopped b s running m).events) ≡ []
+  unless_other true b s running m e = refl
+  unless_other false b s running m e = acting_other b s running m e
+
+  pub events_other : {R P : Type 0} (b : Behaviour P) (c : Configuration R P) (s : Step) → (process_of s == r) ≡ false
+      → outcomes_by r (events_in (events_of b c s)) ≡ []
+  events_other b c s e = unless_other (is_stopped (process_of s) c) b s (running_at (process_of s) c) c.memory e

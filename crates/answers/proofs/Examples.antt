@@ -1,0 +1,72 @@
+-- Worked examples of what is allowed: a case of each kind, and near misses.
+use Rattle.std.proofs.Common.{◌≡◌, ℕ, Bool, true, false, List, [], ◌∷◌, Option, None, Some, length, slice_get, refl, sym, ap, ◌∙◌, true≢false, arith}
+use Rattle.std.specs.Prelude.{if◌then◌else◌, ◌==◌}
+use Rattle.std.specs.List.{list_all, list_any}
+use Rattle.std.proofs.lemmas.Option.{none-some}
+use Rattle.frames.specs.declared.types.Op.{Op}
+use Rattle.frames.specs.declared.types.Op.TheVariants.{Write, Read}
+use Rattle.frames.specs.declared.types.Event.{Event}
+use Rattle.frames.specs.declared.types.Event.TheVariants.{Invoke, Got, Wrote, Stop}
+use Rattle.frames.specs.declared.types.Step.{Step}
+use Rattle.frames.specs.Behaviour.{Behaviour}
+use Rattle.answers.specs.declared.found.Possible.{Possible}
+use Rattle.answers.specs.declared.question.After.{After}
+use Rattle.answers.specs.declared.question.Question.{Question}
+use Rattle.answers.specs.Questions.{allows, outcomes_by, next_of, operations_of, HasAnswers, IsAllowed, AreAllowed}
+use Rattle.answers.specs.Answers.{IsListed}
+
+-- process 1's first operation follows process 0's first
+abbrev follows : After
+follows = record { later = record { process = 1; index = 0 }; earlier = record { process = 0; index = 0 } }
+
+-- the value of a write; 0 for any other operation, and if there is none
+abbrev value_in : Option Op → ℕ
+value_in None = 0
+value_in (Some (Write v)) = v
+value_in (Some Read) = 0
+
+zero_is_not_one : ◌≡◌ {A = ℕ} 1 0 → ⊥
+zero_is_not_one e = omega (arith, e)
+
+-- process 0 writes 1, and process 1 reads
+module _ (q : Question) (writes : operations_of q 0 ≡ Write 1 ∷ []) (reads : operations_of q 1 ≡ Read ∷ []) where
+  module _ (any : q.after.items ≡ []) where
+    next : (ended : ℕ → ℕ) (p : ℕ) (os : List Op) → operations_of q p ≡ os → next_of q ended p ≡ slice_get os (ended p)
+    next ended p os is i = if list_all (allows ended p) (any i) then slice_get (is i) (ended p) else None
+
+    -- AreAllowed: the read is invoked within the write
+    AreAllowed-holds : AreAllowed q [] (Invoke 0 (Write 1) ∷ Invoke 1 Read ∷ Wrote 0 ∷ Got 1 0 ∷ [])
+    AreAllowed-holds = (
+      next (λ r. length (outcomes_by r [])) 0 (Write 1 ∷ []) writes,
+      (next (λ r. length (outcomes_by r (Invoke 0 (Write 1) ∷ []))) 1 (Read ∷ []) reads, (tt, (tt, tt))),
+    )
+
+    -- IsAllowed fails: the write has ended, and there is no second one
+    no_second : IsAllowed q (Invoke 0 (Write 1) ∷ Wrote 0 ∷ []) (Invoke 0 (Write 1)) → ⊥
+    no_second h = none-some (Write 1) (sym (next (λ r. length (outcomes_by r (Invoke 0 (Write 1) ∷ Wrote 0 ∷ []))) 0 (Write 1 ∷ []) writes) ∙ h)
+
+    -- IsAllowed fails: process 0 writes 1, and not 0
+    no_other : IsAllowed q [] (Invoke 0 (Write 0)) → ⊥
+    no_other h = zero_is_not_one (ap value_in (sym (next (λ r. length (outcomes_by r [])) 0 (Write 1 ∷ []) writes) ∙ h))
+
+  -- IsAllowed fails: no process may stop
+  no_stop : q.may_stop.items ≡ [] → IsAllowed q [] (Stop 0) → ⊥
+  no_stop none h = true≢false (sym h ∙ ap (list_any (λ r. 0 == r)) none)
+
+  module _ (one : q.after.items ≡ follows ∷ []) where
+    -- IsAllowed: the read, once the write has ended
+    after_holds : IsAllowed q (Invoke 0 (Write 1) ∷ Wrote 0 ∷ []) (Invoke 1 Read)
+    after_holds i =
+        if list_all (allows (λ r. length (outcomes_by r (Invoke 0 (Write 1) ∷ Wrote 0 ∷ []))) 1) (one i) then slice_get (reads i) 0 else None
+
+    -- and not within the write
+    after_fails : IsAllowed q (Invoke 0 (Write 1) ∷ []) (Invoke 1 Read) → ⊥
+    after_fails h = none-some Read ((λ i. if list_all (allows (λ r. length (outcomes_by r (Invoke 0 (Write 1) ∷ []))) 1) (sym one i) then slice_get (operations_of q 1) 0 else None) ∙ h)
+
+-- IsListed: a list of answers with its schedule, found for that schedule
+IsListed-holds : {P : Type 0} (b : Behaviour P) (q : Question) (a : Possible) → HasAnswers b q.value a.steps.items a.answers.items → IsListed b q (a ∷ []) a.steps.items
+IsListed-holds b q a has = record { index = 0; possible = a; stored = refl; answers = has; shortest = omega arith }
+
+-- IsListed fails: nothing is listed
+IsListed-fails : {P : Type 0} (b : Behaviour P) (q : Question) (steps : List Step) → IsListed b q [] steps → ⊥
+IsListed-fails b q steps h = none-some h.possible h.stored

@@ -1,0 +1,8 @@
+pub mod Events
+pub mod Allowed
+pub mod Schedules
+pub mod DoneStates
+pub mod Gathering
+pub mod Building
+pub mod Searching
+mod Examples

@@ -1,0 +1,43 @@
+-- What a search keeps while it lists the answers of the states that it found, one after another.
+use Rattle.std.specs.Prelude.{◌≡◌, ℕ, ◌+◌, ◌*◌, ◌<◌, ◌≤◌, Bool, Option, Some, List, length, slice_get}
+use Rattle.frames.specs.declared.types.Step.{Step}
+use Rattle.frames.specs.Behaviour.{Behaviour}
+use Rattle.breadth_first.specs.declared.mark.Mark.{Mark}
+use Rattle.breadth_first.specs.Paths.{depth_at, AreTooMany, IsAllReached, LeadsBy}
+use Rattle.answers.specs.declared.found.Possible.{Possible}
+use Rattle.answers.specs.declared.question.Question.{Question}
+use Rattle.answers.specs.Answers.{HasItsSchedule}
+use Rattle.answers.specs.States.{StateOf, AreAllOver, IsStateOfRun, first_state, moved}
+use Rattle.answers.specs.laws.StateLaws.{state_eq}
+
+-- the answers of state k are listed, with at most d steps
+pub record IsCovered {R P : Type 0} (found : List Possible) (k : StateOf R P) (d : ℕ) : Type 0 where
+  pub index : ℕ
+  pub possible : Possible
+  pub stored : slice_get found index ≡ Some possible
+  pub answers : possible.answers.items ≡ k.answers
+  pub shortest : length possible.steps.items ≤ d
+
+-- the answers of the done states before index `at` are listed
+pub record IsGathered {R P : Type 0} (b : Behaviour P) (q : Question) (keys : List (StateOf R P)) (marks : List Mark) (at : ℕ) (found : List Possible) : Type 0 where
+  pub sound : (i : ℕ) (a : Possible) → slice_get found i ≡ Some a → HasItsSchedule b q a
+  pub early : (i : ℕ) (a : Possible) → slice_get found i ≡ Some a → (j : ℕ) → at ≤ j → j < length keys → length a.steps.items ≤ depth_at marks j
+  pub covers : (j : ℕ) (k : StateOf R P) → j < at → slice_get keys j ≡ Some k → AreAllOver b q k → IsCovered found k (depth_at marks j)
+  pub once : (i j : ℕ) (a c : Possible) → slice_get found i ≡ Some a → slice_get found j ≡ Some c → a.answers.items ≡ c.answers.items → i ≡ j
+
+-- these steps lead to a state from which the marks that are left lead to the node at `index`
+pub record IsBuilding {R P : Type 0} (is : R → Behaviour P) (b : Behaviour P) (q : Question) (keys : List (StateOf R P)) (index : ℕ) (steps : List Step) (left : List Mark) : Type 0 where
+  pub state : StateOf R P
+  pub key : StateOf R P
+  pub stored : slice_get keys index ≡ Some key
+  pub run : IsStateOfRun is b q.value q steps state
+  pub leads : LeadsBy (b.processes * 4) (λ x l. moved (is x.configuration.register) q x l) keys state left key
+
+module _ {R P : Type 0} (is : R → Behaviour P) (E : R → R → Bool) (F : P → P → Bool) (q : Question) (r : R) where
+  -- the states that the question's moves reach from the initial state of register r, and their marks
+  pub record IsSearched (keys : List (StateOf R P)) (marks : List Mark) : Type 0 where
+    pub all : IsAllReached ((is r).processes * 4) (λ x l. moved (is x.configuration.register) q x l) (state_eq E F) (first_state (is r) q.value r) keys marks
+
+  -- the question's moves reach more than `most` states from there, none equal to another
+  pub record AreTooManyStates (most : ℕ) : Type 0 where
+    pub many : AreTooMany ((is r).processes * 4) (λ x l. moved (is x.configuration.register) q x l) (state_eq E F) (first_state (is r) q.value r) most

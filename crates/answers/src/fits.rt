@@ -1,0 +1,84 @@
+//! Whether a question fits a register.
+
+ghost use Rattle.std.specs.Prelude.{◌≡◌, ℕ, ◌≤◌, ◌&&◌, true, length};
+ghost use Rattle.std.specs.Bool.{Decides};
+ghost use Rattle.std.specs.List.{list_all};
+ghost use Rattle.answers.specs.Questions.{FitsQuestion, are_named, is_named, operations_of};
+
+use crate::done::op_count;
+use crate::question::{After, Nth, Question};
+use frames::register::Register;
+use frames::types::Op;
+
+/// Whether each operation in a list fits process `p`.
+fn all_fit<R: Register>(register: &R, p: u32, list: &[Op]) -> bool
+    ensures { result ≡ list_all ((R.behaviour register.now).suits p) list.now }
+{
+    list.iter().all(|op| register.fits(p, *op))
+}
+
+/// Whether each operation of process `p` fits it.
+fn suits<R: Register>(register: &R, question: &Question, p: u32) -> bool
+    ensures { result ≡ list_all ((R.behaviour register.now).suits p)
+        (operations_of question.now p) }
+{
+    match question.operations.get(p as usize) {
+        Some(list) => all_fit(register, p, list),
+        None => true,
+    }
+}
+
+/// Whether each operation fits its process.
+fn all_suit<R: Register>(register: &R, question: &Question) -> bool
+    requires { length question.now.operations.items ≤ (R.behaviour register.now).processes }
+    ensures { Decides result ((p : ℕ) → list_all ((R.behaviour register.now).suits p)
+        (operations_of question.now p) ≡ true) }
+{
+    for p in 0..register.processes() {
+        if !suits(register, question, p) {
+            return false;
+        }
+    }
+    true
+}
+
+/// Whether there is such an operation.
+fn is_named(question: &Question, nth: Nth) -> bool
+    ensures { result ≡ is_named question.now nth }
+{
+    (nth.index as usize) < op_count(question, nth.process)
+}
+
+/// Whether the operations exist that one has to follow the other.
+fn are_named(question: &Question, after: &After) -> bool
+    ensures { result ≡ are_named question.now after.now }
+{
+    is_named(question, after.later) && is_named(question, after.earlier)
+}
+
+/// Whether the operations exist that others have to follow, and those that have to.
+fn all_named(question: &Question) -> bool
+    ensures { result ≡ list_all (are_named question.now) question.now.after.items }
+{
+    question
+        .after
+        .iter()
+        .all(|after| are_named(question, after))
+}
+
+/// Whether the question fits the register: its initial value is one of the register's values, each
+/// operation fits its process, which exists, and `after` names operations that are asked.
+pub fn fits<R: Register>(register: &R, question: &Question) -> bool
+    ensures { Decides result (FitsQuestion (R.behaviour register.now) question.now) }
+{
+    if question.value >= register.values() {
+        return false;
+    }
+    if question.operations.len() > register.processes() as usize {
+        return false;
+    }
+    if !all_suit(register, question) {
+        return false;
+    }
+    all_named(question)
+}

@@ -1,0 +1,30 @@
+//! What a search for answers finds, and why it may find nothing.
+
+use crate::outcomes::Outcomes;
+use frames::types::Step;
+
+/// Answers that are possible: for each process the outcomes of the operations that it ends. And a
+/// schedule that has them; none that has them is shorter.
+#[derive(Drop)]
+pub struct Possible {
+    pub answers: Vec<Outcomes>,
+    pub steps: Vec<Step>,
+}
+
+/// All answers that are possible, each once, and the number of states that were searched.
+#[derive(Drop)]
+pub struct Found {
+    pub possible: Vec<Possible>,
+    pub states: usize,
+}
+
+/// Why a question has no answer.
+#[derive(Clone, Copy, Debug, PartialEq, Eq)]
+pub enum Unfound {
+    /// The question doesn't fit the register.
+    Unfit,
+    /// More states are reachable than are allowed.
+    TooMany,
+    /// Memory ran out.
+    Memory,
+}

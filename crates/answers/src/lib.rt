@@ -1,0 +1,12 @@
+//! All answers: which answers the schedules of given operations have, each with a shortest schedule.
+#![tactic(auto)]
+
+mod digest;
+mod done;
+pub mod find;
+pub mod fits;
+pub mod found;
+pub mod moves;
+pub mod outcomes;
+pub mod question;
+pub mod state;

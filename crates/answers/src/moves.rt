@@ -1,0 +1,265 @@
+//! The moves of a question: the graph that is searched.
+
+ghost use Rattle.std.specs.Prelude.{◌≡◌, ◌<◌, ◌++◌, [], true, IfOk, OnOk, slice_get, slice_index_or, slice_set};
+ghost use Rattle.std.specs.List.{list_all};
+ghost use Rattle.frames.specs.Configuration.{is_enabled, fits_step};
+ghost use Rattle.answers.specs.Questions.{allows, next_of, operations_of, stops_in, outcomes_by, event_in, events_in};
+ghost use Rattle.answers.specs.States.{advanced, ended_counts, invoking_step, option_list, step_by};
+
+use crate::outcomes::Outcomes;
+use crate::question::{After, Question};
+use crate::state::State;
+use breadth_first::graph::Graph;
+use frames::config::Config;
+use frames::register::Register;
+use frames::types::{Event, Op, Outcome, Step, StepEvents};
+use std::alloc::{AllocError, Global};
+
+/// The moves of a question on a register. A state is followed by a state for each step that some
+/// process may make: a bit action with either choice, its next invocation, or a stop.
+#[derive(Drop)]
+pub struct Moves<'q, R: Register> {
+    pub register: R,
+    pub question: &'q Question,
+}
+
+impl<'q, R: Register> Graph for Moves<'q, R> {
+    type Node = State<R>;
+
+    ghost use Rattle.std.specs.Prelude.{◌*◌};
+    ghost use Rattle.answers.specs.States.{moved};
+    ghost use Rattle.answers.specs.laws.StateLaws.{moved_alike};
+
+    ghost labels = { λ g. (R.behaviour g.register).processes * 4 };
+
+    ghost move_by = { λ g x l. moved (R.behaviour x.configuration.register) g.question.now x l };
+
+    fn count(&self) -> usize {
+        self.register.processes() as usize * 4
+    }
+
+    fn next(
+        &self,
+        alloc: Global,
+        node: &State<R>,
+        label: usize,
+    ) -> Result<Option<State<R>>, AllocError> {
+        let _count = self.register.processes();
+        let process = (label / 4) as u32;
+        let Some(step) = step_by(self.question, &node.answers, process, label % 4) else {
+            return Ok(None);
+        };
+        if !node.config.fits(step) || !is_enabled(&node.config, step) {
+            return Ok(None);
+        }
+        let next = node.advanced(alloc, step)?;
+        Ok(Some(next))
+    }
+
+    ghost alike = { λ g. moved_alike R.PartialEq.eq R.Pending.PartialEq.eq R.same_pending R.behaviour R.alike g.question.now };
+}
+
+/// The number of operations that process `p` has ended.
+pub(crate) fn ended(answers: &[Outcomes], p: u32) -> usize
+    ensures { result ≡ ended_counts answers.now p }
+{
+    match answers.get(p as usize) {
+        Some(outcomes) => outcomes.len(),
+        None => 0,
+    }
+}
+
+/// Whether `after` lets process `p` invoke its next operation.
+fn allows(answers: &[Outcomes], p: u32, after: &After) -> bool
+    ensures { result ≡ allows (ended_counts answers.now) p after.now }
+{
+    let later = after.later;
+    let is_next = later.process == p && later.index as usize == ended(answers, p);
+    let earlier = after.earlier;
+    !is_next || (earlier.index as usize) < ended(answers, earlier.process)
+}
+
+/// Whether these let process `p` invoke its next operation.
+fn all_allow(answers: &[Outcomes], p: u32, after: &[After]) -> bool
+    ensures { result ≡ list_all (allows (ended_counts answers.now) p) after.now }
+{
+    after.iter().all(|after| allows(answers, p, after))
+}
+
+/// Item `index` of a list; `None` if the list is shorter.
+fn nth(list: &[Op], index: usize) -> Option<Op>
+    ensures { result ≡ slice_get list.now index }
+{
+    match list.get(index) {
+        Some(op) => Some(*op),
+        None => None,
+    }
+}
+
+/// Operation `index` of process `p`; `None` if there is none.
+fn nth_op(question: &Question, p: u32, index: usize) -> Option<Op>
+    ensures { result ≡ slice_get (operations_of question.now p) index }
+{
+    match question.operations.get(p as usize) {
+        Some(list) => nth(list, index),
+        None => None,
+    }
+}
+
+/// The operation that process `p` may invoke if it is idle.
+fn next_op(question: &Question, answers: &[Outcomes], p: u32) -> Option<Op>
+    ensures { result ≡ next_of question.now (ended_counts answers.now) p }
+{
+    if all_allow(answers, p, &question.after) {
+        nth_op(question, p, ended(answers, p))
+    } else {
+        None
+    }
+}
+
+/// Whether process `p` may stop.
+fn may_stop(question: &Question, p: u32) -> bool
+    ensures { result ≡ stops_in question.now p }
+{
+    question.may_stop.contains(&p)
+}
+
+/// The step by which process `p` invokes `op`.
+fn invoking_step(p: u32, op: Op) -> Step
+    ensures { result ≡ invoking_step p op }
+{
+    match op {
+        Op::Write(v) => Step::Write { p, v },
+        Op::Read => Step::Read { p },
+    }
+}
+
+/// The step of process `p` that `kind` names: a bit action with choice 0 or 1, the invocation of its
+/// next operation, or a stop.
+pub(crate) fn step_by(
+    question: &Question,
+    answers: &[Outcomes],
+    p: u32,
+    kind: usize,
+) -> Option<Step>
+    ensures { result ≡ step_by question.now answers.now p kind }
+{
+    match kind {
+        0 => Some(Step::Go { p, c: 0 }),
+        1 => Some(Step::Go { p, c: 1 }),
+        2 => {
+            let op = next_op(question, answers, p)?;
+            Some(invoking_step(p, op))
+        }
+        _ => {
+            if may_stop(question, p) {
+                Some(Step::Stop { p })
+            } else {
+                None
+            }
+        }
+    }
+}
+
+/// Whether the step is enabled: its process hasn't stopped, and is idle if the step is an
+/// invocation, or has an operation pending if it is a bit action.
+fn is_enabled<R: Register>(config: &Config<R>, step: Step) -> bool
+    ensures { result ≡ is_enabled config.now step }
+{
+    let p = step.process();
+    if config.stopped(p) {
+        return false;
+    }
+    let pending = config.op(p).is_some();
+    match step {
+        Step::Write { .. } | Step::Read { .. } => !pending,
+        Step::Go { .. } => pending,
+        Step::Stop { .. } => true,
+    }
+}
+
+impl<R: Register> State<R> {
+    /// The state after a step that fits. `AllocError` if memory runs out.
+    pub(crate) fn advanced(&self, alloc: Global, step: Step) -> Result<State<R>, AllocError>
+        requires { fits_step (R.behaviour self.now.configuration.register) step ≡ true }
+        ensures { IfOk result
+            (λ s. s ≡ advanced (R.behaviour self.now.configuration.register) self.now step) }
+    {
+        let mut config = self.config.copy(alloc)?;
+        let events = config.step(step);
+        let p = step.process();
+        let own = with_events(alloc, &self.answers, p, events)?;
+        let mut answers = copies(alloc, &self.answers)?;
+        put(&mut answers, p, own);
+        Ok(State { config, answers })
+    }
+}
+
+/// A copy of each process's outcomes, in the same order.
+pub(crate) fn copies(alloc: Global, answers: &[Outcomes]) -> Result<Vec<Outcomes>, AllocError>
+    ensures { IfOk result (λ copied. copied.items ≡ answers.now) }
+{
+    let mut copied = Vec::with_capacity(alloc, answers.len())?;
+    for outcomes in answers {
+        let copy = outcomes.copy(alloc)?;
+        copied.push_reserved(copy);
+    }
+    Ok(copied)
+}
+
+/// The outcome of process `p`'s operation that ends in this event, if one does.
+fn outcomes_in(p: u32, event: Option<Event>) -> Option<Outcome>
+    ensures { option_list result ≡ outcomes_by p (event_in event) }
+{
+    match event? {
+        Event::Got(q, v) if q == p => Some(Outcome::Value(v)),
+        Event::Wrote(q) if q == p => Some(Outcome::Written),
+        Event::Refused(q, layer) if q == p => Some(Outcome::Spent(layer)),
+        _ => None,
+    }
+}
+
+/// Replaces the outcomes of process `p`, if there is such a process.
+fn put(answers: &mut [Outcomes], p: u32, own: Outcomes)
+    ensures { answers.new ≡ slice_set answers.old p own }
+{
+    if (p as usize) < answers.len() {
+        answers[p as usize] = own;
+    }
+}
+
+/// A copy of process `p`'s outcomes.
+fn own(alloc: Global, answers: &[Outcomes], p: u32) -> Result<Outcomes, AllocError>
+    ensures { IfOk result (λ o. o ≡ slice_index_or answers.now p []) }
+{
+    match answers.get(p as usize) {
+        Some(outcomes) => outcomes.copy(alloc),
+        None => Ok(Outcomes::new(alloc)),
+    }
+}
+
+/// The outcomes of process `p`, with that of its operation that ends in these events, if one does.
+fn with_events(
+    alloc: Global,
+    answers: &[Outcomes],
+    p: u32,
+    events: StepEvents,
+) -> Result<Outcomes, AllocError>
+    ensures { IfOk result
+        (λ o. o ≡ slice_index_or answers.now p [] ++ outcomes_by p (events_in events)) }
+{
+    let mut own = own(alloc, answers, p)?;
+    add(&mut own, p, events.first)?;
+    add(&mut own, p, events.second)?;
+    Ok(own)
+}
+
+/// Adds the outcome of process `p`'s operation that ends in this event, if one does.
+fn add(outcomes: &mut Outcomes, p: u32, event: Option<Event>) -> Result<(), AllocError>
+    ensures { OnOk result (outcomes.new ≡ outcomes.old ++ outcomes_by p (event_in event)) }
+{
+    match outcomes_in(p, event) {
+        Some(outcome) => outcomes.push(outcome),
+        None => Ok(()),
+    }
+}
