@@ -38,9 +38,6 @@ module _ {R P : Type 0} (is : R → Behaviour P) (b : Behaviour P) (q : Question
   pub label_low : (steps : List Step) (m : Mark) (left : List Mark) → IsBuilding is b q keys index steps (m ∷ left) → m.label < b.processes * 4
   label_low steps m left was = was.leads.1.0.1.0
 
-  pub parent_there : (steps : List Step) (m : Mark) (left : List Mark) → IsBuilding is b q keys index steps (m ∷ left) → (x : StateOf R P) × (slice_get keys m.parent ≡ Some x)
-  parent_there steps m left was = (was.state, was.leads.1.0.0)
-
   building_at : (steps : List Step) (path : List Mark) (i : ℕ) (d : Mark) → i < length path → IsBuilding is b q keys index steps (drop i path)
       → IsBuilding is b q keys index steps (get_or path i d ∷ drop (i + 1) path)
   building_at steps path i d lt was = subst (IsBuilding is b q keys index steps) (drop_more path i d lt) was

@@ -20,12 +20,6 @@ use Rattle.frames.specs.Recorded.{AllFit, first_configuration, shown}
 use Rattle.frames.specs.Configuration.{Configuration, running_at, is_stopped, fits_step, stepped, replayed, events_of, history, acting, acting_unless, invoking, going, return_of, chosen_of, in_order}
 use Rattle.answers.specs.Questions.{event_in, events_in, all_events, events_after, outcomes_in, outcomes_by}
 
--- a change past a list's end changes nothing
-pub set_past : {X : Type 0} (xs : List X) (i : ℕ) (x : X) → length xs ≤ i → set xs i x ≡ xs
-set_past [] i x h = refl
-set_past (y ∷ ys) zero x h = absurd (omega (arith, h))
-set_past (y ∷ ys) (suc i) x h = ap (λ l. y ∷ l) (set_past ys i x (omega (arith, h)))
-
 pub ended_append : (p : ℕ) (xs ys : List Event) → outcomes_by p (xs ++ ys) ≡ outcomes_by p xs ++ outcomes_by p ys
 ended_append p [] ys = refl
 ended_append p (x ∷ xs) ys = ap (λ l. outcomes_in p x ++ l) (ended_append p xs ys) ∙ sym (append_assoc (outcomes_in p x) (outcomes_by p xs) (outcomes_by p ys))

@@ -166,7 +166,7 @@ module _ {R P : Type 0} (is : R → Behaviour P) (b : Behaviour P) (value : ℕ)
           subst (λ (n : Step). IsStateOfRun is b value q (steps ++ n ∷ []) z) same
           (subst (IsStateOfRun is b value q (steps ++ t.0 ∷ [])) t.1.1.1 (run_more steps x t.0 run t.1.1.0 (named_permitted q x.answers (l / 4) (l % 4) t.0 t.1.0)))
 
-      -- a state after these steps is reached by at most so many moves
+      -- a state after these steps is reached by no more moves than there are steps
       pub record IsWalked (start : StateOf R P) (steps : List Step) (most : ℕ) : Type 0 where
         pub state : StateOf R P
         pub moves : ℕ
