@@ -11,6 +11,8 @@ mod configurations;
 #[cfg(test)]
 mod files;
 #[cfg(test)]
+mod questions;
+#[cfg(test)]
 mod replays;
 #[cfg(test)]
 mod spelling;

@@ -1,0 +1,165 @@
+//! Answers to small questions are compared with those that were worked out by hand, and counted by
+//! a program of its own.
+
+use answers::find::find;
+use answers::found::{Found, Unfound};
+use answers::outcomes::Outcomes;
+use answers::question::{After, Nth, Question};
+use frames::register::Register;
+use frames::safe::Safe;
+use frames::types::{Op, Outcome};
+use regular_bit::{NewRegularBit, RegularBit};
+use std::alloc::{AllocError, Global};
+use std::process::Abort;
+use std::test::Fail;
+
+/// More states than any of these questions has.
+const MANY: u32 = 1000;
+
+const WRITTEN: Outcome = Outcome::Written;
+
+/// Process 1's read follows process 0's write.
+const READ_AFTER_WRITE: After = After {
+    later: Nth {
+        process: 1,
+        index: 0,
+    },
+    earlier: Nth {
+        process: 0,
+        index: 0,
+    },
+};
+
+/// The register is 0, process 0 makes the operations `first`, and process 1 makes `second`.
+fn asked(alloc: Global, first: &[Op], second: &[Op]) -> Result<Question, AllocError> {
+    let mut operations = Vec::new(alloc);
+    operations.push(Vec::from_slice(alloc, first)?)?;
+    operations.push(Vec::from_slice(alloc, second)?)?;
+    Ok(Question {
+        value: 0,
+        operations,
+        after: Vec::new(alloc),
+        may_stop: Vec::new(alloc),
+    })
+}
+
+/// Process 0 writes 1, and process 1 reads.
+fn write_and_read(alloc: Global) -> Result<Question, AllocError> {
+    asked(alloc, &[Op::Write(1)], &[Op::Read])
+}
+
+/// Whether process `p` has these outcomes.
+fn has(answers: &[Outcomes], p: usize, wanted: &[Outcome]) -> bool {
+    match answers.get(p) {
+        Some(outcomes) => outcomes.as_slice() == wanted,
+        None => false,
+    }
+}
+
+/// The length of the listed schedule in which the processes 0 and 1 have these outcomes; `None` if
+/// none is listed.
+fn length(found: &Found, first: &[Outcome], second: &[Outcome]) -> Option<usize> {
+    for possible in &found.possible {
+        if has(&possible.answers, 0, first) && has(&possible.answers, 1, second) {
+            return Some(possible.steps.len());
+        }
+    }
+    None
+}
+
+/// Asserts that the listed schedule in which process 0 writes and process 1 reads these values has
+/// `wanted` steps.
+fn assert_length(rt: &impl Abort, found: &Found, read: &[Outcome], wanted: usize) {
+    assert_eq!(rt; length(found, &[WRITTEN], read), Some(wanted));
+}
+
+/// Asserts that two reads can give each of two values, in schedules of 9 steps.
+fn assert_two_reads<R: Register>(rt: &impl Abort, alloc: Global, register: &R) -> Result<(), Fail> {
+    let question = asked(alloc, &[Op::Write(1)], &[Op::Read, Op::Read])?;
+    let found = find(alloc, register, &question, MANY)?;
+    assert_eq!(rt; found.possible.len(), 4);
+    for old in 0..2 {
+        for new in 0..2 {
+            assert_length(rt, &found, &[Outcome::Value(old), Outcome::Value(new)], 9);
+        }
+    }
+    Ok(())
+}
+
+#[test]
+fn read_beside_write(rt: HostRuntime) -> Result<(), Fail> {
+    let question = write_and_read(rt.alloc())?;
+    let found = find(rt.alloc(), &Safe, &question, MANY)?;
+    assert_eq!(rt; found.possible.len(), 2);
+    assert_length(&rt, &found, &[Outcome::Value(0)], 6);
+    assert_length(&rt, &found, &[Outcome::Value(1)], 6);
+    Ok(())
+}
+
+/// On a safe bit, a read beside a write of the old value may give the other one. On a regular bit,
+/// it gives the old value, and the write takes one step.
+#[test]
+fn write_of_the_old_value(rt: HostRuntime) -> Result<(), Fail> {
+    let question = asked(rt.alloc(), &[Op::Write(0)], &[Op::Read])?;
+    let stray = find(rt.alloc(), &Safe, &question, MANY)?;
+    assert_eq!(rt; stray.possible.len(), 2);
+    assert_length(&rt, &stray, &[Outcome::Value(0)], 6);
+    assert_length(&rt, &stray, &[Outcome::Value(1)], 6);
+    let regular = RegularBit::new(Safe)?;
+    let found = find(rt.alloc(), &regular, &question, MANY)?;
+    assert_eq!(rt; found.possible.len(), 1);
+    assert_length(&rt, &found, &[Outcome::Value(0)], 4);
+    Ok(())
+}
+
+/// One read gives the new value, and the next one the old value: on a regular bit too.
+#[test]
+fn new_before_old(rt: HostRuntime) -> Result<(), Fail> {
+    assert_two_reads(&rt, rt.alloc(), &Safe)?;
+    assert_two_reads(&rt, rt.alloc(), &RegularBit::new(Safe)?)
+}
+
+/// A writer that stops at once takes one step. One that stops within its write can be read as new.
+#[test]
+fn stopped_writer(rt: HostRuntime) -> Result<(), Fail> {
+    let mut question = write_and_read(rt.alloc())?;
+    question.may_stop.push(0)?;
+    let found = find(rt.alloc(), &Safe, &question, MANY)?;
+    assert_eq!(rt; found.possible.len(), 4);
+    assert_eq!(rt; length(&found, &[], &[Outcome::Value(0)]), Some(4));
+    assert_eq!(rt; length(&found, &[], &[Outcome::Value(1)]), Some(6));
+    assert_length(&rt, &found, &[Outcome::Value(0)], 6);
+    assert_length(&rt, &found, &[Outcome::Value(1)], 6);
+    Ok(())
+}
+
+/// A read that follows the write gives what it wrote.
+#[test]
+fn read_after_write(rt: HostRuntime) -> Result<(), Fail> {
+    let mut question = write_and_read(rt.alloc())?;
+    question.after.push(READ_AFTER_WRITE)?;
+    let found = find(rt.alloc(), &Safe, &question, MANY)?;
+    assert_eq!(rt; found.possible.len(), 1);
+    assert_length(&rt, &found, &[Outcome::Value(1)], 6);
+    Ok(())
+}
+
+/// A write and a read of one safe bit have 19 states.
+#[test]
+fn limit(rt: HostRuntime) -> Result<(), Fail> {
+    let question = write_and_read(rt.alloc())?;
+    let few = find(rt.alloc(), &Safe, &question, 18);
+    assert_eq!(rt; few.err(), Some(Unfound::TooMany));
+    let enough = find(rt.alloc(), &Safe, &question, 19)?;
+    assert_eq!(rt; enough.states, 19);
+    Ok(())
+}
+
+/// Process 1 of a safe bit doesn't write.
+#[test]
+fn unfit(rt: HostRuntime) -> Result<(), Fail> {
+    let question = asked(rt.alloc(), &[Op::Write(1)], &[Op::Write(1)])?;
+    let found = find(rt.alloc(), &Safe, &question, MANY);
+    assert_eq!(rt; found.err(), Some(Unfound::Unfit));
+    Ok(())
+}
