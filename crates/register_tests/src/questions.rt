@@ -96,7 +96,7 @@ fn read_beside_write(rt: HostRuntime) -> Result<(), Fail> {
     Ok(())
 }
 
-/// On a safe bit, a read beside a write of the old value may give the other one. On a regular bit,
+/// On a safe bit, a read next to a write of the old value may give the other one. On a regular bit,
 /// it gives the old value, and the write takes one step.
 #[test]
 fn write_of_the_old_value(rt: HostRuntime) -> Result<(), Fail> {
