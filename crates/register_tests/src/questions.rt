@@ -87,7 +87,7 @@ fn assert_two_reads<R: Register>(rt: &impl Abort, alloc: Global, register: &R) -
 }
 
 #[test]
-fn read_beside_write(rt: HostRuntime) -> Result<(), Fail> {
+fn read_that_overlaps_a_write(rt: HostRuntime) -> Result<(), Fail> {
     let question = write_and_read(rt.alloc())?;
     let found = find(rt.alloc(), &Safe, &question, MANY)?;
     assert_eq!(rt; found.possible.len(), 2);
