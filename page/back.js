@@ -12,6 +12,8 @@ function titleOf({ lesson, model, document: { lines } }) {
   const many = lines.filter((it) => it && !it.startsWith("#")).length;
   return `${lesson?.title || named || model.tower}${many > 1 ? `, ${many} lines` : ""}`;
 }
+// the lines that the document had when it was opened
+export const openedLines = () => opened.script.split("\n");
 // whether somebody changed the document since it was opened
 function isChanged() {
   const { document: { tower, script } } = now;

@@ -30,7 +30,8 @@ function scriptWith({ text, data, name }, lines, isBare) {
   const kept = (kind) => begin.filter((it) => it.startsWith(`# ${kind}`));
   const asked = rows(text).map((it) => `# ${it}`);
   const goals = rows(data).map((it) => `# ${it.replace(/^# ?/, "")}`);
-  const answered = isBare ? [] : [...kept("predicted"), ...(name ? [`# student: ${name}`] : [])];
+  const whose = name ? [`# student: ${name}`] : [];
+  const answered = isBare ? [] : [...kept("start:"), ...kept("predicted"), ...whose];
   const done = isBare ? ["0 join"] : rest.filter((it) => !isData(it));
   return `${[...kept("exercise"), ...asked, ...goals, ...answered, ...done].join("\n")}\n`;
 }
