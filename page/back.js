@@ -12,18 +12,23 @@ function titleOf({ lesson, model, document: { lines } }) {
   const many = lines.filter((it) => it && !it.startsWith("#")).length;
   return `${lesson?.title || named || model.tower}${many > 1 ? `, ${many} lines` : ""}`;
 }
+// the lines that the document had when it was opened
+export const openedLines = () => opened.script.split("\n");
 // whether somebody changed the document since it was opened
 function isChanged() {
   const { document: { tower, script } } = now;
   return tower !== opened.tower || script.trim() !== opened.script.trim();
 }
+// whether there is work in the document
+const isWork = ({ document, model }) =>
+  model && (!isUntouched(document.lines) || document.tower !== opened.tower);
 // Returns what keeps the document, if there is work in it, once another one is opened.
 export function leaving(next) {
   const { document, model, lesson, who } = now, title = model ? titleOf(now) : "";
-  const isWork = model && (!isUntouched(document.lines) || document.tower !== opened.tower);
+  const isKept = isWork(now);
   return () => {
     opened = next;
-    if (!isWork) return;
+    if (!isKept) return;
     left.push({ document, lesson, who, title });
     keepDocumentOf({ tower: document.tower, script: document.script, title, when: Date.now() });
   };
@@ -45,7 +50,18 @@ export function putUndo() {
     : "takes the last lines off the script (Ctrl+Z)";
   if (was) one("#undo").disabled = false;
 }
+// a tab that is closed says nothing after it is hidden
+// (what is forgotten stays so until it changes)
+let forgotten = null;
+function keepOpen() {
+  if (!isWork(now) || now.document === forgotten) return;
+  const { tower, script } = now.document;
+  keepDocumentOf({ tower, script, title: titleOf(now), when: Date.now() }, true);
+}
+addEventListener("pagehide", keepOpen);
+document.addEventListener("visibilitychange", () => document.hidden && keepOpen());
 export function forgetLeft() {
+  forgotten = now.document;
   left.length = 0;
   putUndo();
 }

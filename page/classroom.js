@@ -39,12 +39,16 @@ async function rowOf(it, asked) {
 async function judged(texts) {
   const { goals } = taskOf(now.document.lines), found = [];
   for (const it of documentsOf(texts)) found.push(await rowOf(it, goals).catch((fault) =>
-    ({ ...it, fault: fault.message, goals, met: [], verdicts: [], student: "" })));
+    ({ ...it, isDamaged: Boolean(it.fault), fault: fault.message, goals, met: [], verdicts: [],
+      student: "" })));
   return found;
 }
 function cellsOf(it, many, open) {
-  const name = element("td", {}, element("button", { onclick: open, "data-class": it.name },
-    it.student || it.name), it.student && element("small", {}, ` ${it.name}`));
+  const given = { "data-class": it.name }, words = it.student || it.name;
+  // (in a damaged file is nothing to open)
+  const named = it.isDamaged ? element("span", given, words)
+    : element("button", { ...given, onclick: open }, words);
+  const name = element("td", {}, named, it.student && element("small", {}, ` ${it.name}`));
   if (it.fault) return [name, element("td", { class: "wrong", colspan: many + 4 }, it.fault)];
   const met = it.met.filter(Boolean).length, said = (...words) => element("td", {}, ...words);
   const goal = (_, at) => element("td", { class: it.met[at] && "met", title: it.goals[at]?.text },

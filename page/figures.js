@@ -3,8 +3,11 @@ import { answer } from "./engine.js";
 import { Document, EMPTY_TOWER } from "./document.js";
 import { LABEL, MARGIN } from "./measures.js";
 import { Model } from "./model.js";
-import { looksOf, stillRows } from "./still.js";
+import { reasonOf } from "./reading.js";
+import { looksOf, readInside, stillRows } from "./still.js";
+import { storyOf } from "./stories.js";
 import { partOf } from "./exercises.js";
+import { withWords } from "./words.js";
 import { element, mounted } from "./elements.js";
 
 const LONG_SCHEDULE = 60, LEAST_WIDTH = 560, EDGES = 30, PLAY_PAUSE = 900;
@@ -17,12 +20,25 @@ async function picture(model, branch, place, room) {
   await model.look(looksOf(branch, 0, place));
   return stillRows(model, [branch], { most: place, column, many }).map(({ svg }) => mounted(svg));
 }
+// why a read of a branch up to a place gave its value
+function whyOf(model, branch, place, { at: begun, process }) {
+  const reading = readInside(model, branch, 0, place), { run, facts } = reading;
+  const isIt = (it) => it.kind === "read" && it.begun === Number(begun)
+    && it.process === Number(process);
+  const read = run.operations.find(isIt);
+  if (!read) return "";
+  const root = facts.layers.roots.find(({ operation }) => isIt(operation));
+  const gave = read.ending === "returned" ? ` returned ${read.value}` : "";
+  const words = [reasonOf(run, read), root && storyOf(facts, root)?.words].filter(Boolean);
+  return `p${read.process}'s read${gave}. ${words.join(" ")}`;
+}
 class Figure {
   constructor(target, model, branch) {
     Object.assign(this, { target, model, branch, place: branch.length, playing: 0, turn: 0 });
     const { length } = branch, button = (label, sign, onclick) =>
       element("button", { onclick, "aria-label": label, title: label }, sign);
-    this.drawn = element("div", { class: "drawn-here" });
+    this.why = element("p", { class: "why-here", role: "status" });
+    this.drawn = element("div", { class: "drawn-here", onclick: (event) => this.explain(event) });
     this.at = element("b", { class: "at-place" });
     this.play = element("button", { class: "big", "data-figure": "play",
       onclick: () => this.playOrPause() });
@@ -37,6 +53,7 @@ class Figure {
     const { range, at, drawn, target, model, branch } = this, { length } = branch;
     const wide = (target.closest("article")?.clientWidth || 0) - EDGES, turn = ++this.turn;
     this.place = Math.max(0, Math.min(length, place));
+    this.why.replaceChildren();
     range.value = this.place;
     at.textContent = this.place === length ? `all ${length} steps`
       : `place ${this.place} of ${length}, before ${branch.step(this.place)}`;
@@ -45,6 +62,13 @@ class Figure {
     drawn.replaceChildren(...rows);
     // (if there is less room, the place stays in sight)
     drawn.scrollLeft = drawn.scrollWidth;
+  }
+  // (nothing as long as a prediction is asked for)
+  explain({ target }) {
+    const read = target.closest(".operation.read");
+    if (!read || target.closest(".covered")) return;
+    const words = whyOf(this.model, this.branch, this.place, read.dataset);
+    this.why.replaceChildren(...withWords(words));
   }
   by(many) {
     this.pause();
@@ -80,7 +104,7 @@ export async function putFigure(target, lesson, enter) {
   // (of a long schedule the text says more at a glance)
   if (branch.length > LONG_SCHEDULE)
     target.replaceChildren(text,
-      fold(`as a picture, ${branch.length} steps`, figure.row, figure.drawn));
-  else target.replaceChildren(figure.row, figure.drawn, fold("as text", text));
+      fold(`as a picture, ${branch.length} steps`, figure.row, figure.drawn, figure.why));
+  else target.replaceChildren(figure.row, figure.drawn, figure.why, fold("as text", text));
   await figure.put(branch.length);
 }

@@ -1,6 +1,6 @@
 // Gestures: what a person does becomes lines of the script, or changes what is drawn.
 import { act, ask, isSaying, say } from "./acting.js";
-import { leaving, putUndo, takeBack } from "./back.js";
+import { leaving, openedLines, putUndo, takeBack } from "./back.js";
 import { FEW_FILES, openClass } from "./classroom.js";
 import { processesHere, putDeck } from "./deck.js";
 import { Document, EMPTY_TOWER, detached, dropped, forked } from "./document.js";
@@ -20,7 +20,7 @@ import { openShare } from "./share.js";
 import { here, now, setNow, setView } from "./state.js";
 import { leaveStudy, putStudy } from "./study.js";
 import { task } from "./task.js";
-import { headed, startOf } from "./tasks.js";
+import { headed, startLine, startOf } from "./tasks.js";
 import { forgetTyped, putTyped } from "./text.js";
 import { forgetViewing, viewing } from "./viewing.js";
 import { drawWhole } from "./whole.js";
@@ -126,12 +126,16 @@ const withLines = (lines) => new Document(now.document.tower, lines, now.documen
 function predictedLine(number, words) {
   return `# predicted${number ? ` ${number}` : ""}: ${words.trim().replace(/\s+/g, " ")}`;
 }
+// (what was there when it was opened is what options are judged on)
+function withPredicted(line) {
+  const { lines } = now.document, start = task().start ? "" : startLine(openedLines());
+  return withLines(headed(start ? headed(lines, start) : lines, line));
+}
 const taskDoes = {
   line: (command) => edit(() => command),
   begin: (tower, script) => open(tower, script, null),
   again: () => open(now.document.tower, `${startOf(now.document.lines).join("\n")}\n`, null),
-  predict: (number, words) => act(() =>
-    change(withLines(headed(now.document.lines, predictedLine(number, words))))),
+  predict: (number, words) => act(() => change(withPredicted(predictedLine(number, words)))),
   study,
 };
 // one document of one file or two; of more the teacher's table

@@ -23,9 +23,11 @@ export function keptDocuments() {
     return JSON.parse(stored(DOCUMENTS) || "[]").filter(isDocument);
   } catch { return []; }
 }
-export function keepDocumentOf({ tower, script, title, when }) {
+// (of one that is still open, what it was earlier makes room for it)
+export function keepDocumentOf({ tower, script, title, when }, isOpen = false) {
   if (tower.length + script.length > MOST_TEXT) return;
-  const others = keptDocuments().filter((it) => it.tower !== tower || it.script !== script);
+  const isOlder = (it) => it.script === script || (isOpen && script.startsWith(it.script));
+  const others = keptDocuments().filter((it) => it.tower !== tower || !isOlder(it));
   const all = [{ tower, script, title, when }, ...others];
   store(DOCUMENTS, JSON.stringify(all.slice(0, MOST)));
 }

@@ -31,6 +31,8 @@ async function openMenuAt(branch, step) {
 addEventListener("click", ({ target, clientX }) => {
   const at = (selector) => target.closest(selector), branch = at(".panel")?.dataset.branch;
   if (!at("#menu")) closeMenu();
+  // (a lesson's picture isn't that of the document: figures.js says what its reads gave)
+  if (at(".drawn-here")) return;
   if (at("[data-study]")) study(at("[data-study]").dataset.study);
   else if (at("[data-do]")) command(at("[data-do]").dataset.do, branch);
   else if (at("[data-tab]")) showTab(at("[data-tab]").dataset.tab);

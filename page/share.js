@@ -1,5 +1,6 @@
 // A question that travels: as a link, or as this page itself with the document inside.
 import { packedData, pageSource } from "./engine.js";
+import { openedLines } from "./back.js";
 import { fileName, save } from "./files.js";
 import { goalIn, isMet, looksFor } from "./goals.js";
 import { inWords } from "./goalwords.js";
@@ -11,6 +12,7 @@ import { here, now } from "./state.js";
 
 const field = (name) => one(`#share-${name}`), valueOf = (name) => field(name).value.trim();
 const GOAL = /^(?:# ?)?goal(?: [0-9]+)?: (.*)$/;
+const DATA = /^(?:# ?)?(?:goal|ask|option)(?: [0-9]{1,3})?: ./;
 const isAsked = (it) => /^# (goal|ask|option)\b/.test(it);
 const rows = (text) => text.split("\n").map((it) => it.trim()).filter(Boolean);
 // the address of the page on the web, which is typed once
@@ -30,7 +32,8 @@ function scriptWith({ text, data, name }, lines, isBare) {
   const kept = (kind) => begin.filter((it) => it.startsWith(`# ${kind}`));
   const asked = rows(text).map((it) => `# ${it}`);
   const goals = rows(data).map((it) => `# ${it.replace(/^# ?/, "")}`);
-  const answered = isBare ? [] : [...kept("predicted"), ...(name ? [`# student: ${name}`] : [])];
+  const whose = name ? [`# student: ${name}`] : [];
+  const answered = isBare ? [] : [...kept("start:"), ...kept("predicted"), ...whose];
   const done = isBare ? ["0 join"] : rest.filter((it) => !isData(it));
   return `${[...kept("exercise"), ...asked, ...goals, ...answered, ...done].join("\n")}\n`;
 }
@@ -54,6 +57,11 @@ async function ideas(model, name) {
     `history has ${has("chosen") ? "" : "no "}"chosen"`, has("refused") && 'history has "refused"']
     .filter(Boolean).map((it) => `goal: some: ${it}`);
 }
+// what was typed and closed, as long as the document and its comments are the same
+let draft = null;
+const draftKey = () => JSON.stringify([openedLines(), now.document.tower,
+  now.document.lines.filter((it) => it.startsWith("#"))]);
+const keepDraft = () => { draft = { key: draftKey(), ...fields() }; };
 // what is typed, judged at once
 async function check() {
   const { model } = now, base = valueOf("base");
@@ -61,8 +69,11 @@ async function check() {
   await model.look(looksFor(goals, model));
   const metWords = (it) => (isMet(it, model) ? "\u2713 met now:" : "\u25cb not met now:");
   const signOf = (it) => (it.fault ? "!" : metWords(it));
+  const unread = rows(valueOf("data")).filter((it) => !DATA.test(it));
   field("goals").replaceChildren(...goals.map((it) => element("li",
-    { class: it.fault ? "wrong" : isMet(it, model) && "met" }, `${signOf(it)} ${inWords(it)}`)));
+    { class: it.fault ? "wrong" : isMet(it, model) && "met" }, `${signOf(it)} ${inWords(it)}`)),
+  ...unread.map((it) => element("li", { class: "wrong" },
+    `! ${it} can't be read: a line begins with goal:, ask: or option:`)));
   const link = base.split("#")[0] + await hashFor(made());
   field("link").value = link;
   field("size").textContent = base ? `${link.length} characters`
@@ -93,7 +104,8 @@ function watch(dialog, take) {
     remember("student", valueOf("name"));
     take(scriptWith(fields(), now.document.lines, false));
   };
-  for (const it of dialog.querySelectorAll("input, textarea:not([readonly])")) it.oninput = check;
+  for (const it of dialog.querySelectorAll("input, textarea:not([readonly])"))
+    it.oninput = () => { keepDraft(); check(); };
   field("copy").onclick = async () => { await copyLink(); keep(); };
   field("save").onclick = () => { saveFile(); keep(); };
   field("keep").onclick = () => { keep(); dialog.close(); };
@@ -101,6 +113,7 @@ function watch(dialog, take) {
 function ideaButton(it) {
   const add = () => {
     field("data").value = [...rows(valueOf("data")), it].join("\n");
+    keepDraft();
     check();
   };
   const given = { type: "button", class: "line", onclick: add };
@@ -108,9 +121,10 @@ function ideaButton(it) {
 }
 export async function openShare(take) {
   const dialog = one("#share-dialog"), { lines } = now.document, found = taskOf(lines);
-  field("text").value = found.text.join("\n");
-  field("data").value = lines.filter(isAsked).map((it) => it.slice(2)).join("\n");
-  field("name").value = found.student || remembered("student");
+  const data = lines.filter(isAsked).map((it) => it.slice(2)).join("\n");
+  const name = found.student || remembered("student"), isDraft = draft?.key === draftKey();
+  const typed = isDraft ? draft : { text: found.text.join("\n"), data, name };
+  for (const it of ["text", "data", "name"]) field(it).value = typed[it];
   field("base").value = baseAddress();
   const start = found.isTask && !isUntouched(lines) ? "mine" : "bare";
   one(`[name=share-start][value=${start}]`).checked = true;

@@ -5,7 +5,7 @@ import { Document } from "./document.js";
 import { Model } from "./model.js";
 import { isMet, looksFor, metGoals } from "./goals.js";
 import { inWords } from "./goalwords.js";
-import { isPredicted, taskOf } from "./tasks.js";
+import { isPredicted, startOf, taskOf } from "./tasks.js";
 import { exerciseAfter, exerciseNamed, lessonAfter, markSolved } from "./exercises.js";
 import { withWords } from "./words.js";
 import { element, one, putIfChanged } from "./elements.js";
@@ -15,11 +15,13 @@ const COMMAND = /^[0-9]+ ([a-z]+ ?.*)$/, SIGN = { met: "\u2713", open: "\u25cb",
 let decided = { key: "", right: [] };
 export const task = () => taskOf(now.document.lines);
 export const goalLooks = () => (now.model ? looksFor(task().goals, now.model) : []);
-// which options are right: the program decides on the tower file alone, once something is predicted
-async function decide({ asks }, tower) {
-  const key = JSON.stringify([tower, asks]);
+// which options are right: the program decides on the document as it begins, once something is
+// predicted
+async function decide({ asks, start }, { tower, lines }) {
+  const script = start ? `${startOf(lines).join("\n")}\n` : "";
+  const key = JSON.stringify([tower, asks, script]);
   if (key === decided.key) return;
-  const model = await Model.of(Document.of(tower, ""), answer);
+  const model = await Model.of(Document.of(tower, script), answer);
   const none = { scope: "", groups: [] };
   const of = ({ options }) => metGoals(options.map((it) => it.goal || none), model);
   decided = { key, right: await Promise.all(asks.map(of)) };
@@ -96,11 +98,11 @@ function parts(found, state, does) {
 }
 // puts the strip, and returns whether what reads give is covered
 export async function putTask(does) {
-  const found = task(), { document: { tower }, model, lesson } = now, target = one("#task");
+  const found = task(), { document, model, lesson } = now, target = one("#task");
   const isShown = found.isTask || (found.text.length > 0 && !lesson), isOpen = isPredicted(found);
   target.hidden = !isShown;
   if (!isShown) return false;
-  if (found.asks.length && isOpen) await decide(found, tower);
+  if (found.asks.length && isOpen) await decide(found, document);
   const met = found.goals.map((it) => isMet(it, model)), of = exerciseNamed(found.exercise);
   const isDone = found.isTask && isOpen && met.every(Boolean);
   if (isDone && of) markSolved(of);

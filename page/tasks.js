@@ -1,13 +1,14 @@
 // An exercise as comment lines of a script: what is asked and predicted, and goals (goals.js).
 //   # exercise: FOLDER NUMBER TITLE     # goal: GOAL              # student: NAME
 //   # ask: QUESTION                     # option: WORDS [if GOAL] # predicted: WORDS
-//   # tower: LINE; LINE; ..
+//   # tower: LINE; LINE; ..           # start: how many lines it began with, once it is predicted
 // Other comments before the first command are the question's text. A number after the kind says
 // which exercise of a lesson the line is of, as in `# goal 3: ..`. Of a question's options the
 // right one is the one whose goal holds at the start: the program decides that, too.
 import { goalIn } from "./goals.js";
 
-const DATA_LINE = /^# (goal|ask|option|predicted|student|exercise|tower)(?: ([0-9]{1,3}))?: (.*)$/;
+const KINDS = "goal|ask|option|predicted|student|exercise|tower|start";
+const DATA_LINE = new RegExp(`^# (${KINDS})(?: ([0-9]{1,3}))?: (.*)$`);
 const MOST = { goals: 40, asks: 12, options: 12, text: 40 };
 const isComment = (line) => line.startsWith("#");
 export const isData = (line) => isComment(line) && DATA_LINE.test(line);
@@ -31,7 +32,7 @@ const TAKES = {
 };
 function readTask(lines) {
   const task = { text: [], goals: [], asks: [], predicted: new Map(), student: "", exercise: "",
-    tower: "", left: 0 };
+    tower: "", start: "", left: 0 };
   const head = headOf(lines);
   lines.forEach((line, index) => {
     if (!isComment(line)) return;
@@ -58,10 +59,21 @@ export function headed(lines, line) {
   const head = headOf(lines);
   return [...lines.slice(0, head), line, ...lines.slice(head)];
 }
-const isAnswer = (line) => /^# (predicted|student)\b/.test(line);
-// the lines with which an exercise begins: its comments, without what somebody answered
-export const startOf = (lines) =>
-  [...lines.slice(0, headOf(lines)).filter((it) => !isAnswer(it)), "0 join"];
+const isAnswer = (line) => /^# (predicted|student|start)(?: [0-9]+)?:/.test(line);
+const commandsIn = (lines) => lines.filter((it) => it && !isComment(it));
+// the comment that says how many of a script's lines were there when it was opened, if there are
+// steps among them and nothing is predicted yet
+export function startLine(opened) {
+  const many = commandsIn(opened).length;
+  return many > 1 && !taskOf(opened).predicted.size ? `# start: ${many}` : "";
+}
+// the lines with which an exercise begins: its comments, without what somebody answered, and the
+// steps that it had
+export function startOf(lines) {
+  const head = lines.slice(0, headOf(lines)).filter((it) => !isAnswer(it));
+  const many = Number(taskOf(lines).start) || 0;
+  return [...head, ...(many ? commandsIn(lines).slice(0, many) : ["0 join"])];
+}
 // whether a script has nothing that somebody did: comments and moves alone
 export const isUntouched = (lines) => lines.every((it) =>
   it === "" || (isComment(it) && !isAnswer(it)) || /^[0-9]+ (join|go)\b/.test(it));
