@@ -3,3 +3,4 @@ pub mod Moments
 pub mod Conversations
 pub mod Answering
 pub mod Amounts
+pub mod Faults

@@ -1,7 +1,12 @@
 //! Why a conversation fails.
 
+ghost use Rattle.conversation.specs.Faults as spec;
+
+use std::fmt;
+use thiserror::Error;
+
 /// Why a conversation fails: a stream fails, the script is too long, or memory runs out.
-#[derive(Clone, Copy, Debug, PartialEq, Eq)]
+#[derive(Clone, Copy, Debug, PartialEq, Eq, Error)]
 pub enum StreamFault {
     /// A read failed.
     Read,
@@ -11,4 +16,19 @@ pub enum StreamFault {
     TooLong,
     /// Out of memory.
     Memory,
+}
+
+impl fmt::Display for StreamFault {
+    ghost use Rattle.std.specs.Prelude.{Some};
+
+    ghost output = { λ e. Some (spec.stream_fault_display e) };
+
+    fn fmt<W: fmt::Write>(&self, f: &mut fmt::Formatter<W>) -> fmt::Result {
+        match self {
+            StreamFault::Read => write!(f, "read failed"),
+            StreamFault::Write => write!(f, "write failed"),
+            StreamFault::TooLong => write!(f, "script too long"),
+            StreamFault::Memory => write!(f, "memory"),
+        }
+    }
 }
