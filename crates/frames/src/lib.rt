@@ -18,6 +18,6 @@ pub use flat::FlatStack;
 pub use register::{Behaves, Register};
 pub use safe::{Safe, SafePoint};
 pub use types::{
-    Action, ActionKind, Event, Frame, FrameLayer, Layer, Next, Op, Outcome, Progress, Reason,
-    Stack, Step, StepEvents, Turned,
+    Action, ActionKind, Event, Frame, FrameLayer, Layer, LayerName, Next, Op, Outcome, Progress,
+    Reason, Stack, Step, StepEvents, Turned,
 };

@@ -177,7 +177,14 @@ pub enum FrameLayer {
     Stamped,
     MatrixRead,
     MatrixWrite,
+    /// A construction that isn't one of the six towers'.
+    Named(LayerName),
 }
+
+/// The name that a construction gives itself: one to three ASCII letters or digits. A shorter name
+/// is followed by spaces.
+#[derive(Clone, Copy, Debug, PartialEq, Eq)]
+pub struct LayerName(pub u8, pub u8, pub u8);
 
 /// One layer's share of a pending operation. `op` is the operation on that layer. `i` says which
 /// part (a register that the layer uses) is at work; for a safe bit, it is 0 before the start
@@ -199,6 +206,9 @@ impl Frame {
         self == other
     }
 }
+
+// Each step moves frames, and each stored run keeps some: a longer name would make them larger.
+const _: () = prove!(size_of::<Frame>() == 20);
 
 /// The most frames that a pending operation can have.
 pub const STACK_FRAMES: usize = 8;

@@ -6,11 +6,12 @@ use Rattle.frames.specs.declared.types.Op.{Op}
 use Rattle.frames.specs.declared.types.Op.TheVariants as op
 use Rattle.frames.specs.declared.types.Outcome.{Outcome}
 use Rattle.frames.specs.declared.types.Outcome.TheVariants.{Value, Written, Spent}
-use Rattle.frames.specs.declared.types.FrameLayer.TheVariants.{Unary}
+use Rattle.frames.specs.declared.types.FrameLayer.TheVariants.{Named}
 use Rattle.frames.specs.declared.types.Frame.{Frame}
 use Rattle.layers.specs.declared.nested.Ask.{Ask}
 use Rattle.layers.specs.Nested.{Program, Ends, Asks, Table}
 use Rattle.layers.specs.OneWriter.{one_writer}
+use Rattle.own_register.specs.declared.task.TheConstants.{NAME}
 use Rattle.own_register.specs.declared.task.TwoBitsTask.{TwoBitsTask}
 use Rattle.own_register.specs.declared.task.TwoBitsTask.TheVariants.{WriteHigh, WriteLow, ReadHigh, ReadLow}
 
@@ -59,10 +60,10 @@ two_bits_asks (ReadLow who high) = record { part = 1; who = who; op = op.Read }
 
 -- the frame that records a task: the operation, the part, and the high bit that a read has got
 abbrev pub two_bits_frame : TwoBitsTask → Frame
-two_bits_frame (WriteHigh v) = record { layer = Unary; op = op.Write v; i = 0; x = 0 }
-two_bits_frame (WriteLow v) = record { layer = Unary; op = op.Write v; i = 1; x = 0 }
-two_bits_frame (ReadHigh who) = record { layer = Unary; op = op.Read; i = 0; x = 0 }
-two_bits_frame (ReadLow who high) = record { layer = Unary; op = op.Read; i = 1; x = high }
+two_bits_frame (WriteHigh v) = record { layer = Named NAME; op = op.Write v; i = 0; x = 0 }
+two_bits_frame (WriteLow v) = record { layer = Named NAME; op = op.Write v; i = 1; x = 0 }
+two_bits_frame (ReadHigh who) = record { layer = Named NAME; op = op.Read; i = 0; x = 0 }
+two_bits_frame (ReadLow who high) = record { layer = Named NAME; op = op.Read; i = 1; x = high }
 
 -- the task that process `who` is in, if f is its frame
 abbrev pub two_bits_find : ℕ → Frame → TwoBitsTask

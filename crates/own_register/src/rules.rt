@@ -6,7 +6,7 @@ ghost use Rattle.layers.specs.Nested.{layered};
 ghost use Rattle.own_register.specs.Program.{high_of, low_of, two_bits_table, TwoBitsMayBeAt};
 ghost use Rattle.own_register.specs.Sound.{two_bits_left, two_bits_sound, two_bits_task_decides, two_bits_alike};
 
-use crate::task::TwoBitsTask;
+use crate::task::{NAME, TwoBitsTask};
 use layers::prelude::*;
 
 /// A register of four values, made of two bits (Lamport 1986, construction 2). A write writes the
@@ -138,8 +138,7 @@ impl Construction for TwoBitsRules {
         Ask { part, who, op }
     }
 
-    /// The frame's index is the bit's number. Pages print one of the six layers' names; these bits
-    /// borrow `unary`.
+    /// The frame's first number is the bit's, its second the high bit that a read has got.
     fn frame(&self, task: TwoBitsTask) -> Frame {
         let (op, i, x) = match task {
             TwoBitsTask::WriteHigh(v) => (Op::Write(v), 0, 0),
@@ -148,7 +147,7 @@ impl Construction for TwoBitsRules {
             TwoBitsTask::ReadLow { who: _, high } => (Op::Read, 1, high),
         };
         Frame {
-            layer: FrameLayer::Unary,
+            layer: FrameLayer::Named(NAME),
             op,
             i,
             x,

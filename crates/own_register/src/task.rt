@@ -1,5 +1,10 @@
 //! The tasks of two bits: the points of its programs at which one of the bits is written or read.
 
+use layers::prelude::LayerName;
+
+/// What pages of pending operations call two bits.
+pub const NAME: LayerName = LayerName(b't', b'w', b'o');
+
 /// A task: the write or read of one bit by a pending operation.
 #[derive(Clone, Copy, Debug, PartialEq, Eq)]
 pub enum TwoBitsTask {

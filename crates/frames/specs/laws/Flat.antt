@@ -10,15 +10,24 @@ use Rattle.std.proofs.lemmas.Slice.Eq.{slice_eq-Decides}
 use Rattle.safe_bit.specs.laws.Equality.{per_from_decides}
 use Rattle.frames.specs.contracts.types.FramePartialEq.TheImpl as frames
 use Rattle.frames.specs.contracts.types.FrameLayerPartialEq.TheImpl as layers
+use Rattle.frames.specs.contracts.types.LayerNamePartialEq.TheImpl as names
 use Rattle.frames.specs.declared.types.Op.{Op}
 use Rattle.frames.specs.declared.types.Frame.{Frame}
 use Rattle.frames.specs.declared.types.FrameLayer.{FrameLayer}
 use Rattle.frames.specs.declared.types.FrameLayer.TheVariants as layer
+use Rattle.frames.specs.declared.types.LayerName.{LayerName}
 use Rattle.frames.specs.declared.running.Running.{Running}
 use Rattle.frames.specs.declared.config.Parked.{Parked}
 use Rattle.frames.specs.Behaviour.{Behaviour}
 use Rattle.frames.specs.Equality.{op_decides}
 use Rattle.frames.specs.Flat.{outermost, FramesGivePoint, IsReached, running_of, running_from, stack_of}
+
+-- the derived `==` of layers' names is true exactly if the two names are the same
+name_decides : (a b : LayerName) → Decides (names.eq-value.it a b) (a ≡ b)
+name_decides a b =
+    Decides-like (names.eq-value.it a b) (λ p. λ i. record { 0 = p.0 i; 1 = p.1.0 i; 2 = p.1.1 i })
+    (λ p. (ap (λ n. n.0) p, (ap (λ n. n.1) p, ap (λ n. n.2) p)))
+    (Decides-and _ _ (Decides-eqb a.0 b.0) (Decides-and _ _ (Decides-eqb a.1 b.1) (Decides-eqb a.2 b.2)))
 
 -- the derived `==` of frames' layers is true exactly if the two layers are the same
 layer_decides : (a b : FrameLayer) → Decides (layers.eq-value.it a b) (a ≡ b)
@@ -30,6 +39,7 @@ layer_decides = elim [
   | layer.Stamped ↦ elim [ layer.Stamped ↦ (λ h. refl, λ h. refl) | _ ↦ (λ h. cc, λ h. cc) ]
   | layer.MatrixRead ↦ elim [ layer.MatrixRead ↦ (λ h. refl, λ h. refl) | _ ↦ (λ h. cc, λ h. cc) ]
   | layer.MatrixWrite ↦ elim [ layer.MatrixWrite ↦ (λ h. refl, λ h. refl) | _ ↦ (λ h. cc, λ h. cc) ]
+  | layer.Named a ↦ elim [ layer.Named b ↦ Decides-like (names.eq-value.it a b) (λ p. ap layer.Named p) (λ p. cc) (name_decides a b) | _ ↦ (λ h. cc, λ h. cc) ]
 ]
 
 -- the derived `==` of frames is true exactly if the two frames are the same

@@ -1,9 +1,11 @@
 -- The names that pages give to kinds of bit actions, layers, reasons and verdicts.
-use Rattle.std.specs.Prelude.{ℕ, List, codes}
+use Rattle.std.specs.Prelude.{ℕ, List, [], ◌∷◌, ◌++◌, codes, if◌then◌else◌}
+use Rattle.std.specs.Char.{is_ascii_alphanumeric}
 use Rattle.frames.specs.declared.types.ActionKind.{ActionKind}
 use Rattle.frames.specs.declared.types.ActionKind.TheVariants.{WriteStart, WriteEnd, ReadStart, ReadEnd}
 use Rattle.frames.specs.declared.types.FrameLayer.{FrameLayer}
-use Rattle.frames.specs.declared.types.FrameLayer.TheVariants.{Safe, Copies, Regular, Unary, Stamped, MatrixRead, MatrixWrite}
+use Rattle.frames.specs.declared.types.FrameLayer.TheVariants.{Safe, Copies, Regular, Unary, Stamped, MatrixRead, MatrixWrite, Named}
+use Rattle.frames.specs.declared.types.LayerName.{LayerName}
 use Rattle.frames.specs.declared.types.Layer.{Layer}
 use Rattle.frames.specs.declared.types.Layer.TheVariants as layer
 use Rattle.frames.specs.declared.types.Reason.{Reason}
@@ -18,6 +20,14 @@ kind_name WriteEnd = codes "we"
 kind_name ReadStart = codes "rs"
 kind_name ReadEnd = codes "re"
 
+-- a character of a construction's name; only letters and digits are shown
+abbrev pub name_letter : ℕ → List ℕ
+name_letter byte = if is_ascii_alphanumeric byte then byte ∷ [] else []
+
+-- the name that a construction gives itself
+abbrev pub name_text : LayerName → List ℕ
+name_text n = name_letter n.0 ++ name_letter n.1 ++ name_letter n.2
+
 -- the name of a frame's layer; a frame of a matrix has the same name in both phases of an operation
 abbrev pub frame_name : FrameLayer → List ℕ
 frame_name Safe = codes "safe"
@@ -27,6 +37,7 @@ frame_name Unary = codes "unary"
 frame_name Stamped = codes "stamped"
 frame_name MatrixRead = codes "matrix"
 frame_name MatrixWrite = codes "matrix"
+frame_name (Named n) = name_text n
 
 -- the name of a layer that refused an operation because the layer's stamps or tags are used up
 abbrev pub layer_name : Layer → List ℕ

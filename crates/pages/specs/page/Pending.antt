@@ -6,7 +6,7 @@ use Rattle.frames.specs.declared.types.Op.{Op}
 use Rattle.frames.specs.declared.types.Op.TheVariants as op
 use Rattle.frames.specs.declared.types.Frame.{Frame}
 use Rattle.frames.specs.declared.types.FrameLayer.{FrameLayer}
-use Rattle.frames.specs.declared.types.FrameLayer.TheVariants.{Safe, Copies, Regular, Unary, Stamped, MatrixRead, MatrixWrite}
+use Rattle.frames.specs.declared.types.FrameLayer.TheVariants.{Safe, Copies, Regular, Unary, Stamped, MatrixRead, MatrixWrite, Named}
 use Rattle.frames.specs.declared.running.Running.{Running}
 use Rattle.frames.specs.Behaviour.{Behaviour}
 use Rattle.frames.specs.Configuration.{Configuration, running_at, is_stopped}
@@ -50,8 +50,8 @@ after_space n = codes " " ++ decimal n
 
 -- What follows the operation in a frame's text. Safe bit: how many bit actions the operation has
 -- made; copies: the reader whose copy is in use; unary number: the bit in use; matrix: the phase,
--- the part in use and a code (the greatest read so far, or the one being written); the other
--- layers: nothing.
+-- the part in use and a code (the greatest read so far, or the one being written); a construction
+-- that names itself: both of its numbers; the other layers: nothing.
 abbrev pub frame_rest : FrameLayer → ℕ → ℕ → List ℕ
 frame_rest Safe i x = after_space i
 frame_rest Copies i x = after_space i
@@ -60,6 +60,7 @@ frame_rest Unary i x = after_space i
 frame_rest Stamped i x = []
 frame_rest MatrixRead i x = codes " read" ++ after_space i ++ after_space x
 frame_rest MatrixWrite i x = codes " write" ++ after_space i ++ after_space x
+frame_rest (Named n) i x = after_space i ++ after_space x
 
 -- the text of a frame: its layer, its operation, and what `frame_rest` gives for the layer
 abbrev pub frame_text : Frame → List ℕ

@@ -5,7 +5,7 @@ ghost use Rattle.pages.specs.page.Pending as spec;
 
 use crate::page::head::{Head, push_head};
 use crate::page::lines::{Line, push_lines};
-use crate::page::names::frame_name;
+use crate::page::names::push_frame_name;
 use crate::page::process::{push_idle, push_name, stopped_text};
 use frames::config::Config;
 use frames::register::Register;
@@ -145,7 +145,7 @@ fn push_inner(out: &mut Vec<u8>, frame: Frame) -> Pushed
 fn push_frame(out: &mut Vec<u8>, frame: Frame) -> Pushed
     ensures { OnOk result (out.new.items ≡ out.old.items ++ spec.frame_text frame) }
 {
-    push_text(out, frame_name(frame.layer))?;
+    push_frame_name(out, frame.layer)?;
     push_text(out, " ")?;
     push_frame_op(out, frame.layer, frame.op, frame.x)?;
     push_frame_rest(out, frame.layer, frame.i, frame.x)
@@ -176,13 +176,14 @@ fn push_frame_rest(out: &mut Vec<u8>, layer: FrameLayer, i: u32, x: u32) -> Push
         FrameLayer::Regular | FrameLayer::Stamped => Ok(()),
         FrameLayer::MatrixRead => push_part(out, " read ", i, x),
         FrameLayer::MatrixWrite => push_part(out, " write ", i, x),
+        FrameLayer::Named(_) => push_part(out, " ", i, x),
     }
 }
 
-/// Adds what follows the operation in the text of a matrix's frame: the phase, `i`, and the code
-/// `x`. `i` is the number of the part in use within the column being read or the row being written.
-/// In the phase `read`, `x` is the greatest code read so far, at first 0. In the phase `write`, `x`
-/// is the code being written.
+/// Adds what follows the operation in the text of a frame with two numbers: `phase`, `i` and `x`.
+/// For a matrix, `i` is the number of the part in use within the column being read or the row being
+/// written. In the phase `read`, `x` is the greatest code read so far, at first 0. In the phase
+/// `write`, `x` is the code being written. A construction that names itself has no phase.
 fn push_part(out: &mut Vec<u8>, phase: &str, i: u32, x: u32) -> Pushed
     ensures { OnOk result (out.new.items ≡ out.old.items
         ++ phase.now ++ decimal i ++ spec.after_space x) }
