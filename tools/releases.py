@@ -9,6 +9,8 @@ import re
 TOP = os.path.dirname(os.path.dirname(os.path.realpath(__file__)))
 FOLDER = f"{TOP}/release"
 PAGE, PROGRAM, SUMS = "towerbench.html", "towerbench", "SHA256SUMS"
+# The files of the programs for this machine, by their crates
+PROGRAMS = {"program": PROGRAM, "answers_program": "towerbench-answers"}
 # A larger program isn't put into the repository.
 MOST_BYTES = 2 * 10**6
 DATA = re.compile(r'<script type="application/json" id="data">(.*?)</script>', re.S)
