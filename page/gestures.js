@@ -209,7 +209,11 @@ export const does = {
     const { branches } = now.model, text = steps.join(), isIt = (it) => it.steps.join() === text;
     const there = branches.find((it) => it.length === steps.length && isIt(it));
     if (there) return move(() => ({ name: there.name, place: there.length }));
-    return edit(() => loaded(branches[0].name, freeName("answer"), steps));
+    const name = freeName("answer");
+    return edit(() => {
+      setView({ show: `only ${name}` });
+      return loaded(branches[0].name, name, steps);
+    });
   },
   choose(p) { setView({ process: p, awaiting: "" }); putDeck(does); },
   // a read that returns by the step is picked, so one sees why
