@@ -98,7 +98,7 @@ class File:
         with self.turn:
             if not os.path.exists(self.path):
                 with open(self.path, "w", encoding="utf-8") as file:
-                    file.write(build.packed(build.made_module()))
+                    file.write(build.packed(build.made_modules()))
         return self.path
 
 
