@@ -5,6 +5,7 @@ import { EMPTY_TOWER } from "./document.js";
 import { exerciseDocument, isSolved, lessonsOf, partOf } from "./exercises.js";
 import { putFigure } from "./figures.js";
 import { remember, remembered } from "./kept.js";
+import { askForSecond } from "./second.js";
 import { withWords } from "./words.js";
 import { say } from "./acting.js";
 import { element, one } from "./elements.js";
@@ -119,7 +120,12 @@ export function putStudy(folder, begin, { isAnswered = false, ask } = {}) {
     const title = lesson.parts.length > 2 ? `${lesson.title} (${part})` : lesson.title;
     begin(tower || EMPTY_TOWER, "", { title, lines });
   };
-  putFigures(article, (it) => putFigure(it, lesson, enter));
+  const enterBoth = async (part, place, second) => {
+    const { tower } = partOf(lesson, part);
+    await begin(tower, `0 join\n0 go main ${place}\n`, null);
+    askForSecond(second);
+  };
+  putFigures(article, (it) => putFigure(it, lesson, enter, enterBoth));
   if (!isAnswered || !answers) return;
   answers.open = true;
   answers.scrollIntoView({ block: "start" });
