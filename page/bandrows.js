@@ -1,10 +1,10 @@
 // Rows of a tower's numbers, each foldable to its bits, and of what processes remember.
 import { numberRuns, scanRuns, wordRuns } from "./bands.js";
-import { numberLabels, tagWords } from "./labels.js";
-import { fitting, rounded, shape, stacked, textAt, titled, widthOf } from "./shapes.js";
+import { numberLabels, tagLabels, writtenLabels } from "./labels.js";
+import { rounded, shape, sized, stacked, textAt, titled, widthOf } from "./shapes.js";
 
 export const ROW = 30;
-const BAND = ROW - 10, BAND_SIZE = 13, MORE_EVERY = 700, FEW_REGISTERS = 4;
+const BAND = ROW - 10, BAND_SIZES = [13, 11], MORE_EVERY = 700, FEW_REGISTERS = 4;
 // For each register its name, the strip that is shown while it is folded, and the one below it.
 // `bits` makes the strip of the rows of a register's bits.
 export function registerRows(drawing, reading, bits, shared) {
@@ -23,15 +23,17 @@ export function registerRows(drawing, reading, bits, shared) {
   });
 }
 function bandOf(name, runs, codes) {
-  const words = (code, isWritten) => numberLabels(codes, code, isWritten);
-  return { name, kind: "band", runs: runs.map(([from, to, code, written]) => ({ from, to,
-    isWritten: written !== null, words: words(written ?? code, written !== null) })) };
+  const words = (numbers, written) => (written === null ? numberLabels(codes, numbers[0])
+    : writtenLabels(codes, numbers, written));
+  return { name, kind: "band", runs: runs.map(([from, to, numbers, written]) => ({ from, to,
+    isWritten: written !== null, isEither: numbers.length > 1,
+    words: words(numbers, written) })) };
 }
 function memoryBands(facts, codes, register) {
   const { reader, writer } = register, words = (runs, labels) =>
     runs.map(([from, to, value]) => ({ from, to, words: value === null ? ["?"] : labels(value) }));
   const best = (code) => (codes.kind === "matrix"
-    ? [tagWords(codes, codes.parts(code).inner), `${code}`] : numberLabels(codes, code, false));
+    ? tagLabels(codes, codes.parts(code).inner) : numberLabels(codes, code));
   return [
     { name: `p${reader} remembers`, kind: "band memory",
       runs: words(wordRuns(facts, register, "best"), best) },
@@ -47,22 +49,24 @@ function bandStrip(drawing, reading, bands, kind, shared) {
   const veil = drawing.veil(reading.from, shared, height);
   return drawing.strip(`rows ${kind}`, labels, [...drawn, ...veil], height);
 }
-// a box with words, hatched while the number changes
-function boxOf(drawing, reading, { from, to, isWritten, words }, kind, y) {
+// a box with words, dashed while the number is being written, and hatched while it changes
+function boxOf(drawing, reading, { from, to, isWritten, isEither, words }, kind, y) {
   const [x, right] = drawing.reach(reading, from, to), width = right - x;
-  const found = fitting(words, width, BAND_SIZE);
-  const box = shape("rect", { class: isWritten ? "written" : kind, x, y, width, height: BAND });
-  const given = { class: "box", "data-from": from, "data-to": to };
+  const { words: found, size } = sized(words, width, BAND_SIZES) || {};
+  const look = isEither ? "written" : `${kind}${isWritten ? " going" : ""}`;
+  const box = shape("rect", { class: look, x, y, width, height: BAND });
+  const given = { class: isWritten ? "box going" : "box", "data-from": from, "data-to": to };
   if (!found) return shape("g", given, titled(words[0]), box);
-  if (isWritten) {
-    const plate = Math.min(width - 4, widthOf(found, BAND_SIZE) + 2);
+  const less = size === BAND_SIZES[0] ? "" : " less";
+  if (isEither) {
+    const plate = Math.min(width - 4, widthOf(found, size) + 2);
     return shape("g", given, titled(words[0]), box,
       shape("rect", { class: "plate", x: x + 3, y: y + 2, width: plate, height: BAND - 4 }),
-      textAt(found, x + 5, y + 15, "on-hatch"));
+      textAt(found, x + 5, y + 15, `on-hatch${less}`));
   }
   const many = Math.max(1, Math.floor(width / MORE_EVERY)), texts = [];
   for (let at = 0; at < many; at++)
-    texts.push(textAt(found, x + 5 + at * (width / many), y + 15, "in begins"));
+    texts.push(textAt(found, x + 5 + at * (width / many), y + 15, `in${less} begins`));
   return shape("g", given, titled(words[0]), box, texts);
 }
 // a bit's read below the number's row: a line, or teeth if it was hit

@@ -1,26 +1,17 @@
-// The number in each register over time, by runs of places: what it is, what is being written, when
-// it is scanned, and what its writer and its reader remember.
+// The number in each register over time, by runs of places: what a scan finds, what is being written,
+// when it is scanned, and what its writer and its reader remember.
 import { lengthen } from "./reading.js";
 
-// runs of [first place, last place, number, the number being written or null]
+// runs of [first place, last place, numbers that a scan can find, number being written or null]
 export function numberRuns(facts, register) {
-  const { reading: { from, to } } = facts, runs = [];
-  let place = from, code = null;
-  const settle = (end) => {
-    for (; place <= end; place++) {
-      const last = runs.at(-1);
-      code = facts.numberAt(register, place);
-      if (last && last[3] === null && last[2] === code) last[1] = place;
-      else runs.push([place, place, code, null]);
-    }
-  };
-  for (const it of writesOfNumber(facts, register)) {
-    settle(Math.min(it.from - 1, to));
-    const begin = Math.max(it.from, from), end = Math.min(it.to, to);
-    if (begin <= end) runs.push([begin, end, code, it.value]);
-    place = Math.max(place, end + 1);
+  const { reading: { from, to } } = facts, runs = [], written = Array(to + 1).fill(null);
+  for (const it of writesOfNumber(facts, register))
+    written.fill(it.value, Math.max(it.from, from), Math.min(it.to, to) + 1);
+  for (let place = from; place <= to; place++) {
+    const numbers = facts.numbersAt(register, place, written[place]), last = runs.at(-1);
+    if (last && last[3] === written[place] && String(last[2]) === String(numbers)) last[1] = place;
+    else runs.push([place, place, numbers, written[place]]);
   }
-  settle(to);
   return runs;
 }
 const isOf = (facts, register) => (it) => facts.registerOf(it)?.name === register.name;

@@ -15,7 +15,7 @@ export class Drawing {
   // The columns from a step to another are drawn, of a tower of that shape. `depthOf` is how many
   // layers are drawn below a process's operations.
   constructor({ from, to, column, axis = new Axis(column) }, tower, { depthOf, codes } = {}) {
-    const layers = layersOf(tower), hasTexts = column >= WORDY && !axis.isElastic;
+    const layers = layersOf(tower), hasTexts = column >= TICK_WORDS && !axis.isElastic;
     Object.assign(this, { from, to, column, axis, tower, layers, hasTexts, codes, depthOf });
   }
   left(step) { return this.axis.left(step); }

@@ -1,4 +1,5 @@
 // A time line of a lesson as a picture that can be played, step by step.
+import { othersOf } from "./aligned.js";
 import { answer } from "./engine.js";
 import { Document, EMPTY_TOWER } from "./document.js";
 import { LABEL, MARGIN } from "./measures.js";
@@ -91,15 +92,24 @@ class Figure {
     else this.put(this.place + 1);
   }
 }
-// makes the picture of a time line; `enter` opens the lesson's script in the workbench
-export async function putFigure(target, lesson, enter) {
+// the tower without the number's inversions that can take a time line's operations
+function secondOf({ tower }, { steps }) {
+  const isStamped = (it) => it.startsWith("stamped ");
+  return tower.startsWith("unary ") ? othersOf(tower, steps).find(isStamped) : undefined;
+}
+// makes the picture of a time line; `enter` opens the lesson's script in the workbench, and
+// `enterBoth` its schedule with a second tower below
+export async function putFigure(target, lesson, enter, enterBoth) {
   const { part, branch: name } = target.dataset, { tower, script } = partOf(lesson, part);
   const text = target.querySelector("pre"), written = name === "main" ? "" : script;
   const model = await Model.of(Document.of(tower || EMPTY_TOWER, written), answer);
   const branch = model.branch(name), figure = new Figure(target, model, branch);
   const title = "play the lesson's script line by line", onclick = () => enter(part);
   const open = element("button", { "data-play": part, onclick, title }, "Play its script");
-  figure.row.append(element("span", { class: "gap" }), open);
+  const second = secondOf(model, branch), both = second && element("button", {
+    "data-second": second, title: "the same operations on both towers, one above the other",
+    onclick: () => enterBoth(part, branch.length, second) }, `Next to ${second}`);
+  figure.row.append(element("span", { class: "gap" }), ...[both, open].filter(Boolean));
   const fold = (words, ...its) => element("details", {}, element("summary", {}, words), ...its);
   // (of a long schedule the text says more at a glance)
   if (branch.length > LONG_SCHEDULE)

@@ -18,7 +18,8 @@ function frameOf(words) {
   return MADE.get(words);
 }
 // `value` is what is written there, `part` which of its parts is in work, and `index` its number;
-// a matrix has a phase too, `read` in the column and `write` in the row, and a tagged code
+// a matrix has a phase too, `read` in the column and `write` in the row, and a tagged code; a safe
+// bit is begun, or it isn't yet
 function madeFrame(words) {
   const match = FRAME.exec(words);
   if (!match) return null;
@@ -26,6 +27,7 @@ function madeFrame(words) {
   const frame = { words, layer, isWrite, value: isWrite ? Number(given.shift()) : null, part: "" };
   if (layer === "unary" || layer === "copies")
     return { ...frame, part: given[0], index: Number(given[0]) };
+  if (layer === "safe") return { ...frame, isBegun: given[0] === "1" };
   if (layer !== "matrix") return frame;
   const [phase, index, code] = given;
   return { ...frame, phase, index: Number(index), code: Number(code), part: `${phase} ${index}` };

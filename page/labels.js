@@ -21,12 +21,24 @@ function shortTag(codes, inner) {
   const { tag, writer, value } = codes.parts(inner);
   return `t${tag} p${writer}: ${value}`;
 }
-// the words for a number on a band; while it is written, for the one that is written
-export function numberLabels(codes, code, isWritten) {
-  const { long, short } = code === null ? {} : codeWords(codes, code);
-  const all = code === null ? ["no bit is 1", "?"]
-    : codes.kind === "unary" ? [long] : [`code ${code} = ${long}`, long, short, `${code}`];
-  return isWritten ? all.map((it) => `\u2192 ${it}`).concat(all.at(-1)) : all;
+export const tagLabels = (codes, inner) => [tagWords(codes, inner), shortTag(codes, inner)];
+// the words for a number on a band
+export function numberLabels(codes, code) {
+  if (code === null) return ["no bit is 1", "?"];
+  const { long, short } = codeWords(codes, code);
+  return codes.kind === "unary" ? [long] : [`code ${code} = ${long}`, long, short, `${code}`];
+}
+// while a number is written, the words for those that a scan can find, the written one last
+export function writtenLabels(codes, numbers, written) {
+  const [first, last] = [numbers[0], numbers.at(-1)], noun = codes.kind === "unary" ? "" : "code ";
+  const { long, short } = codeWords(codes, last), when = last === written ? "already" : "still";
+  const brief = codes.kind === "matrix" ? [`${when} ${short}`] : [];
+  const about = noun ? [`${when} ${noun}${last} = ${long}`, ...brief] : [];
+  if (numbers.length > 1)
+    return [`a scan finds ${noun}${first} or ${noun}${last}`, `${noun}${first} or ${last}`,
+      `${first} or ${last}`, `${first}|${last}`];
+  return [...about, `a scan finds ${noun}${last}`, `${when} ${noun}${last}`, `${when} ${last}`,
+    `${last}`];
 }
 // the words for an inner operation; an outermost one has those of its operation
 export function labelsOf(facts, it) {
@@ -36,9 +48,13 @@ export function labelsOf(facts, it) {
   if (it.layer === "unary") return ofNumber(facts, it);
   return it.layer === "regular" ? ofBit(facts, it) : ofCopy(facts, it);
 }
-function ofMatrix({ codes }, { operation: { name }, last: { phase, code } }) {
+function ofMatrix(facts, root) {
+  const { operation: { name }, last: { phase, code }, isWrite } = root, { codes } = facts;
   if (phase === "read") return [`${name}: reads its column`, name];
-  return [`${name} = ${tagWords(codes, code)}`, `${name} = ${shortTag(codes, code)}`, name];
+  const [long, short] = tagLabels(codes, code);
+  const entry = isWrite ? null : facts.entryOf(root), of = entry && facts.registerOf(entry).name;
+  const ofEntry = of ? [`${name} = ${of}: ${long}`, `${name} = ${of}: ${short}`] : [];
+  return [...ofEntry, `${name} = ${long}`, `${name} = ${short}`, name];
 }
 function ofStamped(facts, it) {
   const { codes } = facts, { name } = it.operation, [register] = codes.registers;
@@ -61,7 +77,7 @@ function ofWhole(facts, it) {
     const found = facts.found(it);
     if (found === null) return [name, "r"];
     return [`${name}: the first 1 that it found is bit ${found}`, `${name}: found bit ${found}`,
-      name, "r"];
+      `found bit ${found}`, name, "r"];
   }
   const got = facts.bitOf(it);
   if (!got) return [name, "r"];
@@ -75,14 +91,15 @@ function ofPart(facts, it) {
   if (it.isWrite) {
     const { inner, stamp } = codes.parts(it.value), long = tagWords(codes, inner);
     return [`${name} := ${long} (stamp ${stamp})`, `${name} := ${long}`,
-      `${name} := ${shortTag(codes, inner)}`, `${name} :=`, ...labels];
+      `${name} := ${shortTag(codes, inner)}`, `${digits} := ${shortTag(codes, inner)}`,
+      `${name} :=`, ...labels];
   }
   const best = it.isEnded && register ? facts.best(register, it.to + 1) : null;
   if (best === null) return [`read ${name}`, ...labels];
   const found = facts.found(it), { inner } = codes.parts(best), short = shortTag(codes, inner);
   const kept = found === best ? "" : ` (remembered; found code ${found})`;
   return [`read ${name}: ${tagWords(codes, inner)}${kept}`, `read ${name}: ${short}`,
-    `${name}: ${short}`, `read ${name}`, ...labels];
+    `${name}: ${short}`, `${digits}: ${short}`, `read ${name}`, ...labels];
 }
 function ofNumber(facts, it) {
   const { codes } = facts, noun = codes.kind === "unary" ? "" : "code ";
@@ -104,7 +121,8 @@ function ofBit(facts, it) {
   }
   const got = facts.bitOf(it);
   if (!got) return [`${name}is being read`, `${name}\u2026`, `${index}`];
-  if (got.isHit) return [`${name}hit, chosen ${got.value}`, `${name}hit`, `${index}`];
+  if (got.isHit)
+    return [`${name}hit, chosen ${got.value}`, `${name}hit`, name.trim(), `${index}`];
   return [`${name}is ${got.value}`, `${index}=${got.value}`, `${index}`];
 }
 function ofCopy(facts, it) {

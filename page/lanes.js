@@ -3,9 +3,11 @@ import { SIGNS, labelsOf } from "./labels.js";
 import { BAR, MARGIN, TICK_WORDS } from "./measures.js";
 import { NEST, nestedBars } from "./nests.js";
 import { between } from "./pages.js";
-import { fitting, rounded, shape, textAt, titled, widthOf } from "./shapes.js";
+import { rounded, shape, sized, textAt, titled, widthOf } from "./shapes.js";
 
 const TICKS = 21, TAG = 24, LONG_BITS = 16, SHORT_BITS = 10, TEXT_MORE = 832, TEXT_GAP = 240;
+// the sizes of letters on an operation's bar, and how drawing.css names them
+const OP_LOOKS = { 17: "op", 15: "op small", 13: "op less" }, OP_SIZES = [17, 15, 13];
 // The lanes of one reading. `shared`: how many steps are drawn above already, on another branch.
 export class Lanes {
   constructor(drawing, reading, shared) {
@@ -109,10 +111,10 @@ export class Lanes {
     const hits = this.hasBits(process) ? [] : reading.marks.filter(isOwn);
     const diamonds = hits.map(({ step }) => drawing.middle(step) - 16);
     const room = Math.min(end, drawing.left(to), ...diamonds) - begin;
-    const shown = fitting(labels, room - 6, 15), short = `${it.kind[0]} ${name.slice(6)}`.trim();
+    const short = `${it.kind[0]} ${name.slice(6)}`.trim();
+    const { words: shown, size } = sized(labels, room - 6, OP_SIZES) || {};
     if (!shown) return begun >= from ? [textAt(short, begin + 3, y, "op")] : [];
-    const isLarge = Boolean(fitting([shown], room - 6, 17)), kind = isLarge ? "op" : "op small";
-    const width = widthOf(shown, isLarge ? 17 : 15), texts = [];
+    const kind = OP_LOOKS[size], width = widthOf(shown, size), texts = [];
     const first = drawing.left(begun) + 8, every = Math.max(TEXT_MORE, width + TEXT_GAP);
     let x = first + Math.max(0, Math.ceil((begin - first) / every)) * every;
     for (; x + width * 0.9 <= begin + room - 4; x += every) texts.push(textAt(shown, x, y, kind));

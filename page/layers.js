@@ -6,7 +6,8 @@
 // of which docs/guide/towers.md states where it describes the layer that is named here:
 // - a scan's number is the last bit that it looked at (unary): `found`;
 // - a read of a bit gives the choice if it was hit, else the bit where it ends (safe): `bitOf`;
-// - a number is the index of its first bit that is 1 (unary): `numberAt`;
+// - a number is the index of its first bit that is 1, with either value for the bit that is being
+//   written (unary, safe): `numbersAt`;
 // - what a code is of, and which cells and words R[i][j] has (stamped, matrix): `Codes`;
 // - a write of X sets bit X and then clears X - 1 down to 0, and passes those bits that were last
 //   written so (unary, regular): `skipped`.
@@ -129,11 +130,26 @@ export class Facts {
   // the last stamp of a register's writer, and the greatest code that its reader has read
   stamp({ word }, place) { return this.memory(place)[word + this.codes.size] ?? null; }
   best({ word }, place) { return this.memory(place)[word + this.codes.size + 1] ?? null; }
-  // the number in a register that isn't being written; null if none of its bits is 1
-  numberAt({ cell }, place) {
+  // the numbers that scans of a register's bits find if these stay as they are, the written one
+  // last: while a bit is being written, those with either value of it
+  numbersAt(register, place, written) {
     const { size, readers } = this.codes, bits = this.page("state", place)?.bits || "";
-    const at = between(0, size).find((it) => bits[cell + it * readers] === "1");
-    return at ?? null;
+    const inWork = this.bitInWork(register, place), indices = between(0, size);
+    const firstOne = (copy, value) => indices.find((index) => {
+      const cell = register.cell + copy + index * readers;
+      return cell === inWork ? value : bits[cell] === "1";
+    }) ?? null;
+    const copies = between(0, written === null ? 1 : readers);
+    const found = copies.flatMap((copy) => [firstOne(copy, false), firstOne(copy, true)]);
+    return [...new Set(found)].sort((a, b) => (a === written) - (b === written));
+  }
+  // the bit of a register that is being written at a place, or null
+  bitInWork({ cell, name, writer }, place) {
+    const { layers, codes } = this, frames = layers.framesAt(place, writer), safe = frames.at(-1);
+    if (!safe?.isWrite || !safe.isBegun) return null;
+    if (codes.kind === "matrix" && codes.partOf(writer, frames[0]).name !== name) return null;
+    const indexIn = (layer) => frames.find((it) => it.layer === layer).index;
+    return cell + indexIn("unary") * codes.readers + indexIn("copies") - 1;
   }
   // what a read of a bit gave, whether it was hit, and its cell; null while it goes on
   bitOf(it) {
@@ -156,6 +172,12 @@ export class Facts {
     let at = it;
     while (at && at.above?.layer !== "matrix") at = at.above;
     return at ? codes.partOf(at.process, at.within) : null;
+  }
+  // the first read of a matrix's column that found its greatest tagged code; null if it isn't known
+  entryOf(root) {
+    const { code } = root.last, { codes } = this, isRead = (it) => it.within.phase === "read";
+    const inner = (it) => it.isEnded && codes.parts(this.best(this.registerOf(it), it.to + 1)).inner;
+    return root.isCut ? null : root.inner.find((it) => isRead(it) && inner(it) === code) || null;
   }
   // the bits that a write of a number passes before each of its inner writes, and after the last
   skipped(it) {

@@ -66,7 +66,8 @@ function registerCell(card, register, name) {
     : `code ${best} = ${codeWords(codes, best).long}`);
   const memory = codes.kind !== "unary" && isSmall && best !== code
     && `p${register.reader} remembers ${bestWords()}`;
-  return element(name, { class: kind.join(" "), "data-register": register.name },
+  const given = { class: kind.join(" "), "data-register": register.name, "data-code": code };
+  return element(name, given,
     element("b", {}, register.name), writing && at(writing, "writes"),
     codeLines(codes, writing ? writing.unary.value : code, isSmall),
     reading.map((it) => at(it, "scans")), memory && element("small", {}, memory));

@@ -1,9 +1,12 @@
 // The operations inside an operation as bars, a row for each layer below its own bar.
 import { labelsOf } from "./labels.js";
-import { fitting, shape, textAt, titled } from "./shapes.js";
+import { fitting, shape, sized, textAt, titled } from "./shapes.js";
 
 export const NEST = 23;
-const NEST_SIZE = 13, LITTLE_SIZE = 10, REPEATED_EVERY = 700, GOES_ON = 40;
+// the sizes of letters, and how drawing.css names them
+const NEST_LOOKS = { 13: "in begins", 11: "in less begins" };
+const NEST_SIZES = [13, 11];
+const LITTLE_SIZE = 10, REPEATED_EVERY = 700, GOES_ON = 40;
 // `layers` are the names of the layers that are drawn, and `top` is the first one's y
 export function nestedBars(drawing, reading, root, layers, top) {
   const { facts } = reading;
@@ -25,14 +28,14 @@ function nestedBar(drawing, reading, it, layer, y) {
 }
 // the words that fit, again and again on a long bar
 function nestTexts(labels, x, y, width) {
-  const words = fitting(labels, width, NEST_SIZE);
+  const { words, size } = sized(labels, width, NEST_SIZES) || {};
   if (!words) {
     const little = fitting(labels, width + 3, LITTLE_SIZE);
     return little ? [textAt(little, x + width / 2, y + 13, "in little")] : [];
   }
   const many = Math.max(1, Math.floor(width / REPEATED_EVERY)), texts = [];
   for (let at = 0; at < many; at++)
-    texts.push(textAt(words, x + 4 + at * (width / many), y + 14, "in begins"));
+    texts.push(textAt(words, x + 4 + at * (width / many), y + 14, NEST_LOOKS[size]));
   return texts;
 }
 // one that goes on at the branch's end reaches a little further, unless its process stopped

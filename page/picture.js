@@ -242,7 +242,7 @@ function putChoices() {
   if (isComparing()) choices.push([show, show.replace("compare ", "").replace(" ", " and ")]);
   putIfChanged(one("#show"), JSON.stringify(choices), () =>
     choices.map(([value, words]) => element("option", { value }, words)));
-  one("#show").value = show;
+  Object.assign(one("#show"), { value: show, hidden: branches.length < 2 });
 }
 export function comparison() {
   if (!isComparing()) return "";
@@ -253,10 +253,10 @@ export function comparison() {
   if (at >= a.length && at >= b.length) return `${said}, and all their steps are equal.`;
   return `${said}; the first that differs is step ${at}: ${on(a)}, ${on(b)}.`;
 }
-const LIGHTS = ["lit", "dim", "picked", "lifted"];
+const LIGHTS = ["lit", "dim", "picked", "lifted", "source"];
 export function light() {
   const { picked } = now.view, read = pickedRead();
-  for (const it of all(".lit, .dim, .picked, .lifted")) it.classList.remove(...LIGHTS);
+  for (const it of all(LIGHTS.map((name) => `.${name}`).join())) it.classList.remove(...LIGHTS);
   const section = read && all(".panel").find((it) => it.dataset.branch === picked.name);
   const lanes = section && section.querySelector(".lanes");
   one("#zone").hidden = !lanes;
@@ -272,13 +272,30 @@ export function light() {
     width: `${width}px`, height: `${lanes.offsetHeight}px` });
   lightStory(section, read, storyOfRead(picked.name, read));
 }
-// the bars, rows and cells that a read's sentence names
+// the bars, rows and cells that a read's sentence names, and what gave the value
 function lightStory(section, { process }, story) {
-  for (const { layer, from } of story?.parts || []) {
-    const bar = `[data-nest="${layer}"][data-from="${from}"][data-process="${process}"]`;
-    section.querySelector(bar)?.classList.add("lit");
+  if (!story) return;
+  for (const it of story.parts) {
+    const at = `[data-from="${it.from}"][data-process="${process}"]`;
+    const bar = section.querySelector(`[data-nest="${it.layer}"]${at}`);
+    bar?.classList.add("lit", ...(it === story.source ? ["source"] : []));
   }
-  for (const name of story?.rows || [])
-    for (const it of [...section.querySelectorAll("[data-row]"), ...all("[data-register]")])
-      if ([it.dataset.row, it.dataset.register].includes(name)) it.classList.add("lit");
+  for (const { name, place, code } of story.rows) {
+    const row = section.querySelector(`[data-row="${name}"]`), hasCode = Number.isInteger(code);
+    const isThere = ({ dataset: { from, to } }) => from <= place && place <= to;
+    const box = [...(row?.querySelectorAll(".box") || [])].find(isThere);
+    row?.classList.add("lit");
+    box?.classList.add("lit", ...(hasCode ? ["source"] : []));
+    // (a cell shows the cursor's place, at which it may hold another number)
+    if (hasCode) one(`[data-register="${name}"][data-code="${code}"]`)?.classList.add("lit");
+  }
+  authorOf(section, story)?.classList.add("source");
+}
+// the write of the tagged code that a matrix's read gives
+function authorOf(section, { written }) {
+  const isIt = ({ isWrite, process, last }) => isWrite && process === written.writer
+    && last.phase === "write" && last.code === written.code;
+  const { roots } = now.readings.get(now.view.picked.name).facts.layers;
+  const root = written && roots.find(isIt);
+  return root && section.querySelector(`.operation.write[data-at="${root.operation.begun}"]`);
 }

@@ -17,6 +17,12 @@ const MOST_TRANSFERRED = 200, LEAST_STEP = 12;
 const below = { tower: "", key: "", model: null };
 export const forgetSecond = () => Object.assign(below, { tower: "", key: "", model: null });
 export function chooseSecond(tower) { below.tower = tower; }
+// as if a person chose it
+export function askForSecond(tower) {
+  const select = one("#second-tower");
+  select.value = tower;
+  select.dispatchEvent(new Event("change"));
+}
 // all that the cursor's branch does; its pages are asked for once a second tower is chosen
 function firstRun() {
   const { name, branch: { length } } = here(), { model } = now;
@@ -73,7 +79,8 @@ function partsBelow({ model }) {
 }
 export function putSecond() {
   const towers = offered(), select = one("#second-tower"), section = one("#second");
-  const words = [["", "one tower"], ...towers.map((it) => [it, `and ${it}`])];
+  const none = below.tower ? "one tower" : "and on\u2026";
+  const words = [["", none], ...towers.map((it) => [it, `and ${it}`])];
   select.hidden = !towers.length;
   putIfChanged(select, JSON.stringify(words), () =>
     words.map(([value, text]) => element("option", { value }, text)));

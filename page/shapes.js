@@ -15,6 +15,12 @@ export const widthOf = (words, size = 15) => words.length * size * 0.62;
 // the first of several words that fits a width, in letters of a size
 export const fitting = (all, width, size) =>
   all.find((it) => widthOf(it, size * 0.92) + 7 <= width);
+// the first of several words that fits a width in the last of some sizes, which is the least one,
+// and the first size in which it fits; words that say more are taken before larger letters
+export function sized(all, width, sizes) {
+  const words = fitting(all, width, sizes.at(-1));
+  return words ? { words, size: sizes.find((it) => fitting([words], width, it)) } : null;
+}
 // one strip's content below another's, under the first one's name
 export function stacked(above, below) {
   const under = (shapes) => shape("g", { transform: `translate(0 ${above.height})` }, shapes);

@@ -1,10 +1,12 @@
 // Why a read gave its value, by what it read inside: a sentence, and what it names.
 import { codeWords, tagWords } from "./labels.js";
 
-// Returns `words`, the sentence on a read; `parts`, the inner operations that it names, and `rows`,
-// the names of the rows. `root` is the read's outermost inner operation.
+const NOTHING = { words: "", parts: [], rows: [] };
+// Returns `words`, the sentence on a read; `parts`, the inner operations that it names; and `rows`,
+// for each row that it names the place at which it was read. What gave the value is `source`, a
+// part, or it is the row that has `code`. `root` is the read's outermost inner operation.
 export function storyOf(facts, root) {
-  if (!root || root.isWrite || root.isCut) return { words: "", parts: [], rows: [] };
+  if (!root || root.isWrite || root.isCut) return NOTHING;
   if (root.layer === "matrix") return storyOfMatrix(facts, root);
   if (root.layer === "stamped") return storyOfStamped(facts, root);
   return root.layer === "unary" ? storyOfNumber(facts, root) : storyOfBit(facts, root);
@@ -15,7 +17,7 @@ function storyOfBit(facts, root) {
   const words = !got ? "" : got.isHit
     ? `${name} was being written, so it was given the choice ${got.value}.`
     : `${name} was ${got.value}.`;
-  return { words, parts: [], rows: got ? [`bit ${got.cell}`] : [] };
+  return { words, parts: [], rows: got ? [{ name: `bit ${got.cell}`, place: root.to }] : [] };
 }
 // the bits that a scan read, neighbours that gave the same as one
 function scanWords(facts, scan) {
@@ -35,18 +37,24 @@ function scanWords(facts, scan) {
 function storyOfNumber(facts, root) {
   const found = facts.found(root), words = scanWords(facts, root);
   const end = found === null ? ", so far" : `: the first 1 that it found is bit ${found}`;
-  return { words: `${words}${end}.`, parts: root.inner, rows: ["number"] };
+  const source = found === null ? null : root.inner.at(-1);
+  return { words: `${words}${end}.`, parts: root.inner, source,
+    rows: [{ name: "number", place: root.to, code: found }] };
 }
 function storyOfStamped(facts, root) {
   const { codes } = facts, [register] = codes.registers, [scan] = facts.layers.of("unary", root);
-  if (!scan) return { words: "", parts: [], rows: [] };
-  const named = { parts: [scan, ...scan.inner], rows: ["register", `p${root.process} remembers`] };
-  const found = facts.found(root), words = scanWords(facts, scan);
-  if (found === null) return { ...named, words: `${words}, so far.` };
+  if (!scan) return NOTHING;
+  const parts = [scan, ...scan.inner], remembers = `p${root.process} remembers`;
+  const found = facts.found(root), words = scanWords(facts, scan), place = root.to;
+  if (found === null)
+    return { parts, rows: [{ name: "register", place }], words: `${words}, so far.` };
   const before = facts.best(register, root.from), after = facts.best(register, root.to + 1);
+  const isFound = after === found, rows = [{ name: "register", place },
+    isFound ? { name: remembers, place: place + 1 } : { name: remembers, place, code: after }];
+  const named = { parts, rows, source: isFound ? scan : null };
   const code = (it) => `code ${it} = ${codeWords(codes, it).long}`, who = `p${root.process}`;
   const first = `${words}: so it found ${code(found)}.`;
-  if (after !== found)
+  if (!isFound)
     return { ...named, words: `${first} But ${who} remembered ${code(after)}, which is greater, `
       + `and gives that one's value, ${codes.parts(after).value}.` };
   return { ...named, words: `${first} ${who} ${before === found ? "remembered that code already"
@@ -56,13 +64,17 @@ function storyOfMatrix(facts, root) {
   const { codes } = facts, { phase, code } = root.last;
   const inPhase = (wanted) => root.inner.filter((it) => it.within.phase === wanted);
   const nameOf = (it) => facts.registerOf(it)?.name || "a register";
-  const column = inPhase("read"), row = inPhase("write").map(nameOf), rows = column.map(nameOf);
-  const words = column.map((it) => partWords(facts, it, nameOf(it))), parts = column;
-  const first = `It read its column: ${words.join("; ")}.`;
-  if (phase === "read") return { words: first, parts, rows };
-  const { value } = codes.parts(code), last = root.isEnded ? "wrote" : "writes";
-  return { parts, rows, words: `${first} The greatest is ${tagWords(codes, code)}: it ${last} that `
-    + `to its row, ${row.join(" and ")}, and gives its value, ${value}.` };
+  const column = inPhase("read"), row = inPhase("write").map(nameOf), parts = column;
+  const words = column.map((it) => partWords(facts, it, nameOf(it)));
+  const first = `It read its column: ${words.join("; ")}.`, source = facts.entryOf(root);
+  const rows = column.map((it) => ({ name: nameOf(it), place: it.to,
+    code: it === source && facts.best(facts.registerOf(it), it.to + 1) }));
+  if (phase === "read" || root.operation.refusal) return { words: first, parts, rows };
+  const { value, writer } = codes.parts(code), last = root.isEnded ? "wrote" : "writes";
+  return { parts, rows, source, written: { code, writer },
+    words: `${first} The greatest is ${tagWords(codes, code)}, in ${nameOf(source)}: it gives that `
+    + `one's value, ${value}. It ${last} that to its row, ${row.join(" and ")}, so that no later `
+    + "read gives an older value." };
 }
 // what a read of a register of the column gave
 function partWords(facts, it, name) {

@@ -33,11 +33,16 @@ def has_module():
     return bool(RELEASED) or module.is_current()
 
 
-def packed(path):
-    """Returns the page with the module of a path, as it opens with its first screen."""
-    if RELEASED.get(module.PROGRAM) == path:
+def made_modules():
+    """Returns the path of each program's module, by the program's name."""
+    return {it: made_module(it) for it in module.PROGRAMS}
+
+
+def packed(modules):
+    """Returns the page with these modules, each of a path, as it opens with its first screen."""
+    if RELEASED and modules == RELEASED:
         return releases.read(releases.PAGE).decode()
-    return pack.packed(path, None)
+    return pack.packed(modules, None)
 
 
 def put_modules(room, script):

@@ -75,6 +75,8 @@ def reasons(page):
         ["register", "p1 remembers"],
     )
     same(page.text(".operation.read[data-at='13'] .op"), "found 0, kept 3")
+    # what gave the value isn't what the scan found, but what was remembered when it began
+    same(page.texts(".source title"), ["code 3 = stamp 1, value 1"])
     opened(page, UNARY)
     click_in(page, ".operation.read")
     holds(
@@ -84,15 +86,21 @@ def reasons(page):
     opened(page, MATRIX, "0 join\n0 go main 74\n")
     click_in(page, '.operation.read[data-process="0"]')
     holds(
-        "It read its column: R[0][0]: tag 1, p0 wrote 1; R[1][0]: tag 1, p1 wrote 0. The greatest is tag 1, p1 wrote 0"
-        in page.said(),
+        "It read its column: R[0][0]: tag 1, p0 wrote 1; R[1][0]: tag 1, p1 wrote 0. The greatest is tag 1, p1 wrote 0, in "
+        "R[1][0]: it gives that one's value, 0. It wrote that to its row, R[0][0] and R[0][1], so that no later read gives "
+        "an older value." in page.said(),
         page.said(),
     )
+    same(page.text(".operation.picked .op"), "read = R[1][0]: tag 1, p1 wrote 0")
+    # what gave the value: the read of that register, the number in it then, its cell, and the write of it
+    same(page.texts(".nest.source title"), ["read R[1][0]: tag 1, p1 wrote 0"])
+    same(page.texts(".box.source title"), ["code 14 = tag 1, p1 wrote 0, stamp 1"])
+    same(page.texts(".operation.source .op"), ["write 0 = tag 1, p1 wrote 0"])
     same(
         page.value(
             "[...document.querySelectorAll('.memory.lit')].map((it) => it.dataset.register)"
         ),
-        ["R[0][0]", "R[1][0]"],
+        ["R[1][0]"],
     )
 
 
@@ -194,9 +202,13 @@ def two_towers(page):
     opened(page, INVERSION)
     same(
         page.texts("#second-tower option"),
-        ["one tower", "and safe 0", "and regular 1 0", "and stamped 2 1"],
+        ["and on\u2026", "and safe 0", "and regular 1 0", "and stamped 2 1"],
     )
-    page.fill("#second-tower", "stamped 2 1")
+    # the lesson has a button for it
+    page.do("study")
+    page.click("[data-study='05-new-old-inversion']")
+    page.until("'drawn' in document.querySelector('#study-text').dataset")
+    page.click("[data-second='stamped 2 1']")
     page.until("!document.querySelector('#second').hidden")
     same(page.texts(".panel .verdict text"), ["1 \u25d0 overlap", "0 \u25cf fresh"])
     same(page.texts("#second .verdict text"), ["1 \u25d0 overlap", "1 \u25d0 overlap"])

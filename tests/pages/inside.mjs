@@ -12,8 +12,8 @@ import { Reading } from "./page/reading.js";
 import { looksOf } from "./page/still.js";
 import { storyOf } from "./page/stories.js";
 
-// (wide enough for the longest words of each bar and each box)
-const COLUMN = 3000;
+// (wide enough for the longest words of each bar and each box; and as narrow as they are in the page)
+const COLUMN = 3000, NARROW = [44, 104];
 const [wasm, schedules] = process.argv.slice(2);
 const module = await WebAssembly.compile(readFileSync(wasm));
 const ask = async (...given) => answerBy(module, ...given);
@@ -22,6 +22,8 @@ function found(shapes, isWanted) {
   return shapes.flatMap((it) => (isWanted(it) ? [it] : found(childrenOf(it), isWanted)));
 }
 const titleOf = (it) => it.children.find(({ name }) => name === "title").children[0];
+const isText = ({ name }) => name === "text";
+const textsOf = (it) => found(childrenOf(it), isText).map(({ children }) => children[0]);
 const rectOf = (it) => childrenOf(it).find(({ name }) => name === "rect").attributes;
 const has = (key) => ({ attributes }) => key in attributes;
 function nestIn(it) {
@@ -43,23 +45,35 @@ function rowIn(it) {
     scans: boxes.filter((each) => !isBox(each))
       .map((each) => [...at(each), each.attributes.class === "hit"]) };
 }
+// the words that are on bars and boxes, with those that say all
+function labelsIn({ lanes, strips }) {
+  const isBox = (it) => it.name === "g" && has("data-from")(it) && !has("data-nest")(it);
+  const all = [...found(lanes, has("data-nest")),
+    ...found(strips.flatMap(({ fold, rows }) => [...(fold?.drawn || []), ...rows.drawn]), isBox)];
+  return all.map((it) => [titleOf(it), textsOf(it)]);
+}
 function drawnFrom(model, branch, from) {
   const page = (kind, at) => (at >= from ? model.page(kind, branch.name, at) : undefined);
   const reading = new Reading(branch, from, branch.length, page);
   const layers = new Layers(reading, page);
-  const facts = new Facts(layers, model.codes), range = { from, to: branch.length, column: COLUMN };
-  const depthOf = () => layersOf(model.shape).length;
-  const drawing = new Drawing(range, model.shape, { codes: model.codes, depthOf });
+  const facts = new Facts(layers, model.codes), depthOf = () => layersOf(model.shape).length;
   reading.facts = facts;
-  const lanes = drawing.lanes(reading).drawn;
-  const strips = drawing.bits(reading, drawing.groups([reading]));
+  const drawnAt = (column) => {
+    const range = { from, to: branch.length, column };
+    const drawing = new Drawing(range, model.shape, { codes: model.codes, depthOf });
+    return { lanes: drawing.lanes(reading).drawn,
+      strips: drawing.bits(reading, drawing.groups([reading])) };
+  };
+  const { lanes, strips } = drawnAt(COLUMN), narrow = NARROW.map(drawnAt);
   const rows = strips.map(({ name, fold, rows: below }) => ({ name,
     rows: found([...(fold?.drawn || []), ...below.drawn], has("data-row")).map(rowIn) }));
   const stories = layers.roots.map((it) =>
     [it.operation.begun, it.process, storyOf(facts, it).words]);
   const isBar = ({ attributes: { class: kind = "" } }) => kind.startsWith("operation");
-  return { nests: found(lanes, has("data-nest")).map(nestIn), bars: found(lanes, isBar).map(barIn),
-    rows, stories, notes: reading.notes };
+  const barsIn = (shapes) => found(shapes, isBar).map(barIn);
+  return { nests: found(lanes, has("data-nest")).map(nestIn), bars: barsIn(lanes), rows, stories,
+    notes: reading.notes, labels: narrow.flatMap(labelsIn),
+    short: narrow.flatMap((it) => barsIn(it.lanes)) };
 }
 for (const line of readFileSync(schedules, "utf8").trim().split("\n")) {
   const [tower, middle] = JSON.parse(line);

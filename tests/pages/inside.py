@@ -27,6 +27,79 @@ TOWERS = (
     ("matrix 2 2 1 3", "matrix 2 2 2 2", "matrix 3 2 1 1"),
 )
 PROCESS = re.compile(r"p(\d) (?:idle|read|write \d+)(?: (stopped)|(?: next (..) (\d+)))?")
+# what words may be shortened to, the words for all of a bar or a box first
+TAGGED = r"tag (\d+), p(\d) wrote (\d+)"
+SHORTER = (
+    (r"bit (\d+) is ([01])", (r"\1=\2", r"\1")),
+    (r"bit (\d+) hit, chosen [01]", (r"bit \1 hit", r"bit \1", r"\1")),
+    (r"bit (\d+) is being read", ("bit \\1 \u2026", r"\1")),
+    (r"bit (\d+) := ([01])(?: \(skipped: .*\))?", (r"bit \1 := \2", r"\1:=\2", r"\1")),
+    (r"copy for (p\d) := ([01])", (r"\1 := \2", r"\1")),
+    (r"its copy is ([01])", (r"=\1",)),
+    (r"its copy", ("?",)),
+    (r"write (code )?(\d+)(?: \(.*\))?", (r"write \1\2", r":= \2")),
+    (r"scan up to bit \d+: (code )?(\d+)(?: \(.*\))?", (r"scan: \1\2", r"= \2")),
+    (r"scan, at bit \d+", ("scan",)),
+    (
+        rf"R\[(\d)\]\[(\d)\] := {TAGGED} \(stamp \d+\)",
+        (
+            r"R[\1][\2] := tag \3, p\4 wrote \5",
+            r"R[\1][\2] := t\3 p\4: \5",
+            r"\1\2 := t\3 p\4: \5",
+            r"R[\1][\2] :=",
+            r"R[\1][\2]",
+            r"\1\2",
+        ),
+    ),
+    (
+        rf"read R\[(\d)\]\[(\d)\]: {TAGGED}(?: \(remembered; found code \d+\))?",
+        (
+            r"read R[\1][\2]: t\3 p\4: \5",
+            r"R[\1][\2]: t\3 p\4: \5",
+            r"\1\2: t\3 p\4: \5",
+            r"read R[\1][\2]",
+            r"R[\1][\2]",
+            r"\1\2",
+        ),
+    ),
+    (r"read R\[(\d)\]\[(\d)\]", (r"R[\1][\2]", r"\1\2")),
+    (r"code (\d+) = (stamp (\d+), value (\d+))", (r"\2", r"s\3: \4", r"\1")),
+    (rf"code (\d+) = ({TAGGED}, stamp \d+)", (r"\2", r"t\3 p\4: \5", r"\1")),
+    (TAGGED, (r"t\1 p\2: \3",)),
+    (r"a scan finds (?:code )?(\d+) or (?:code )?(\d+)", (r"code \1 or \2", r"\1 or \2", r"\1|\2")),
+    (
+        r"(still|already) code (\d+) = .*",
+        (r"a scan finds code \2", r"\1 code \2", r"\1 \2", r"\2"),
+    ),
+    (rf"(still|already) code \d+ = {TAGGED}, stamp \d+", (r"\1 t\2 p\3: \4",)),
+    (r"a scan finds (\d+)", (r"still \1", r"already \1", r"\1")),
+)
+# likewise the words on an operation's own bar
+SHORTER_BARS = (
+    (r"(write \d+) = (code \d+) = .*", (r"\1 = \2", r"\1")),
+    (r"read: found code (\d+) = .*", (r"read: found code \1", r"found \1", "read")),
+    (
+        r"read: found code (\d+), but remembers code (\d+) = .*",
+        (r"read: found \1, remembers \2", r"found \1, kept \2", r"\1, kept \2"),
+    ),
+    (
+        r"read: the first 1 that it found is bit (\d+)",
+        (r"read: found bit \1", r"found bit \1", "read"),
+    ),
+    (r"read: bit \d+ (?:was|is) .*", ("read",)),
+    (r"(write \d+|read): reads its column", (r"\1",)),
+    (
+        rf"(write \d+|read) = (?:(R\[\d\]\[\d\]): )?{TAGGED}",
+        (
+            r"\1 = \2: t\3 p\4: \5",
+            r"\1 = tag \3, p\4 wrote \5",
+            r"\1 = t\3 p\4: \5",
+            r"\1",
+        ),
+    ),
+    (r"(w)rite (\d+).*", (r"\1 \2",)),
+    (r"(r)ead.*", (r"\1",)),
+)
 STRANGE = re.compile("undefined|NaN|null|object")
 # what a column is wide in inside.mjs, and how far a bar's ends may be from its steps'
 COLUMN, GAP = 3000, 3
@@ -216,6 +289,15 @@ class Inside:
             if not one.is_write
         )
 
+    def entry(self, it):
+        """Returns the name of the first register of the column that has its greatest tagged code."""
+        code = self.greatest(it)
+        return next(
+            self.tower.registers[self.register(one)]
+            for one in it.parts
+            if not one.is_write and self.memory(one, one.end + 1, 1) % self.tower.tagged == code
+        )
+
     def tagged(self, it):
         """Returns the tagged code that a matrix's operation writes to its row."""
         code = self.greatest(it)
@@ -350,12 +432,10 @@ class Inside:
         if not it.parts:
             return it.words
         if kind == "matrix":
-            has_row = any(one.is_write for one in it.parts)
-            return (
-                f"{it.words} = {self.tower.tag_words(self.tagged(it))}"
-                if has_row
-                else f"{it.words}: reads its column"
-            )
+            if not any(one.is_write for one in it.parts):
+                return f"{it.words}: reads its column"
+            entry = f"{self.entry(it)}: " if is_read else ""
+            return f"{it.words} = {entry}{self.tower.tag_words(self.tagged(it))}"
         part = it.parts[0]
         if not is_read:
             return (
@@ -378,10 +458,40 @@ class Inside:
         value, is_hit = self.given(it, part.parts[0])
         return f"read: bit {part.parts[0].cell} {'was hit, chosen' if is_hit else 'is'} {value}"
 
+    def scanned(self, register, place):
+        """Returns the numbers that a reader's scan finds if all bits stay as they are: either value of one that is written."""
+        found, size, readers = set(), self.tower.size, self.tower.readers
+        cells = [
+            it.split()[1:3]
+            for it in self.pages["bits"][place][: size * readers * max(1, self.tower.side) ** 2]
+        ]
+        for copy in range(readers):
+            mine = cells[
+                register * size * readers + copy : (register + 1) * size * readers : readers
+            ]
+            for otherwise in (0, 1):
+                values = [int(value) if written == "-" else otherwise for value, written in mine]
+                found.add(values.index(1))
+        return found
+
+    def going_words(self, register, place, it, part):
+        """Returns the words on a band while a number is written, and whether a scan can find both the old and the new one."""
+        written, (old,) = self.written(it, part), self.scanned(register, part.begin)
+        found = self.scanned(register, place)
+        assert found <= {
+            old,
+            written,
+        }, f"a scan finds {found} while {written} is written over {old}"
+        noun = "" if self.tower.kind == "unary" else "code "
+        if len(found) > 1:
+            return f"a scan finds {noun}{old} or {noun}{written}", True
+        (number,) = found
+        when = "already" if number == written else "still"
+        return f"{when} {self.tower.named(number)}" if noun else f"a scan finds {number}", False
+
     def bands(self, register):
-        """Returns what each band of a register has at each place: words, and whether it is being written."""
+        """Returns what each band of a register has at each place: words, and whether a scan can find either of two numbers."""
         at = {"number": [], "best": [], "stamp": []}
-        step = self.tower.size * self.tower.readers
         writes = [
             (it, part)
             for it in self.operations
@@ -389,14 +499,12 @@ class Inside:
             if part.is_write and self.register(part) == register
         ]
         for place in range(self.length + 1):
-            going = [
-                self.written(it, part) for it, part in writes if part.begin <= place <= part.end
-            ]
-            number = self.bits[place][
-                register * step : (register + 1) * step : self.tower.readers
-            ].find("1")
-            words = f"\u2192 {self.tower.named(going[0])}" if going else self.tower.named(number)
-            at["number"].append((words, bool(going)))
+            going = [(it, part) for it, part in writes if part.begin <= place <= part.end]
+            at["number"].append(
+                self.going_words(register, place, *going[0])
+                if going
+                else (self.tower.named(*self.scanned(register, place)), False)
+            )
             if self.tower.kind != "unary":
                 stamp, best = self.words[place][
                     register * (self.tower.size + 2) + self.tower.size :
@@ -493,8 +601,8 @@ class Inside:
         code = self.greatest(it)
         assert self.tower.tag(code)[2] == it.value, "the greatest is returned"
         return (
-            f"It read its column: {'; '.join(words)}. The greatest is {self.tower.tag_words(code)}: it wrote that to its row, "
-            f"{row}, and gives its value, {it.value}."
+            f"It read its column: {'; '.join(words)}. The greatest is {self.tower.tag_words(code)}, in {self.entry(it)}: it gives "
+            f"that one's value, {it.value}. It wrote that to its row, {row}, so that no later read gives an older value."
         )
 
 
@@ -585,6 +693,7 @@ def fault_of(tower, middle, made):
     faults = [
         fault_of_nests(inside, drawn["nests"]),
         fault_of_rows(inside, drawn["rows"]),
+        fault_of_labels(inside, drawn),
         first_odd(
             [(it["begun"], it["process"], it["words"]) for it in drawn["bars"]],
             bars,
@@ -602,6 +711,27 @@ def fault_of(tower, middle, made):
         + made["middle"]["notes"]
     )
     return next((f"{tower}: {it}" for it in faults if it), None)
+
+
+def is_short_for(words, whole, table):
+    """Returns whether words say the same as those that say all, in short."""
+    return words == whole or any(
+        (found := re.fullmatch(pattern, whole)) and words in [found.expand(it) for it in shorter]
+        for pattern, shorter in table
+    )
+
+
+def fault_of_labels(inside, drawn):
+    """Returns which words on narrow bars and boxes don't say what is so, in short; None: none."""
+    whole = {(it.begun, it.process): inside.words_of_bar(it) for it in inside.operations}
+    for title, texts in drawn["labels"]:
+        if odd := [it for it in texts if not is_short_for(it, title, SHORTER)]:
+            return f"it has {odd[0]!r} for {title!r}"
+    for it in drawn["short"]:
+        words = whole[it["begun"], it["process"]]
+        if it["words"] and not is_short_for(it["words"], words, SHORTER_BARS):
+            return f"a bar has {it['words']!r} for {words!r}"
+    return None
 
 
 def begun_of(inside, nest):
