@@ -1,5 +1,5 @@
 -- Which events are allowed, and what the steps that a state's moves make record.
-use Rattle.std.proofs.Common.{◌≡◌, ℕ, Bool, true, false, List, [], ◌∷◌, ◌++◌, length, Option, Some, None, option_map, refl, sym, ap, subst, ◌∙◌, append_assoc, true≢false}
+use Rattle.std.proofs.Common.{◌≡◌, ℕ, Bool, true, false, List, [], ◌∷◌, ◌++◌, length, Option, Some, None, option_map, refl, sym, subst, append_assoc, true≢false}
 use Rattle.std.specs.Prelude.{⊤, if◌then◌else◌, ◌==◌, ◌&&◌, not, is_none}
 use Rattle.std.proofs.lemmas.List.{append-nil}
 use Rattle.std.proofs.lemmas.Option.{none-some, same_Some}
@@ -18,7 +18,7 @@ use Rattle.frames.specs.Behaviour.{Behaviour}
 use Rattle.frames.specs.Fitting.{process_of}
 use Rattle.frames.specs.Configuration.{Configuration, running_at, is_stopped, events_of, is_ready, is_enabled, acting, acting_unless, invoking, going, return_of, chosen_of, in_order}
 use Rattle.answers.specs.declared.question.Question.{Question}
-use Rattle.answers.specs.Questions.{event_in, events_in, outcomes_by, next_of, stops_in, IsAllowed, AreAllowed}
+use Rattle.answers.specs.Questions.{event_in, events_in, outcomes_by, next_of, stops_in, AreAllowed}
 use Rattle.answers.specs.States.{ended_counts, invoking_step, step_by}
 
 module _ (q : Question) where

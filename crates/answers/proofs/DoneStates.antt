@@ -1,6 +1,6 @@
 -- A schedule's answers are those of a done state that is found; and a done state's steps are a
 -- schedule.
-use Rattle.std.proofs.Common.{◌≡◌, ℕ, ◌+◌, ◌*◌, ◌<◌, ◌≤◌, ◌⊎◌, inl, inr, Bool, true, false, ◌||◌, List, [], Option, None, Some, length, slice_get, refl, sym, ap, subst, ◌∙◌, true≢false, eq-eqb, arith}
+use Rattle.std.proofs.Common.{◌≡◌, ℕ, ◌*◌, ◌≤◌, ◌⊎◌, inl, inr, Bool, true, false, ◌||◌, List, [], Option, None, Some, length, slice_get, refl, sym, ap, subst, ◌∙◌, true≢false, eq-eqb, arith}
 use Rattle.std.specs.Prelude.{◌==◌, ◌&&◌, is_none, slice_index_or}
 use Rattle.std.specs.Bool.{Decides}
 use Rattle.std.proofs.lemmas.Bool.Decides.{Decides-eqb}
@@ -11,14 +11,14 @@ use Rattle.frames.specs.declared.types.Outcome.{Outcome}
 use Rattle.frames.specs.declared.running.Running.{Running}
 use Rattle.frames.specs.Behaviour.{Behaviour, IsLawful}
 use Rattle.frames.specs.Configuration.{running_at, is_stopped}
-use Rattle.frames.specs.Recorded.{Alone, shown}
+use Rattle.frames.specs.Recorded.{Alone}
 use Rattle.breadth_first.specs.declared.mark.Mark.{Mark}
 use Rattle.breadth_first.specs.Paths.{IsAllReached, depth_at}
 use Rattle.answers.specs.declared.question.Question.{Question}
-use Rattle.answers.specs.Questions.{IsThrough, IsScheduleOf, HasAnswers, events_after, outcomes_by, operations_of}
-use Rattle.answers.specs.States.{StateOf, IsStateAfter, IsStateOfRun, AreAllOver, alone, ended_counts, first_state, is_over, moved}
+use Rattle.answers.specs.Questions.{IsThrough, IsScheduleOf, HasAnswers, operations_of}
+use Rattle.answers.specs.States.{StateOf, IsStateAfter, IsStateOfRun, AreAllOver, ended_counts, first_state, is_over, moved}
 use Rattle.answers.specs.laws.StateLaws.{SameState, state_eq, state_decides}
-use Rattle.answers.proofs.Schedules.{at_first, walk, IsWalked}
+use Rattle.answers.proofs.Schedules.{at_first, walk}
 
 -- what `is_over` says
 over_parts : {X : Type 0} (s : Bool) (r : Option X) (n m : ℕ) → (s || (is_none r && n == m)) ≡ true → (s ≡ true) ⊎ ((r ≡ None) × (n ≡ m))

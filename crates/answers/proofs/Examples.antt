@@ -1,18 +1,17 @@
 -- Worked examples of what is allowed: a case of each kind, and near misses.
-use Rattle.std.proofs.Common.{◌≡◌, ℕ, Bool, true, false, List, [], ◌∷◌, Option, None, Some, length, slice_get, refl, sym, ap, ◌∙◌, true≢false, arith}
+use Rattle.std.proofs.Common.{◌≡◌, ℕ, zero, suc, ◌+◌, ◌<◌, List, [], ◌∷◌, Option, None, Some, length, slice_get, refl, sym, ap, subst, ◌∙◌, true≢false, arith}
 use Rattle.std.specs.Prelude.{if◌then◌else◌, ◌==◌}
 use Rattle.std.specs.List.{list_all, list_any}
-use Rattle.std.proofs.lemmas.Option.{none-some}
+use Rattle.std.proofs.lemmas.Option.{none-some, same_Some}
 use Rattle.frames.specs.declared.types.Op.{Op}
 use Rattle.frames.specs.declared.types.Op.TheVariants.{Write, Read}
-use Rattle.frames.specs.declared.types.Event.{Event}
 use Rattle.frames.specs.declared.types.Event.TheVariants.{Invoke, Got, Wrote, Stop}
 use Rattle.frames.specs.declared.types.Step.{Step}
 use Rattle.frames.specs.Behaviour.{Behaviour}
 use Rattle.answers.specs.declared.found.Possible.{Possible}
 use Rattle.answers.specs.declared.question.After.{After}
 use Rattle.answers.specs.declared.question.Question.{Question}
-use Rattle.answers.specs.Questions.{allows, outcomes_by, next_of, operations_of, HasAnswers, IsAllowed, AreAllowed}
+use Rattle.answers.specs.Questions.{IsAcyclic, allows, outcomes_by, next_of, operations_of, HasAnswers, IsAllowed, AreAllowed}
 use Rattle.answers.specs.Answers.{IsListed}
 
 -- process 1's first operation follows process 0's first
@@ -70,3 +69,40 @@ IsListed-holds b q a has = record { index = 0; possible = a; stored = refl; answ
 -- IsListed fails: nothing is listed
 IsListed-fails : {P : Type 0} (b : Behaviour P) (q : Question) (steps : List Step) → IsListed b q [] steps → ⊥
 IsListed-fails b q steps h = none-some h.possible h.stored
+
+-- process 0's first operation follows process 1's first
+abbrev follows_back : After
+follows_back = record { later = record { process = 0; index = 0 }; earlier = record { process = 1; index = 0 } }
+
+-- process 0's first operation follows its second
+abbrev follows_itself : After
+follows_itself = record { later = record { process = 0; index = 0 }; earlier = record { process = 0; index = 1 } }
+
+module _ (q : Question) where
+  -- IsAcyclic: process 1's operations follow process 0's
+  IsAcyclic-holds : q.after.items ≡ follows ∷ [] → IsAcyclic q
+  IsAcyclic-holds one = record {
+    rank = λ p i. i + i + p;
+    in_order = λ p i lt. omega arith;
+    follows = λ k a get. at k a (ap (λ l. slice_get l k) (sym one) ∙ get);
+  }
+    where
+      at : (k : ℕ) (a : After) → slice_get (follows ∷ []) k ≡ Some a
+          → a.earlier.index + a.earlier.index + a.earlier.process < a.later.index + a.later.index + a.later.process
+      at zero a h = subst (λ (x : After). x.earlier.index + x.earlier.index + x.earlier.process < x.later.index + x.later.index + x.later.process) (same_Some follows a h) (omega arith)
+      at (suc k) a h = absurd (none-some a h)
+
+  -- IsAcyclic fails: two operations follow each other
+  IsAcyclic-fails : q.after.items ≡ follows ∷ follows_back ∷ [] → IsAcyclic q → ⊥
+  IsAcyclic-fails two h =
+      let one = h.follows 0 follows (ap (λ l. slice_get l 0) two) in
+      let other = h.follows 1 follows_back (ap (λ l. slice_get l 1) two) in
+      omega (arith, one, other)
+
+  -- IsAcyclic fails: a process makes its second operation after its first, which has to follow it
+  follows_itself_fails : (o u : Op) → operations_of q 0 ≡ o ∷ u ∷ [] → q.after.items ≡ follows_itself ∷ [] → IsAcyclic q → ⊥
+  follows_itself_fails o u two one h =
+      let long : length (operations_of q 0) ≡ 2 = ap length two in
+      let ordered = h.in_order 0 0 (omega (arith, long)) in
+      let follow = h.follows 0 follows_itself (ap (λ l. slice_get l 0) one) in
+      omega (arith, ordered, follow)

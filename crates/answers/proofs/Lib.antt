@@ -5,4 +5,5 @@ pub mod DoneStates
 pub mod Gathering
 pub mod Building
 pub mod Searching
+pub mod Ranked
 mod Examples

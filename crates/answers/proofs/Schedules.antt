@@ -1,13 +1,12 @@
 -- States that schedules reach: from a schedule to moves, and from moves to a schedule.
-use Rattle.std.proofs.Common.{◌≡◌, ℕ, zero, suc, ◌+◌, ◌*◌, ◌/◌, ◌%◌, ◌<◌, ◌≤◌, Bool, true, false, List, [], ◌∷◌, ◌++◌, length, get_or, set, replicate, Option, Some, None, option_map, inl, inr, refl, sym, ap, subst, ◌∙◌, append_assoc, arith, eq-eqb}
-use Rattle.std.specs.Prelude.{if◌then◌else◌, ◌==◌, ◌&&◌, slice_index_or, nat_lt}
+use Rattle.std.proofs.Common.{◌≡◌, ℕ, zero, suc, ◌+◌, ◌*◌, ◌/◌, ◌%◌, ◌<◌, ◌≤◌, Bool, true, false, List, [], ◌∷◌, ◌++◌, length, get_or, set, replicate, Option, Some, None, option_map, inl, inr, refl, sym, ap, subst, ◌∙◌, append_assoc, arith}
+use Rattle.std.specs.Prelude.{if◌then◌else◌, ◌&&◌, slice_index_or, nat_lt}
 use Rattle.std.proofs.lemmas.Bool.{cases_eq, ne_eqb, and_parts, ltb-true}
 use Rattle.std.proofs.lemmas.List.{append-nil, length-set, get_or-set_same, get_or-set_other, length-replicate}
 use Rattle.std.proofs.lemmas.Nat.{div-mul-add, mod-mul-add}
 use Rattle.std.proofs.lemmas.Option.{none-some, same_Some}
 use Rattle.safe_bit.specs.Memory.{Memory}
 use Rattle.frames.specs.declared.types.Op.{Op}
-use Rattle.frames.specs.declared.types.Op.TheVariants as op
 use Rattle.frames.specs.declared.types.Outcome.{Outcome}
 use Rattle.frames.specs.declared.types.Event.{Event}
 use Rattle.frames.specs.declared.types.Step.{Step}
@@ -16,12 +15,12 @@ use Rattle.frames.specs.Behaviour.{Behaviour, IsLawful}
 use Rattle.frames.specs.Fitting.{process_of}
 use Rattle.frames.specs.Voids.{IsVoid}
 use Rattle.frames.specs.laws.Steps.{process_there, void_unless_enabled}
-use Rattle.frames.specs.Configuration.{Configuration, initial_configuration, fits_step, is_enabled, stepped, events_of, history}
+use Rattle.frames.specs.Configuration.{fits_step, is_enabled, stepped, events_of, history}
 use Rattle.frames.specs.Recorded.{Alone, AllFit, shown}
 use Rattle.breadth_first.specs.Paths.{Moves, Reaches}
 use Rattle.answers.specs.declared.question.Question.{Question}
-use Rattle.answers.specs.Questions.{all_events, events_in, events_after, outcomes_by, next_of, stops_in, AreAllowed}
-use Rattle.answers.specs.States.{StateOf, IsStateAfter, IsStateOfRun, alone, first_state, advanced, ended_counts, invoking_step, step_by, moved, moved_if, with_events}
+use Rattle.answers.specs.Questions.{all_events, events_in, events_after, outcomes_by, AreAllowed}
+use Rattle.answers.specs.States.{StateOf, IsStateAfter, IsStateOfRun, alone, first_state, advanced, ended_counts, invoking_step, step_by, moved, moved_if}
 use Rattle.answers.proofs.Events.{fit_push, ended_append, shown_more, events_more, events_other}
 use Rattle.answers.proofs.Allowed.{IsPermitted, named_permitted, allowed_append, allowed_later, enabled_permitted, permitted_allowed, ended_before}
 

@@ -1,5 +1,5 @@
 -- A search of all states, stated of the initial state.
-use Rattle.std.proofs.Common.{◌≡◌, ℕ, ◌*◌, Bool, List, Option, sym, subst}
+use Rattle.std.proofs.Common.{◌≡◌, ℕ, ◌*◌, Bool, List, subst}
 use Rattle.frames.specs.Behaviour.{Behaviour}
 use Rattle.breadth_first.specs.declared.mark.Mark.{Mark}
 use Rattle.breadth_first.specs.Paths.{AreTooMany, IsAllReached}

@@ -1,13 +1,10 @@
 -- What a search for answers finds.
-use Rattle.std.specs.Prelude.{◌≡◌, ℕ, ◌<◌, ◌≤◌, true, List, Some, length, slice_get}
-use Rattle.std.specs.List.{All}
-use Rattle.frames.specs.declared.types.Op.{Op}
+use Rattle.std.specs.Prelude.{◌≡◌, ℕ, ◌≤◌, List, Some, length, slice_get}
 use Rattle.frames.specs.declared.types.Step.{Step}
 use Rattle.frames.specs.Behaviour.{Behaviour}
 use Rattle.answers.specs.declared.found.Possible.{Possible}
-use Rattle.answers.specs.declared.question.After.{After}
 use Rattle.answers.specs.declared.question.Question.{Question}
-use Rattle.answers.specs.Questions.{operations_of, IsScheduleOf, HasAnswers}
+use Rattle.answers.specs.Questions.{IsScheduleOf, HasAnswers}
 
 -- the schedule of a list of answers is one of what is asked, and has these answers
 pub record HasItsSchedule {P : Type 0} (b : Behaviour P) (q : Question) (a : Possible) : Type 0 where

@@ -1,8 +1,8 @@
 -- Which answers the schedules of given operations have, and what it means that a list has all of
 -- them, each with a shortest schedule.
-use Rattle.std.specs.Prelude.{◌≡◌, ℕ, ◌<◌, ◌≤◌, ◌==◌, ◌&&◌, ◌||◌, not, nat_lt, Bool, true, ⊤, ◌⊎◌, List, [], ◌∷◌, ◌++◌, Option, None, Some, length, slice_get, slice_index_or, if◌then◌else◌}
+use Rattle.std.specs.Prelude.{◌≡◌, ℕ, ◌+◌, ◌<◌, ◌≤◌, ◌==◌, ◌&&◌, ◌||◌, not, nat_lt, Bool, true, ⊤, ◌⊎◌, List, [], ◌∷◌, ◌++◌, Option, None, Some, length, slice_get, slice_index_or, if◌then◌else◌}
 use Rattle.std.specs.Global.{Vec}
-use Rattle.std.specs.List.{All, IsAmong, list_all, list_any}
+use Rattle.std.specs.List.{list_all, list_any}
 use Rattle.frames.specs.declared.types.Op.{Op}
 use Rattle.frames.specs.declared.types.Outcome.{Outcome}
 use Rattle.frames.specs.declared.types.Outcome.TheVariants.{Value, Written, Spent}
@@ -111,10 +111,24 @@ is_named q n = nat_lt n.index (length (operations_of q n.process))
 abbrev pub are_named : Question → After → Bool
 are_named q a = is_named q a.later && is_named q a.earlier
 
--- A question fits a register: its initial value is one of the register's values, there are no more
--- lists than processes, each operation fits its process, and `after` names operations that are asked.
-pub record FitsQuestion {P : Type 0} (b : Behaviour P) (q : Question) : Type 0 where
+-- The operations a question has are the register's: its initial value is one of the register's
+-- values, there are no more lists than processes, each operation fits its process, and `after` names
+-- operations that are asked.
+pub record IsWellFormed {P : Type 0} (b : Behaviour P) (q : Question) : Type 0 where
   pub value : q.value < b.values
   pub lists : length q.operations.items ≤ b.processes
   pub suit : (p : ℕ) → list_all (b.suits p) (operations_of q p) ≡ true
   pub named : list_all (are_named q) q.after.items ≡ true
+
+-- No operation has to follow itself: operations have ranks, greater ones after smaller ones. Each
+-- operation's rank is greater than that of the same process's operation before it, and than those of
+-- the operations that it has to follow.
+pub record IsAcyclic (q : Question) : Type 0 where
+  pub rank : ℕ → ℕ → ℕ
+  pub in_order : (p i : ℕ) → i + 1 < length (operations_of q p) → rank p i < rank p (i + 1)
+  pub follows : (k : ℕ) (a : After) → slice_get q.after.items k ≡ Some a → rank a.earlier.process a.earlier.index < rank a.later.process a.later.index
+
+-- A question fits a register: its operations are the register's, and none has to follow itself.
+pub record FitsQuestion {P : Type 0} (b : Behaviour P) (q : Question) : Type 0 where
+  pub well_formed : IsWellFormed b q
+  pub acyclic : IsAcyclic q

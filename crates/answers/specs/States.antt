@@ -1,5 +1,5 @@
 -- The states of a search for answers, and their moves.
-use Rattle.std.specs.Prelude.{◌≡◌, ℕ, ◌<◌, ◌≤◌, ◌==◌, ◌&&◌, ◌/◌, ◌%◌, ◌||◌, Bool, true, List, [], ◌∷◌, ◌++◌, Option, None, Some, length, slice_set, slice_index_or, is_none, replicate, if◌then◌else◌}
+use Rattle.std.specs.Prelude.{◌≡◌, ℕ, ◌<◌, ◌==◌, ◌&&◌, ◌/◌, ◌%◌, ◌||◌, Bool, true, List, [], ◌∷◌, ◌++◌, Option, None, Some, length, slice_set, slice_index_or, is_none, replicate, if◌then◌else◌}
 use Rattle.std.specs.Option.{option_map}
 use Rattle.frames.specs.declared.types.Op.{Op}
 use Rattle.frames.specs.declared.types.Op.TheVariants as op

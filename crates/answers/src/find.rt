@@ -3,6 +3,8 @@
 ghost use Rattle.std.specs.Prelude.{◌≡◌, ◌+◌, ◌*◌, ◌/◌, ◌%◌, ◌<◌, ◌≤◌, [], Err, IfOk, OnOk, length, replicate, slice_get, Some};
 ghost use Rattle.std.specs.List.{list_any};
 ghost use Rattle.breadth_first.specs.Paths.{depth_at};
+ghost use Rattle.std.specs.Bool.{Decides};
+ghost use Rattle.answers.specs.declared.find.TheConstants.{MOST_STATES};
 ghost use Rattle.answers.specs.declared.found.Unfound.TheVariants.{TooMany, Unfit};
 ghost use Rattle.answers.specs.laws.StateLaws.{answers_eq};
 ghost use Rattle.answers.specs.Questions.{FitsQuestion};
@@ -15,7 +17,7 @@ use crate::done::is_done;
 use crate::fits::fits;
 use crate::found::{Found, Possible, Unfound};
 use crate::moves::{Moves, copies, step_by};
-use crate::outcomes::Outcomes;
+use crate::outcomes::{Outcomes, no_answers};
 use crate::question::Question;
 use crate::state::State;
 use breadth_first::mark::{Mark, Unreached};
@@ -36,17 +38,6 @@ impl<R: Register> State<R> {
         let answers = no_answers(alloc, register.processes())?;
         Ok(State { config, answers })
     }
-}
-
-/// No outcomes for each of `processes` processes.
-fn no_answers(alloc: Global, processes: u32) -> Result<Vec<Outcomes>, AllocError>
-    ensures { IfOk result (λ all. all.items ≡ replicate processes []) }
-{
-    let mut all = Vec::with_capacity(alloc, processes as usize)?;
-    for _ in 0..processes {
-        all.push_reserved(Outcomes::new(alloc));
-    }
-    Ok(all)
 }
 
 /// The step of the move that a mark notes.
@@ -246,9 +237,12 @@ fn answer<'q, R: Register>(alloc: Global, moves: &Moves<'q, R>, most: u32) -> Re
     Ok(Found { possible, states })
 }
 
+/// The most states that a search may be allowed.
+pub const MOST_STATES: u32 = 16_777_216;
+
 /// All answers that schedules of what is asked have, each once, with a shortest schedule. `Unfit` if
-/// the question doesn't fit the register; `TooMany` if more than `most_states` states are reachable;
-/// `Memory` if memory runs out.
+/// the question doesn't fit the register, or `most_states` isn't 1 to `MOST_STATES`; `TooMany` if
+/// more than `most_states` states are reachable; `Memory` if memory runs out.
 pub fn find<R: Register>(
     alloc: Global,
     register: &R,
@@ -259,11 +253,19 @@ pub fn find<R: Register>(
         f.possible.items) }
     ensures few { IfOk result (λ f. f.states ≤ most_states) }
     ensures fits { IfOk result (λ _. FitsQuestion (R.behaviour register.now) question.now) }
-    ensures unfit { result ≡ Err Unfit → FitsQuestion (R.behaviour register.now) question.now → ⊥ }
+    ensures limit { IfOk result (λ _. (1 ≤ most_states) × (most_states ≤ MOST_STATES)) }
+    ensures unfit { result ≡ Err Unfit → FitsQuestion (R.behaviour register.now) question.now
+        → 1 ≤ most_states → most_states ≤ MOST_STATES → ⊥ }
     ensures too_many { result ≡ Err TooMany → AreTooManyStates R.behaviour R.PartialEq.eq
         R.Pending.PartialEq.eq question.now register.now most_states }
 {
-    if !fits(register, question) {
+    if !is_limit(most_states) {
+        return Err(Unfound::Unfit);
+    }
+    let Ok(fit) = fits(alloc, register, question) else {
+        return Err(Unfound::Memory);
+    };
+    if !fit {
         return Err(Unfound::Unfit);
     }
     let moves = Moves {
@@ -271,4 +273,11 @@ pub fn find<R: Register>(
         question,
     };
     answer(alloc, &moves, most_states)
+}
+
+/// Whether a search may be allowed this number of states: 1 to `MOST_STATES`.
+fn is_limit(most_states: u32) -> bool
+    ensures { Decides result ((1 ≤ most_states) × (most_states ≤ MOST_STATES)) }
+{
+    1 <= most_states && most_states <= MOST_STATES
 }

@@ -1,14 +1,16 @@
 //! Whether a question fits a register.
 
-ghost use Rattle.std.specs.Prelude.{◌≡◌, ℕ, ◌≤◌, ◌&&◌, true, length};
+ghost use Rattle.std.specs.Prelude.{◌≡◌, ℕ, ◌≤◌, ◌&&◌, true, IfOk, length};
 ghost use Rattle.std.specs.Bool.{Decides};
 ghost use Rattle.std.specs.List.{list_all};
-ghost use Rattle.answers.specs.Questions.{FitsQuestion, are_named, is_named, operations_of};
+ghost use Rattle.answers.specs.Questions.{FitsQuestion, IsWellFormed, are_named, is_named, operations_of};
 
+use crate::cycles::is_acyclic;
 use crate::done::op_count;
 use crate::question::{After, Nth, Question};
 use frames::register::Register;
 use frames::types::Op;
+use std::alloc::{AllocError, Global};
 
 /// Whether each operation in a list fits process `p`.
 fn all_fit<R: Register>(register: &R, p: u32, list: &[Op]) -> bool
@@ -66,10 +68,10 @@ fn all_named(question: &Question) -> bool
         .all(|after| are_named(question, after))
 }
 
-/// Whether the question fits the register: its initial value is one of the register's values, each
-/// operation fits its process, which exists, and `after` names operations that are asked.
-pub fn fits<R: Register>(register: &R, question: &Question) -> bool
-    ensures { Decides result (FitsQuestion (R.behaviour register.now) question.now) }
+/// Whether the question's initial value is one of the register's values, each operation fits its
+/// process, which exists, and `after` names operations that are asked.
+fn is_well_formed<R: Register>(register: &R, question: &Question) -> bool
+    ensures { Decides result (IsWellFormed (R.behaviour register.now) question.now) }
 {
     if question.value >= register.values() {
         return false;
@@ -81,4 +83,21 @@ pub fn fits<R: Register>(register: &R, question: &Question) -> bool
         return false;
     }
     all_named(question)
+}
+
+/// Whether the question fits the register: its initial value is one of the register's values, each
+/// operation fits its process, which exists, and `after` names operations that are asked, none of
+/// which has to follow itself. `AllocError` if memory runs out.
+pub fn fits<R: Register>(
+    alloc: Global,
+    register: &R,
+    question: &Question,
+) -> Result<bool, AllocError>
+    ensures { IfOk result (λ fit. Decides fit
+        (FitsQuestion (R.behaviour register.now) question.now)) }
+{
+    if !is_well_formed(register, question) {
+        return Ok(false);
+    }
+    is_acyclic(alloc, question, register.processes())
 }

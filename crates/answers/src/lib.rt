@@ -1,6 +1,7 @@
 //! All answers: which answers the schedules of given operations have, each with a shortest schedule.
 #![tactic(auto)]
 
+mod cycles;
 mod digest;
 mod done;
 pub mod find;

@@ -107,7 +107,7 @@ fn nth_op(question: &Question, p: u32, index: usize) -> Option<Op>
 }
 
 /// The operation that process `p` may invoke if it is idle.
-fn next_op(question: &Question, answers: &[Outcomes], p: u32) -> Option<Op>
+pub(crate) fn next_op(question: &Question, answers: &[Outcomes], p: u32) -> Option<Op>
     ensures { result ≡ next_of question.now (ended_counts answers.now) p }
 {
     if all_allow(answers, p, &question.after) {

@@ -1,6 +1,6 @@
 //! The outcomes of one process's operations.
 
-ghost use Rattle.std.specs.Prelude.{◌≡◌, ◌∷◌, [], ◌++◌, length, IfOk, OnOk};
+ghost use Rattle.std.specs.Prelude.{◌≡◌, ◌∷◌, [], ◌++◌, length, replicate, IfOk, OnOk};
 
 use frames::types::Outcome;
 use std::alloc::{AllocError, Global};
@@ -73,4 +73,15 @@ impl Outcomes {
             list: Vec::from_slice(alloc, &self.list)?,
         })
     }
+}
+
+/// No outcomes for each of `processes` processes.
+pub(crate) fn no_answers(alloc: Global, processes: u32) -> Result<Vec<Outcomes>, AllocError>
+    ensures { IfOk result (λ all. all.items ≡ replicate processes []) }
+{
+    let mut all = Vec::with_capacity(alloc, processes as usize)?;
+    for _ in 0..processes {
+        all.push_reserved(Outcomes::new(alloc));
+    }
+    Ok(all)
 }

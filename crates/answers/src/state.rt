@@ -1,6 +1,6 @@
 //! The states of a search for answers, as nodes of a graph.
 
-ghost use Rattle.std.specs.Prelude.{◌≡◌, ◌++◌};
+ghost use Rattle.std.specs.Prelude.{◌≡◌};
 ghost use Rattle.std.specs.Hash as fed;
 ghost use Rattle.answers.specs.Digests as spec;
 
@@ -47,13 +47,12 @@ impl<R: Register> Eq for State<R> {
 impl<R: Register> Hash for State<R> {
     ghost use Rattle.answers.specs.laws.StateLaws.{states_hash_alike};
 
-    ghost hash_input = { λ s. fed.u64 (spec.with_cells 0 s.configuration.memory.cells)
-        ++ fed.u64 (spec.with_words 0 s.configuration.memory.words) };
+    ghost hash_input = { λ s. fed.u64 (spec.state_code (R.behaviour s.configuration.register)
+        s.configuration.memory s.configuration.running s.configuration.stopped s.answers) };
 
-    ghost respects_eq = { states_hash_alike R.PartialEq.eq R.Pending.PartialEq.eq R.same_pending };
+    ghost respects_eq = { states_hash_alike R.PartialEq.eq R.Pending.PartialEq.eq R.same_pending R.behaviour R.alike };
 
     fn hash<H: Hasher>(&self, state: &mut H) {
-        state.write_u64(digest::of_cells(self.config.store().cells()));
-        state.write_u64(digest::of_words(self.config.store().words()));
+        state.write_u64(digest::of_state(&self.config, &self.answers));
     }
 }

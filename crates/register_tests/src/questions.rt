@@ -1,7 +1,7 @@
 //! Answers to small questions are compared with those that were worked out by hand, and counted by
 //! a program of its own.
 
-use answers::find::find;
+use answers::find::{MOST_STATES, find};
 use answers::found::{Found, Unfound};
 use answers::outcomes::Outcomes;
 use answers::question::{After, Nth, Question};
@@ -28,6 +28,12 @@ const READ_AFTER_WRITE: After = After {
         process: 0,
         index: 0,
     },
+};
+
+/// Process 0's write follows process 1's read.
+const WRITE_AFTER_READ: After = After {
+    later: READ_AFTER_WRITE.earlier,
+    earlier: READ_AFTER_WRITE.later,
 };
 
 /// The register is 0, process 0 makes the operations `first`, and process 1 makes `second`.
@@ -161,5 +167,33 @@ fn unfit(rt: HostRuntime) -> Result<(), Fail> {
     let question = asked(rt.alloc(), &[Op::Write(1)], &[Op::Write(1)])?;
     let found = find(rt.alloc(), &Safe, &question, MANY);
     assert_eq!(rt; found.err(), Some(Unfound::Unfit));
+    Ok(())
+}
+
+/// A write and a read that have to follow each other are refused.
+#[test]
+fn cycle(rt: HostRuntime) -> Result<(), Fail> {
+    let mut question = write_and_read(rt.alloc())?;
+    question.after.push(WRITE_AFTER_READ)?;
+    let found = find(rt.alloc(), &Safe, &question, MANY)?;
+    assert_eq!(rt; found.possible.len(), 1);
+    question.after.push(READ_AFTER_WRITE)?;
+    let refused = find(rt.alloc(), &Safe, &question, MANY);
+    assert_eq!(rt; refused.err(), Some(Unfound::Unfit));
+    Ok(())
+}
+
+/// The limit is 1 to `MOST_STATES`. With 1, the initial state alone is too few for a write.
+#[test]
+fn limits(rt: HostRuntime) -> Result<(), Fail> {
+    let question = write_and_read(rt.alloc())?;
+    let none = find(rt.alloc(), &Safe, &question, 0);
+    assert_eq!(rt; none.err(), Some(Unfound::Unfit));
+    let one = find(rt.alloc(), &Safe, &question, 1);
+    assert_eq!(rt; one.err(), Some(Unfound::TooMany));
+    let most = find(rt.alloc(), &Safe, &question, MOST_STATES)?;
+    assert_eq!(rt; most.states, 19);
+    let more = find(rt.alloc(), &Safe, &question, MOST_STATES + 1);
+    assert_eq!(rt; more.err(), Some(Unfound::Unfit));
     Ok(())
 }

@@ -1,5 +1,5 @@
 -- Equal states hash alike, and move alike.
-use Rattle.std.proofs.Common.{◌≡◌, ℕ, ◌/◌, ◌%◌, Bool, true, false, List, Option, None, Some, refl, sym, ap, subst, ◌∙◌, ◌++◌, if◌then◌else◌, nat_eq}
+use Rattle.std.proofs.Common.{◌≡◌, ℕ, ◌/◌, ◌%◌, Bool, true, false, List, Option, None, Some, refl, sym, ap, subst, ◌∙◌, if◌then◌else◌, nat_eq}
 use mathlib.Core.Bool.{◌&&◌}
 use Rattle.std.specs.Bool.{Decides}
 use Rattle.std.specs.Cmp.{IsPartialEquivalence, IsEquivalence, equiv, partial_equiv_from_equiv, on_per, and_per}
@@ -18,12 +18,12 @@ use Rattle.frames.specs.declared.types.Outcome.{Outcome}
 use Rattle.frames.specs.declared.types.Outcome.TheVariants.{Value, Written, Spent}
 use Rattle.frames.specs.declared.types.Step.{Step}
 use Rattle.frames.specs.Behaviour.{Behaviour}
-use Rattle.frames.specs.Configuration.{Configuration, fits_step, is_enabled, stepped, events_of}
+use Rattle.frames.specs.Configuration.{Configuration, fits_step, is_enabled, stepped}
 use Rattle.frames.specs.Equality.{configuration_eq, configuration_per, configuration_decides, SameConfiguration}
 use Rattle.std.proofs.lemmas.Bool.Decides.{Decides-eqb}
 use Rattle.answers.specs.declared.question.Question.{Question}
-use Rattle.answers.specs.Digests.{with_cells, with_words}
-use Rattle.answers.specs.States.{StateOf, moved, moved_if, advanced, step_by, with_events}
+use Rattle.answers.specs.Digests.{state_code}
+use Rattle.answers.specs.States.{StateOf, moved, moved_if, advanced, step_by}
 
 -- whether two outcomes are equal
 abbrev pub outcome_eq : Outcome → Outcome → Bool
@@ -93,13 +93,6 @@ module _ {R P : Type 0} (E : R → R → Bool) (F : P → P → Bool) where
     pub state_equivalence : IsEquivalence E → IsEquivalence state_eq
     state_equivalence e = equiv (state_per (partial_equiv_from_equiv e)) (λ a. (state_decides a a).1 (same_itself e a))
 
-    pub states_hash_alike : (a b : StateOf R P) → state_eq a b ≡ true
-        → fed.u64 (with_cells 0 a.configuration.memory.cells) ++ fed.u64 (with_words 0 a.configuration.memory.words)
-        ≡ fed.u64 (with_cells 0 b.configuration.memory.cells) ++ fed.u64 (with_words 0 b.configuration.memory.words)
-    states_hash_alike a b h =
-        let same = ((state_decides a b).0 h).configuration in
-        λ i. fed.u64 (with_cells 0 (same.memory i).cells) ++ fed.u64 (with_words 0 (same.memory i).words)
-
     -- equal states without their registers are the same
     alone : {x y : Configuration R P} → SameConfiguration E x y → without_register x ≡ without_register y
     alone e i = record { register = tt; memory = e.memory i; running = e.running i; stopped = e.stopped i }
@@ -150,3 +143,12 @@ module _ {R P : Type 0} (E : R → R → Bool) (F : P → P → Bool) where
           subst (λ (b : Behaviour P). (w : StateOf R P) × ((moved b q y l ≡ Some w) × (state_eq z w ≡ true))) (alike x.configuration.register y.configuration.register same.configuration.register)
           (subst (λ (a : List (List Outcome)). (w : StateOf R P) × ((moved_if (is x.configuration.register) y (step_by q a (l / 4) (l % 4)) ≡ Some w) × (state_eq z w ≡ true))) same.answers
           (by_step (is x.configuration.register) x y (step_by q x.answers (l / 4) (l % 4)) z same m))
+
+      -- equal states have the same hash
+      pub states_hash_alike : (a b : StateOf R P) → state_eq a b ≡ true
+          → fed.u64 (state_code (is a.configuration.register) a.configuration.memory a.configuration.running a.configuration.stopped a.answers)
+          ≡ fed.u64 (state_code (is b.configuration.register) b.configuration.memory b.configuration.running b.configuration.stopped b.answers)
+      states_hash_alike a b h =
+          let same = (state_decides a b).0 h in
+          let c = same.configuration in
+          λ i. fed.u64 (state_code (alike a.configuration.register b.configuration.register c.register i) (c.memory i) (c.running i) (c.stopped i) (same.answers i))

@@ -1,6 +1,6 @@
 use Rattle.std.proofs.Common.{◌≡◌, ◌+◌, ◌∷◌, [], ◌++◌, replicate, ap, ◌∙◌, arith}
 use Rattle.std.proofs.lemmas.List.{replicate_more}
-use Rattle.answers.proofs.find.no_answers.Goals as goal
+use Rattle.answers.proofs.outcomes.no_answers.Goals as goal
 
 pub loop-preserved : goal.loop-preserved
 loop-preserved c =

@@ -1,5 +1,5 @@
 use Rattle.std.proofs.Common.{◌≡◌, [], replicate, vec_len, vec_capacity}
-use Rattle.answers.proofs.find.no_answers.Given as goal
+use Rattle.answers.proofs.outcomes.no_answers.Given as goal
 
 -- each process before this one has no outcomes, and memory for the rest is reserved
 abbrev pub invariant-loop : goal.invariant-loop
