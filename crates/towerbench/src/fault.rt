@@ -1,11 +1,13 @@
 //! The faults with which the program, or a run of it, can end.
 
 ghost use Rattle.std.specs.Prelude.{◌≡◌};
+ghost use Rattle.towerbench.specs.Faults as spec;
 ghost use Rattle.towerbench.specs.Streams.{of_stream};
 
 use crate::tower_source::SourceFault;
 use conversation::fault::StreamFault;
 use schedule_trie::refusal::Refusal;
+use std::fmt;
 use thiserror::Error;
 use tower_file::FileFault;
 
@@ -15,28 +17,39 @@ use tower_file::FileFault;
 pub enum Fault {
     /// The bytes of the file spell no tower file and no bench file, or there is no memory to read
     /// them.
-    #[error("file {0}")]
     File(FileFault),
     /// The branches can't be loaded: there are too many cells or branches, or no memory for them.
-    #[error("open refused {0}")]
     Refused(Refusal),
     /// A read of the script failed.
-    #[error("read failed")]
     Read,
     /// A write of the answers failed, or took no bytes.
-    #[error("write failed")]
     Write,
     /// The script has too many bytes, or takes too many reads.
-    #[error("script too long")]
     TooLong,
     /// Memory ran out while the script was answered, or, after a script that ended well, while the
     /// branches were saved.
-    #[error("memory")]
     Memory,
     /// The file to save the branches to can't be opened, or a write to it failed or took no bytes.
     /// By then the script has ended well, and its answers were written.
-    #[error("save failed")]
     Save,
+}
+
+impl fmt::Display for Fault {
+    ghost use Rattle.std.specs.Prelude.{Some};
+
+    ghost output = { λ e. Some (spec.run_fault_display e) };
+
+    fn fmt<W: fmt::Write>(&self, f: &mut fmt::Formatter<W>) -> fmt::Result {
+        match self {
+            Fault::File(e) => write!(f, "file {e}"),
+            Fault::Refused(e) => write!(f, "open refused {e}"),
+            Fault::Read => write!(f, "{}", StreamFault::Read),
+            Fault::Write => write!(f, "{}", StreamFault::Write),
+            Fault::TooLong => write!(f, "{}", StreamFault::TooLong),
+            Fault::Memory => write!(f, "{}", StreamFault::Memory),
+            Fault::Save => write!(f, "save failed"),
+        }
+    }
 }
 
 /// A fault of the program: of reading its words or its file, of running its script, or of printing
@@ -45,18 +58,29 @@ pub enum Fault {
 pub enum ProgramFault {
     /// The named file can't be read or is too long, or there is no memory for it. The script isn't
     /// read.
-    #[error("{0}")]
     Source(SourceFault),
     /// A fault of the program's run: of the file's contents or branches, of the script's streams,
     /// of memory or of saving.
-    #[error("{0}")]
     Run(Fault),
     /// A write of the help failed, or took no bytes.
-    #[error("write failed")]
     Help,
     /// Out of memory while the words were read.
-    #[error("memory")]
     Memory,
+}
+
+impl fmt::Display for ProgramFault {
+    ghost use Rattle.std.specs.Prelude.{Some};
+
+    ghost output = { λ e. Some (spec.program_fault_display e) };
+
+    fn fmt<W: fmt::Write>(&self, f: &mut fmt::Formatter<W>) -> fmt::Result {
+        match self {
+            ProgramFault::Source(e) => write!(f, "{e}"),
+            ProgramFault::Run(e) => write!(f, "{e}"),
+            ProgramFault::Help => write!(f, "{}", StreamFault::Write),
+            ProgramFault::Memory => write!(f, "{}", StreamFault::Memory),
+        }
+    }
 }
 
 /// The fault of a run whose script's streams ended with this fault.

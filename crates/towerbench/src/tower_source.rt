@@ -3,11 +3,13 @@
 ghost use Rattle.std.specs.Prelude.{◌≡◌, ◌<◌, ◌≤◌, IfOk, IfSome, Err, length};
 ghost use Rattle.std.specs.Io.KnownBytes.{IsAtEnd};
 ghost use Rattle.towerbench.specs.declared.tower_source.TheConstants.{MOST_FILE_BYTES};
+ghost use Rattle.towerbench.specs.Faults as spec;
 
+use conversation::fault::StreamFault;
 use std::alloc::Global;
-use std::fs;
 use std::io::{ErrorKind, Read};
 use std::rt::Files;
+use std::{fmt, fs};
 use thiserror::Error;
 
 /// The most bytes that a file may have. No saved file is ever longer.
@@ -20,14 +22,25 @@ const PIECE_BYTES: usize = 4096;
 #[derive(Clone, Copy, Debug, PartialEq, Eq, Error)]
 pub enum SourceFault {
     /// The file can't be opened, or a read of it failed.
-    #[error("file unreadable")]
     Unreadable,
     /// The file has more bytes than the limit.
-    #[error("file too long")]
     TooLong,
     /// There is no memory for the file's bytes.
-    #[error("memory")]
     Memory,
+}
+
+impl fmt::Display for SourceFault {
+    ghost use Rattle.std.specs.Prelude.{Some};
+
+    ghost output = { λ e. Some (spec.source_fault_display e) };
+
+    fn fmt<W: fmt::Write>(&self, f: &mut fmt::Formatter<W>) -> fmt::Result {
+        match self {
+            SourceFault::Unreadable => write!(f, "file unreadable"),
+            SourceFault::TooLong => write!(f, "file too long"),
+            SourceFault::Memory => write!(f, "{}", StreamFault::Memory),
+        }
+    }
 }
 
 /// Returns the bytes of the file at a path. The error is TooLong if there are more than
