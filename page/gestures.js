@@ -23,7 +23,7 @@ import { task } from "./task.js";
 import { headed, startLine, startOf } from "./tasks.js";
 import { forgetTyped, putTyped } from "./text.js";
 import { forgetViewing, viewing } from "./viewing.js";
-import { drawWhole } from "./whole.js";
+import { drawWhole, putSpent } from "./whole.js";
 import { lookIntoRead } from "./whys.js";
 
 const TRIES = [64, 1024, 16384], MOST_STEPS_ON_A_BRANCH = 4000;
@@ -231,6 +231,7 @@ export function pick(name, begun) {
   putDeck(does);
   act(async () => {
     await lookIntoRead();
+    putSpent();
     light();
     putDeck(does);
   });
