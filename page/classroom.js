@@ -54,7 +54,8 @@ function cellsOf(it, many, open) {
   const name = element("td", {}, named, it.student && element("small", {}, ` ${it.name}`));
   if (it.fault) return [name, element("td", { class: "wrong", colspan: many + 4 }, it.fault)];
   const met = it.met.filter(Boolean).length, { title } = it.judge;
-  const of = title && element("small", {}, ` exercise ${title}`), said = (...words_) => element("td", {}, ...words_);
+  const of = title && element("small", {}, ` exercise ${title}`);
+  const said = (...words_) => element("td", {}, ...words_);
   const goal = (_, at) => element("td", { class: it.met[at] && "met", title: it.goals[at]?.text },
     at < it.goals.length ? (it.met[at] ? MET : UNMET) : "");
   return [name, said(`${met} of ${it.goals.length}`, of), ...Array.from({ length: many }, goal),
