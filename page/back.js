@@ -1,12 +1,12 @@
-// What another document takes the place of: Undo then reads Back and takes it up again, and the
-// dialog Open lists the last ones.
+// What another document takes the place of: Undo then reads Back and takes it up again, Redo reads
+// Forward, and the dialog Open lists the last ones.
 import { keepDocumentOf } from "./kept.js";
 import { isUntouched, taskOf } from "./tasks.js";
 import { one } from "./elements.js";
 import { now } from "./state.js";
 
-const left = [];
-let opened = { tower: "", script: "" };
+const left = [], ahead = [];
+let opened = { tower: "", script: "" }, restored = "";
 function titleOf({ lesson, model, document: { lines } }) {
   const named = taskOf(lines).exercise.split(" ").slice(2).join(" ");
   const many = lines.filter((it) => it && !it.startsWith("#")).length;
@@ -22,15 +22,23 @@ function isChanged() {
 // whether there is work in the document
 const isWork = ({ document, model }) =>
   model && (!isUntouched(document.lines) || document.tower !== opened.tower);
-// Returns what keeps the document, if there is work in it, once another one is opened.
-export function leaving(next) {
-  const { document, model, lesson, who } = now, title = model ? titleOf(now) : "";
-  const isKept = isWork(now);
+const held = () => ({ document: now.document, lesson: now.lesson, who: now.who, opened,
+  title: now.model ? titleOf(now) : "" });
+const isStep = (line) => line && !/^[0-9]+ (join|go)\b/.test(line);
+const workIn = ({ tower, lines }) => `${tower}${lines.filter(isStep).join("\n")}`;
+// Returns what keeps the document, if there is work in it, once another one is opened: `next`, as
+// it was opened. `way` is "back" or "forward" if that one was open before.
+export function leaving(next, way) {
+  const was = held(), isKept = isWork(now);
   return () => {
     opened = next;
+    restored = way ? workIn(now.document) : "";
+    if (way === "back") ahead.push(was);
+    else if (way === "forward" || isKept) left.push(was);
+    if (!way) ahead.length = 0;
     if (!isKept) return;
-    left.push({ document, lesson, who, title });
-    keepDocumentOf({ tower: document.tower, script: document.script, title, when: Date.now() });
+    const { document: { tower, script }, title } = was;
+    keepDocumentOf({ tower, script, title, when: Date.now() });
   };
 }
 // what was left last, if Undo takes it up: if nothing was done here yet
@@ -38,17 +46,28 @@ export function backTo() {
   const isHere = now.document.lastGesture > 0 && (!left.length || isChanged());
   return isHere ? null : left.at(-1) || null;
 }
+// what Undo left last, if Redo takes it up: if nothing was done since
+const aheadTo = () => (workIn(now.document) === restored ? ahead.at(-1) || null : null);
 export function takeBack() {
   const was = backTo();
   if (was) left.pop();
   return was;
 }
+export function takeForward() {
+  const was = aheadTo();
+  if (was) ahead.pop();
+  return was;
+}
+function putButton(id, was, [words, wordsOf, title, titleOfWas]) {
+  one(id).textContent = was ? wordsOf : words;
+  one(id).title = was ? titleOfWas(was.title) : title;
+  if (was) one(id).disabled = false;
+}
 export function putUndo() {
-  const was = backTo();
-  one("#undo").textContent = was ? "\u21b6 Back" : "\u21b6 Undo";
-  one("#undo").title = was ? `back to ${was.title} (Ctrl+Z)`
-    : "takes the last lines off the script (Ctrl+Z)";
-  if (was) one("#undo").disabled = false;
+  putButton("#undo", backTo(), ["\u21b6 Undo", "\u21b6 Back",
+    "takes the last lines off the script (Ctrl+Z)", (it) => `back to ${it} (Ctrl+Z)`]);
+  putButton("#redo", aheadTo(), ["\u21b7 Redo", "\u21b7 Forward", "puts them back (Ctrl+Y)",
+    (it) => `forward to ${it} (Ctrl+Y)`]);
 }
 // a tab that is closed says nothing after it is hidden
 // (what is forgotten stays so until it changes)
@@ -62,6 +81,6 @@ addEventListener("pagehide", keepOpen);
 document.addEventListener("visibilitychange", () => document.hidden && keepOpen());
 export function forgetLeft() {
   forgotten = now.document;
-  left.length = 0;
+  left.length = ahead.length = 0;
   putUndo();
 }

@@ -1,20 +1,15 @@
 // A teacher's table: many files at once, each with its name, the goals that it meets and its
 // verdicts.
-import { answer } from "./engine.js";
-import { Document } from "./document.js";
-import { Model } from "./model.js";
-import { metGoals } from "./goals.js";
 import { inWords } from "./goalwords.js";
+import { judgedFile, openJudge } from "./judging.js";
 import { documentsOf } from "./opened.js";
-import { taskOf } from "./tasks.js";
-import { SIGNS } from "./labels.js";
+import { SIGNS, counted } from "./labels.js";
 import { say } from "./acting.js";
 import { element, one } from "./elements.js";
-import { now } from "./state.js";
 
 export const FEW_FILES = 2;
 const MOST_BRANCHES = 8, MOST_VERDICTS = 12, MET = "\u2713", UNMET = "\u25cb";
-let rows = [], judgedBy = [];
+let rows = [];
 function verdictsOf(model, { name, length }) {
   const lines = model.page("verdict", name, length)?.lines || [], said = lines.map((line) => {
     const [, , value, verdict] = line.split(" ");
@@ -23,25 +18,33 @@ function verdictsOf(model, { name, length }) {
   const left = said.length - MOST_VERDICTS;
   return `${name}: ${said.slice(0, MOST_VERDICTS).join(" ")}${left > 0 ? ` and ${left} more` : ""}`;
 }
-// goals that the teacher has open, or else the file's own
-async function rowOf(it, asked) {
+async function rowOf(it, open) {
   if (it.fault) throw new Error(it.fault);
-  const document = Document.of(it.tower, it.script), task = taskOf(document.lines);
-  const model = await Model.of(document, answer), goals = asked.length ? asked : task.goals;
-  const met = await metGoals(goals, model), branches = model.branches.slice(0, MOST_BRANCHES);
+  const judged = await judgedFile(it, open), { model } = judged;
+  const branches = model.branches.slice(0, MOST_BRANCHES), refused = model.refusals.length;
   await model.look(branches.map(({ name, length }) => ["verdict", name, length]));
-  const refused = model.refusals.length;
-  return { ...it, goals, met, student: task.student, tower: it.tower, line: model.tower,
-    predicted: [...task.predicted.values()],
+  return { ...judged, fault: "", line: model.tower, goals: judged.judge.goals, model: null,
     verdicts: branches.map((each) => verdictsOf(model, each)),
-    fault: "", refused: refused ? `${refused} lines refused` : "" };
+    refused: refused ? `${refused} lines refused` : "" };
 }
-async function judged(texts) {
-  const { goals } = taskOf(now.document.lines), found = [];
-  for (const it of documentsOf(texts)) found.push(await rowOf(it, goals).catch((fault) =>
-    ({ ...it, isDamaged: Boolean(it.fault), fault: fault.message, goals, met: [], verdicts: [],
-      student: "" })));
+async function judgedAll(texts) {
+  const open = openJudge(), found = [];
+  for (const it of documentsOf(texts)) found.push(await rowOf(it, open).catch((fault) =>
+    ({ ...it, isDamaged: Boolean(it.fault), fault: fault.message, goals: [], met: [], verdicts: [],
+      student: "", judge: open })));
   return found;
+}
+const isDone = ({ met }) => met.length > 0 && met.every(Boolean);
+// (a file on another tower meets no goal, whatever its own goals say)
+function towerCell({ isOn, line, judge }) {
+  const [, other = ""] = judge.tower.split("\n");
+  const said = line === other ? "not as the exercise begins" : `not the exercise's ${other}`;
+  return isOn ? element("td", {}, line)
+    : element("td", {}, line, element("b", { class: "wrong" }, ` ${said}`));
+}
+function predictedCell({ predicted }) {
+  const sign = ({ isRight }) => (isRight === null ? "" : isRight ? ` ${MET}` : " \u2717");
+  return element("td", {}, predicted.map((it) => `${it.words}${sign(it)}`).join("; "));
 }
 function cellsOf(it, many, open) {
   const given = { "data-class": it.name }, words = it.student || it.name;
@@ -50,11 +53,13 @@ function cellsOf(it, many, open) {
     : element("button", { ...given, onclick: open }, words);
   const name = element("td", {}, named, it.student && element("small", {}, ` ${it.name}`));
   if (it.fault) return [name, element("td", { class: "wrong", colspan: many + 4 }, it.fault)];
-  const met = it.met.filter(Boolean).length, said = (...words) => element("td", {}, ...words);
+  const met = it.met.filter(Boolean).length, { title } = it.judge;
+  const of = title && element("small", {}, ` exercise ${title}`);
+  const said = (...words_) => element("td", {}, ...words_);
   const goal = (_, at) => element("td", { class: it.met[at] && "met", title: it.goals[at]?.text },
     at < it.goals.length ? (it.met[at] ? MET : UNMET) : "");
-  return [name, said(`${met} of ${it.goals.length}`), ...Array.from({ length: many }, goal),
-    said(it.predicted.join("; ")), said(it.line),
+  return [name, said(`${met} of ${it.goals.length}`, of), ...Array.from({ length: many }, goal),
+    predictedCell(it), towerCell(it),
     said([it.verdicts.join(", "), it.refused].filter(Boolean).join(", "))];
 }
 const plain = () => [...one("#class-table").querySelectorAll("tr")].map((row) =>
@@ -70,20 +75,31 @@ function printTable() {
   print();
 }
 addEventListener("afterprint", () => document.body.classList.remove("printing-table"));
+// by what the files are judged, in words
+function saidOfJudges() {
+  const by = (kind) => rows.filter(({ judge }) => judge?.by === kind).length, own = by("own");
+  if (by("open")) return "Judged by the exercise that is open here.";
+  const packed = by("packed") ? "Judged by the lesson's exercise that each file names. " : "";
+  const whose = own === 1 ? "its" : "their";
+  return packed + (own ? `${counted(own, "file")} judged by ${whose} own goals, which a student `
+    + "can change: open the exercise, and choose the files again." : "");
+}
 function put(begin) {
-  const dialog = one("#class-dialog"), most = Math.max(0, ...rows.map((it) => it.goals.length));
-  const longest = rows.find((it) => it.goals.length === most)?.goals || [];
-  const goals = judgedBy.length ? judgedBy : longest;
-  const done = rows.filter((it) => it.met.length > 0 && it.met.every(Boolean)).length;
+  const dialog = one("#class-dialog"), judges = new Map(rows.filter((it) => it.judge)
+    .map(({ judge }) => [judge.key, judge]));
+  const many = Math.max(0, ...rows.map((it) => it.goals.length));
+  const goals = judges.size === 1 ? [...judges.values()][0].goals : [];
   const open = (it) => () => { dialog.close(); begin(it.tower, it.script, null); };
-  const numbers = goals.map((_, at) => `goal ${at + 1}`);
+  const numbers = Array.from({ length: many }, (_, at) => `goal ${at + 1}`);
   const heads = ["name", "met", ...numbers, "predicted", "tower", "verdicts"];
   one("#class-goals").replaceChildren(...goals.map((it) => element("li", {}, inWords(it))));
-  one("#class-count").textContent = `${rows.length} files, ${done} meet all goals`;
+  one("#class-count").textContent =
+    `${rows.length} files, ${rows.filter(isDone).length} meet all goals`;
+  one("#class-judge").textContent = saidOfJudges();
   one("#class-said").textContent = "";
   one("#class-table").replaceChildren(
     element("thead", {}, element("tr", {}, heads.map((it) => element("th", { scope: "col" }, it)))),
-    element("tbody", {}, rows.map((it) => element("tr", {}, cellsOf(it, goals.length, open(it))))));
+    element("tbody", {}, rows.map((it) => element("tr", {}, cellsOf(it, many, open(it))))));
   one("#class-copy").onclick = copyTable;
   one("#class-print").onclick = printTable;
   one("#table-again").hidden = !rows.length;
@@ -92,9 +108,8 @@ function put(begin) {
 // shows the table of these files' texts, or again that of the last ones
 export async function openClass(texts, begin) {
   if (texts) {
-    judgedBy = taskOf(now.document.lines).goals;
     say(`${texts.length} files are read.`);
-    rows = await judged(texts);
+    rows = await judgedAll(texts);
     say("");
   }
   put(begin);

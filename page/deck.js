@@ -1,5 +1,6 @@
 // What can be done next: buttons of each process, breaks, sessions, and what can be done with a
 // step. `does` are the gestures; each button says which step it adds to the script.
+import { hasSearch } from "./engine.js";
 import { flipped } from "./document.js";
 import { TYPED_STEP } from "./grammar.js";
 import { between } from "./pages.js";
@@ -130,11 +131,14 @@ function sayWhatIs(hit, does) {
   const refused = picked?.refusal ? picked
     : !picked && run.operations.find((it) => it.refusal && it.ended === place - 1);
   if (refused) return say(refusalReason(now.model.shape, refused), "why");
+  const isWhole = picked && read.ended !== null && hasSearch();
+  const values = isWhole ? [" ", button("values", "Which values could it give?", null,
+    { "data-do": "values" })] : [];
   const story = read && storyOfRead(picked ? now.view.picked.name : name, read)?.words;
   const inside = story ? ` ${story}` : "";
   const words = read ? withWords(`${reason}${inside}`) : [];
   const said = read ? `p${read.process}'s read${gave}. ` : isChosen ? events.join("; ") : "";
-  return say(said, "why", ...words, ...more);
+  return say(said, "why", ...words, ...more, ...values);
 }
 function nextWords() {
   const { place, branch } = here();

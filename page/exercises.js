@@ -1,11 +1,10 @@
 // The exercises of the lessons that tools/page packed: with which document each begins, which one
 // comes next, and which are solved.
-import { packedData } from "./engine.js";
+import { packedContents } from "./engine.js";
 import { EMPTY_TOWER } from "./document.js";
 import { remember, remembered } from "./kept.js";
 
-let lessons = null;
-export const lessonsOf = () => (lessons ??= packedData().lessons || []);
+export const lessonsOf = () => packedContents.lessons;
 export const partOf = (lesson, name) => lesson.parts.find((it) => it.name === name);
 // its tower, and its question and goals as comments
 export function exerciseDocument(lesson, { number, title, text, parts }, part) {

@@ -1,10 +1,11 @@
 // Gestures: what a person does becomes lines of the script, or changes what is drawn.
 import { act, ask, isSaying, say } from "./acting.js";
-import { leaving, openedLines, putUndo, takeBack } from "./back.js";
+import { askOf, askOfPicked } from "./answers.js";
+import { leaving, openedLines, putUndo, takeBack, takeForward } from "./back.js";
 import { FEW_FILES, openClass } from "./classroom.js";
 import { processesHere, putDeck } from "./deck.js";
 import { Document, EMPTY_TOWER, detached, dropped, forked } from "./document.js";
-import { otherChoice, put, removed, replaced } from "./document.js";
+import { loaded, otherChoice, put, removed, replaced } from "./document.js";
 import { one } from "./elements.js";
 import { answer, stop } from "./engine.js";
 import { exerciseNamed, lessonsOf } from "./exercises.js";
@@ -15,13 +16,13 @@ import { lessonStep, putLesson } from "./lessons.js";
 import { Model, stepsToEnd } from "./model.js";
 import { documentOf, textsOf } from "./opened.js";
 import { light, shown } from "./picture.js";
-import { present } from "./room.js";
+import { present, unfold } from "./room.js";
 import { openShare } from "./share.js";
 import { here, now, setNow, setView } from "./state.js";
 import { leaveStudy, putStudy } from "./study.js";
 import { task } from "./task.js";
 import { headed, startLine, startOf } from "./tasks.js";
-import { forgetTyped, putTyped } from "./text.js";
+import { forgetTyped, putTyped, showTab } from "./text.js";
 import { forgetViewing, viewing } from "./viewing.js";
 import { drawWhole, putSpent } from "./whole.js";
 import { lookIntoRead } from "./whys.js";
@@ -68,11 +69,12 @@ function add(commands) {
 const edit = (make) => act(() => { clear(); return add([make()].flat()); });
 // begins a document; one that the program can't take is kept in the editor, so that it can be
 // mended
-export function begin(tower, script, { lesson = null, who, isBack = false } = {}) {
+export function begin(tower, script, { lesson = null, who, opened, way = "", undone = [] } = {}) {
   return act(async () => {
     clear();
-    const leave = isBack ? () => null : leaving({ tower, script });
-    const next = Document.of(tower, script), before = { lesson: now.lesson, who: now.who };
+    const leave = leaving(opened || { tower, script }, way);
+    const { lines } = Document.of(tower, script), next = new Document(tower, lines, undone);
+    const before = { lesson: now.lesson, who: now.who };
     setNow({ lesson: lesson || null, who: who ?? next.lastSession });
     setView({ show: "all" });
     forgetViewing();
@@ -104,19 +106,30 @@ function open(tower, script, lesson) {
   leaveStudy();
   return begin(tower, script, { lesson });
 }
+async function askAll(tower, question) {
+  await open(tower, "0 join\n", null);
+  showTab("answers");
+  unfold("aside");
+  askOf(question);
+}
 export function study(folder, given) {
   putWelcome(true);
-  putStudy(folder, open, given);
+  putStudy(folder, open, { ...given, ask: askAll });
+}
+function again({ document: { tower, script, undone }, ...more }, way) {
+  return begin(tower, script, { ...more, way, undone });
 }
 function undo() {
   const was = takeBack();
-  if (was) return begin(was.document.tower, was.document.script, { ...was, isBack: true });
+  if (was) return again(was, "back");
   return act(() => {
     clear();
     return now.document.lastGesture && change(now.document.undo());
   });
 }
 function redo() {
+  const was = takeForward();
+  if (was) return again(was, "forward");
   return act(() => {
     clear();
     return now.document.undone.length && change(now.document.redo());
@@ -191,6 +204,17 @@ export const does = {
       return say("Too many steps come after it: fork there instead.", "refusal");
     return add(otherChoice(name, steps, index, freeName("other")));
   }),
+  // a schedule as a branch: the one that has it already, or a new one
+  load(steps) {
+    const { branches } = now.model, text = steps.join(), isIt = (it) => it.steps.join() === text;
+    const there = branches.find((it) => it.length === steps.length && isIt(it));
+    if (there) return move(() => ({ name: there.name, place: there.length }));
+    const name = freeName("answer");
+    return edit(() => {
+      setView({ show: `only ${name}` });
+      return loaded(branches[0].name, name, steps);
+    });
+  },
   choose(p) { setView({ process: p, awaiting: "" }); putDeck(does); },
   // a read that returns by the step is picked, so one sees why
   async put(p, step) {
@@ -287,6 +311,7 @@ export const commands = {
   chooseOpen: () => chooseOpen(open, openFiles),
   study: () => study((exerciseNamed(task().exercise)?.lesson || lessonsOf()[0]).folder),
   studyClose: () => { leaveStudy(); redraw(true); }, table: () => openClass(null, open),
+  values: () => { showTab("answers"); unfold("aside"); askOfPicked(); },
   share: () => act(() => openShare((script) =>
     act(() => change(Document.of(now.document.tower, script))))),
   welcomed: () => { remember("welcomed", "yes"); putWelcome(); },

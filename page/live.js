@@ -74,7 +74,8 @@ watchText((next) => act(() => { say(""); return change(next); }).then(() => !isS
 watchDrops(openFiles);
 watchFolds(() => now.model && redraw(true));
 watchWords();
-const madeOf = ({ commit, kit }) => `commit ${commit || "unknown"}, kit ${kit || "unknown"}`;
+const madeOf = ({ version, commit, kit }) =>
+  `Version ${version}, commit ${commit || "unknown"}, kit ${kit || "unknown"}`;
 showTab("here");
 one("#made").textContent = madeOf(packedData());
 const first = await firstDocument();

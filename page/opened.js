@@ -31,13 +31,13 @@ function taken(found, it) {
   } catch (fault) { made.fault = fault.message; }
 }
 // The documents of many files. A script goes with the tower file of its name, with the tower that
-// it names itself, or with this page's.
+// it names itself, or with this page's; `isNamed`: not with the last one.
 export function documentsOf(texts) {
   const found = new Map();
   for (const it of texts) taken(found, it);
   return [...found.values()].map(({ name, tower = "", script = "", fault }) => {
-    const given = tower || towerIn(taskOf(Document.of("", script).lines)) || now.document.tower;
-    return { name, tower: given, script, fault };
+    const given = tower || towerIn(taskOf(Document.of("", script).lines));
+    return { name, tower: given || now.document.tower, script, fault, isNamed: Boolean(given) };
   });
 }
 // One document of a tower or bench file, a script, both, or a saved page. `said`: on which tower a

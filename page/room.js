@@ -20,6 +20,9 @@ export function watchFolds(redraw) {
     redraw();
   });
 }
+export function unfold(part) {
+  if (classList.contains(`no-${part}`)) one(`[data-fold=${part}]`).click();
+}
 // the picture alone, with large letters, and the whole screen if the browser allows it
 export function present(redraw) {
   const isOn = classList.toggle("presenting");

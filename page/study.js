@@ -1,5 +1,6 @@
 // A whole lesson in the page: its text, which tools/page takes from the lesson's Markdown, with
 // pictures that can be played, a prediction before them, and exercises with a button to begin each.
+import { hasSearch, packedContents } from "./engine.js";
 import { EMPTY_TOWER } from "./document.js";
 import { exerciseDocument, isSolved, lessonsOf, partOf } from "./exercises.js";
 import { putFigure } from "./figures.js";
@@ -66,8 +67,8 @@ function listOf(lessons, folder) {
     ...lessons.map((it) => element("button", given(it), it.title + sign(it)))];
 }
 function textOf(lesson, begin) {
-  const article = one("#study-text"), template = one(`#text-${lesson.folder}`);
-  article.replaceChildren(template.content.cloneNode(true));
+  const article = one("#study-text"), text = packedContents.texts[lesson.folder];
+  article.replaceChildren(...new DOMParser().parseFromString(text, "text/html").body.childNodes);
   const isQuestion = (it) => it.firstChild?.textContent === "Question.";
   const question = [...article.querySelectorAll("p")].find(isQuestion);
   question?.classList.add("question");
@@ -79,6 +80,13 @@ function textOf(lesson, begin) {
     it.append(exerciseRow(lesson, lesson.exercises[at], begin)));
   list.before(element("h2", {}, "Exercises"));
   return article;
+}
+// after a question for all answers a button for each register of the lesson
+function putAsks(code, { parts }, ask) {
+  const taught = parts.filter(({ script }) => script).map(({ tower }) => tower.split("\n")[1]);
+  const button = (line) => element("button", { class: "big", "data-ask": line,
+    onclick: () => ask(`tower 2\n${line}\n`, code.textContent) }, `Ask on ${line}`);
+  code.closest("p").append(element("span", { class: "begin asks" }, taught.map(button)));
 }
 function lastRow(lessons, lesson) {
   const next = lessons[lessons.indexOf(lesson) + 1];
@@ -94,12 +102,14 @@ async function putFigures(article, put) {
   if (figures.every((it) => it.isConnected)) article.dataset.drawn = "";
 }
 // shows a lesson; `begin` makes a document of a tower file, a script and a lesson's lines
-export function putStudy(folder, begin, { isAnswered = false } = {}) {
+export function putStudy(folder, begin, { isAnswered = false, ask } = {}) {
   const lessons = lessonsOf(), lesson = lessons.find((it) => it.folder === folder);
   if (!lesson) return;
   studied = folder;
   const article = textOf(lesson, begin), answers = answersOf(article);
   one("#study-list").replaceChildren(...listOf(lessons, folder));
+  for (const it of hasSearch() ? article.querySelectorAll("code") : [])
+    if (it.textContent.startsWith("process ")) putAsks(it, lesson, ask);
   article.append(lastRow(lessons, lesson));
   document.body.classList.add("studying");
   one("#study").hidden = false;

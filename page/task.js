@@ -1,15 +1,14 @@
 // The exercise that a document's comments ask: its text, what is predicted, and each goal, met or
 // not, at every change. `does` are gestures: line, predict, begin, again, study.
-import { answer } from "./engine.js";
-import { Document } from "./document.js";
-import { Model } from "./model.js";
-import { isMet, looksFor, metGoals } from "./goals.js";
+import { isPossible } from "./document.js";
+import { isMet, looksFor } from "./goals.js";
 import { inWords } from "./goalwords.js";
-import { isPredicted, startOf, taskOf } from "./tasks.js";
+import { rightOptions, startScript } from "./judging.js";
+import { isPredicted, taskOf } from "./tasks.js";
 import { exerciseAfter, exerciseNamed, lessonAfter, markSolved } from "./exercises.js";
 import { withWords } from "./words.js";
 import { element, one, putIfChanged } from "./elements.js";
-import { now } from "./state.js";
+import { here, now } from "./state.js";
 
 const COMMAND = /^[0-9]+ ([a-z]+ ?.*)$/, SIGN = { met: "\u2713", open: "\u25cb", not: "\u2717" };
 let decided = { key: "", right: [] };
@@ -18,13 +17,10 @@ export const goalLooks = () => (now.model ? looksFor(task().goals, now.model) : 
 // which options are right: the program decides on the document as it begins, once something is
 // predicted
 async function decide({ asks, start }, { tower, lines }) {
-  const script = start ? `${startOf(lines).join("\n")}\n` : "";
+  const script = start ? startScript(lines) : "";
   const key = JSON.stringify([tower, asks, script]);
   if (key === decided.key) return;
-  const model = await Model.of(Document.of(tower, script), answer);
-  const none = { scope: "", groups: [] };
-  const of = ({ options }) => metGoals(options.map((it) => it.goal || none), model);
-  decided = { key, right: await Promise.all(asks.map(of)) };
+  decided = { key, right: await rightOptions(asks, tower, script) };
 }
 function optionRow({ number }, { words }, mark, made, does) {
   const given = { type: "radio", name: `ask${number}`, value: words, checked: words === made && "",
@@ -62,8 +58,10 @@ export function withCommands(text, does) {
   return text.split("`").flatMap((it, index) => {
     const [, command] = (index % 2 && COMMAND.exec(it)) || [];
     if (!command) return index % 2 ? [element("code", {}, it)] : withWords(it);
-    const onclick = () => does.line(command), title = "add this line to the script";
-    return [element("button", { class: "line", "data-line-of": command, onclick, title }, it)];
+    const isNow = isPossible(command, now.model, here().isJoined);
+    const title = isNow ? "add this line to the script" : "not possible here, or not yet";
+    const onclick = () => does.line(command), given = { class: "line", "data-line-of": command };
+    return [element("button", { ...given, onclick, title, disabled: !isNow && "" }, it)];
   });
 }
 function asked(found, of) {
@@ -107,7 +105,8 @@ export async function putTask(does) {
   const isDone = found.isTask && isOpen && met.every(Boolean);
   if (isDone && of) markSolved(of);
   const held = [found.text, found.exercise, found.asks, [...found.predicted], met, found.goals,
-    decided.key, isDone, found.student];
+    decided.key, isDone, found.student, here().isJoined,
+    model.branches.map(({ name, length }) => `${name} ${length}`)];
   putIfChanged(target, JSON.stringify(held), () => parts(found, { met, of, isDone }, does));
   return !isOpen;
 }

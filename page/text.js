@@ -1,5 +1,6 @@
 // The text next to the picture: the pages at the cursor, the script and the tower file, and the
 // schedule as a table.
+import { putAnswers } from "./answers.js";
 import { Document } from "./document.js";
 import { ACTIONS } from "./deck.js";
 import { FEW_CELLS } from "./measures.js";
@@ -125,11 +126,11 @@ function bitsAt(name, place) {
   const { cells } = now.model.page("bits", name, place) || { cells: [] };
   return cells.map((it) => words(it.split(" "))).join(", ");
 }
-const TABS = { here: putPages, text: putScript, table: putTable };
+const TABS = { here: putPages, text: putScript, table: putTable, answers: putAnswers };
 export function putText() {
   const isShort = now.document.script.length + now.document.tower.length < LONG_SCRIPT;
   for (const [name, put] of Object.entries(TABS))
-    if (isOpen(name) || (name === "text" && isShort)) put();
+    if (isOpen(name) || (name === "text" && isShort)) put(null);
 }
 export function showTab(name) {
   for (const it of all("[data-tab]"))

@@ -1,5 +1,6 @@
 // The whole page drawn: the picture, the deck, the texts, a lesson and an exercise. `does` are the
 // deck's gestures, `taskDoes` those of the exercise.
+import { putAnswers } from "./answers.js";
 import { putUndo } from "./back.js";
 import { processesHere, putDeck } from "./deck.js";
 import { one } from "./elements.js";
@@ -22,6 +23,7 @@ export async function drawWhole(does, taskDoes, isFollowing = true) {
   putPicture(processesHere().filter((it) => it.isHit).map((it) => it.number));
   putSecond();
   putDeck(does);
+  putAnswers(does);
   putText();
   putLesson();
   const isCovered = await putTask(taskDoes) || isLessonAtStart();

@@ -1,9 +1,9 @@
 // What a word on the screen means, when it is pointed at, focused or touched; tools/page takes the
 // meanings from the guide and the glossary.
-import { packedData } from "./engine.js";
+import { packedContents } from "./engine.js";
 import { element, one } from "./elements.js";
 
-const { words: MEANINGS = {} } = packedData();
+const { words: MEANINGS } = packedContents;
 const HOVER_PAUSE = 450, WIDE = 340, GAP = 6;
 const NAMED = new RegExp("\\b(fresh|overlap|stray|hit|place|stamp|tag|void|inversion|choice|" +
   "pending|refused|atomic)\\b", "gi");

@@ -8,58 +8,34 @@ import functools
 import glob
 import os
 import re
+import sys
 
 from clauses import CLAUSE, TOP, code_of, end_of
 
-WORD = r"[^\W\d][\w'-]*"
-# A definition's mark and name in its signature.
-HEAD = re.compile(rf" *(?:abbrev |unfoldable |pub )*(record |data )?({WORD})(?: [({{].*)? :(?: |$)")
-USED = re.compile(r"\buse (Rattle(?:\.\w+)+)(?:\.\{([^}]*)\}| as (\w+))?", re.DOTALL)
+sys.path.append(f"{TOP}/tools")
+import antt  # noqa: E402
+from antt import WORD, imports_of  # noqa: E402
+
 NAMED = re.compile(rf"{WORD}(?:\.{WORD})*")
 PUBLIC = re.compile(r"\bpub (?:unsafe )?fn (\w+)|\bfn (\w+)")
 METHODS = re.compile(r"^(?:pub trait |impl\b[^{;]* for )", re.MULTILINE)
 
-# kind: "record", "data" or ""; lines: those of its code
+# Of a declaration of specs/, with its file
 Definition = collections.namedtuple("Definition", "path line kind name lines")
 # path and name: those of the function; names: what the file's `use` lines bring in
 Clause = collections.namedtuple("Clause", "path name text imports")
 
 
-def imports_of(text):
-    """Returns where a file's `use` lines find names: each one's module and name there, or a module."""
-    names, modules = {}, {}
-    for whole, listed, alias in USED.findall(text):
-        at = tuple(it for it in whole.split(".")[1:] if it not in ("specs", "proofs"))
-        for item in (listed or "").split(","):
-            own, _, other = item.strip().partition(" as ")
-            names[other or own] = (at, own)
-        modules[alias or at[-1]] = at
-    return names, modules
-
-
-def margin_of(line):
-    return len(line) - len(line.lstrip())
-
-
 @functools.lru_cache(None)
 def definitions(path):
     """Returns the definitions of a file of specs/ by their names, and what it imports."""
-    found, record = [], None
     with open(path, encoding="utf-8") as file:
         text = file.read()
-    for number, line in enumerate(text.split("\n"), 1):
-        if not line.strip() or line.lstrip().startswith("--"):
-            continue
-        record = None if record is not None and margin_of(line) <= record else record
-        if re.match(r" *(?:module|(?:pub )?use) ", line):
-            continue
-        head = HEAD.match(line) if record is None else None
-        if head:
-            found.append(Definition(path, number, (head.group(1) or "").strip(), head.group(2), []))
-            record = margin_of(line) if found[-1].kind else None
-        if found:
-            found[-1].lines.append(line)
-    return {it.name: it for it in found}, imports_of(text)
+    found = {
+        it.name: Definition(path, it.number + 1, it.kind, it.name, it.lines)
+        for it in antt.declarations(text)
+    }
+    return found, imports_of(text)
 
 
 def found_in(word, own, imports):

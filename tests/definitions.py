@@ -10,6 +10,10 @@ import functools
 import glob
 import os
 import re
+import sys
+
+sys.path.append(f"{os.path.dirname(os.path.dirname(os.path.realpath(__file__)))}/tools")
+import antt  # noqa: E402
 
 PAGE = "docs/DEFINITIONS.md"
 HEADING = re.compile(r"#+ (.*)")
@@ -18,9 +22,6 @@ OF_A_FILE = re.compile(r"(?!Rattle\.)(?:[a-z]\w*\.)*[A-Z]\w*[a-z]\w*\.[A-Za-z_]\
 NAME = re.compile(r"[A-Za-z_]\w*(?:\.[A-Za-z_]\w*)*")
 # A name between backticks, and a path after it.
 NAMED = re.compile(r"`([^`]+)`(?: \(`([^`]+)`\))?")
-# What a file of specs/ defines for others, and which of that has fields.
-DEFINED = re.compile(r" *(?:abbrev |unfoldable )?pub (?:(?:record|data|mod) )?([^\W\d][\w'-]*)")
-RECORD = re.compile(r" *(?:pub )?record ")
 IN_SOURCES = r"\b(?:struct|enum|trait|type|fn|const) {}\b"
 
 
@@ -36,16 +37,8 @@ def crate_of(line, before):
 @functools.lru_cache(None)
 def defined_in(path):
     """Returns the names that a file of specs/ defines for others, but for those of fields."""
-    found, record = set(), None
     with open(path, encoding="utf-8") as file:
-        lines = [it for it in file.read().split("\n") if it.strip()]
-    for line in lines:
-        margin = len(line) - len(line.lstrip(" "))
-        if record is not None and margin > record:
-            continue
-        record = margin if RECORD.match(line) else None
-        found.update(it.group(1) for it in [DEFINED.match(line)] if it)
-    return found
+        return antt.public_names(file.read())
 
 
 def fault_of_name(name, crate):

@@ -1,6 +1,6 @@
 """Documents: what they name is there, their commands print what they say, and their lines fit.
 
-A document is README.md, CONTRIBUTING.md, each page of docs/ and lessons/, and each README.md in page/ and crates/.
+A document is README.md, CONTRIBUTING.md, CHANGELOG.md, each page of docs/ and lessons/, and each README.md in page/ and crates/.
 - A fence is closed before the next one begins. One ```console is run from the repository's top:
   each line `$ COMMAND`, and below it what standard output then says. One ```console CRATE needs that
   crate's program, and is run once it is built.
@@ -49,6 +49,8 @@ OF_THE_PROVER = (
     "rattle-kit-13f",
 )
 LINK = re.compile(r"\]\(([^)#\s]+)(?:#[^)\s]*)?\)")
+# What tools/release makes
+RELEASE = "release/"
 # What matches any name in a path, and how paths begin that a reader makes himself.
 ANY_NAME, MADE_BY_A_READER = ("NAME", "KIND"), ("/tmp/", "out/", "page.html")
 
@@ -59,7 +61,7 @@ QUOTED, LEFT_OUT = ("rust", "antt", "text"), ".."
 
 
 def documents():
-    found = ["README.md", "CONTRIBUTING.md"]
+    found = ["README.md", "CONTRIBUTING.md", "CHANGELOG.md"]
     for pattern in ("docs/**/*.md", "lessons/**/*.md", "page/**/README.md", "crates/*/README.md"):
         found += sorted(glob.glob(pattern, recursive=True))
     return found
@@ -77,7 +79,12 @@ def files():
         made = {"out", ".git"}
         inside = [(at, its) for at, _, its in os.walk(".") if not made & set(at.split("/"))]
         found = [f"{at}/{it}"[2:] for at, its in inside for it in its]
-    return [it for it in found if os.path.isfile(it)]
+    return [it for it in found if os.path.isfile(it) and not it.startswith(RELEASE)]
+
+
+def is_to_be_released(path):
+    """Returns whether a path is one of the release, and there is none yet."""
+    return path.startswith(RELEASE) and not os.path.isdir(RELEASE)
 
 
 @functools.lru_cache(None)
@@ -128,7 +135,7 @@ def is_code(text):
 
 def fault_of_span(text, crate):
     """Returns what is wrong with the text between backticks, in a section about the crate."""
-    if text.startswith(MADE_BY_A_READER):
+    if text.startswith(MADE_BY_A_READER) or is_to_be_released(text):
         return None
     if PATH.fullmatch(text):
         return None if is_there(text) else f"there is no {text}"
@@ -220,7 +227,11 @@ def faults_of_text(line, document, crate):
         found += [it for it in definitions.faults_of_row(line, crate) if it not in found]
     links = [it for it in LINK.findall(line) if "://" not in it]
     folder = os.path.dirname(document)
-    lost = [f"there is no {it}" for it in links if not os.path.exists(os.path.join(folder, it))]
+    lost = [
+        f"there is no {it}"
+        for it in links
+        if not (os.path.exists(os.path.join(folder, it)) or is_to_be_released(it))
+    ]
     return [it for it in found if it] + lost
 
 

@@ -16,28 +16,11 @@ import re
 import sys
 
 TOP = os.path.dirname(os.path.dirname(os.path.realpath(__file__)))
-DEFINED = re.compile(
-    r" *(?:unfoldable |abbrev )?pub (?:record |data )?(?!(?:use|mod) )([^\W\d][\w'-]*)"
-)
-RECORD = re.compile(r" *(?:pub )?(?:record|data) ")
+sys.path.append(f"{TOP}/tools")
+import antt  # noqa: E402
+
 ITEM = re.compile(r"pub (?:const |unsafe )*(?:struct|enum|trait|type|fn|const) (\w+)")
 LAWS = "laws.rt"
-
-
-def definitions_of(text):
-    """Returns the names that a file of specs/ defines for others, but for those of fields."""
-    found, record = set(), None
-    for line in text.split("\n"):
-        margin = len(line) - len(line.lstrip(" "))
-        if (
-            not line.strip()
-            or line.strip().startswith("--")
-            or (record is not None and margin > record)
-        ):
-            continue
-        record = margin if RECORD.match(line) else None
-        found.update(it.group(1) for it in [DEFINED.match(line)] if it)
-    return found
 
 
 def items_of(text):
@@ -66,7 +49,7 @@ def shared(pattern, names_of):
 
 
 def faults():
-    found = [shared("*/specs/**/*.antt", definitions_of), shared("*/src/**/*.rt", items_of)]
+    found = [shared("*/specs/**/*.antt", antt.public_names), shared("*/src/**/*.rt", items_of)]
     return [f"{name}: {', '.join(paths)}" for it in found for name, paths in sorted(it.items())]
 
 

@@ -1,12 +1,12 @@
 #!/usr/bin/env python3
-"""Lemmas that nothing uses: names which a file of crates/NAME/proofs defines and no other line has.
+"""Lemmas and definitions that nothing uses: names which a file of crates/NAME declares and no other line has.
 
 usage: tests/unused.py   prints each, and how many; status 1 if there is one
 
-Read are the files right in proofs/ whose names begin with a capital: those in its folders answer goals, whose names are given. A use
-is a name in a source, definition, proof or wrong body, but not in a line that only brings in files (`use`), nor in the lemma's own
-lines. Files of worked examples have no uses by others: their names are in EXAMPLES. What only unused lemmas use is found once those
-are removed.
+Read are the files right in proofs/ whose names begin with a capital (those in its folders answer goals, whose names are given), and
+those of specs/. A use is a name in a source, definition, proof or wrong body, but not in a line that only brings in files (`use`), nor
+in the own lines of what has the name. Files of worked examples have no uses by others: their names are in EXAMPLES. What only unused
+names use is found once those are removed.
 """
 import collections
 import glob
@@ -15,6 +15,9 @@ import re
 import sys
 
 TOP = os.path.dirname(os.path.dirname(os.path.realpath(__file__)))
+sys.path.append(f"{TOP}/tools")
+import antt  # noqa: E402
+
 # The names of files of worked examples, and of what wrong bodies miss.
 EXAMPLES = ("Examples", "Rows", "WrongEdits", "VerdictRows", "LimbRows", "BenchRows")
 PROOFS = ".antt"
@@ -25,10 +28,22 @@ READ = (
     "must-fail/*.edit",
     "must-fail-in-turn/**/*.edit",
 )
-LEMMAS = re.compile(r"crates/[^/]+/proofs/([A-Z]\w*)\.antt")
+LEMMAS = re.compile(r"crates/[^/]+/(?:proofs/|specs/(?:\w+/)*)([A-Z]\w*)\.antt")
 TOKEN = re.compile(r"[^\s(){}\[\],;:.⟦⟧@`\"]+")
-DEFINED = re.compile(r"( *)(?:unfoldable |abbrev )?(?:pub )?([^\s:(){}]+) :(?: |$)")
-BEGUN = re.compile(r"( *)(?:unfoldable |abbrev )?(?:pub )?([^\s:(){}]+)(?: |$)")
+# Facts of specs/ that nothing names, but that nobody has seen proofs do without: a tactic may take them.
+UNSEEN = (
+    "LiesIn-part",
+    "asked_holds",
+    "copies_fit",
+    "part_placed",
+    "pushed_holds",
+    "reads_own",
+    "regular_fits",
+    "slot_op",
+    "stamped_fits",
+    "unary_fits",
+    "words_there",
+)
 # A name with a hole is that of an operator, whose uses don't have it.
 HOLE = "◌"
 
@@ -45,43 +60,28 @@ def texts():
 
 def code_of(path, text):
     """Returns the lines of a file in which a name is a use or a definition."""
-    lines = text.split("\n")
-    mark = "--" if path.endswith(PROOFS) else "//"
-    lines = [it.partition(mark)[0] for it in lines]
+    lines = (
+        antt.code_of(text)
+        if path.endswith(PROOFS)
+        else [it.partition("//")[0] for it in text.split("\n")]
+    )
     return [it for it in lines if not it.strip().startswith(("use ", "ghost use "))]
 
 
-def lemmas_of(path, lines):
-    """Returns the names of the lemmas that a file defines for others to use."""
+def names_of(path, lines):
+    """Returns the names that a file declares for others to use, local ones and fields too, but for operators."""
     named = LEMMAS.fullmatch(path)
     if not named or named.group(1) in EXAMPLES:
         return []
-    found = [it.group(2) for it in map(DEFINED.match, lines) if it]
-    return [it for it in dict.fromkeys(found) if HOLE not in it]
+    found = [antt.declared_by(it, 0) for it in lines]
+    return [it for it in dict.fromkeys(it.name for it in found if it) if HOLE not in it]
 
 
-def is_within(line, margin, name):
-    """Returns whether a line after the signature of a name, which has this margin, is of its definition."""
-    own = len(line) - len(line.lstrip())
-    begun = BEGUN.match(line)
-    return (
-        own > margin
-        or own == margin
-        and (line.strip()[:1] in "})]" or begun and begun.group(2) in (name, "unfolding"))
-    )
-
-
-def own_uses(lines):
-    """Returns how often each name is in the lines of its own definition."""
-    found, name, margin = collections.Counter(), None, 0
-    for line in filter(str.strip, lines):
-        defined = DEFINED.match(line)
-        if defined and (name is None or len(defined.group(1)) <= margin):
-            margin, name = len(defined.group(1)), defined.group(2)
-        elif name is not None and not is_within(line, margin, name):
-            name = None
-        if name is not None:
-            found[name] += TOKEN.findall(line).count(name)
+def own_uses(text):
+    """Returns how often each name is in the lines of its own declaration."""
+    found = collections.Counter()
+    for it in antt.declarations(text):
+        found[it.name] += sum(TOKEN.findall(line).count(it.name) for line in it.lines)
     return found
 
 
@@ -93,9 +93,9 @@ def unused(files):
     )
     found = []
     for path, lines in sorted(code.items()):
-        lemmas = lemmas_of(path, lines)
-        own = own_uses(lines) if lemmas else {}
-        found += [(path, it) for it in lemmas if uses[it] <= own[it]]
+        names = names_of(path, lines)
+        own = own_uses(files[path]) if names else {}
+        found += [(path, it) for it in names if uses[it] <= own[it] and it not in UNSEEN]
     return found
 
 
@@ -113,7 +113,7 @@ def main(words):
     found = unused(texts())
     for path, name in found:
         print(f"{path}: nothing uses {name}")
-    print(f"unused: {len(found)} lemmas")
+    print(f"unused: {len(found)} names")
     return 1 if found else 0
 
 

@@ -28,6 +28,8 @@ LINES_LOADED_AS_ONE = 7
 # The last in the queue for a processor, as `nice` counts.
 NICEST = 19
 SECONDS_BETWEEN_NEWS = 60
+# Builds in another order, each by one processor, to see that their bytes are the same (tools/twice).
+IS_BACKWARD = os.environ.get("TOWERBENCH_ORDER") == "backward"
 LINES_SHOWN = 20
 # What a check says of a place, of a function or a goal that isn't proved, and of what can't be read.
 OF_A_FAULT = re.compile(
@@ -303,7 +305,8 @@ def run_side_by_side(tasks, show):
     lower its priority if processors are short. Once one fails, the others are ended. `show` is given those that are done and
     those that run, each with its seconds, whenever that changes and once a minute."""
     all_processors, all_lanes, chain = processors(), lanes(), chains(tasks)
-    left, running, done = sorted(tasks, key=lambda it: -chain[it]), {}, {}
+    left = sorted(tasks, key=lambda it: chain[it] if IS_BACKWARD else -chain[it])
+    running, done = {}, {}
     is_well = True
     with ThreadPoolExecutor(all_lanes) as pool:
         try:
@@ -315,10 +318,8 @@ def run_side_by_side(tasks, show):
                 # (a check by more than one processor costs more of them in all, so that's for what the others wait for)
                 share = all_processors // (len(running) + len(ready) or 1)
                 for key in ready[: all_lanes - len(running)]:
-                    jobs = max(
-                        1,
-                        min(tasks[key].most_jobs, all_processors if chain[key] == head else share),
-                    )
+                    most = all_processors if chain[key] == head else share
+                    jobs = 1 if IS_BACKWARD else max(1, min(tasks[key].most_jobs, most))
                     niceness = round(NICEST * (1 - chain[key] / head))
                     left.remove(key)
                     running[pool.submit(tasks[key].work, jobs, niceness)] = key, time.monotonic()

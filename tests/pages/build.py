@@ -1,31 +1,48 @@
-"""What page/build makes: the program's module, and the page as one file."""
+"""What page/build makes: the programs' modules, and the page as one file; or those of a release."""
 import os
 import shutil
 import sys
 import threading
 
 TOP = os.path.dirname(os.path.dirname(os.path.dirname(os.path.realpath(__file__))))
-sys.path.insert(0, f"{TOP}/page/build")
+sys.path[:0] = [f"{TOP}/page/build", f"{TOP}/tools"]
 import module  # noqa: E402
 import pack  # noqa: E402
+import releases  # noqa: E402
 
 # (of tests side by side one makes the module)
 TURN = threading.Lock()
+# The paths of the release's modules by program, if tests take the release and nothing is made
+RELEASED = {}
 
 
-def made_module():
-    """Returns the path of the program's module, which is made first if it has to be."""
+def take_release(room):
+    """Has all tests take the page and the modules of release/; the modules are put into a folder."""
+    RELEASED.update(releases.put_modules(room))
+
+
+def made_module(program=module.PROGRAM):
+    """Returns the path of a program's module, which is made first if it has to be."""
+    if RELEASED:
+        return RELEASED[program]
     with TURN:
-        return module.module()
+        return module.module(program)
 
 
 def has_module():
-    return module.is_current()
+    return bool(RELEASED) or module.is_current()
 
 
-def packed(path):
-    """Returns the page with the module of a path, as it opens with its first screen."""
-    return pack.packed(path, None)
+def made_modules():
+    """Returns the path of each program's module, by the program's name."""
+    return {it: made_module(it) for it in module.PROGRAMS}
+
+
+def packed(modules):
+    """Returns the page with these modules, each of a path, as it opens with its first screen."""
+    if RELEASED and modules == RELEASED:
+        return releases.read(releases.PAGE).decode()
+    return pack.packed(modules, None)
 
 
 def put_modules(room, script):

@@ -152,7 +152,9 @@ def wrong_choice(page):
     page.wait()
     holds("Not as you predicted" in page.text("#task fieldset"), page.text("#task"))
     same(page.count("#task fieldset .met"), 1)
-    for command in ("join", "break chosen", "seek"):
+    # (the exercise has joined already)
+    holds(page.value("document.querySelector('#task [data-line-of=join]').disabled"), "join")
+    for command in ("break chosen", "seek"):
         page.click(f'#task [data-line-of="{command}"]')
     page.until(DONE)
     page.click("#task [data-again]")
@@ -166,7 +168,7 @@ def goals_in_words(page):
     """No goal of a lesson is shown as words of a page."""
     page.open()
     texts = page.value(
-        "JSON.parse(document.querySelector('#data').textContent).lessons.flatMap((it) => "
+        "globalThis.towerbench.contents.lessons.flatMap((it) => "
         "it.exercises.flatMap((each) => each.parts.flatMap((part) => part.lines)))"
     )
     goals = [it for it in texts if it.startswith("# goal")]

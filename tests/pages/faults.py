@@ -90,7 +90,7 @@ def page_with(page, folder, code):
     """Opens the page with another module in the program's place."""
     path = f"{folder}/{code}.html"
     with open(path, "w", encoding="utf-8") as file:
-        file.write(build.packed(written_module(folder, code)))
+        file.write(build.packed({"program": written_module(folder, code)}))
     page.chrome.open(f"file://{path}")
 
 

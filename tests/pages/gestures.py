@@ -23,7 +23,10 @@ def first_screen(page):
     same(page.said(), ASKED)
     footer = page.text("footer")
     holds(
-        re.search(r"proved sources.*tested, not proved.*commit [0-9a-f]{12}.*kit \S+", footer),
+        re.search(
+            r"proved sources.*tested, not proved.*Version [0-9.]+, commit [0-9a-f]{12}.*kit \S+",
+            footer,
+        ),
         footer,
     )
     page.button("p1 g 1 0")

@@ -41,7 +41,7 @@ ALL = {
     "depths": ("layers", "reasons", "square", "scale", "refusals", "two_towers", "counted_pages"),
     "drawn": ("documents", "walks"),
     "exercises": ("solved_by_clicks", "wrong_choice", "goals_in_words"),
-    "lessons": ("lessons", "exercises", "a_lesson_line_by_line", "policy"),
+    "lessons": ("lessons", "exercises", "a_lesson_line_by_line", "lesson_on_paper", "policy"),
     "sharing": (
         "links",
         "short_links",
@@ -49,6 +49,7 @@ ALL = {
         "nothing_lost",
         "which_tower",
         "forty_files",
+        "judged_by",
         "words",
         "room",
         "hostile_documents",
@@ -73,7 +74,7 @@ IN_FIREFOX = {
     "drawn": ("documents",),
     "exercises": ("solved_by_clicks", "wrong_choice"),
     "lessons": ("lessons", "a_lesson_line_by_line"),
-    "sharing": ("links", "nothing_lost", "which_tower", "forty_files"),
+    "sharing": ("links", "nothing_lost", "which_tower", "forty_files", "judged_by"),
 }
 MODULES = {
     "gestures": gestures,
@@ -97,7 +98,7 @@ class File:
         with self.turn:
             if not os.path.exists(self.path):
                 with open(self.path, "w", encoding="utf-8") as file:
-                    file.write(build.packed(build.made_module()))
+                    file.write(build.packed(build.made_modules()))
         return self.path
 
 

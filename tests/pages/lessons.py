@@ -100,6 +100,20 @@ def a_lesson_line_by_line(page):
     )
 
 
+def lesson_on_paper(page):
+    """In a lesson the lesson is printed, with its pictures and without its buttons, and no document."""
+    page.open()
+    page.do("study")
+    page.until("'drawn' in document.querySelector('#study-text').dataset")
+    page.wait()
+    page.chrome.ask("Emulation.setEmulatedMedia", media="print")
+    shown = page.value(
+        "['#study-text', '#study-text svg', '#print', '#study-list', '.close-study', '.begin'].map((it) => "
+        "document.querySelector(it).checkVisibility())"
+    )
+    same(shown, [True, True, False, False, False, False])
+
+
 def policy(page):
     """The page reaches no network and runs no code but its own."""
     page.open()

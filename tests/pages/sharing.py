@@ -136,6 +136,16 @@ def nothing_lost(page):
     page.until(f"document.querySelector('#file').value === {json.dumps(SAFE)}")
     same(page.script(), f"0 join\n{STRAY}")
     holds("Undo" in page.text("#undo"), page.text("#undo"))
+    holds("Forward" in page.text("#redo"), page.text("#redo"))
+    page.do("redo")
+    page.until(f"document.querySelector('#file').value !== {json.dumps(SAFE)}")
+    page.do("undo")
+    page.until(f"document.querySelector('#file').value === {json.dumps(SAFE)}")
+    page.do("undo")
+    same(page.script(), "0 join\n")
+    holds("Redo" in page.text("#redo"), page.text("#redo"))
+    page.do("redo")
+    same(page.script(), f"0 join\n{STRAY}")
     for number in range(14):
         page.choose_tower("stamped", 2, number)
         page.button("p1 r 1")
@@ -198,6 +208,39 @@ def forty_files(page):
     holds(page.count("#task [role=status]"), "it isn't done")
     page.do("table")
     page.until("document.querySelector('#class-dialog').open")
+
+
+def judged_by(page):
+    """Files are judged by the exercise that is open, or else by the lesson's that they name; not by what they say themselves."""
+    tower = f"# tower: {'; '.join(SAFE.strip().splitlines())}"
+    solved = f"{tower}\n# {QUESTION}\n# {GOAL}\n# student: S\n0 join\n{STRAY}"
+    easy = solved.replace(GOAL, 'goal: some: verdict has no "9"').replace(STRAY, "")
+    other = solved.replace("safe 0", "copies 1 0")
+    longer = solved.replace("g 1 0", "g 1 0; g 1 1").replace(STRAY, "")
+    given = [(f"{name}.script", text) for name, text in zip("abcd", (solved, easy, other, longer))]
+    page.open(SAFE, f"# {QUESTION}\n# {GOAL}\n0 join\n")
+    drop(page, given)
+    page.until("document.querySelector('#class-dialog').open")
+    same(page.text("#class-count"), "4 files, 1 meet all goals")
+    same(page.text("#class-judge"), "Judged by the exercise that is open here.")
+    same(
+        page.texts("#class-table .wrong"),
+        [" not the exercise's safe 0", " not as the exercise begins"],
+    )
+    page.open(SAFE, "0 join\n")
+    drop(page, given)
+    page.until("document.querySelector('#class-dialog').open")
+    holds("their own goals" in page.text("#class-judge"), page.text("#class-judge"))
+    named = "# exercise: 01-safe-bit 3 A schedule of your own\n"
+    drop(page, [(name, named + text) for name, text in given])
+    page.until("document.querySelector('#class-judge').textContent.includes('lesson')")
+    same(page.text("#class-count"), "4 files, 0 meet all goals")
+    asked = f'# ask: Which?\n# option: 0 if main: verdict has "p1 0"\n# option: none if main: verdict has no "p1"\n'
+    page.open(SAFE, f"{asked}0 join\n")
+    answer = f'{tower}\n# ask: Which?\n# option: 0 if main: verdict has no "p1"\n# predicted: 0\n0 join\n'
+    drop(page, [("x.script", answer), ("y.script", answer.replace(": 0\n", ": none\n")), given[0]])
+    page.until("document.querySelector('#class-dialog').open")
+    same(page.texts("#class-table td:nth-child(3)")[:2], ["0 \u2717", "none \u2713"])
 
 
 def words(page):

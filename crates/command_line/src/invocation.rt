@@ -11,6 +11,9 @@ use clap::error::ErrorKind;
 use clap::{Arg, ArgAction, Command, Error, value_parser};
 use std::alloc::{AllocError, Global};
 
+/// The program's name and version, the first line of its help.
+const VERSION: &str = "towerbench 1.0.0";
+
 /// The id of the word that names a tower or bench file.
 const FILE: &str = "FILE";
 
@@ -102,6 +105,7 @@ fn command<'a>(alloc: Global) -> Result<Command<'a>, AllocError>
     );
     let save = path_option(alloc, SAVE).help("Where the branches are saved after the script");
     Command::new(alloc, "towerbench")
+        .before_help(VERSION)
         .about(
             "Answers the script on standard input: edits and looks over the runs of a register tower",
         )

@@ -161,6 +161,8 @@ fn refusals(rt: HostRuntime) -> Result<(), Fail> {
 }
 
 const HELP: &str = "\
+towerbench 1.0.0
+
 Answers the script on standard input: edits and looks over the runs of a register tower
 
 Usage: towerbench [OPTIONS] [FILE]

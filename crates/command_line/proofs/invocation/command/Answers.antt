@@ -31,7 +31,7 @@ returns c =
     let workers_are : rule_of c.help-workers.result ≡ workers_rule = ap rule_of c.help-workers.ensures ∙ numbered _ 0 4 _ _ _ c.number_option.ensures.rule workers_parser in
     let cells_are : rule_of c.help-cells.result ≡ cells_rule = ap rule_of c.help-cells.ensures ∙ numbered _ 1 MOST_CELLS_MADE _ _ _ c.number_option-2.ensures.rule cells_parser in
     let branches_are : rule_of c.help-branches.result ≡ branches_rule = ap rule_of c.help-branches.ensures ∙ numbered _ 1 1024 _ _ _ c.number_option-3.ensures.rule branches_parser in
-    let described : app_of c.about.result ≡ app_of c.new-5.result = ap app_of_fields c.about.ensures in
+    let described : app_of c.about.result ≡ app_of c.new-5.result = ap app_of_fields c.about.ensures ∙ ap app_of_fields c.before_help.ensures in
     let bare : app_of c.no_binary_name.result ≡ on_top (λ s. record s { no_binary_name = true }) (app_of c.about.result) =
     ap app_of_fields c.no_binary_name.ensures in
     let first : app_of c.no_binary_name.result ≡ on_top (λ s. record s { no_binary_name = true }) (new_app _) =

@@ -1,0 +1,156 @@
+"""Tests of what makes a release, in scratch folders: versions, two builds that are compared, the release and its sums.
+
+Nothing is built: what builds is a substitute.
+"""
+import base64
+import contextlib
+import gzip
+import io
+import json
+import os
+import shutil
+import subprocess
+import tempfile
+
+from tools import TOP, loaded, put, same
+from trials import Test
+
+PAGE = """<html><script type="application/json" id="data">{}</script>
+<script type="text/plain" id="program">{}</script></html>
+"""
+SAID = {"version": "1.2.3", "commit": "0123456789ab", "kit": "kit logic 0123456789abcdef"}
+# In place of tools/twice: it puts what one build has into FOLDER/one.
+BUILDS = """#!/bin/sh
+one=$1/one
+mkdir -p "$one/crates/program/out"
+cp "$(dirname "$0")/../page" "$one/towerbench.html"
+echo program > "$one/crates/program/out/program"
+"""
+TOOLS = ("release", "releases.py", "version.py", "side_by_side.py")
+
+
+def page_of(module):
+    data = json.dumps({**SAID, "sources": {"program": "a sum"}})
+    return PAGE.format(data, base64.b64encode(gzip.compress(module, mtime=0)).decode())
+
+
+def versions():
+    same("places of the version", loaded("tools/version.py").faults(), [])
+
+
+def two_builds():
+    """One changed byte in any file that is compared is a difference, and so is a file that isn't there."""
+    twice = loaded("tools/twice")
+    with tempfile.TemporaryDirectory() as room:
+        one, other = f"{room}/one", f"{room}/other"
+        for path in twice.products():
+            put(f"{one}/{path}", f"bytes of {path}\n")
+            put(f"{other}/{path}", f"bytes of {path}\n")
+        same("equal builds", twice.differences(one, other), [])
+        for path in twice.products():
+            put(f"{other}/{path}", f"bytes of {path}!")
+            same(
+                "a changed byte", [it.split(":")[0] for it in twice.differences(one, other)], [path]
+            )
+            with contextlib.redirect_stdout(io.StringIO()):
+                same("its status", twice.main(["--compare", one, other]), 1)
+            os.remove(f"{other}/{path}")
+            same("a file less", len(twice.differences(one, other)), 1)
+            put(f"{other}/{path}", f"bytes of {path}\n")
+
+
+def put_release(releases, folder):
+    put(f"{folder}/towerbench.html", page_of(b"module"))
+    put(f"{folder}/towerbench", "program")
+    put(f"{folder}/SHA256SUMS", releases.lines_of(releases.sums_of(folder)))
+
+
+def sums_of_a_release():
+    tried = loaded("tests/release")
+    with tempfile.TemporaryDirectory() as folder:
+        put_release(tried.releases, folder)
+        lines = tried.releases.read("SHA256SUMS", folder).decode().splitlines()
+        names = [it.split("  ")[1] for it in lines]
+        same("summed", names, ["program.wasm", "towerbench", "towerbench.html"])
+        same("the module", tried.releases.modules_of(page_of(b"module")), {"program": b"module"})
+        same("its sums", tried.fault_of_sums(folder), None)
+        same("what it says", tried.fault_of_data(folder), None)
+        for name, text in (
+            ("towerbench", "Program"),
+            ("towerbench.html", page_of(b"Module")),
+            ("more", ""),
+            ("SHA256SUMS", f"{lines[0]}\n"),
+        ):
+            put_release(tried.releases, folder)
+            put(f"{folder}/{name}", text)
+            same(f"{name} is changed", bool(tried.fault_of_sums(folder)), True)
+            os.remove(f"{folder}/{name}")
+        put(f"{folder}/towerbench.html", page_of(b"").replace("0123456789ab", "0123 with changes"))
+        same("from changes", bool(tried.fault_of_data(folder)), True)
+
+
+class Repository:
+    """A scratch repository with what tools/release needs, and substitutes for the rest."""
+
+    def __init__(self, top):
+        self.top = top
+        for path, text in loaded("tools/version.py").PLACES.items():
+            put(f"{top}/{path}", text.format("1.2.2"))
+        put(f"{top}/VERSION", "1.2.2\n")
+        put(f"{top}/CHANGELOG.md", "# Changes\n\n## 1.2.2\n")
+        put(f"{top}/.ci/turn", "7\n")
+        put(f"{top}/page", page_of(b"module"))
+        put(f"{top}/tools/twice", BUILDS, 0o755)
+        for it in TOOLS:
+            shutil.copy(f"{TOP}/tools/{it}", f"{top}/tools")
+        self.git("init", "-q", "-b", "main")
+        self.git("config", "user.name", "a")
+        self.git("config", "user.email", "a@b")
+        self.commit_all("First")
+
+    def text(self, path):
+        with open(f"{self.top}/{path}", encoding="utf-8") as file:
+            return file.read()
+
+    def git(self, *words):
+        how = {"cwd": self.top, "stdout": subprocess.PIPE, "text": True, "check": True}
+        return subprocess.run(["git", *words], **how).stdout.strip()
+
+    def commit_all(self, message):
+        self.git("add", "-A")
+        self.git("commit", "-q", "-m", message)
+
+    def refuses(self, wanted):
+        """Sees that 1.2.3 isn't released, for a reason that begins so."""
+        done = subprocess.run(
+            [f"{self.top}/tools/release", "1.2.3"], capture_output=True, check=False
+        )
+        said = done.stderr.decode().removeprefix("release: ")
+        same(wanted, (done.returncode, said[: len(wanted)]), (1, wanted))
+
+
+def release_in_order():
+    with tempfile.TemporaryDirectory() as top:
+        its = Repository(top)
+        put(f"{top}/page", page_of(b"changed"))
+        its.refuses("something isn't committed")
+        its.git("checkout", "-q", "page")
+        its.refuses("CHANGELOG.md has to begin with 1.2.3")
+        put(f"{top}/CHANGELOG.md", "# Changes\n\n## 1.2.3\n\n## 1.2.2\n")
+        its.commit_all("Changes")
+        its.refuses("the gate hasn't passed here")
+        same("versions", (its.text("VERSION"), its.text(".ci/turn")), ("1.2.3\n", "8\n"))
+        same("committed", its.git("log", "-1", "--format=%s"), "Version 1.2.3")
+        its.git("update-ref", "refs/gate/passed", "HEAD~1")
+        its.refuses("the gate passed on")
+        its.git("update-ref", "refs/gate/passed", "HEAD")
+        subprocess.run([f"{top}/tools/release", "1.2.3"], check=True)
+        files = ["release/SHA256SUMS", "release/towerbench", "release/towerbench.html"]
+        shown = its.git("show", "--name-only", "--format=%s").split()
+        same("one commit", shown, ["Release", "1.2.3", *files])
+        same("nothing is left", its.git("status", "--porcelain"), "")
+
+
+def tests():
+    its = (versions, two_builds, sums_of_a_release, release_in_order)
+    return [Test(f"release: {it.__name__.replace('_', ' ')}", it) for it in its]
