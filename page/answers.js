@@ -7,7 +7,7 @@ import { operationsIn, questionIn, questionOf, sentenceOf, textOf } from "./ques
 import { one, putIfChanged } from "./elements.js";
 import { now } from "./state.js";
 
-const MOST_SECONDS = 120;
+const MOST_SECONDS = 120, LESS = "Leave out a process or an operation.";
 // `guesses`: the keys of lists that are thought possible; `guess`: how many lists there are thought
 // to be; `read`: the one read that is asked about, or nothing; `lists`: what was found, or nothing
 const NOTHING = { guesses: [], guess: "", read: null };
@@ -39,7 +39,7 @@ async function searched(turn) {
   for (const most of LIMITS) {
     const made = await found(textOf(panel.tower, panel.question, most), MOST_SECONDS);
     if (turn !== search) return null;
-    if (made.fault) return { said: made.fault };
+    if (made.fault) return { said: `${made.fault} ${LESS}` };
     if (made.status === 0) return listsIn(made.output);
     if (!isTooMany(made.errors) || most === LIMITS.at(-1)) return { said: sentenceOf(made.errors) };
     set({ said: `more than ${most} states so far\u2026` });

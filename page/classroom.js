@@ -53,10 +53,12 @@ function cellsOf(it, many, open) {
     : element("button", { ...given, onclick: open }, words);
   const name = element("td", {}, named, it.student && element("small", {}, ` ${it.name}`));
   if (it.fault) return [name, element("td", { class: "wrong", colspan: many + 4 }, it.fault)];
-  const met = it.met.filter(Boolean).length, said = (...words_) => element("td", {}, ...words_);
+  const met = it.met.filter(Boolean).length, { title } = it.judge;
+  const of = title && element("small", {}, ` exercise ${title}`);
+  const said = (...words_) => element("td", {}, ...words_);
   const goal = (_, at) => element("td", { class: it.met[at] && "met", title: it.goals[at]?.text },
     at < it.goals.length ? (it.met[at] ? MET : UNMET) : "");
-  return [name, said(`${met} of ${it.goals.length}`), ...Array.from({ length: many }, goal),
+  return [name, said(`${met} of ${it.goals.length}`, of), ...Array.from({ length: many }, goal),
     predictedCell(it), towerCell(it),
     said([it.verdicts.join(", "), it.refused].filter(Boolean).join(", "))];
 }

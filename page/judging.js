@@ -21,9 +21,9 @@ export async function rightOptions(asks, tower, script) {
 }
 // the lines with which a script begins, if it has steps of its own then
 export const startScript = (lines) => `${startOf(lines).join("\n")}\n`;
-// `key`: files of the same key are judged by the same
-const judgeOf = (by, tower, task, start, key) =>
-  ({ by, tower, start, key, goals: task.goals, asks: task.asks });
+// `key`: files of the same key are judged by the same; `title`: an exercise's number, if it has one
+const judgeOf = (by, tower, task, start, key, title = "") =>
+  ({ by, tower, start, key, title, goals: task.goals, asks: task.asks });
 function openStart(lines, task) {
   const opened = openedLines(), line = startLine(opened);
   if (task.start) return startScript(lines);
@@ -38,7 +38,8 @@ function packedJudge({ lesson, exercise }, { tower, isNamed }) {
   const made = exercise.parts.map((it) => exerciseDocument(lesson, exercise, it));
   const found = made.find((it) => isNamed && isSameFile(it.tower, tower)) || made[0];
   const task = taskOf(Document.of("", found.script).lines);
-  return judgeOf("packed", found.tower, task, "", `${task.exercise} ${made.indexOf(found)}`);
+  return judgeOf("packed", found.tower, task, "", `${task.exercise} ${made.indexOf(found)}`,
+    `${lesson.title.split(".")[0]}.${exercise.number}`);
 }
 function judgeFor(file, task, open) {
   const of = open ? null : exerciseNamed(task.exercise);

@@ -9,7 +9,9 @@ sys.path.insert(0, f"{TOP}/tools/handouts")
 import markdown  # noqa: E402
 
 # how a lesson is begun at a terminal, which the page does by a button
-TYPED = re.compile(r"^Type `\./towerbench .*?(?=^$)", re.M | re.S)
+TYPED = re.compile(
+    r"^Type `\./towerbench .*?(?:towerbench\.html\.(?: There, (.))?|(?=^$))", re.M | re.S
+)
 STARTED = re.compile(r"`\./towerbench (lessons/[^` ]+\.(?:tower|bench))`")
 TIMELINE = re.compile(r"^```timeline (\S+)(?: (\S+))?\n(.*?)^```$", re.M | re.S)
 FOLD, COMMENT = "<details>", "# "
@@ -78,7 +80,8 @@ def plain(text):
 
 def with_towers(text):
     """Returns a text that names each tower by its line, and not by how it is started at a terminal."""
-    return STARTED.sub(lambda it: f"`{text_of(it.group(1)).splitlines()[1]}`", TYPED.sub("", text))
+    rest = TYPED.sub(lambda it: (it.group(1) or "").upper(), text)
+    return STARTED.sub(lambda it: f"`{text_of(it.group(1)).splitlines()[1]}`", rest)
 
 
 def blocks(text, place):
