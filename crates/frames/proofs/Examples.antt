@@ -18,7 +18,7 @@ use Rattle.frames.specs.declared.safe.SafePoint.{SafePoint}
 use Rattle.frames.specs.declared.safe.SafePoint.TheVariants as at
 use Rattle.frames.specs.declared.types.ActionKind.TheVariants.{ReadStart}
 use Rattle.frames.specs.Behaviour.{Behaviour, Answers}
-use Rattle.frames.specs.Flat.{HasFramesFrom, HasReached, IsReached, stack_of, outermost}
+use Rattle.frames.specs.Flat.{HasFramesFrom, HasReached, IsPointByFrames, IsReached, stack_of, outermost}
 use Rattle.frames.specs.SafeBit.{safe_behaviour, SafeReaches}
 use Rattle.frames.specs.Configuration.{Configuration, initial_configuration, running_at}
 use Rattle.frames.specs.correctness.Verdicts.{initially}
@@ -234,6 +234,14 @@ not_writing (Write v) (at.WriteEnd bit) r e = omega (arith, r.0)
 not_writing Read at.ReadStart r e = other_op (ap outermost e)
 not_writing Read at.ReadEnd r e = other_op (ap outermost e)
 not_writing _ _ r e = r
+
+-- process 0 can be at the point that these frames describe
+IsPointByFrames-holds : IsPointByFrames safe_behaviour.frames SafeReaches 0 writing (Some (at.WriteStart true))
+IsPointByFrames-holds = (Write 1, ((refl, omega arith, refl), refl))
+
+-- process 1, a reader, can't be at that point
+IsPointByFrames-fails : IsPointByFrames safe_behaviour.frames SafeReaches 1 writing (Some (at.WriteStart true)) → ⊥
+IsPointByFrames-fails h = not_writing h.0 (at.WriteStart true) h.1.0 h.1.1
 
 -- process 0 is at the point that the frames describe
 go_own-holds : (o : Op) × ((p : SafePoint) × HasFramesFrom safe_behaviour.frames SafeReaches 0 0 writing o p)
