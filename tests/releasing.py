@@ -162,6 +162,7 @@ def release_in_order():
         shown = its.git("show", "--name-only", "--format=%s").split()
         same("one commit", shown, ["Release", "1.2.3", *files])
         same("nothing is left", its.git("status", "--porcelain"), "")
+        its.refuses("the release of 1.2.3 is there already")
 
 
 def tests():
