@@ -38,6 +38,19 @@ def versions():
     same("places of the version", loaded("tools/version.py").faults(), [])
 
 
+def other_order():
+    """The second build begins with what the fewest wait for, and works by one processor."""
+    side, order = loaded("tools/side_by_side.py"), []
+    side.IS_BACKWARD, side.lanes, side.processors = True, lambda: 1, lambda: 4
+
+    def task(name, waits, lines):
+        return side.Task(waits, lines, 4, lambda jobs, _: (order.append((name, jobs)), True)[1])
+
+    tasks = {"low": task("low", [], 5), "over": task("over", ["low"], 5), "own": task("own", [], 1)}
+    side.run_side_by_side(tasks, lambda *_: None)
+    same("the order", order, [("own", 1), ("low", 1), ("over", 1)])
+
+
 def two_builds():
     """One changed byte in any file that is compared is a difference, and so is a file that isn't there."""
     twice = loaded("tools/twice")
@@ -149,8 +162,9 @@ def release_in_order():
         shown = its.git("show", "--name-only", "--format=%s").split()
         same("one commit", shown, ["Release", "1.2.3", *files])
         same("nothing is left", its.git("status", "--porcelain"), "")
+        its.refuses("the release of 1.2.3 is there already")
 
 
 def tests():
-    its = (versions, two_builds, sums_of_a_release, release_in_order)
+    its = (versions, other_order, two_builds, sums_of_a_release, release_in_order)
     return [Test(f"release: {it.__name__.replace('_', ' ')}", it) for it in its]

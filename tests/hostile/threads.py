@@ -12,8 +12,9 @@ TOOLS = {
     "helgrind": ["--tool=helgrind"],
 }
 ROUNDS = 3
-BRANCHES = 6
-STEPS = 900
+# A round has a segment of each branch, and four threads are started for 65,536 steps.
+BRANCHES, STEPS = 520, 128
+LIMITS = ["--branches", "1024", "--cells", "200000"]
 CYCLE = ["w 0 1", "r 1"] + ["g 0 0", "g 1 1"] * 11
 TOWERS = ("safe 0", "regular 2 0", "matrix 2 2 1 3")
 # After a script that ends well the program leaves its desk's memory to the end of its process, so
@@ -44,15 +45,15 @@ def tower(room, line):
 
 
 def script():
-    """Returns a script of fills of branches, some of which share steps, and edits between them."""
+    """Returns a script of fills of branches, two of which share steps, and edits between them."""
     names = [f"b{i}" for i in range(BRANCHES)]
-    lines = [f"0 fork main {STEPS - 100 * i} {name}" for i, name in enumerate(names)]
-    lines += [f"0 detach {name}" for name in names[::2]]
+    lines = [f"0 fork main {STEPS} {name}" for name in names]
+    lines += [f"0 detach {name}" for name in names[1:]]
     for turn in range(ROUNDS):
         lines += [f"0 fill {names[turn]}"]
         lines += [f"0 insert {name} {STEPS // 3 + turn} g 0 1" for name in names]
-        lines += [f"0 state {name} {STEPS // 4}" for name in names]
-    lines += ["0 fill main", "0 history main 400", "0 branches"]
+        lines += [f"0 state {name} {STEPS // 4}" for name in names[::50]]
+    lines += ["0 fill main", f"0 history main {STEPS}", "0 branches"]
     return "".join(f"{line}\n" for line in lines).encode()
 
 
@@ -90,10 +91,10 @@ def fills(counts, room):
     counts.begin("threads: fills by four workers")
     for line in TOWERS:
         path = tower(room, line)
-        alone = ended([path], script())
+        alone = ended([path, *LIMITS], script())
         is_good = alone.status == 0 and not alone.errors and not REFUSED.search(alone.output)
         counts.count(f"{line}, by none", None if is_good else f"{alone}")
-        words = [program(), path, "--workers", "4"]
+        words = [program(), path, *LIMITS, "--workers", "4"]
         too_long = script() + b"#" * MOST_BYTES
         checked(counts, line, "memcheck", words, too_long, alone.output, f"{room}/log", TOO_LONG)
         checked(counts, line, "helgrind", words, script(), alone.output, f"{room}/log")

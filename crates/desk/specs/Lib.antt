@@ -2,4 +2,5 @@ pub mod Items
 pub mod Histories
 pub mod Works
 pub mod Reports
+pub mod Worth
 pub mod Chairs

@@ -13,6 +13,7 @@ use crate::desk::{Chair, Desk};
 use crate::install::Install;
 use crate::plan::Plan;
 use crate::report::Report;
+use crate::worth::thieves_for;
 use checkpoints::run::Run;
 use cutoff::install::Installation;
 use cutoff::plan::Job;
@@ -52,11 +53,11 @@ where
     /// Stores runs (replayed segments) for segments that no stored run fits, in at most 64 rounds.
     /// A round has three parts: a plan lists jobs (segments to replay), and begins with the job of
     /// `branch` if there is one; the caller and up to `thieves` other threads (at most 4) run the
-    /// jobs without holding the turn, or the caller alone if `thieves` is 0; then the runs are
-    /// installed. The fill ends early if a plan
-    /// has no job, if all jobs of a round run out of memory, or if a later plan finds no such
-    /// branch. The fill adds no call to the history. Afterwards the chair has seen at least the
-    /// history that the first plan found. The report counts how the jobs ended.
+    /// jobs without holding the turn, one thread for each 16,384 steps, so the caller alone if there
+    /// are fewer or `thieves` is 0; then the runs are installed. The fill ends early if a plan has
+    /// no job, if all jobs of a round run out of memory, or if a later plan finds no such branch.
+    /// The fill adds no call to the history. Afterwards the chair has seen at least the history that
+    /// the first plan found. The report counts how the jobs ended.
     ///
     /// # Errors
     ///
@@ -215,7 +216,8 @@ impl<R: Register> Desk<R> {
     }
 }
 
-/// Runs these jobs without holding the turn, and returns an outcome for each.
+/// Runs these jobs without holding the turn, and returns an outcome for each. Only as many threads
+/// are started as the jobs' steps are worth; none for a small round.
 fn outcomes_of<R: Register + Send + Sync, W: Threads + Wait + Sync, G: Gate<W> + Sync>(
     filling: &Filling<'_, W, G>,
     jobs: Vec<Job<R>>,
@@ -234,8 +236,9 @@ where
     if jobs.is_empty() {
         return Ok(Vec::new(*alloc));
     }
-    if *thieves == 0 {
+    let helping = thieves_for(jobs.as_slice(), *thieves);
+    if helping == 0 {
         return Crew::run_alone(*rt, *alloc, jobs, *gate);
     }
-    Crew::run(*rt, *alloc, jobs, *thieves, *gate)
+    Crew::run(*rt, *alloc, jobs, helping, *gate)
 }

@@ -18,6 +18,7 @@ mod plan;
 mod receipt;
 mod report;
 mod save;
+mod worth;
 
 pub use desk::{Chair, Desk};
 pub use item::Item;
