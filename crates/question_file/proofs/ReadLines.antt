@@ -1,0 +1,51 @@
+-- Reading lines one after another, as a loop does.
+use Rattle.std.proofs.Common.{◌≡◌, ◌==◌, ℕ, ◌+◌, ◌<◌, ◌≤◌, ◌^◌, true, false, List, [], ◌∷◌, length, Option, Some, None, Result, Ok, Err, refl, ap, ◌∙◌, arith}
+use Rattle.std.proofs.lemmas.List.Splits.{length-slice_split}
+use Rattle.std.proofs.lemmas.List.Sums.{count_by-le-length}
+use Rattle.words.specs.Words.{lines, next, after_next, is_end}
+use Rattle.question_file.specs.declared.fault.QuestionFaultKind.{QuestionFaultKind}
+use Rattle.question_file.specs.Faults.{question_fault}
+use Rattle.question_file.specs.Asked.{Asked}
+use Rattle.question_file.specs.Reading.{last_line, read_from, read_on, with_line}
+
+-- a line that has a line end, and then those that follow
+pub line_more : (n : ℕ) (read : Option Asked) (ls : List (List ℕ)) → is_end (after_next ls) ≡ false
+    → read_from n read ls ≡ read_on n (with_line read (next ls)) (λ more. read_from (n + 1) more (after_next ls))
+unfolding read_from
+line_more n read [] more = absurd cc
+line_more n read (line ∷ []) more = absurd cc
+line_more n read (line ∷ other ∷ others) more = refl
+
+-- a line that says something, or nothing
+pub line_said : (n : ℕ) (read more : Option Asked) (ls : List (List ℕ)) → is_end (after_next ls) ≡ false → with_line read (next ls) ≡ Ok more
+    → read_from n read ls ≡ read_from (n + 1) more (after_next ls)
+line_said n read more ls not_last e = line_more n read ls not_last ∙ ap (λ (r : Result (Option Asked) QuestionFaultKind). read_on n r (λ m. read_from (n + 1) m (after_next ls))) e
+
+-- a line that has a fault
+pub line_faulty : (n : ℕ) (read : Option Asked) (k : QuestionFaultKind) (ls : List (List ℕ)) → is_end (after_next ls) ≡ false → with_line read (next ls) ≡ Err k
+    → read_from n read ls ≡ Err (question_fault k n)
+line_faulty n read k ls not_last e = line_more n read ls not_last ∙ ap (λ (r : Result (Option Asked) QuestionFaultKind). read_on n r (λ m. read_from (n + 1) m (after_next ls))) e
+
+-- the text after the last line end
+pub at_end : (n : ℕ) (read : Option Asked) (ls : List (List ℕ)) → is_end ls ≡ false → is_end (after_next ls) ≡ true
+    → read_from n read ls ≡ last_line n read (next ls)
+unfolding read_from
+at_end n read [] some end = absurd cc
+at_end n read (line ∷ []) some end = refl
+at_end n read (line ∷ other ∷ others) some end = absurd cc
+
+-- there is at most one more line than there are bytes
+pub few_lines : (bytes : List ℕ) (ls : List (List ℕ)) → ls ≡ lines bytes → length bytes < 2 ^ 63 → length ls ≤ 2 ^ 63
+few_lines bytes ls e few = omega (arith, ap length e, length-slice_split (λ b. b == 10) bytes, count_by-le-length (λ b. b == 10) bytes)
+
+some_line : (ls : List (List ℕ)) → 0 < length ls → is_end ls ≡ false
+some_line [] some = absurd (omega arith)
+some_line (l ∷ ls) some = refl
+
+-- there is at least one line
+pub some_lines : (bytes : List ℕ) → is_end (lines bytes) ≡ false
+some_lines bytes = some_line (lines bytes) (omega (arith, length-slice_split (λ b. b == 10) bytes))
+
+pub one_less : (ls : List (List ℕ)) → is_end ls ≡ false → length (after_next ls) + 1 ≡ length ls
+one_less [] some = absurd cc
+one_less (l ∷ ls) some = omega arith
