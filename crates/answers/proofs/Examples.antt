@@ -78,31 +78,30 @@ follows_back = record { later = record { process = 0; index = 0 }; earlier = rec
 abbrev follows_itself : After
 follows_itself = record { later = record { process = 0; index = 0 }; earlier = record { process = 0; index = 1 } }
 
-module _ (q : Question) where
-  -- IsAcyclic: process 1's operations follow process 0's
-  IsAcyclic-holds : q.after.items ≡ follows ∷ [] → IsAcyclic q
-  IsAcyclic-holds one = record {
-    rank = λ p i. i + i + p;
-    in_order = λ p i lt. omega arith;
-    follows = λ k a get. at k a (ap (λ l. slice_get l k) (sym one) ∙ get);
-  }
-    where
-      at : (k : ℕ) (a : After) → slice_get (follows ∷ []) k ≡ Some a
-          → a.earlier.index + a.earlier.index + a.earlier.process < a.later.index + a.later.index + a.later.process
-      at zero a h = subst (λ (x : After). x.earlier.index + x.earlier.index + x.earlier.process < x.later.index + x.later.index + x.later.process) (same_Some follows a h) (omega arith)
-      at (suc k) a h = absurd (none-some a h)
+-- IsAcyclic: process 1's operations follow process 0's
+IsAcyclic-holds : (q : Question) → q.after.items ≡ follows ∷ [] → IsAcyclic q
+IsAcyclic-holds q one = record {
+  rank = λ p i. i + i + p;
+  in_order = λ p i lt. omega arith;
+  follows = λ k a get. at k a (ap (λ l. slice_get l k) (sym one) ∙ get);
+}
+  where
+    at : (k : ℕ) (a : After) → slice_get (follows ∷ []) k ≡ Some a
+        → a.earlier.index + a.earlier.index + a.earlier.process < a.later.index + a.later.index + a.later.process
+    at zero a h = subst (λ (x : After). x.earlier.index + x.earlier.index + x.earlier.process < x.later.index + x.later.index + x.later.process) (same_Some follows a h) (omega arith)
+    at (suc k) a h = absurd (none-some a h)
 
-  -- IsAcyclic fails: two operations follow each other
-  IsAcyclic-fails : q.after.items ≡ follows ∷ follows_back ∷ [] → IsAcyclic q → ⊥
-  IsAcyclic-fails two h =
-      let one = h.follows 0 follows (ap (λ l. slice_get l 0) two) in
-      let other = h.follows 1 follows_back (ap (λ l. slice_get l 1) two) in
-      omega (arith, one, other)
+-- IsAcyclic fails: two operations follow each other
+IsAcyclic-fails : (q : Question) → q.after.items ≡ follows ∷ follows_back ∷ [] → IsAcyclic q → ⊥
+IsAcyclic-fails q two h =
+    let one = h.follows 0 follows (ap (λ l. slice_get l 0) two) in
+    let other = h.follows 1 follows_back (ap (λ l. slice_get l 1) two) in
+    omega (arith, one, other)
 
-  -- IsAcyclic fails: a process makes its second operation after its first, which has to follow it
-  follows_itself_fails : (o u : Op) → operations_of q 0 ≡ o ∷ u ∷ [] → q.after.items ≡ follows_itself ∷ [] → IsAcyclic q → ⊥
-  follows_itself_fails o u two one h =
-      let long : length (operations_of q 0) ≡ 2 = ap length two in
-      let ordered = h.in_order 0 0 (omega (arith, long)) in
-      let follow = h.follows 0 follows_itself (ap (λ l. slice_get l 0) one) in
-      omega (arith, ordered, follow)
+-- IsAcyclic fails: a process makes its second operation after its first, which has to follow it
+follows_itself_fails : (q : Question) (o u : Op) → operations_of q 0 ≡ o ∷ u ∷ [] → q.after.items ≡ follows_itself ∷ [] → IsAcyclic q → ⊥
+follows_itself_fails q o u two one h =
+    let long : length (operations_of q 0) ≡ 2 = ap length two in
+    let ordered = h.in_order 0 0 (omega (arith, long)) in
+    let follow = h.follows 0 follows_itself (ap (λ l. slice_get l 0) one) in
+    omega (arith, ordered, follow)
