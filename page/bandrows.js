@@ -24,7 +24,7 @@ export function registerRows(drawing, reading, bits, shared) {
 }
 function bandOf(name, runs, codes) {
   const words = (numbers, written) => (written === null ? numberLabels(codes, numbers[0])
-    : writtenLabels(codes, numbers, written));
+    : writtenLabels(codes, numbers));
   return { name, kind: "band", runs: runs.map(([from, to, numbers, written]) => ({ from, to,
     isWritten: written !== null, isEither: numbers.length > 1,
     words: words(numbers, written) })) };

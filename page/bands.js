@@ -1,5 +1,5 @@
-// The number in each register over time, by runs of places: what a scan finds, what is being written,
-// when it is scanned, and what its writer and its reader remember.
+// The number in each register over time, by runs of places: what a scan finds, what is being
+// written, when it is scanned, and what its writer and its reader remember.
 import { lengthen } from "./reading.js";
 
 // runs of [first place, last place, numbers that a scan can find, number being written or null]

@@ -64,8 +64,9 @@ function axisOf(branches, room) {
 // `scrolled` is where the picture is scrolled to, `cells` how many lines of pages a place takes.
 export function findColumns(branches, { room, scrolled, place, isFollowing, cells }) {
   const axis = axisOf(branches, room), { column } = axis, x = axis.left(place);
-  const centred = Math.max(0, x - room / 2);
-  const isWhole = axis.left(lengthOf(branches)) + MARGIN <= room;
+  // (as far as the picture scrolls)
+  const farthest = Math.max(0, axis.left(lengthOf(branches)) + MARGIN - room);
+  const centred = Math.max(0, Math.min(x - room / 2, farthest)), isWhole = farthest === 0;
   let left = isWhole ? 0 : axis === now.range.axis ? scrolled : centred;
   if (isFollowing && (x < left + column || x > left + room - column)) left = isWhole ? 0 : centred;
   const first = axis.place(left), last = axis.place(left + room), middle = (first + last) / 2;

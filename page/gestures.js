@@ -24,7 +24,7 @@ import { task } from "./task.js";
 import { headed, startLine, startOf } from "./tasks.js";
 import { forgetTyped, putTyped, showTab } from "./text.js";
 import { forgetViewing, viewing } from "./viewing.js";
-import { drawWhole } from "./whole.js";
+import { drawWhole, putSpent } from "./whole.js";
 import { lookIntoRead } from "./whys.js";
 
 const TRIES = [64, 1024, 16384], MOST_STEPS_ON_A_BRANCH = 4000;
@@ -255,6 +255,7 @@ export function pick(name, begun) {
   putDeck(does);
   act(async () => {
     await lookIntoRead();
+    putSpent();
     light();
     putDeck(does);
   });

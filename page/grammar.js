@@ -20,6 +20,8 @@ export const CHOICES = {
   STEP: { w: "PROCESS VALUE", r: "PROCESS", g: "PROCESS CHOICE", x: "PROCESS" },
   BREAK: { returns: "PROCESS", bit: "BIT VALUE", chosen: "", void: "", refused: "" } };
 export const EDITS = ["insert", "remove", "replace", "fork", "detach"];
+// what changes branches
+export const CHANGES = [...EDITS, "drop"];
 const LOOKS = ["state", "process", "bits", "pending", "history", "verdict", "steps"];
 export const UNGUARDED = [...LOOKS, "branches", "cursor", "fill"];
 // the commands after which the page is at the branch that they name

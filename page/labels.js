@@ -28,16 +28,19 @@ export function numberLabels(codes, code) {
   const { long, short } = codeWords(codes, code);
   return codes.kind === "unary" ? [long] : [`code ${code} = ${long}`, long, short, `${code}`];
 }
-// while a number is written, the words for those that a scan can find, the written one last
-export function writtenLabels(codes, numbers, written) {
-  const [first, last] = [numbers[0], numbers.at(-1)], noun = codes.kind === "unary" ? "" : "code ";
-  const { long, short } = codeWords(codes, last), when = last === written ? "already" : "still";
-  const brief = codes.kind === "matrix" ? [`${when} ${short}`] : [];
-  const about = noun ? [`${when} ${noun}${last} = ${long}`, ...brief] : [];
+// while a number is written, the words for those that a scan can find, the written one last (the old
+// code alone, as its bit is the last one to be cleared)
+export function writtenLabels(codes, numbers) {
+  const [first, last] = [numbers[0], numbers.at(-1)], { long, short } = codeWords(codes, last);
+  if (codes.kind === "unary") {
+    const words = numbers.length > 1 ? `${first} or ${last}` : `${last}`;
+    return [`a scan finds ${words}`, `finds ${words}`, words, `${first}|${last}`];
+  }
   if (numbers.length > 1)
-    return [`a scan finds ${noun}${first} or ${noun}${last}`, `${noun}${first} or ${last}`,
+    return [`a scan finds code ${first} or code ${last}`, `code ${first} or ${last}`,
       `${first} or ${last}`, `${first}|${last}`];
-  return [...about, `a scan finds ${noun}${last}`, `${when} ${noun}${last}`, `${when} ${last}`,
+  const brief = codes.kind === "matrix" ? [`still ${short}`] : [];
+  return [`still code ${last} = ${long}`, ...brief, `still code ${last}`, `still ${last}`,
     `${last}`];
 }
 // the words for an inner operation; an outermost one has those of its operation

@@ -175,9 +175,10 @@ export class Facts {
   }
   // the first read of a matrix's column that found its greatest tagged code; null if it isn't known
   entryOf(root) {
-    const { code } = root.last, { codes } = this, isRead = (it) => it.within.phase === "read";
-    const inner = (it) => it.isEnded && codes.parts(this.best(this.registerOf(it), it.to + 1)).inner;
-    return root.isCut ? null : root.inner.find((it) => isRead(it) && inner(it) === code) || null;
+    const bestAfter = (it) => this.best(this.registerOf(it), it.to + 1);
+    const isIt = (it) => it.within.phase === "read" && it.isEnded
+      && this.codes.parts(bestAfter(it)).inner === root.last.code;
+    return root.isCut ? null : root.inner.find(isIt) || null;
   }
   // the bits that a write of a number passes before each of its inner writes, and after the last
   skipped(it) {

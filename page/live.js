@@ -9,7 +9,7 @@ import { actAs, begin, change, clickRead, commands, does, draw, focusOn } from "
 import { move, openFiles, putWelcome, redraw, show, study, views } from "./gestures.js";
 import { watchKeys } from "./keys.js";
 import { LABEL } from "./measures.js";
-import { isMissing } from "./picture.js";
+import { areBitsMissing, isMissing } from "./picture.js";
 import { watchFolds } from "./room.js";
 import { here, now } from "./state.js";
 import { leaveStudy } from "./study.js";
@@ -52,6 +52,7 @@ for (const it of [one("#panels"), one("#tree-fold")])
     if (key) views.fold(key, isOpen);
     else if (now.model) redraw(false);
   }, true);
+one("#here").addEventListener("toggle", () => { if (areBitsMissing()) redraw(false); }, true);
 one("#place").addEventListener("input", ({ target }) => does.go(Number(target.value)));
 one("#show").addEventListener("change", ({ target }) => show(target.value));
 one("#session").addEventListener("change", ({ target }) => actAs(Number(target.value)));

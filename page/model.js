@@ -2,6 +2,7 @@
 // pages as they are wanted.
 import { placeOf } from "./document.js";
 import { SESSIONS } from "./grammar.js";
+import { looksAfterEdits, looksAfterMove } from "./guesses.js";
 import { Codes } from "./layers.js";
 import { LOOK, answersIn, between, cursorIn, firstDifference, forestIn } from "./pages.js";
 import { pageIn, pairedAnswers, sharedCells } from "./pages.js";
@@ -13,9 +14,15 @@ const EVERY_SESSION = between(0, SESSIONS);
 const MOST_KEPT = 2000000;
 // a file with more steps than the program takes by default is run with a higher limit
 const ROOM = 65536, MORE_ROOM = ["--cells", "16777216"];
-async function answered(ask, tower, script) {
+// how many pages were asked for, in how many runs, and how many lines these wrote in all
+export const spent = { pages: 0, runs: 0, lines: 0 };
+const countLines = (text) => text.split("\n").length - 1;
+// (only the branches' next version is saved, as that of a large document takes time)
+async function answered(ask, tower, script, isSaved = false) {
   const isBig = tower.length > ROOM && tower.split("\n").length - 3 > ROOM;
-  const made = await ask(tower, script, isBig ? { words: MORE_ROOM } : {});
+  const made = await ask(tower, script, { isSaved, ...(isBig ? { words: MORE_ROOM } : {}) });
+  spent.runs++;
+  spent.lines += countLines(made.output) + countLines(made.bench);
   if (made.fault) throw new Error(made.fault);
   if (made.status !== 0) throw new Error(faultInWords(made.errors, made.status));
   return made;
@@ -25,21 +32,27 @@ export class Model {
   // The answers to a document; a fault of the file, or of the whole run, is thrown. What `before`
   // has of it stays.
   static async of(document, ask, before) {
-    const cursors = EVERY_SESSION.map((who) => `${who} cursor`);
-    const asked = [...document.lines, ...cursors, `${LOOK} branches`];
-    const made = await answered(ask, document.tower, linesOf(asked));
-    const { bench } = made, isSame = before && before.bench === bench;
+    const isEdited = !before?.document.isEditedAs(document);
+    const guess = isEdited ? looksAfterEdits : looksAfterMove;
+    const guessed = before ? guess(before, document) : [];
+    const looks = [...EVERY_SESSION.map((who) => `${who} cursor`), `${LOOK} branches`,
+      ...guessed.map((it) => `${LOOK} ${it}`)];
+    const asked = [...document.lines, ...looks];
+    const made = await answered(ask, document.tower, linesOf(asked), isEdited);
+    const bench = isEdited ? made.bench : before.bench, isSame = before?.bench === bench;
     const forest = isSame ? before : forestIn(bench), pages = isSame ? before.pages : new Map();
     const model = new Model(document, ask, bench, forest, pages);
-    model.understand(pairedAnswers(asked, answersIn(made.output)));
+    const found = pairedAnswers(asked, answersIn(made.output));
+    model.understand(found);
     if (before && !isSame) model.keep(before);
+    guessed.forEach((look, at) => model.take(look, found.at(at - guessed.length)));
     return model;
   }
   constructor(document, ask, bench, { tower, branches }, pages) {
     const shape = shapeOf(tower), codes = new Codes(shape);
-    // (`asked`: how many pages this model has asked for)
+    // (`sought`: the looks of the picture)
     Object.assign(this, { document, ask, bench, tower, branches, pages, shape, codes });
-    Object.assign(this, { notes: [], asked: 0 });
+    Object.assign(this, { notes: [], sought: [] });
     this.byName = new Map(branches.map((it) => [it.name, it]));
   }
   understand(found) {
@@ -106,16 +119,22 @@ export class Model {
     const kept = [...this.pages.values()].reduce((sum, { lines }) => sum + lines.length, 0);
     if (kept > MOST_KEPT)
       for (const key of this.pages.keys()) if (!keys.has(key)) this.pages.delete(key);
-    this.asked += wanted.length;
     if (!wanted.length) return;
+    spent.pages += wanted.length;
     const script = linesOf(wanted.map((it) => `${LOOK} ${it}`));
     const found = answersIn((await answered(this.ask, this.bench, script)).output);
     wanted.forEach((look, index) => {
-      const { first, lines } = found[index] || { first: "nothing", lines: [] };
-      const isAnswer = first.startsWith(`${LOOK}: ${look} of `), [kind] = look.split(" ");
-      if (isAnswer) this.pages.set(look, pageIn(kind, lines));
-      else this.notes.push(`To the look ${look} the program answered ${first.slice(0, 60)}`);
+      const words = found[index]?.first.slice(0, 60) || "nothing";
+      if (!this.take(look, found[index]))
+        this.notes.push(`To the look ${look} the program answered ${words}`);
     });
+  }
+  // keeps the page that answers a look, and says whether there is one
+  take(look, found) {
+    if (!found?.first.startsWith(`${LOOK}: ${look} of `)) return false;
+    const [kind, name, place] = look.split(" ");
+    this.pages.set(this.key(kind, name, Number(place)), pageIn(kind, found.lines));
+    return true;
   }
 }
 // How many of these steps a process needs to the end of its operation, or to a choice; null if

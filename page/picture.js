@@ -32,6 +32,10 @@ function needsBits({ name }) {
   return !registers.length || shape.cells <= MANY_CELLS
     || registers.some((it) => isFoldOpen(`${name} ${it.name}`));
 }
+// whether the page of bits at the cursor's place is shown
+const areBitsShown = () => now.model.shape.cells <= MANY_CELLS || one("#here details")?.open;
+export const areBitsMissing = () => Boolean(now.model) && areBitsShown()
+  && !now.model.page("bits", here().name, here().place);
 function kindsOf(branch) {
   const hasLayers = layersOf(now.model.shape).length > 0;
   return ["state", hasLayers && "pending", needsBits(branch) && "bits"].filter(Boolean);
@@ -68,16 +72,22 @@ function branchesOfTree() {
 const cut = ({ from, to }, branch) => [from, to].map((it) => Math.min(it, branch.length));
 export async function look(isFollowing) {
   const { model } = now, { name, place } = here(), tree = branchesOfTree();
-  await model.look(axisLooks(shown(), roomOf()));
+  const ofAxis = axisLooks(shown(), roomOf());
+  await model.look(ofAxis);
   const panels = panelsInSight(shown()), range = findRange(shown(), panels.length, isFollowing);
   const looks = panels.flatMap((it) => looksOf(it, ...cut(range, it), kindsOf(it)));
   for (const it of tree) {
     const [, to] = cut(range, it);
     looks.push(["history", it.name, to], ["verdict", it.name, to]);
   }
-  for (const kind of ["state", "pending", "bits"])
+  for (const kind of ["state", "pending", ...(areBitsShown() ? ["bits"] : [])])
     looks.push([kind, name, place], [kind, name, Math.max(0, place - 1)]);
   await model.look(looks);
+  // (whether a read is hit is on the page of bits alone)
+  const isEnding = ({ action }) => action === "re";
+  if (model.page("state", name, place)?.processes.some(isEnding))
+    await model.look([["bits", name, place]]);
+  model.sought = [...ofAxis, ...looks];
   readAll(tree, panels, range);
   await lookIntoRead();
   setNow({ range, inSight: new Set(panels) });

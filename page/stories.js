@@ -39,7 +39,7 @@ function storyOfNumber(facts, root) {
   const end = found === null ? ", so far" : `: the first 1 that it found is bit ${found}`;
   const source = found === null ? null : root.inner.at(-1);
   return { words: `${words}${end}.`, parts: root.inner, source,
-    rows: [{ name: "number", place: root.to, code: found }] };
+    rows: [{ name: "number", place: root.to }] };
 }
 function storyOfStamped(facts, root) {
   const { codes } = facts, [register] = codes.registers, [scan] = facts.layers.of("unary", root);

@@ -5,6 +5,7 @@ import { putUndo } from "./back.js";
 import { processesHere, putDeck } from "./deck.js";
 import { one } from "./elements.js";
 import { preparePrint } from "./files.js";
+import { spent } from "./model.js";
 import { isLessonAtStart, putLesson } from "./lessons.js";
 import { followFocus, look, putPicture } from "./picture.js";
 import { lookAtSecond, putSecond } from "./second.js";
@@ -12,13 +13,13 @@ import { now } from "./state.js";
 import { goalLooks, putTask } from "./task.js";
 import { putText } from "./text.js";
 
+// what was asked of the program since the page began, for the tests
+export const putSpent = () => Object.assign(one("#inner").dataset, spent);
 export async function drawWhole(does, taskDoes, isFollowing = true) {
   await look(isFollowing);
   await lookAtSecond();
-  // (how many pages the picture asked the program for, for the tests)
-  one("#inner").dataset.asked = now.model.asked;
+  putSpent();
   await now.model.look(goalLooks());
-  now.model.asked = 0;
   putPicture(processesHere().filter((it) => it.isHit).map((it) => it.number));
   putSecond();
   putDeck(does);

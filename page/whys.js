@@ -28,10 +28,12 @@ export async function lookIntoRead() {
   const to = Math.min(end, (read.ended ?? end) + 1), key = `${name} ${read.begun} ${to}`;
   if (lookedInto?.key === key && lookedInto.bench === model.bench) return;
   if ((to - read.begun) * model.shape.cells > MOST_STORY_LINES) return;
-  await model.look([["history", name, to], ["verdict", name, to], ...between(read.begun, to + 1)
-    .flatMap((place) => [["state", name, place], ["pending", name, place]])]);
+  await model.look(between(read.begun, to + 1)
+    .flatMap((place) => [["state", name, place], ["pending", name, place]]));
+  // (its events are on the history of the columns in sight)
   const page = (kind, at) => model.page(kind, name, at);
-  const reading = new Reading(branch, read.begun, to, page), layers = new Layers(reading, page);
+  const reading = new Reading(branch, read.begun, to, page, end);
+  const layers = new Layers(reading, page);
   const isIt = ({ operation: { begun, process } }) =>
     begun === read.begun && process === read.process;
   const story = storyOf(new Facts(layers, model.codes), layers.roots.find(isIt));

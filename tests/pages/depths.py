@@ -9,17 +9,43 @@ STAMPED, UNARY, MATRIX = (
     "lessons/08-matrix/matrix",
 )
 NESTS = "[...document.querySelectorAll('.nest')].filter((it) => it.dataset.process === '%d').map((it) => it.dataset.nest)"
-# how many pages a gesture may ask for, on a schedule that is open already: those of the columns in sight, of what the
-# cursor's place shows, and of a read that is explained; a matrix's elastic axis takes a page of each place too
-MOST_ASKED = {"lesson 8": 300, "a move": 60, "safe 0": 150}
+LONG = "tower 2\nsafe 0\n" + "w 0 1\ng 0 0\nr 1\ng 1 0\ng 1 1\ng 0 0\n" * 5000
+FOUR = "".join(
+    (
+        "tower 2\nmatrix 4 2 1 15\nw 0 1\n",
+        "g 0 0\n" * 20,
+        "w 1 0\n",
+        "g 1 0\ng 0 0\n" * 30,
+        "r 2\n",
+        "g 2 0\n" * 250,
+    )
+)
+# How many pages a gesture may ask for, on a schedule that is open already, in how many runs, and how many lines these
+# write: the pages of the columns in sight, of what the cursor's place shows, and of a read that is explained. An edit
+# takes the whole history again, and the saved branches. Whether a read is hit is on the page of bits alone, which has
+# 4,096 lines for four processes.
+MOST_SPENT = {
+    "a move in lesson 8": (20, 2, 200),
+    "a step in lesson 8": (20, 1, 1000),
+    "a move in 30,000 steps": (10, 3, 40),
+    "the other end of 30,000 steps": (150, 2, 31000),
+    "a step after 30,000": (20, 1, 61000),
+    "a click on a read": (20, 1, 100),
+    "the other end of four processes": (150, 2, 1500),
+    "a move of four processes": (10, 1, 100),
+    "a step of four processes": (10, 1, 1000),
+    "a step that ends a read next": (10, 2, 5000),
+}
 
 
 def opened(page, name, script="0 join\n"):
     page.open(cases.read(f"{name}.tower").decode(), script)
 
 
-def asked(page):
-    return int(page.value("document.querySelector('#inner').dataset.asked"))
+def spent(page):
+    """Returns how many pages the page has asked for, in how many runs, and how many lines these wrote."""
+    names = "['pages', 'runs', 'lines']"
+    return page.value(f"{names}.map((it) => Number(document.querySelector('#inner').dataset[it]))")
 
 
 def nests(page, process):
@@ -230,27 +256,42 @@ def two_towers(page):
     )
 
 
+def cost(page, work, gesture):
+    """Does a gesture, and fails if it asks for more pages, in more runs, of more lines, than it may."""
+    before = spent(page)
+    work()
+    page.wait()
+    found = tuple(now - was for now, was in zip(spent(page), before))
+    bound = MOST_SPENT[gesture]
+    holds(all(it <= most for it, most in zip(found, bound)), f"{gesture}: {found}, at most {bound}")
+
+
 def counted_pages(page):
-    """A gesture asks for the pages of the columns in sight and what they need, once."""
+    """A gesture asks for the pages of the columns in sight and what they need, once, in one run if it can."""
+
+    def focused_key(name, gesture):
+        page.value("document.querySelector('#scroll').focus()")
+        cost(page, lambda: page.key(name), gesture)
+
     opened(page, MATRIX)
-    holds(asked(page) <= MOST_ASKED["lesson 8"], f"lesson 8 asks for {asked(page)} pages")
-    page.value("document.querySelector('#scroll').focus()")
-    for gesture in ("ArrowLeft", "+", "+", "-", "ArrowLeft", "Home"):
-        page.key(gesture)
-        holds(asked(page) <= MOST_ASKED["a move"], f"{gesture} asks for {asked(page)} pages")
+    holds(spent(page)[0] <= 300, f"lesson 8 asks for {spent(page)[0]} pages")
+    for name in ("ArrowLeft", "+", "+", "-", "ArrowLeft", "Home"):
+        focused_key(name, "a move in lesson 8")
+    cost(page, lambda: page.button("p1 r 1"), "a step in lesson 8")
+    page.open(LONG)
+    first = spent(page)
+    holds(first[0] <= 150 and first[1] <= 2, f"30,000 steps take {first}")
+    focused_key("ArrowRight", "a move in 30,000 steps")
+    focused_key("End", "the other end of 30,000 steps")
+    focused_key("ArrowLeft", "a move in 30,000 steps")
+    focused_key("End", "a move in 30,000 steps")
+    # (the first step may take more columns in sight)
     page.button("p1 r 1")
-    holds(asked(page) <= MOST_ASKED["lesson 8"], f"a step asks for {asked(page)} pages")
-    page.open("tower 2\nsafe 0\n" + "w 0 1\ng 0 0\nr 1\ng 1 0\ng 1 1\ng 0 0\n" * 5000)
-    holds(asked(page) <= MOST_ASKED["safe 0"], f"30,000 steps ask for {asked(page)} pages")
-    page.value("document.querySelector('#scroll').focus()")
-    for gesture in ("ArrowLeft", "ArrowLeft"):
-        page.key(gesture)
-        holds(
-            asked(page) <= MOST_ASKED["a move"],
-            f"{gesture} asks for {asked(page)} pages of 30,000 steps",
-        )
-    page.key("Home")
-    holds(
-        asked(page) <= MOST_ASKED["safe 0"],
-        f"the other end asks for {asked(page)} pages of 30,000 steps",
-    )
+    cost(page, lambda: page.button("p1 g 1 0"), "a step after 30,000")
+    cost(page, lambda: click_in(page, ".operation.read.returned"), "a click on a read")
+    page.open(FOUR)
+    focused_key("End", "the other end of four processes")
+    focused_key("ArrowLeft", "a move of four processes")
+    page.key("End")
+    cost(page, lambda: page.button("p3 r 3"), "a step of four processes")
+    cost(page, lambda: page.button("p3 g 3 0"), "a step that ends a read next")

@@ -66,13 +66,11 @@ SHORTER = (
     (r"code (\d+) = (stamp (\d+), value (\d+))", (r"\2", r"s\3: \4", r"\1")),
     (rf"code (\d+) = ({TAGGED}, stamp \d+)", (r"\2", r"t\3 p\4: \5", r"\1")),
     (TAGGED, (r"t\1 p\2: \3",)),
-    (r"a scan finds (?:code )?(\d+) or (?:code )?(\d+)", (r"code \1 or \2", r"\1 or \2", r"\1|\2")),
-    (
-        r"(still|already) code (\d+) = .*",
-        (r"a scan finds code \2", r"\1 code \2", r"\1 \2", r"\2"),
-    ),
-    (rf"(still|already) code \d+ = {TAGGED}, stamp \d+", (r"\1 t\2 p\3: \4",)),
-    (r"a scan finds (\d+)", (r"still \1", r"already \1", r"\1")),
+    (r"a scan finds code (\d+) or code (\d+)", (r"code \1 or \2", r"\1 or \2", r"\1|\2")),
+    (r"a scan finds (\d+) or (\d+)", (r"finds \1 or \2", r"\1 or \2", r"\1|\2")),
+    (r"a scan finds (\d+)", (r"finds \1", r"\1")),
+    (r"still code (\d+) = .*", (r"still code \1", r"still \1", r"\1")),
+    (rf"still code \d+ = {TAGGED}, stamp \d+", (r"still t\1 p\2: \3",)),
 )
 # likewise the words on an operation's own bar
 SHORTER_BARS = (
@@ -486,8 +484,8 @@ class Inside:
         if len(found) > 1:
             return f"a scan finds {noun}{old} or {noun}{written}", True
         (number,) = found
-        when = "already" if number == written else "still"
-        return f"{when} {self.tower.named(number)}" if noun else f"a scan finds {number}", False
+        assert not noun or number == old, f"a scan finds {number} before {written} is written"
+        return f"still {self.tower.named(number)}" if noun else f"a scan finds {number}", False
 
     def bands(self, register):
         """Returns what each band of a register has at each place: words, and whether a scan can find either of two numbers."""
