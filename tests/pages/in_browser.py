@@ -7,6 +7,7 @@ import tempfile
 import threading
 
 from pages import (
+    answers,
     build,
     chromium,
     depths,
@@ -76,7 +77,12 @@ IN_FIREFOX = {
     "lessons": ("lessons", "a_lesson_line_by_line"),
     "sharing": ("links", "nothing_lost", "which_tower", "forty_files", "judged_by"),
 }
+# What needs the program of all answers.
+OF_ALL_ANSWERS = ("predictions", "a_read", "too_many")
+if build.module.SEARCH in build.module.PROGRAMS:
+    ALL["answers"] = IN_FIREFOX["answers"] = OF_ALL_ANSWERS
 MODULES = {
+    "answers": answers,
     "gestures": gestures,
     "depths": depths,
     "drawn": drawn,

@@ -1,0 +1,104 @@
+"""The panel of all answers: predictions, what a read could have given, and what is too much to search."""
+import re
+
+from pages.live import holds, same
+from pages.reader import Reader
+
+FOUND = "document.querySelector('[data-find-again]')"
+ROWS = """Object.fromEntries([...document.querySelectorAll('#answers [data-answers]')].map((it) =>
+  [it.dataset.answers, it.localName === 'button']))"""
+
+
+def find(page):
+    page.click("[data-find]")
+    page.until(FOUND, f"nothing is found: {page.text('#answers')}")
+    page.wait()
+
+
+def gave(page, program):
+    """Returns what the native program says that the schedule in focus gives: each process's values, refusals and writes."""
+    name, length = re.fullmatch(r"(\w+), place (\d+) of \2", page.place()).groups()
+    tower, script = page.document()
+    page.click("[data-tab=answers]")
+    lines = Reader(program, tower, script).ask(f"history {name} {length}")
+    found = {}
+    for line in lines[f"history {name} {length}"]:
+        _, process, kind, *words = line.split()
+        if kind in ("return", "refused"):
+            found.setdefault(process, []).append("-".join(words))
+    return " ".join(f"{it} {' '.join(found[it])}" for it in sorted(found))
+
+
+def predictions(page, program):
+    """A prediction is marked right or wrong, more than sixteen lists are grouped by reader, and a process may stop."""
+    page.open("tower 2\nregular 1 0\n", "0 join\n")
+    page.click("[data-tab=answers]")
+    same(page.count("#answers [data-guess]"), 4)
+    for key in ("p0 written p1 0 0", "p0 written p1 0 1"):
+        page.click(f'#answers [data-guess="{key}"] input')
+    find(page)
+    same(page.count("#answers .list .met"), 2)
+    same(page.count("#answers .list .wrong"), 2)
+    same(page.texts("#answers .odd"), [" new-old inversion"])
+    for _ in range(3):
+        page.click('#answers [data-more="p1 r"]')
+    same(page.count("#answers [data-guess]"), 0)
+    page.fill("#answers [data-guess-number]", "12")
+    find(page)
+    holds("You predicted 12." in page.text("#answers"), page.text("#answers"))
+    holds(page.count("#answers [data-group]") > 16, "the lists aren't grouped")
+    page.click('#answers [data-group="p1 1 0 1 0 1"]')
+    page.until("document.querySelector('#at').textContent.startsWith('answer,')")
+    page.wait()
+    same(gave(page, program), "p0 written p1 1 0 1 0 1")
+    page.do("undo")
+    same(page.branches(), ["main"])
+    for index in (4, 3, 2, 1):
+        page.click(f'#answers [data-less="p1 {index}"]')
+    page.click('#answers [data-may-stop="0"]')
+    find(page)
+    same(
+        page.value(ROWS),
+        {
+            "p0 written p1 0": True,
+            "p0 written p1 1": True,
+            "p0  p1 0": True,
+            "p0  p1 1": True,
+        },
+    )
+
+
+def a_read(page):
+    """A selected read says which values it could have given, and each has a schedule."""
+    page.open("tower 2\nunary 3 1 0\nw 0 2\nr 1\n" + "g 0 0\n" * 4 + "g 1 0\n" * 6, "0 join\n")
+    page.key("End")
+    page.click(".panel.focus .operation.read .bar")
+    page.do("values")
+    page.until(FOUND)
+    page.wait()
+    same(
+        page.value(
+            "[...document.querySelectorAll('#answers [data-value]')].map((it) => it.dataset.value).sort()"
+        ),
+        ["0", "2"],
+    )
+
+
+def too_many(page):
+    """Too many states are a sentence that says what to leave out; a search can be stopped."""
+    page.open("tower 2\nunary 8 4 0\n", "0 join\n")
+    page.click("[data-tab=answers]")
+    for process in (1, 2, 2, 3, 3, 4, 4):
+        page.click(f'#answers [data-more="p{process} r"]')
+    for wanted in ("The search was stopped.", "eave out "):
+        page.click("[data-find]")
+        page.until("document.querySelector('[data-find-stop]')")
+        if wanted.startswith("The"):
+            page.click("[data-find-stop]")
+        for _ in range(4):
+            try:
+                page.until("document.querySelector('[data-find]')")
+                break
+            except AssertionError:
+                continue
+        holds(wanted in page.text("#answers-said"), page.text("#answers-said"))
