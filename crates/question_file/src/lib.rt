@@ -20,6 +20,6 @@ mod file;
 mod line;
 mod reading;
 
-pub use fault::{QuestionFaultKind, QuestionFault};
+pub use fault::{QuestionFault, QuestionFaultKind};
 pub use file::{MOST_STATES, QuestionFile, STATES_IF_LEFT_OUT};
 pub use reading::parse_question;

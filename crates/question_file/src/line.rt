@@ -134,7 +134,11 @@ impl QuestionFile {
     }
 
     /// Adds the operations of a line `process`, given the words after the first.
-    fn take_process(&mut self, alloc: Global, words: &mut Parts<'_>) -> Result<(), QuestionFaultKind>
+    fn take_process(
+        &mut self,
+        alloc: Global,
+        words: &mut Parts<'_>,
+    ) -> Result<(), QuestionFaultKind>
         ensures taken { OnOk result
             (spec.with_process (as_asked self.old) words.old ≡ Some (as_asked self.new)) }
         ensures kind { IfErr result (λ k. k ≢ Memory → k ≡ BadProcess) }

@@ -10,7 +10,7 @@ ghost use Rattle.question_file.specs.Faults as faults;
 ghost use Rattle.question_file.specs.Said.{as_asked};
 ghost use Rattle.question_file.specs.Reading as spec;
 
-use crate::fault::{QuestionFaultKind, QuestionFault};
+use crate::fault::{QuestionFault, QuestionFaultKind};
 use crate::file::QuestionFile;
 use crate::line::tower_in;
 use std::alloc::Global;
