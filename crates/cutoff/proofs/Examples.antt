@@ -1,5 +1,5 @@
 -- Worked examples of definitions that claim an existence: one that holds, and a near miss.
-use Rattle.std.proofs.Common.{ℕ, zero, suc, ◌≡◌, Bool, true, List, [], ◌∷◌, Option, Some, None, option_map, codes, slice_index_or, ap, refl, ◌∙◌, inr, ⊎_elim, arith}
+use Rattle.std.proofs.Common.{ℕ, zero, suc, ◌≡◌, Bool, true, List, [], ◌∷◌, Option, Some, None, option_map, codes, slice_index_or, ap, refl, ◌∙◌, ◌⊎◌, inl, inr, ⊎_elim, arith}
 use Rattle.std.specs.Prelude.{⊤}
 use Rattle.frames.specs.declared.types.Step.{Step}
 use Rattle.frames.specs.declared.types.Step.TheVariants.{Write, Read}
@@ -9,8 +9,8 @@ use Rattle.frames.specs.Configuration.{Configuration, initial_configuration, rep
 use Rattle.frames.specs.Equality.{SameConfiguration}
 use Rattle.checkpoints.specs.Segment.{SegmentRun}
 use Rattle.schedule_trie.specs.Forest.{slot}
-use Rattle.schedule_trie.specs.Cut.{Cut, strand, piece, piece_at, note_of, with_note}
-use Rattle.cutoff.specs.Fitting.{StoredRun, RunPart}
+use Rattle.schedule_trie.specs.Cut.{Cut, Piece, strand, piece, piece_at, note_of, with_note}
+use Rattle.cutoff.specs.Fitting.{StoredRun, RunPart, IsOnWayTo, checked_piece}
 use Rattle.cutoff.specs.Settles.{Settles, HasFitting, IsSettledLast, last_part}
 use Rattle.cutoff.specs.Charts.{Charted}
 use Rattle.cutoff.specs.Plans.{job_of, with_job, Plans, IsInstalled}
@@ -47,7 +47,7 @@ abbrev reading : Run
 reading = run_over (Read 1)
 
 abbrev stored : Run → StoredRun ⊤ SafePoint
-stored run = record { run = run; id = None; link = None }
+stored run = record { run = run; id = None; link = None; checked = None }
 
 -- `main` alone: one segment, at key 0, with the one step in which process 0 invokes a write of 1;
 -- with or without a stored run
@@ -131,7 +131,13 @@ Plans-fails h = ⊎_elim (λ fits. fits.0) (λ missed. one_job h.1 (h.3 ∙ ap (
 -- the run is stored at the one segment
 IsInstalled-holds : IsInstalled (chart_with None) (chart_with (Some writing)) 0 writing
 IsInstalled-holds = record {
-  noted = (stored writing, refl, record { here = refl; others = others; strands = refl; limits = refl; unchanged = refl });
+  noted = (
+    stored writing,
+    with_run (Some writing),
+    refl,
+    record { here = refl; others = others; strands = refl; limits = refl; unchanged = refl },
+    record { strands = refl; limits = refl; unchanged = refl; each = λ k. inl refl },
+  );
   start = refl;
   value = refl;
 }
@@ -142,7 +148,9 @@ IsInstalled-holds = record {
 
 -- nothing is stored
 IsInstalled-fails : IsInstalled (chart_with None) (chart_with None) 0 writing → ⊥
-IsInstalled-fails h = by h.noted.0 h.noted.2.here
+IsInstalled-fails h = by (piece_at h.noted.1.pieces 0) h.noted.3.here (h.noted.4.each 0)
   where
-    by : (s : StoredRun ⊤ SafePoint) → piece_at (with_run None).pieces 0 ≡ option_map (with_note (Some s)) (piece_at (with_run None).pieces 0) → ⊥
-    by s e = no_note s (ap note_of e)
+    by : (o : Option (Piece (StoredRun ⊤ SafePoint))) → o ≡ option_map (with_note (Some h.noted.0)) (piece_at (with_run None).pieces 0)
+        → (piece_at (with_run None).pieces 0 ≡ o) ⊎ (IsOnWayTo h.noted.1 0 0 × (piece_at (with_run None).pieces 0 ≡ option_map (checked_piece h.noted.0.checked) o)) → ⊥
+    by o e (inl same) = no_note h.noted.0 (ap note_of (same ∙ e))
+    by o e (inr again) = no_note _ (ap note_of (again.1 ∙ ap (option_map (checked_piece h.noted.0.checked)) e))

@@ -1,8 +1,7 @@
 -- Segments that stored runs are known to fit down to, after a run is stored.
-use Rattle.std.proofs.Common.{◌≡◌, ℕ, ◌≤◌, Bool, true, false, ◌||◌, List, [], ◌∷◌, ◌++◌, map, Option, Some, None, ◌⊎◌, inl, inr, refl, sym, ap, subst, ◌∙◌, append_assoc, true≢false}
+use Rattle.std.proofs.Common.{◌≡◌, ℕ, ◌<◌, ◌≤◌, length, arith, Bool, true, false, ◌||◌, List, [], ◌∷◌, ◌++◌, map, Option, Some, None, ◌⊎◌, inl, inr, refl, sym, ap, subst, ◌∙◌, append_assoc, true≢false}
 use Rattle.std.specs.Prelude.{⊤}
 use Rattle.std.specs.Option.{option_map, option_or}
-use Rattle.std.proofs.lemmas.Option.{slice_get_past}
 use Rattle.frames.specs.Behaviour.{Behaviour}
 use Rattle.frames.specs.Configuration.{Configuration, replayed}
 use Rattle.schedule_trie.specs.Forest.{step_of}
@@ -12,7 +11,7 @@ use Rattle.schedule_trie.proofs.Climbs.{up_to-here}
 use Rattle.schedule_trie.proofs.NoRepeats.{has-append, has_not_from, has-in}
 use Rattle.schedule_trie.proofs.KeyPositions.{parting, IsParting}
 use Rattle.cutoff.specs.Fitting.{StoredRun, run_of, steps_at}
-use Rattle.cutoff.specs.Links.{without_register, IsLinked, IsExitOf, number_at, run_number}
+use Rattle.cutoff.specs.Links.{IsGiven, IsLinked, run_checked}
 use Rattle.cutoff.specs.Prefixes.{RunsDown, RunsTo, IsMarked, AreFresh, exit_or_start, exit_or}
 use Rattle.cutoff.proofs.Fits.{stored_at}
 use Rattle.cutoff.proofs.Walks.{by_key}
@@ -82,25 +81,25 @@ module _ {R P : Type 0} (E : R → R → Bool) (is : R → Behaviour P) (old new
       (subst (RunsDown E is new b start (keys_up_to k (keys_in old.strands i))) end
       (down_again i k at_key (parting (keys_in old.strands i) k there) (exit_or_start old start (Some k)) (marked i there)))
 
-  number_kept : (k : ℕ) → (k ≡ key → ⊥) → number_at new (Some k) ≡ number_at old (Some k)
-  number_kept k other = ap (λ o. run_number (note_of o)) (noted.others k other)
+  number_kept : (k : ℕ) → (k ≡ key → ⊥) → run_checked (note_of (piece_at new.pieces k)) ≡ run_checked (note_of (piece_at old.pieces k))
+  number_kept k other = ap (λ o. run_checked (note_of o)) (noted.others k other)
 
-  fresh_from : (first : ℕ) → IsMarked E is new start (Some key) → ((k a : ℕ) → number_at old (Some k) ≡ Some a → first ≤ a → IsMarked E is old start (Some k))
+  fresh_from : (first : ℕ) → IsMarked E is new start (Some key) → ((k a : ℕ) → run_checked (note_of (piece_at old.pieces k)) ≡ Some a → first ≤ a → IsMarked E is old start (Some k))
       → AreFresh E is new start (Some first)
   fresh_from first at_key was = λ k a number late.
       by_key k key _ (λ e. subst (λ z. IsMarked E is new start (Some z)) (sym e) at_key)
       (λ ne. mark_kept k ne at_key (was k a (sym (number_kept k ne) ∙ number) late))
 
-  -- no stored run has a number that wasn't given
-  not_given : (h : R) (next : ℕ) (c : Configuration ⊤ P) → IsLinked E h next None c old → (k a : ℕ) → number_at old (Some k) ≡ Some a → next ≤ a → ⊥
+  -- no stored run was found to fit with a number that wasn't given
+  not_given : (h : R) (next : ℕ) (c : Configuration ⊤ P) → IsLinked E h next None c old → (k a : ℕ) → run_checked (note_of (piece_at old.pieces k)) ≡ Some a → next ≤ a → ⊥
   not_given h next c linked k a number late = by (note_of (piece_at old.pieces k)) refl number
     where
-      by : (o : Option (StoredRun R P)) → note_of (piece_at old.pieces k) ≡ o → run_number o ≡ Some a → ⊥
+      by : (o : Option (StoredRun R P)) → note_of (piece_at old.pieces k) ≡ o → run_checked o ≡ Some a → ⊥
       by None at e = cc
       by (Some t) at e =
-          let id = subst (λ n. IsExitOf linked.exits n (without_register t.run.exit)) e (stored_at E h linked.exits old k t (linked.each k) at).id in
-          let past = slice_get_past linked.exits a (subst (λ n. n ≤ a) (sym linked.as_many) late) in
-          cc
+          let given : a < length linked.exits = subst (IsGiven (length linked.exits)) e (stored_at E h linked.exits old k t (linked.each k) at).checked in
+          let many = linked.as_many in
+          absurd (omega (arith, given, many, late))
 
   -- the fresh runs after a run with this number, if any, is stored at `key`, if `key` is marked then
   pub fresh_installed : (h : R) (next : ℕ) (c : Configuration ⊤ P) (fresh id : Option ℕ) → IsLinked E h next None c old → (id ≡ None) ⊎ (id ≡ Some next)

@@ -38,7 +38,7 @@ module _ {R P : Type 0} (E : R → R → Bool) (b : Behaviour P) where
       let rest = down_owns cut key run (replayed b c (steps_at cut k)) ks f.2 in
       (subst (λ r. E run.entry.register r ≡ true) (register_kept b c (steps_at cut k)) rest.0, rest.1)
 
-  noted_keeps : (old new : Cut (StoredRun R P)) (key : ℕ) (s : StoredRun R P) → IsNoted old new key (Some s) → KeepsRuns old new (λ k. Unit {0})
+  pub noted_keeps : (old new : Cut (StoredRun R P)) (key : ℕ) (s : StoredRun R P) → IsNoted old new key (Some s) → KeepsRuns old new (λ k. Unit {0})
   noted_keeps old new key s noted = record {
     strands = noted.strands;
     limits = noted.limits;
@@ -81,15 +81,15 @@ given_id (inr e) = inr e.0
 
 pub charted_installed : {R P : Type 0} (E : R → R → Bool) (per : IsPartialEquivalence E) (is : R → Behaviour P) (alike : (x y : R) → E x y ≡ true → is x ≡ is y) (next after : ℕ) (fresh mark : Option ℕ) (c : Charted R P) (new : Cut (StoredRun R P)) (key : ℕ) (s : StoredRun R P) (run seen : SegmentRun R P) (keys : List ℕ) (id : Option ℕ)
     → IsCharted E is next fresh mark c → FitsDown E (is c.start.register) c.cut key seen c.start keys → RunGoesOn E is c.cut c.start key seen → IsRun (is seen.entry.register) seen
-    → IsSome (piece_at c.cut.pieces key) → seen ≡ run → s.run ≡ run → s.id ≡ id → (above : Option ℕ) → s.link ≡ above
+    → IsSome (piece_at c.cut.pieces key) → seen ≡ run → s.run ≡ run → s.id ≡ id → s.checked ≡ id → (above : Option ℕ) → s.link ≡ above
     → (IsLinked E c.start.register next None (without_register c.start) c.cut → IsLinked E c.start.register next above (without_register seen.entry) c.cut) → IsNoted c.cut new key (Some s)
     → ((id ≡ None) × (after ≡ next)) ⊎ ((id ≡ Some next) × (after ≡ next + 1))
     → IsCharted E is after (option_or fresh id) (Some key) (record { cut = new; start = c.start; value = c.value })
-charted_installed {R} {P} E per is alike next after fresh mark c new key s run seen keys id was fits on true_run there same is_run number above link moved noted given =
+charted_installed {R} {P} E per is alike next after fresh mark c new key s run seen keys id was fits on true_run there same is_run number checked above link moved noted given =
     let owns = down_owns E (is c.start.register) c.cut key s.run c.start keys (subst (λ r. FitsDown E (is c.start.register) c.cut key r c.start keys) (same ∙ sym is_run) fits) in
     let linked =
     new_linked E c.start.register c.cut new key next above s.run.entry
-    (subst (λ (r : SegmentRun R P). IsLinked E c.start.register next above (without_register r.entry) c.cut) (same ∙ sym is_run) (moved was.linked)) s noted after
+    (subst (λ (r : SegmentRun R P). IsLinked E c.start.register next above (without_register r.entry) c.cut) (same ∙ sym is_run) (moved was.linked)) s noted after (checked ∙ sym number)
     owns.0 owns.1 link refl (subst (λ n. ((n ≡ None) × (after ≡ next)) ⊎ ((n ≡ Some next) × (after ≡ next + 1))) (sym number) given) in
     let marked =
     mark_installed E per is alike c.cut new c.start key s was.whole noted there (subst (λ (r : SegmentRun R P). IsRun (is r.entry.register) r) (same ∙ sym is_run) true_run) owns.1

@@ -14,6 +14,7 @@ pub mod LeftToSettle
 pub mod LastRuns
 pub mod FreshRuns
 pub mod Installed
+pub mod Checks
 pub mod Plans
 pub mod Sights
 pub mod Commands

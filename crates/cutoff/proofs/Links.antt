@@ -1,5 +1,5 @@
 -- The effect of storing a run on numbers and links.
-use Rattle.std.proofs.Common.{◌≡◌, ℕ, zero, suc, ◌+◌, Bool, true, false, nat_eq, List, [], ◌∷◌, ◌++◌, map, Option, Some, None, MatchOption, ◌⊎◌, inl, inr, slice_get, refl, sym, ap, subst, ◌∙◌, eq-eqb, true≢false}
+use Rattle.std.proofs.Common.{◌≡◌, ℕ, zero, suc, ◌+◌, Bool, true, false, nat_eq, List, [], ◌∷◌, ◌++◌, map, Option, Some, None, MatchOption, ◌⊎◌, inl, inr, slice_get, refl, sym, ap, subst, ◌∙◌, eq-eqb, true≢false, ◌<◌, length, arith}
 use Rattle.std.specs.Prelude.{⊤}
 use Rattle.std.specs.Option.{option_map}
 use Rattle.std.proofs.lemmas.Bool.{eqb-true}
@@ -9,7 +9,7 @@ use Rattle.frames.specs.Configuration.{Configuration}
 use Rattle.schedule_trie.specs.Forest.{step_of}
 use Rattle.schedule_trie.specs.Cut.{Cut, Piece, piece_at, slots_of, with_note, IsNoted}
 use Rattle.cutoff.specs.Fitting.{StoredRun, steps_at}
-use Rattle.cutoff.specs.Links.{without_register, IsExitOf, IsStored, IsTruePiece, IsLinked}
+use Rattle.cutoff.specs.Links.{without_register, IsExitOf, IsGiven, IsStored, IsTruePiece, IsLinked}
 use Rattle.schedule_trie.proofs.Lists.{slice_get-last}
 
 -- one more exit
@@ -22,10 +22,23 @@ pub came_more : {P : Type 0} (exits more : List (Configuration ⊤ P)) (number :
 came_more exits more None c h = tt
 came_more exits more (Some a) c h = slice_get_more exits more a c h
 
+given_more : {P : Type 0} (exits more : List (Configuration ⊤ P)) (number : Option ℕ) → IsGiven (length exits) number → IsGiven (length (exits ++ more)) number
+given_more exits more None g = tt
+given_more exits more (Some a) g = let longer = length-append exits more in omega (arith, g, longer)
+
+last_given : {X : Type 0} (xs : List X) (x : X) {next : ℕ} → length xs ≡ next → next < length (xs ++ x ∷ [])
+last_given xs x {next} many = let longer = length-append xs (x ∷ []) in omega (arith, many, longer)
+
 module _ {R P : Type 0} (E : R → R → Bool) (h : R) where
   pub stored_more : (exits more : List (Configuration ⊤ P)) (segment : List Step) (s : StoredRun R P) → IsStored E h exits segment s → IsStored E h (exits ++ more) segment s
   stored_more exits more segment s t =
-      record { own = t.own; covers = t.covers; id = came_more exits more s.id (without_register s.run.exit) t.id; link = came_more exits more s.link (without_register s.run.entry) t.link }
+      record {
+        own = t.own;
+        covers = t.covers;
+        id = came_more exits more s.id (without_register s.run.exit) t.id;
+        link = came_more exits more s.link (without_register s.run.entry) t.link;
+        checked = given_more exits more s.checked t.checked;
+      }
 
   pub told_more : (exits more : List (Configuration ⊤ P)) (o : Option (Piece (StoredRun R P))) → IsTruePiece E h exits o → IsTruePiece E h (exits ++ more) o
   told_more exits more None t = tt
@@ -60,20 +73,20 @@ module _ {R P : Type 0} (E : R → R → Bool) (h : R) where
     taken_linked t = record { exits = l.exits; as_many = l.as_many; each = noted_told l.exits old new k s l.each noted t; reached_exit = t.id }
 
     -- a new run is stored, with the next number or none
-    pub new_linked : (after : ℕ) → E s.run.entry.register h ≡ true → s.run.steps ≡ steps_at old k → s.link ≡ above → s.run.entry ≡ c
+    pub new_linked : (after : ℕ) → s.checked ≡ s.id → E s.run.entry.register h ≡ true → s.run.steps ≡ steps_at old k → s.link ≡ above → s.run.entry ≡ c
         → ((s.id ≡ None) × (after ≡ next)) ⊎ ((s.id ≡ Some next) × (after ≡ next + 1)) → IsLinked E h after s.id (without_register s.run.exit) new
-    new_linked after own covers linked entry (inl none) =
+    new_linked after checked own covers linked entry (inl none) =
         let came : IsExitOf l.exits s.id (without_register s.run.exit) = subst (λ o. IsExitOf l.exits o (without_register s.run.exit)) (sym none.0) tt in
         record {
           exits = l.exits;
           as_many = l.as_many ∙ sym none.1;
-          each = noted_told l.exits old new k s l.each noted (record { own = own; covers = covers; id = came; link = link_came linked entry });
+          each = noted_told l.exits old new k s l.each noted (record { own = own; covers = covers; id = came; link = link_came linked entry; checked = subst (IsGiven (length l.exits)) (sym (checked ∙ none.0)) tt });
           reached_exit = came;
         }
       where
         link_came : s.link ≡ above → s.run.entry ≡ c → IsExitOf l.exits s.link (without_register s.run.entry)
         link_came e f = subst (λ o. IsExitOf l.exits o (without_register s.run.entry)) (sym e) (subst (λ d. IsExitOf l.exits above (without_register d)) (sym f) l.reached_exit)
-    new_linked after own covers linked entry (inr given) =
+    new_linked after checked own covers linked entry (inr given) =
         let last : slice_get (l.exits ++ without_register s.run.exit ∷ []) next ≡ Some (without_register s.run.exit) =
         subst (λ n. slice_get (l.exits ++ without_register s.run.exit ∷ []) n ≡ Some (without_register s.run.exit)) l.as_many (slice_get-last l.exits (without_register s.run.exit)) in
         let came : IsExitOf (l.exits ++ without_register s.run.exit ∷ []) s.id (without_register s.run.exit) = subst (λ o. IsExitOf (l.exits ++ without_register s.run.exit ∷ []) o (without_register s.run.exit)) (sym given.0) last in
@@ -83,7 +96,13 @@ module _ {R P : Type 0} (E : R → R → Bool) (h : R) where
           as_many = length-append l.exits (without_register s.run.exit ∷ []) ∙ ap (λ n. n + 1) l.as_many ∙ sym given.1;
           each =
               noted_told (l.exits ++ without_register s.run.exit ∷ []) old new k s (λ j. told_more l.exits (without_register s.run.exit ∷ []) (piece_at old.pieces j) (l.each j)) noted
-              (record { own = own; covers = covers; id = came; link = came_more l.exits (without_register s.run.exit ∷ []) s.link (without_register s.run.entry) was });
+              (record {
+                own = own;
+                covers = covers;
+                id = came;
+                link = came_more l.exits (without_register s.run.exit ∷ []) s.link (without_register s.run.entry) was;
+                checked = subst (IsGiven (length (l.exits ++ without_register s.run.exit ∷ []))) (sym (checked ∙ given.0)) (last_given l.exits (without_register s.run.exit) l.as_many);
+              });
           reached_exit = came;
         }
 

@@ -8,7 +8,7 @@ use Rattle.checkpoints.specs.Segment.{SegmentRun}
 use Rattle.schedule_trie.specs.Cut.{Cut, Piece, piece, piece_at, note_of, with_note, IsNoted}
 use Rattle.cutoff.specs.Fitting.{StoredRun, run_of, RunFits, Fits, steps_at}
 use Rattle.cutoff.specs.Settles.{IsSegmentSettled}
-use Rattle.cutoff.specs.Links.{without_register, IsExitOf, IsStored, IsLinked}
+use Rattle.cutoff.specs.Links.{without_register, IsExitOf, IsGiven, IsStored, IsLinked}
 use Rattle.cutoff.proofs.Fits.{alone_same, stored_at, fits_to_note}
 use Rattle.cutoff.proofs.Links.{taken_linked, new_linked}
 
@@ -35,12 +35,12 @@ module _ {R P : Type 0} (E : R → R → Bool) (old new : Cut (StoredRun R P)) (
   }
 
   pub replayed_linked : (next after : ℕ) (above id : Option ℕ) → IsEquivalence E → IsLinked E c.register next above (without_register c) old → run.steps ≡ steps_at old k → run.entry ≡ c
-      → s.link ≡ above → s.id ≡ id → ((id ≡ None) × (after ≡ next)) ⊎ ((id ≡ Some next) × (after ≡ next + 1)) → IsLinked E c.register after id (without_register run.exit) new
-  replayed_linked next after above id e l steps entry link number given =
+      → s.link ≡ above → s.checked ≡ id → s.id ≡ id → ((id ≡ None) × (after ≡ next)) ⊎ ((id ≡ Some next) × (after ≡ next + 1)) → IsLinked E c.register after id (without_register run.exit) new
+  replayed_linked next after above id e l steps entry link checked number given =
       let entry_is : s.run.entry ≡ c = ap (λ r. r.entry) same ∙ entry in
       subst (λ r. IsLinked E c.register after id (without_register r.exit) new) same
       (subst (λ n. IsLinked E c.register after n (without_register s.run.exit) new) number
-      (new_linked E c.register old new k next above c l s noted after
+      (new_linked E c.register old new k next above c l s noted after (checked ∙ sym number)
       (subst (λ d. E d.register c.register ≡ true) (sym entry_is) (e.refl c.register)) (ap (λ r. r.steps) same ∙ steps) link entry_is
       (subst (λ n. ((n ≡ None) × (after ≡ next)) ⊎ ((n ≡ Some next) × (after ≡ next + 1))) (sym number) given)))
 
@@ -57,9 +57,9 @@ module _ {R P : Type 0} (E : R → R → Bool) (old new : Cut (StoredRun R P)) (
       work = inl (fits_to_note E old c k was at_first fits, ap (option_map run_of) at_first ∙ ap Some (sym again ∙ same), refl);
     }
 
-    pub taken_again : (next : ℕ) (above id : Option ℕ) → IsLinked E c.register next above (without_register c) old → s.id ≡ was.id → was.id ≡ id → (s.link ≡ above) ⊎ (s.link ≡ was.link)
+    pub taken_again : (next : ℕ) (above id : Option ℕ) → IsLinked E c.register next above (without_register c) old → s.id ≡ was.id → was.id ≡ id → s.checked ≡ was.checked → (s.link ≡ above) ⊎ (s.link ≡ was.link)
         → IsLinked E c.register next id (without_register run.exit) new
-    taken_again next above id l number same_number link =
+    taken_again next above id l number same_number checked link =
         let t : IsStored E c.register l.exits (steps_at old k) was = stored_at E c.register l.exits old k was (l.each k) at_first in
         subst (λ r. IsLinked E c.register next id (without_register r.exit) new) same
         (subst (λ n. IsLinked E c.register next n (without_register s.run.exit) new) (number ∙ same_number)
@@ -68,6 +68,7 @@ module _ {R P : Type 0} (E : R → R → Bool) (old new : Cut (StoredRun R P)) (
           covers = ap (λ r. r.steps) again ∙ t.covers;
           id = subst (λ r. IsExitOf l.exits s.id (without_register r.exit)) (sym again) (subst (λ n. IsExitOf l.exits n (without_register was.run.exit)) (sym number) t.id);
           link = subst (λ r. IsExitOf l.exits s.link (without_register r.entry)) (sym again) (came link t.link);
+          checked = subst (IsGiven (length l.exits)) (sym checked) t.checked;
         })))
       where
         came : (s.link ≡ above) ⊎ (s.link ≡ was.link) → IsExitOf l.exits was.link (without_register was.run.entry) → IsExitOf l.exits s.link (without_register was.run.entry)

@@ -77,7 +77,7 @@ linked_home {R} {P} E per h g next above c cut e l = record { exits = l.exits; a
   where
     stored : (segment : List Step) (n : Option (StoredRun R P)) → MatchOption n ⊤ (IsStored E h l.exits segment) → MatchOption n ⊤ (IsStored E g l.exits segment)
     stored segment None t = tt
-    stored segment (Some s) t = record { own = per.trans s.run.entry.register h g t.own e; covers = t.covers; id = t.id; link = t.link }
+    stored segment (Some s) t = record { own = per.trans s.run.entry.register h g t.own e; covers = t.covers; id = t.id; link = t.link; checked = t.checked }
 
     told : (o : Option (Piece (StoredRun R P))) → IsTruePiece E h l.exits o → IsTruePiece E g l.exits o
     told None t = tt

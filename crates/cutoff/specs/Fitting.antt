@@ -1,5 +1,5 @@
 -- Stored runs: when they fit, and what a settle changes.
-use Rattle.std.specs.Prelude.{ℕ, ◌+◌, ◌-◌, ◌≡◌, ◌⊎◌, Bool, nat_eq, min, List, [], ◌∷◌, Option, None, Some, MatchOption, length, map, if◌then◌else◌}
+use Rattle.std.specs.Prelude.{ℕ, ◌+◌, ◌-◌, ◌≡◌, ◌⊎◌, Bool, true, nat_eq, min, List, [], ◌∷◌, Option, None, Some, MatchOption, length, map, if◌then◌else◌}
 use Rattle.std.specs.Option.{option_map}
 use Rattle.std.specs.Arc.{arc_value}
 use Rattle.std.specs.declared.sync.Arc.{Arc}
@@ -9,14 +9,17 @@ use Rattle.frames.specs.Equality.{SameConfiguration}
 use Rattle.checkpoints.specs.Segment.{SegmentRun}
 use Rattle.schedule_trie.specs.declared.slot.Slot.{Slot}
 use Rattle.schedule_trie.specs.Forest.{step_of}
-use Rattle.schedule_trie.specs.Cut.{Cut, piece_at, slots_of, note_of, forest}
+use Rattle.schedule_trie.specs.Cut.{Cut, Piece, piece, piece_at, slots_of, note_of, keys_in, has, forest}
+use Rattle.schedule_trie.specs.Climbs.{keys_up_to}
 
 -- a stored run, with its number and its link, if it has them; the link is the number of another
--- run, at whose exit this one was found to begin
+-- run, at whose exit this one was found to begin. `checked` is the run's number, or that of a run
+-- installed later, at whose install this one was found to fit
 pub record StoredRun (R P : Type 0) : Type 0 where
   pub run : SegmentRun R P
   pub id : Option ℕ
   pub link : Option ℕ
+  pub checked : Option ℕ
 
 -- a run, and how many of its steps count: those of the cells that were settled
 pub record RunPart (R P : Type 0) : Type 0 where
@@ -81,3 +84,20 @@ pub record KeepsRuns {R P : Type 0} (old new : Cut (StoredRun R P)) (Filled : �
 -- a shared run and how many of its steps count, as a `RunPart`
 abbrev pub part_of : {R P Z : Type 0} → (Arc (SegmentRun R P) Z × ℕ) → RunPart R P
 part_of p = record { run = arc_value p.0; count = p.1 }
+
+-- the same cells and stored run, which was last found to fit at the install of the run `number`
+abbrev pub checked_piece : {R P : Type 0} → Option ℕ → Piece (StoredRun R P) → Piece (StoredRun R P)
+checked_piece number p = piece p.slots (option_map (λ s. record { run = s.run; id = s.id; link = s.link; checked = number }) p.note)
+
+-- on each branch with the segment `key`, the segment k is `key` or above it
+abbrev pub IsOnWayTo : {R P : Type 0} → Cut (StoredRun R P) → ℕ → ℕ → Type 0
+IsOnWayTo cut key k = (i : ℕ) → has key (keys_in cut.strands i) ≡ true → has k (keys_up_to key (keys_in cut.strands i)) ≡ true
+
+-- nothing changes but with which number runs on the way to the segment `key` were last found to
+-- fit: it is `number` now, or as before
+pub record IsChecked {R P : Type 0} (old new : Cut (StoredRun R P)) (number : Option ℕ) (key : ℕ) : Type 0 where
+  pub strands : new.strands ≡ old.strands
+  pub limits : new.limits ≡ old.limits
+  pub unchanged : forest new ≡ forest old
+  pub each : (k : ℕ) → (piece_at new.pieces k ≡ piece_at old.pieces k)
+      ⊎ (IsOnWayTo old key k × (piece_at new.pieces k ≡ option_map (checked_piece number) (piece_at old.pieces k)))

@@ -1,6 +1,6 @@
 -- Numbers and links of stored runs. A run's link is the number of a run at whose exit it begins;
 -- this saves comparing the two configurations.
-use Rattle.std.specs.Prelude.{ℕ, ◌≡◌, ⊤, Bool, true, List, Option, Some, None, MatchOption, length, map, slice_get}
+use Rattle.std.specs.Prelude.{ℕ, ◌≡◌, ◌<◌, ⊤, Bool, true, List, Option, Some, None, MatchOption, length, map, slice_get}
 use Rattle.frames.specs.declared.types.Step.{Step}
 use Rattle.frames.specs.Configuration.{Configuration}
 use Rattle.schedule_trie.specs.Forest.{step_of}
@@ -16,14 +16,19 @@ without_register c = record { register = tt; memory = c.memory; running = c.runn
 abbrev pub IsExitOf : {P : Type 0} → List (Configuration ⊤ P) → Option ℕ → Configuration ⊤ P → Type 0
 IsExitOf exits number c = MatchOption number ⊤ (λ a. slice_get exits a ≡ Some c)
 
+-- a number, if there is one, is below `next`: it was given to a run
+abbrev pub IsGiven : ℕ → Option ℕ → Type 0
+IsGiven next number = MatchOption number ⊤ (λ a. a < next)
+
 -- the stored run s begins with a register equal to h (by E), and has its segment's steps; the item
 -- of `exits` at the run's number, if any, is the run's exit, and the item at the run's link, if
--- any, is the run's entry
+-- any, is the run's entry; `checked` is a number that was given, if it is one
 pub record IsStored {R P : Type 0} (E : R → R → Bool) (h : R) (exits : List (Configuration ⊤ P)) (segment : List Step) (s : StoredRun R P) : Type 0 where
   pub own : E s.run.entry.register h ≡ true
   pub covers : s.run.steps ≡ segment
   pub id : IsExitOf exits s.id (without_register s.run.exit)
   pub link : IsExitOf exits s.link (without_register s.run.entry)
+  pub checked : IsGiven (length exits) s.checked
 
 -- if there is a segment and it has a stored run: the run begins with a register equal to h, and has
 -- the segment's steps; its number and link agree with `exits` (`IsStored`)
@@ -58,3 +63,8 @@ run_number (Some s) = s.id
 abbrev pub number_at : {R P : Type 0} → Cut (StoredRun R P) → Option ℕ → Option ℕ
 number_at cut None = None
 number_at cut (Some k) = run_number (note_of (piece_at cut.pieces k))
+
+-- the number with which a stored run was last found to fit; `None` if there is no run or no number
+abbrev pub run_checked : {R P : Type 0} → Option (StoredRun R P) → Option ℕ
+run_checked None = None
+run_checked (Some s) = s.checked

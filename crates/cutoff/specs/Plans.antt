@@ -6,7 +6,7 @@ use Rattle.frames.specs.Configuration.{Configuration, replayed}
 use Rattle.frames.specs.Equality.{SameConfiguration}
 use Rattle.checkpoints.specs.Segment.{SegmentRun}
 use Rattle.schedule_trie.specs.Cut.{Cut, Strand, keys_in, has, IsNoted}
-use Rattle.cutoff.specs.Fitting.{StoredRun, RunFits, Fits, steps_at}
+use Rattle.cutoff.specs.Fitting.{StoredRun, RunFits, Fits, IsChecked, steps_at}
 use Rattle.cutoff.specs.Charts.{Charted, keys_named}
 
 -- a job: the key of a segment, the configuration that replay reaches at its start, and its steps
@@ -81,8 +81,9 @@ CanInstall E b c key run = (i : ℕ) → has key (keys_in c.cut.strands i) ≡ t
 abbrev pub CannotInstall : {R P : Type 0} → (R → R → Bool) → Behaviour P → Charted R P → ℕ → SegmentRun R P → Type 0
 CannotInstall E b c key run = (i : ℕ) → has key (keys_in c.cut.strands i) ≡ true → FitsDown E b c.cut key run c.start (keys_in c.cut.strands i) → ⊥
 
--- `run` is stored in the segment `key`, and nothing else changes
+-- `run` is stored in the segment `key`, and nothing else changes, except with which number runs
+-- above were last found to fit
 pub record IsInstalled {R P : Type 0} (old new : Charted R P) (key : ℕ) (run : SegmentRun R P) : Type 0 where
-  pub noted : (s : StoredRun R P) × (s.run ≡ run) × IsNoted old.cut new.cut key (Some s)
+  pub noted : (s : StoredRun R P) × (mid : Cut (StoredRun R P)) × (s.run ≡ run) × IsNoted old.cut mid key (Some s) × IsChecked mid new.cut s.checked key
   pub start : new.start ≡ old.start
   pub value : new.value ≡ old.value

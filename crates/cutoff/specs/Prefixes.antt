@@ -10,7 +10,7 @@ use Rattle.schedule_trie.specs.Forest.{step_of}
 use Rattle.schedule_trie.specs.Cut.{Cut, piece_at, slots_of, note_of, keys_in, has, line}
 use Rattle.schedule_trie.specs.Climbs.{keys_to, keys_up_to, HasClimbedTo}
 use Rattle.cutoff.specs.Fitting.{StoredRun, RunFits, run_at, steps_at}
-use Rattle.cutoff.specs.Links.{number_at}
+use Rattle.cutoff.specs.Links.{run_checked}
 
 -- the run stored at a key; `None` if there is no key or no run
 abbrev pub run_named : {R P : Type 0} → Cut (StoredRun R P) → Option ℕ → Option (SegmentRun R P)
@@ -59,11 +59,11 @@ module _ {R P : Type 0} (E : R → R → Bool) (is : R → Behaviour P) (cut : C
     IsMarked None = Unit {0}
     IsMarked (Some k) = (i : ℕ) → has k (keys_in cut.strands i) ≡ true → RunsTo (Some k) (keys_in cut.strands i)
 
-    -- each segment is marked whose run has the number `first` or a greater one; if `first` is `None`,
-    -- nothing is required
+    -- each segment is marked whose run was last found to fit with the number `first` or a greater
+    -- one; if `first` is `None`, nothing is required
     abbrev pub AreFresh : Option ℕ → Type 0
     AreFresh None = Unit {0}
-    AreFresh (Some first) = (k a : ℕ) → number_at cut (Some k) ≡ Some a → first ≤ a → IsMarked (Some k)
+    AreFresh (Some first) = (k a : ℕ) → run_checked (note_of (piece_at cut.pieces k)) ≡ Some a → first ≤ a → IsMarked (Some k)
 
     -- on each branch with the key k, true runs that fit are stored at all keys above k, and lead to
     -- the entry of `run`

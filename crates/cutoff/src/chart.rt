@@ -15,6 +15,7 @@ mod edits;
 mod last;
 mod limbs;
 
+use crate::check::check_above;
 use crate::install::{Installation, fits_down, has_segment};
 use crate::number::{Number, take_number};
 use crate::plan::{Base, Job, plan_all};
@@ -35,8 +36,8 @@ use std::sync::Arc;
 /// The branches of a schedule on a register, and the configuration before their first steps. Each
 /// segment has a stored run or none. At most one segment is marked: on each branch that has it,
 /// stored runs are known to fit all segments from the first down to it. The same is known of each
-/// segment whose run has the number `fresh` or a greater one: it was installed after the last other
-/// change.
+/// segment whose run was last found to fit with the number `fresh` or a greater one: by an install
+/// after the last other change.
 #[derive(Drop)]
 pub struct Chart<R: Register> {
     trie: Trie<Stored<R>>,
@@ -305,6 +306,7 @@ impl<R: Register> Chart<R> {
         self.trie.set_note(key, Some(Stored::new(run, id, above)));
         self.mark = Some(key);
         self.fresh = self.fresh.or(id);
+        check_above(&mut self.trie, self.fresh, id, key);
         Installation::Installed
     }
 }

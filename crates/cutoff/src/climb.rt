@@ -18,9 +18,9 @@ use schedule_trie::trie::{SegKey, Trie};
 /// Whether stored runs fit all segments from a branch's first down to `last`, and the run in `last`
 /// ends at `config`; if `last` is `None`, whether `config` equals `start`. Climbs from `last`:
 /// tests whether the exit of its run is `config`, and whether the exit of each higher run is the
-/// entry of the run right below. Stops after the test of a run whose number is `fresh` or
-/// greater, because stored runs are known to fit down to its segment. If the climb meets no such
-/// run, also tests whether the first run's entry is `start`. Never allocates.
+/// entry of the run right below. Stops after the test of a run that was last found to fit with the
+/// number `fresh` or a greater one, because stored runs are known to fit down to its segment. If the
+/// climb meets no such run, also tests whether the first run's entry is `start`. Never allocates.
 pub(crate) fn comes_down<R: Register>(
     trie: &Trie<Stored<R>>,
     start: &Config<R>,
@@ -53,7 +53,7 @@ pub(crate) fn comes_down<R: Register>(
         if !stored.ends(entry, link) {
             return false;
         }
-        if stored.id().is_from(fresh) {
+        if stored.checked().is_from(fresh) {
             return true;
         }
         entry = begun;

@@ -32,9 +32,10 @@ pub enum Installation {
     Gone,
 }
 
-/// Whether `run` fits the segment `key`, and stored runs fit all segments above. Down to a run
-/// whose number is `fresh` or greater, stored runs are known to fit. If all fit, also returns the
-/// number of the run stored right above `key`, if there is such a run and it has a number.
+/// Whether `run` fits the segment `key`, and stored runs fit all segments above. Down to a run that
+/// was last found to fit with the number `fresh` or a greater one, stored runs are known to fit. If
+/// all fit, also returns the number of the run stored right above `key`, if there is such a run and
+/// it has a number.
 pub(crate) fn fits_down<R: Register>(
     trie: &Trie<Stored<R>>,
     start: &Config<R>,

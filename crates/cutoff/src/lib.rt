@@ -8,6 +8,7 @@
 #![tactic(auto)]
 
 pub mod chart;
+mod check;
 mod climb;
 pub mod install;
 pub mod last;

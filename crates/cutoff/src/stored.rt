@@ -16,14 +16,14 @@ use std::marker::Model;
 use std::sync::Arc;
 
 /// A stored run of a segment, with its number and its link, if it has them. The link is the number
-/// of another run: this run was found to begin at that run's exit.
+/// of another run: this run was found to begin at that run's exit. `checked` is its own number, or
+/// that of a run installed later, at whose install this run was found to fit.
 #[derive(Drop)]
 pub(crate) struct Stored<R: Register> {
     run: Arc<Run<R>>,
     id: Number,
     link: Number,
-    // with it a slab's entry of a segment takes 88 bytes, which is faster to find than 80
-    spare: u64,
+    checked: Number,
 }
 
 impl<R: Register> Model for Stored<R> {
@@ -32,7 +32,7 @@ impl<R: Register> Model for Stored<R> {
 
     ghost Value = { StoredRun R R.Pending };
 
-    ghost view = { λ s. record { run = arc_value s.run; id = s.id; link = s.link } };
+    ghost view = { λ s. record { run = arc_value s.run; id = s.id; link = s.link; checked = s.checked } };
 }
 
 impl<R: Register> Stored<R> {
@@ -41,12 +41,13 @@ impl<R: Register> Stored<R> {
         ensures run { result.run ≡ arc_value run }
         ensures id { result.id ≡ id }
         ensures link { result.link ≡ link }
+        ensures checked { result.checked ≡ id }
     {
         Stored {
             run,
             id,
             link,
-            spare: 0,
+            checked: id,
         }
     }
 
@@ -94,10 +95,46 @@ impl<R: Register> Stored<R> {
         ensures run { IfOk result (λ s. s.run ≡ self.now.run) }
         ensures id { IfOk result (λ s. s.id ≡ self.now.id) }
         ensures link { IfOk result (λ s. (s.link ≡ above) ⊎ (s.link ≡ self.now.link)) }
+        ensures checked { IfOk result (λ s. s.checked ≡ self.now.checked) }
     {
         let link = if above.is_some() { above } else { self.link };
+        self.noted_with(link, self.checked)
+    }
+
+    /// The same run, found to fit at the install of the run with the number `checked`.
+    pub(crate) fn checked_at(&self, checked: Number) -> Result<Stored<R>, AllocError>
+        ensures run { IfOk result (λ s. s.run ≡ self.now.run) }
+        ensures id { IfOk result (λ s. s.id ≡ self.now.id) }
+        ensures link { IfOk result (λ s. s.link ≡ self.now.link) }
+        ensures checked { IfOk result (λ s. s.checked ≡ checked) }
+    {
+        self.noted_with(self.link, checked)
+    }
+
+    /// The same run and number, with another link and another `checked`.
+    #[inline(always)]
+    fn noted_with(&self, to: Number, checked: Number) -> Result<Stored<R>, AllocError>
+        ensures run { IfOk result (λ s. s.run ≡ self.now.run) }
+        ensures id { IfOk result (λ s. s.id ≡ self.now.id) }
+        ensures link { IfOk result (λ s. s.link ≡ to) }
+        ensures checked { IfOk result (λ s. s.checked ≡ checked) }
+    {
         let run = Arc::try_clone(&self.run)?;
-        Ok(Stored::new(run, self.id, link))
+        Ok(Stored {
+            run,
+            id: self.id,
+            link: to,
+            checked,
+        })
+    }
+
+    /// The number of the last run at whose install this one was found to fit; its own number if
+    /// there is no such run.
+    #[inline(always)]
+    pub(crate) fn checked(&self) -> Number
+        ensures { result ≡ self.now.checked }
+    {
+        self.checked
     }
 
     /// Whether the run needs no new link: `above` is `None`, or is the run's link already.

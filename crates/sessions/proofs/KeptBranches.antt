@@ -1,5 +1,5 @@
 -- A workspace whose chart changes but keeps its branches.
-use Rattle.std.proofs.Common.{◌≡◌, ℕ, Bool, ap}
+use Rattle.std.proofs.Common.{◌≡◌, ℕ, Bool, ap, ◌∙◌}
 use Rattle.frames.specs.Behaviour.{Behaviour}
 use Rattle.checkpoints.specs.Segment.{SegmentRun}
 use Rattle.schedule_trie.specs.Cut.{forest}
@@ -26,8 +26,9 @@ module _ {R P : Type 0} where
   install_kept E b old new key run Gone h = same_kept old new h.1
   install_kept E b old new key run Stale h = same_kept old new h.2
   install_kept E b old new key run Installed h =
-      let noted = h.2.noted.2 in
-      record { branches = noted.unchanged; limits = noted.limits; start = h.2.start; value = h.2.value }
+      let noted = h.2.noted.3 in
+      let checked = h.2.noted.4 in
+      record { branches = checked.unchanged ∙ noted.unchanged; limits = checked.limits ∙ noted.limits; start = h.2.start; value = h.2.value }
 
   pub kept_world : (is : R → Behaviour P) (s : Workspace R P) (new : Charted R P) (n : ℕ) → IsChartKept s.chart new
       → world_of is (stored (record s { chart = new }) n) ≡ world_of is (stored s n)

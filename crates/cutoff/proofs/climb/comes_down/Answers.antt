@@ -4,7 +4,7 @@ use Rattle.schedule_trie.specs.Cut.{keys_in, note_of, piece_at}
 use Rattle.schedule_trie.specs.Climbs.{keys_to, HasClimbedTo}
 use Rattle.schedule_trie.proofs.Climbs.{IsStepUp, step_up}
 use Rattle.cutoff.specs.Fitting.{steps_at}
-use Rattle.cutoff.specs.Links.{without_register, number_at, run_number}
+use Rattle.cutoff.specs.Links.{without_register, run_checked}
 use Rattle.cutoff.specs.Plans.{FitsDownTo}
 use Rattle.cutoff.proofs.Climbs.{climb_noted, link_same, link_came, climb_ends, climb_down, path_once, past_all, shorter}
 use Rattle.cutoff.specs.Prefixes.{AreFresh, RunsDown}
@@ -104,7 +104,7 @@ returns-then-is_from g c = λ i h. (
       let there = subst (HasClimbedTo keys) c.in-Some.is (c.loop.invariant.reached i h) in
       let step = step_up keys c.in-Some.key c.step_up-above.result.1 (path_once trie c.requires.cut i) there (λ front back e. c.step_up-above.ensures.each i front back e) in
       let late = c.is_from.ensures.0 c.if-is_from.true in
-      let number : number_at trie (Some c.in-Some.key) ≡ Some late.0 = ap run_number noted ∙ sym c.id.ensures ∙ late.2 in
+      let number : run_checked (note_of (piece_at trie.pieces c.in-Some.key)) ≡ Some late.0 = ap run_checked noted ∙ sym c.checked.ensures ∙ late.2 in
       let marked = subst (AreFresh E g.R.Behaves.behaviour trie start) late.3 c.requires.fresh c.in-Some.key late.0 number late.4 in
       c.loop.invariant.runs i h (subst (λ o. RunsDown E g.R.Behaves.behaviour trie b start (keys_to keys o) c.loop.entry.now) (sym c.in-Some.is)
       (up_same E g.met.R.PartialEq.laws g.R.Behaves.behaviour g.met.R.Register.alike trie c.in-Some.key s noted c.entry-begun.ensures.kept covers start keys

@@ -48,7 +48,7 @@ returns-in-Some-clause-linked g c =
     linked_home E g.met.R.PartialEq.laws config.register start.register c.args.next.now None (without_register start) c.set_note.new.self c.exit_named-number.ensures.own
     (linked_none E config.register c.args.next.now _ _ (without_register start) c.set_note.new.self
     (taken_again E c.args.trie.now c.set_note.new.self config c.args.key again.run again c.set_note.ensures refl c.in-Some.stored.now c.in-Some.ensures.0 config refl c.in-Some.ensures.1 c.in_ok-again.ensures.run
-    c.args.next.now c.exit_named-number.result.1 _ (c.exit_named-number.ensures.moved c.args.next.now c.requires.linked) c.in_ok-again.ensures.id refl c.in_ok-again.ensures.link))
+    c.args.next.now c.exit_named-number.result.1 _ (c.exit_named-number.ensures.moved c.args.next.now c.requires.linked) c.in_ok-again.ensures.id refl c.in_ok-again.ensures.checked c.in_ok-again.ensures.link))
 
 -- a new run
 pub returns-clause-settled : goal.returns-clause-settled

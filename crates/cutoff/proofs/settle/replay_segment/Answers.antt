@@ -26,7 +26,7 @@ returns-clause-linked g c =
     linked_none g.R.PartialEq.eq config.register c.take_number-id.new.next _ _ (without_register config) c.set_note.new.self
     (replayed_linked g.R.PartialEq.eq c.args.trie.now c.set_note.new.self config c.args.key c.in_ok-made.made c.new-2.result c.set_note.ensures (c.new-2.ensures.run ∙ c.in_ok-run.ensures.ok)
     c.args.next.now c.take_number-id.new.next c.args.above c.take_number-id.result g.met.R.Eq.laws c.requires.linked
-    (c.in_ok-made.ensures.steps ∙ cells) c.in_ok-made.ensures.entry c.new-2.ensures.link c.new-2.ensures.id c.take_number-id.ensures)
+    (c.in_ok-made.ensures.steps ∙ cells) c.in_ok-made.ensures.entry c.new-2.ensures.link c.new-2.ensures.checked c.new-2.ensures.id c.take_number-id.ensures)
 
 pub returns-in_err-made-clause-unchanged : goal.returns-in_err-made-clause-unchanged
 returns-in_err-made-clause-unchanged g c = on_err c.from_residual.result _ (refl, refl)

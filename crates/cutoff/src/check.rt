@@ -1,0 +1,43 @@
+//! After an install: at the runs that its climb passed it is recorded that they fit, so that no
+//! climb before the next other change passes them again.
+
+ghost use Rattle.schedule_trie.specs.Cut.{IsCut};
+ghost use Rattle.cutoff.specs.Fitting.{IsChecked};
+
+use crate::number::Number;
+use crate::stored::Stored;
+use frames::register::Register;
+use schedule_trie::trie::{SegKey, Trie};
+
+/// Records at the runs stored above the segment `key`, which were found to fit when the run with
+/// the number `number` was installed in it, that they were. Stops at a run at which the number
+/// `fresh` or a greater one is recorded already. Never allocates.
+pub(crate) fn check_above<R: Register>(
+    trie: &mut Trie<Stored<R>>,
+    fresh: Number,
+    number: Number,
+    key: SegKey,
+)
+    requires { IsCut trie.old }
+    ensures { IsChecked trie.old trie.new number key }
+{
+    let mut at = trie.above(key);
+    // a branch has at most one segment for each cell ever made
+    for _ in 0..trie.made() {
+        let Some(key) = at else {
+            break;
+        };
+        let (note, above) = trie.step_up(key);
+        let Some(stored) = note else {
+            break;
+        };
+        if stored.checked().is_from(fresh) {
+            break;
+        }
+        let Ok(again) = stored.checked_at(number) else {
+            break;
+        };
+        trie.set_note(key, Some(again));
+        at = above;
+    }
+}
