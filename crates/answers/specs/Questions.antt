@@ -114,7 +114,7 @@ are_named q a = is_named q a.later && is_named q a.earlier
 -- The operations a question has are the register's: its initial value is one of the register's
 -- values, there are no more lists than processes, each operation fits its process, and `after` names
 -- operations that are asked.
-pub record IsWellFormed {P : Type 0} (b : Behaviour P) (q : Question) : Type 0 where
+pub record AreOperationsOf {P : Type 0} (b : Behaviour P) (q : Question) : Type 0 where
   pub value : q.value < b.values
   pub lists : length q.operations.items ≤ b.processes
   pub suit : (p : ℕ) → list_all (b.suits p) (operations_of q p) ≡ true
@@ -130,5 +130,5 @@ pub record IsAcyclic (q : Question) : Type 0 where
 
 -- A question fits a register: its operations are the register's, and none has to follow itself.
 pub record FitsQuestion {P : Type 0} (b : Behaviour P) (q : Question) : Type 0 where
-  pub well_formed : IsWellFormed b q
+  pub well_formed : AreOperationsOf b q
   pub acyclic : IsAcyclic q

@@ -3,7 +3,7 @@
 ghost use Rattle.std.specs.Prelude.{◌≡◌, ℕ, ◌≤◌, ◌&&◌, true, IfOk, length};
 ghost use Rattle.std.specs.Bool.{Decides};
 ghost use Rattle.std.specs.List.{list_all};
-ghost use Rattle.answers.specs.Questions.{FitsQuestion, IsWellFormed, are_named, is_named, operations_of};
+ghost use Rattle.answers.specs.Questions.{AreOperationsOf, FitsQuestion, are_named, is_named, operations_of};
 
 use crate::cycles::is_acyclic;
 use crate::done::op_count;
@@ -71,7 +71,7 @@ fn all_named(question: &Question) -> bool
 /// Whether the question's initial value is one of the register's values, each operation fits its
 /// process, which exists, and `after` names operations that are asked.
 fn is_well_formed<R: Register>(register: &R, question: &Question) -> bool
-    ensures { Decides result (IsWellFormed (R.behaviour register.now) question.now) }
+    ensures { Decides result (AreOperationsOf (R.behaviour register.now) question.now) }
 {
     if question.value >= register.values() {
         return false;

@@ -53,8 +53,8 @@ abbrev pub with_list : Asked → ℕ → List Op → Asked
 with_list a p list = record a { operations = slice_set a.operations p list }
 
 -- what is asked with the line `process` that has these words; `None` if the line is faulty
-abbrev pub with_process : Asked → List (List ℕ) → Option Asked
-with_process a ws = do
+abbrev pub with_operations : Asked → List (List ℕ) → Option Asked
+with_operations a ws = do
   p ← number (next ws)
   list ← operations_from [] (after_next ws)
   if may_make a p list then Some (with_list a p list) else None
@@ -93,7 +93,7 @@ with_most a ws = do
 -- what is asked with one more line, which isn't a tower's; or the line's fault
 abbrev pub with_entry : Asked → List (List ℕ) → Result Asked QuestionFaultKind
 with_entry a ws =
-    if bytes_eq (next ws) (codes "process") then ok_or (with_process a (after_next ws)) BadProcess
+    if bytes_eq (next ws) (codes "process") then ok_or (with_operations a (after_next ws)) BadProcess
     else (if bytes_eq (next ws) (codes "after") then ok_or (with_after a (after_next ws)) BadAfter
     else (if bytes_eq (next ws) (codes "stop") then ok_or (with_stop a (after_next ws)) BadStop
     else (if bytes_eq (next ws) (codes "most") then ok_or (with_most a (after_next ws)) BadMost

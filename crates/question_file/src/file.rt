@@ -7,9 +7,6 @@ ghost use Rattle.question_file.specs.Asked.{is_limit};
 use answers::question::Question;
 use tower_file::TowerSpec;
 
-/// The most states of which a file may ask to search.
-pub const MOST_STATES: u32 = 1 << 24;
-
 /// How many states are searched at most if the file doesn't say.
 pub const STATES_IF_LEFT_OUT: u32 = 1 << 20;
 

@@ -21,5 +21,5 @@ mod line;
 mod reading;
 
 pub use fault::{QuestionFault, QuestionFaultKind};
-pub use file::{MOST_STATES, QuestionFile, STATES_IF_LEFT_OUT};
+pub use file::{QuestionFile, STATES_IF_LEFT_OUT};
 pub use reading::parse_question;

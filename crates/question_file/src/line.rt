@@ -10,7 +10,8 @@ ghost use Rattle.tower_file.specs.Towers.{is_lawful_tower, suits};
 ghost use Rattle.words.specs.Words.{words, next, after_next};
 
 use crate::fault::QuestionFaultKind;
-use crate::file::{MOST_STATES, QuestionFile};
+use crate::file::QuestionFile;
+use answers::find::MOST_STATES;
 use answers::question::{After, Nth};
 use frames::roles::HasRoles;
 use frames::types::Op;
@@ -140,10 +141,10 @@ impl QuestionFile {
         words: &mut Parts<'_>,
     ) -> Result<(), QuestionFaultKind>
         ensures taken { OnOk result
-            (spec.with_process (as_asked self.old) words.old ≡ Some (as_asked self.new)) }
+            (spec.with_operations (as_asked self.old) words.old ≡ Some (as_asked self.new)) }
         ensures kind { IfErr result (λ k. k ≢ Memory → k ≡ BadProcess) }
         ensures fault { IfErr result (λ k. k ≢ Memory
-            → spec.with_process (as_asked self.old) words.old ≡ None) }
+            → spec.with_operations (as_asked self.old) words.old ≡ None) }
     {
         let Some(p) = number(words.next()) else {
             return Err(QuestionFaultKind::BadProcess);
