@@ -28,8 +28,8 @@ export function numberLabels(codes, code) {
   const { long, short } = codeWords(codes, code);
   return codes.kind === "unary" ? [long] : [`code ${code} = ${long}`, long, short, `${code}`];
 }
-// while a number is written, the words for those that a scan can find, the written one last (the old
-// code alone, as its bit is the last one to be cleared)
+// while a number is written, the words for those that a scan can find, the written one last (of a
+// code the old one alone, as its bit is cleared last)
 export function writtenLabels(codes, numbers) {
   const [first, last] = [numbers[0], numbers.at(-1)], { long, short } = codeWords(codes, last);
   if (codes.kind === "unary") {
