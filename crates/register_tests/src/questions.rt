@@ -32,8 +32,14 @@ const READ_AFTER_WRITE: After = After {
 
 /// Process 0's write follows process 1's read.
 const WRITE_AFTER_READ: After = After {
-    later: READ_AFTER_WRITE.earlier,
-    earlier: READ_AFTER_WRITE.later,
+    later: Nth {
+        process: 0,
+        index: 0,
+    },
+    earlier: Nth {
+        process: 1,
+        index: 0,
+    },
 };
 
 /// The register is 0, process 0 makes the operations `first`, and process 1 makes `second`.
