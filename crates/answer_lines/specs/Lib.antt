@@ -1,1 +1,4 @@
 pub mod Text
+pub mod Search
+pub mod Advice
+pub mod Faults

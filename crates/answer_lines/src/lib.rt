@@ -7,6 +7,12 @@
 //! as in a tower file. An outcome is a value, `written`, `spent-stamped` or `spent-matrix`.
 #![tactic(auto)]
 
+mod asking;
+mod fault;
+mod searching;
 mod text;
 
+pub use asking::{Answered, answer};
+pub use fault::{AnswersFault, TooMany};
+pub use searching::search;
 pub use text::answers_text;
