@@ -34,7 +34,9 @@ pub fn search(
         TowerSpec::Copies { readers, .. } => find(alloc, &copies(readers), question, most),
         TowerSpec::Regular { readers, .. } => find(alloc, &regular(readers), question, most),
         TowerSpec::Unary {
-            values, readers, ..
+            values,
+            readers,
+            ..
         } => find(alloc, &unary(values, readers), question, most),
         TowerSpec::Stamped { values, last } => {
             find(alloc, &stamped(values, last), question, most)
