@@ -155,7 +155,7 @@ const SENTENCES = [
   [/more than ([0-9]+) states: leave out process ([0-9]), shorten process ([0-9])/,
     (many, last, longest) => `There are more than ${many} states, too many to search: leave out `
       + `p${last}, or give p${longest} fewer operations.`],
-  [/in a circle/, () => "These operations wait for each other in a circle: none of them begins."],
+  [/in a cycle/, () => "These operations wait for each other in a cycle: none of them begins."],
   [/: memory|line 0: 40/, () =>
     "The search ran out of memory: leave out a process or an operation."]];
 export function sentenceOf(errors) {

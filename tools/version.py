@@ -10,6 +10,7 @@ FORM = re.compile(r"\d+\.\d+\.\d+")
 PLACES = {
     "crates/command_line/src/invocation.rt": '"towerbench {}";',
     "crates/program_tests/src/command_lines.rt": "\ntowerbench {}\n",
+    "crates/towerbench_answers/src/program.rt": '"towerbench {}\n',
     "tests/rows/words/help.expected": "towerbench {}\n",
     "CITATION.cff": "\nversion: {}\n",
 }

@@ -1,5 +1,6 @@
 -- Which processes to leave out or to shorten if more states are reachable than may be searched.
-use Rattle.std.specs.Prelude.{ℕ, ◌+◌, ◌==◌, nat_lt, List, [], ◌∷◌, length, if◌then◌else◌}
+use Rattle.std.specs.Prelude.{ℕ, ◌+◌, ◌++◌, ◌==◌, nat_lt, List, [], ◌∷◌, length, if◌then◌else◌, codes}
+use Rattle.std.specs.Fmt.{decimal}
 use Rattle.frames.specs.declared.types.Op.{Op}
 use Rattle.answer_lines.specs.declared.fault.TooMany.{TooMany}
 
@@ -18,3 +19,7 @@ longest_from longest most p (list ∷ lists) =
 -- the fault that more than `most` states are reachable
 abbrev pub too_many : ℕ → List (List Op) → TooMany
 too_many most operations = record { most = most; last = last_busy 0 0 operations; longest = longest_from 0 0 0 operations }
+
+-- what that fault prints: the limit, the last process and the longest one
+abbrev pub too_many_display : TooMany → List ℕ
+too_many_display e = codes "more than " ++ decimal e.most ++ codes " states: leave out process " ++ decimal e.last ++ codes ", shorten process " ++ decimal e.longest ++ codes ", or raise most"

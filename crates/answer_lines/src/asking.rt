@@ -48,7 +48,7 @@ pub fn answer(alloc: Global, bytes: &[u8]) -> Result<Answered, AnswersFault>
     let most = file.most_states();
     match search(alloc, file.tower, &file.question, most) {
         Ok(found) => Ok(Answered { file, found }),
-        Err(Unfound::Unfit) => Err(AnswersFault::Circle),
+        Err(Unfound::Unfit) => Err(AnswersFault::Cycle),
         Err(Unfound::TooMany) => Err(AnswersFault::TooMany(TooMany::of(
             most,
             &file.question.operations,

@@ -6,11 +6,11 @@ ghost use Rattle.answer_lines.specs.Advice as spec;
 
 use frames::types::Op;
 use question_file::QuestionFault;
+use std::fmt;
 use thiserror::Error;
 
 /// More states are reachable than may be searched, and what to change so that fewer are.
 #[derive(Clone, Copy, Debug, PartialEq, Eq, Error)]
-#[error("more than {most} states: leave out process {last}, shorten process {longest}, or raise most")]
 pub struct TooMany {
     /// The most states that may be searched.
     pub most: u32,
@@ -24,17 +24,44 @@ pub struct TooMany {
 #[derive(Clone, Copy, Debug, PartialEq, Eq, Error)]
 pub enum AnswersFault {
     /// The bytes spell no question file.
-    #[error("file {0}")]
     File(QuestionFault),
-    /// Operations have to follow each other in a circle.
-    #[error("operations wait for each other in a circle")]
-    Circle,
+    /// Operations have to follow each other in a cycle.
+    Cycle,
     /// More states are reachable than may be searched.
-    #[error("{0}")]
     TooMany(TooMany),
     /// Memory ran out in the search.
-    #[error("memory")]
     Memory,
+}
+
+impl fmt::Display for AnswersFault {
+    ghost use Rattle.std.specs.Prelude.{Some};
+    ghost use Rattle.answer_lines.specs.Faults.{answers_fault_display};
+
+    ghost output = { λ e. Some (answers_fault_display e) };
+
+    fn fmt<W: fmt::Write>(&self, f: &mut fmt::Formatter<W>) -> fmt::Result {
+        match self {
+            AnswersFault::File(e) => write!(f, "file {e}"),
+            AnswersFault::Cycle => write!(f, "operations wait for each other in a cycle"),
+            AnswersFault::TooMany(e) => write!(f, "{e}"),
+            AnswersFault::Memory => write!(f, "memory"),
+        }
+    }
+}
+
+impl fmt::Display for TooMany {
+    ghost use Rattle.std.specs.Prelude.{Some};
+
+    ghost output = { λ e. Some (spec.too_many_display e) };
+
+    fn fmt<W: fmt::Write>(&self, f: &mut fmt::Formatter<W>) -> fmt::Result {
+        write!(
+            f,
+            "more than {} states: leave out process {}",
+            self.most, self.last
+        )?;
+        write!(f, ", shorten process {}, or raise most", self.longest)
+    }
 }
 
 impl TooMany {

@@ -6,7 +6,7 @@ ghost use Rattle.turn.specs.Chairs.{view};
 ghost use Rattle.desk.specs.Chairs.{IsChairOf};
 ghost use Rattle.surface_tests.specs.Switch.{switch};
 
-use crate::branches::shown::text_of;
+use crate::branches::shown::{text_of, text_of_slip};
 use crate::branches::{limits, name};
 use crate::registers::switch::Switch;
 use crate::registers::{GO, READ};
@@ -19,7 +19,7 @@ use std::process::Abort;
 use std::sync::Wait;
 use std::test::Fail;
 use std::thread::Threads;
-use views::{Lens, Page, Query};
+use views::{Lens, Page, Query, Slip};
 use workers::NoGate;
 
 /// A desk whose `main` is one read, and its first chair.
@@ -128,6 +128,38 @@ impl<R: Abort + Wait> Office<'_, R> {
         text_of(self.alloc, &page).or(Err(Refusal::Memory))
     }
 
+    /// The slip of a look.
+    fn slip(&self, chair: &mut Chair<Switch>, query: Query) -> Result<Slip<Switch>, Refusal>
+        requires { IsChairOf (λ _. switch) self.now.desk.now chair.old }
+        ensures { IsChairOf (λ _. switch) self.now.desk.now chair.new }
+    {
+        let (_, slip) = self.desk.slip(self.rt, self.alloc, chair, query);
+        slip
+    }
+
+    /// The text of a look, whose page is made from its slip.
+    fn text_by_slip(&self, chair: &mut Chair<Switch>, query: Query) -> Result<Vec<u8>, Refusal>
+        requires { IsChairOf (λ _. switch) self.now.desk.now chair.old }
+        ensures { IsChairOf (λ _. switch) self.now.desk.now chair.new }
+    {
+        let slip = self.slip(chair, query)?;
+        text_of_slip(self.alloc, &slip).or(Err(Refusal::Memory))
+    }
+
+    /// Looks at the branches twice, the second time by a slip.
+    fn looked(&self, chair: &mut Chair<Switch>) -> Result<(), Refusal>
+        requires { IsChairOf (λ _. switch) self.now.desk.now chair.old }
+        ensures { IsChairOf (λ _. switch) self.now.desk.now chair.new }
+    {
+        let shown = self.text(chair, Query::Branches)?;
+        let again = self.text_by_slip(chair, Query::Branches)?;
+        assert!(self.rt;
+            shown.as_slice() == b"0: branches 1 edits 1 made 2\n  main 2\n".as_slice()
+        );
+        assert!(self.rt; again.as_slice() == shown.as_slice());
+        Ok(())
+    }
+
     /// How many limbs are saved.
     fn saved(&self, chair: &mut Chair<Switch>) -> Result<usize, Refusal>
         requires { IsChairOf (λ _. switch) self.now.desk.now chair.old }
@@ -163,10 +195,7 @@ impl<R: Abort + Threads + Wait + Sync> Office<'_, R> {
         requires { IsChairOf (λ _. switch) self.now.desk.now chair.old }
         ensures { IsChairOf (λ _. switch) self.now.desk.now chair.new }
     {
-        let shown = self.text(chair, Query::Branches)?;
-        assert!(self.rt;
-            shown.as_slice() == b"0: branches 1 edits 1 made 2\n  main 2\n".as_slice()
-        );
+        self.looked(chair)?;
         let full = self.filled(chair)?;
         assert_eq!(self.rt; (full.planned, full.installed), (1, 1));
         let empty = self.filled_with_gate(chair)?;

@@ -1,0 +1,53 @@
+-- What the words after the program's name ask for.
+use Rattle.std.specs.Prelude.{◌≡◌, ℕ, ◌||◌, ◌&&◌, ◌==◌, not, Bool, true, false, List, [], ◌∷◌, codes}
+use Rattle.std.specs.Str.{bytes_eq}
+use Rattle.towerbench_answers.specs.declared.ending.AnswersEnding.{AnswersEnding}
+use Rattle.towerbench_answers.specs.declared.ending.AnswersEnding.TheVariants.{Done, Refused, Faulted}
+use Rattle.towerbench_answers.specs.declared.words.Asked.{Asked}
+use Rattle.towerbench_answers.specs.declared.words.Asked.TheVariants.{File, Help, Nothing}
+
+-- whether a word asks for the help
+abbrev pub is_help : List ℕ → Bool
+is_help word = bytes_eq word (codes "--help") || bytes_eq word (codes "-h")
+
+-- whether a word begins with `-`
+abbrev pub is_option : List ℕ → Bool
+is_option [] = false
+is_option (b ∷ bs) = b == 45
+
+-- A single word asks for this: `--help` and `-h` for the help, any other word that begins with `-` for
+-- nothing; any other word is a path.
+abbrev pub IsAskedByWord : List ℕ → Asked → Type 0
+IsAskedByWord word (File path) = (path.now ≡ word) × (is_option word ≡ false)
+IsAskedByWord word Help = is_help word ≡ true
+IsAskedByWord word Nothing = (is_option word && not (is_help word)) ≡ true
+
+-- The words ask for this: no word for the help, several for nothing.
+abbrev pub IsAsked : List (List ℕ) → Asked → Type 0
+IsAsked [] asked = asked ≡ Help
+IsAsked (word ∷ []) asked = IsAskedByWord word asked
+IsAsked (word ∷ other ∷ others) asked = asked ≡ Nothing
+
+-- whether the words ask for nothing that the program does
+abbrev pub are_refused : List (List ℕ) → Bool
+are_refused [] = false
+are_refused (word ∷ []) = is_option word && not (is_help word)
+are_refused (word ∷ other ∷ others) = true
+
+-- whether nothing is asked for
+abbrev pub is_nothing : Asked → Bool
+is_nothing Nothing = true
+is_nothing Help = false
+is_nothing (File path) = false
+
+-- whether the words are refused if the program ends in this way
+abbrev pub ends_refused : AnswersEnding → Bool
+ends_refused Refused = true
+ends_refused Done = false
+ends_refused (Faulted e) = false
+
+-- the program's exit status: 0 if it is done, 2 if the words are refused, 1 after a fault
+abbrev pub answers_status : AnswersEnding → ℕ
+answers_status Done = 0
+answers_status Refused = 2
+answers_status (Faulted e) = 1

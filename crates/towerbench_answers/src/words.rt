@@ -1,0 +1,48 @@
+//! What the words after the program's name ask for.
+
+ghost use Rattle.std.specs.Prelude.{◌≡◌, ◌&&◌, not, map};
+ghost use Rattle.std.specs.String.{string_bytes};
+ghost use Rattle.towerbench_answers.specs.Words as spec;
+
+/// What the words ask for.
+#[derive(Clone, Copy, Debug, PartialEq, Eq)]
+pub enum Asked<'a> {
+    /// To answer the question in the file at this path.
+    File(&'a str),
+    /// The help.
+    Help,
+    /// Nothing that the program can do: there are several words, or one begins with `-` and isn't
+    /// an option of the program.
+    Nothing,
+}
+
+/// What the words ask for. No word, `--help` and `-h` ask for the help; one other word that begins
+/// with `-`, and several words, for nothing; any other word is a path.
+pub fn read_words(words: &[String]) -> Asked<'_>
+    ensures asked { spec.IsAsked (map string_bytes words.entry.now) result }
+    ensures refused { spec.is_nothing result
+        ≡ spec.are_refused (map string_bytes words.entry.now) }
+{
+    let Some((word, others)) = words.split_first() else {
+        return Asked::Help;
+    };
+    if !others.is_empty() {
+        return Asked::Nothing;
+    }
+    read_word(word.as_str())
+}
+
+/// What a single word asks for.
+fn read_word(word: &str) -> Asked<'_>
+    ensures asked { spec.IsAskedByWord word.entry.now result }
+    ensures refused { spec.is_nothing result
+        ≡ (spec.is_option word.entry.now && not (spec.is_help word.entry.now)) }
+{
+    if word == "--help" || word == "-h" {
+        return Asked::Help;
+    }
+    if word.starts_with("-") {
+        return Asked::Nothing;
+    }
+    Asked::File(word)
+}
