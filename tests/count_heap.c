@@ -1,5 +1,5 @@
 /* Preloaded: counts the bytes that the program holds on the heap, and reports at each read of standard input how many there are
-   and how many there were at most since the read before: `heap NOW PEAK`. */
+   and how many there were at most since the read before: `heap NOW PEAK`; and at its end too if HEAP_AT_END is set. */
 #define _GNU_SOURCE
 #include <dlfcn.h>
 #include <malloc.h>
@@ -48,14 +48,20 @@ void *realloc(void *block, size_t size) {
     return moved;
 }
 
+static void report(void) {
+    char text[64];
+    int length = snprintf(text, sizeof text, "heap %zu %zu\n", now, peak);
+    if (write(2, text, (size_t)length) < 0) _exit(3);
+    peak = now;
+}
+
 ssize_t read(int from, void *bytes, size_t count) {
     static ssize_t (*next)(int, void *, size_t);
     if (!next) next = (ssize_t (*)(int, void *, size_t))dlsym(RTLD_NEXT, "read");
-    if (from == 0) {
-        char text[64];
-        int length = snprintf(text, sizeof text, "heap %zu %zu\n", now, peak);
-        if (write(2, text, (size_t)length) < 0) _exit(3);
-        peak = now;
-    }
+    if (from == 0) report();
     return next(from, bytes, count);
+}
+
+__attribute__((destructor)) static void at_end(void) {
+    if (getenv("HEAP_AT_END")) report();
 }

@@ -1,5 +1,5 @@
 -- The faults with which the question of a file isn't answered.
-use Rattle.std.specs.Prelude.{◌≡◌, ◌≢◌, ℕ, ⊥, List, ◌++◌, Ok, Err, IsOk, IfOk, codes}
+use Rattle.std.specs.Prelude.{◌≡◌, ◌≢◌, ℕ, List, ◌++◌, Ok, Err, IsOk, IfOk, codes}
 use Rattle.question_file.specs.declared.fault.QuestionFaultKind.TheVariants as kind
 use Rattle.question_file.specs.declared.file.QuestionFile.{QuestionFile}
 use Rattle.question_file.specs.Asked.{most_states}

@@ -1,0 +1,62 @@
+"""What the search for all answers costs: states, instructions, and bytes of the heap, of `towerbench-answers`."""
+import os
+import subprocess
+import sys
+
+from costs.runs import CALLGRIND, TOP, collected
+
+PROGRAM = f"{TOP}/crates/answers_program/out/answers_program"
+# Questions, with the instructions that a plain Rust program takes which searches the same states, breadth first with a set of
+# states as lists of numbers; it follows both choices only if a read is hit. Its figures were taken once.
+QUESTIONS = (
+    ("safe 0; process 0 w 1 w 0; process 1 r r", 559_632),
+    ("safe 0; process 0 w 1 w 0; process 1 r r; stop 0", 836_466),
+    ("copies 2 0; process 0 w 1; process 1 r; process 2 r", 798_642),
+    ("regular 2 0; process 0 w 1 w 0; process 1 r r; process 2 r r", 7_774_088),
+    ("unary 4 1 0; process 0 w 3 w 1; process 1 r r", 1_029_546),
+    ("unary 8 1 0; process 0 w 7 w 3; process 1 r r", 1_475_683),
+    ("unary 8 2 0; process 0 w 7 w 3; process 1 r r; process 2 r r", 194_523_901),
+    ("stamped 2 1; process 0 w 1; process 1 r r", 600_677),
+    ("stamped 4 3; process 0 w 1 w 2 w 3; process 1 r r r", 11_174_166),
+    (
+        "stamped 2 31; process 0 w 1 w 0 w 1 w 0 w 1 w 0; process 1 r r r r r r",
+        359_119_219,
+    ),
+    ("matrix 2 2 1 3; process 0 w 1; process 1 w 0", 4_363_091),
+    ("matrix 2 2 1 3; process 0 w 1 r; process 1 w 0 r", 189_131_794),
+    ("matrix 3 2 1 3; process 0 w 1; process 1 w 0; process 2 r", None),
+)
+
+
+def ran(path, room, prefix=(), env=None):
+    """Returns what a run of the program writes on standard output and on standard error."""
+    words = [*prefix, PROGRAM, path]
+    done = subprocess.run(words, capture_output=True, text=True, env=env, check=False, cwd=room)
+    if done.returncode != 0:
+        sys.exit(f"tests/cost: the program ended with {done.returncode}: {done.stderr}")
+    return done.stdout, done.stderr
+
+
+def most_held(path, room):
+    """Returns the most bytes that a run holds on the heap."""
+    library = f"{room}/count.so"
+    if not os.path.exists(library):
+        source = f"{TOP}/tests/count_heap.c"
+        subprocess.run(["cc", "-O2", "-shared", "-fPIC", "-o", library, source, "-ldl"], check=True)
+    env = {**os.environ, "LD_PRELOAD": library, "HEAP_AT_END": "1"}
+    said = ran(path, room, env=env)[1].splitlines()[-1].split()
+    return int(said[2])
+
+
+def questions(room):
+    subprocess.run([f"{TOP}/tools/prove", "answers_program"], stdin=subprocess.DEVNULL, check=True)
+    print("states; instructions in thousands, their ratio to plain Rust's; bytes a state")
+    for line, peer in QUESTIONS:
+        path = f"{room}/question"
+        with open(path, "w", encoding="ascii") as file:
+            file.write(line.replace("; ", "\n") + "\n")
+        output, said = ran(path, room, CALLGRIND)
+        states, cost = int(output.split()[1]), collected(said)
+        ratio = f"{cost / peer:8.2f}" if peer else "       -"
+        held = most_held(path, room) / states
+        print(f"  {line:72}{states:8}{cost / 1000:12.0f}{ratio}{held:8.0f}", flush=True)
