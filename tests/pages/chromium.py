@@ -11,6 +11,7 @@ from pages.websocket import PATIENCE, Socket
 
 NAMES = ("chromium", "chromium-browser", "google-chrome")
 CONTROL, SHIFT = 2, 8
+FEW_FUNCTIONS = 20
 COMPLAINTS = ("Runtime.consoleAPICalled", "Runtime.exceptionThrown", "Log.entryAdded")
 
 
@@ -104,6 +105,23 @@ class Browser:
         if "exceptionDetails" in answer:
             raise ValueError(json.dumps(answer["exceptionDetails"])[:400])
         return answer["result"].get("value")
+
+    def count_calls(self):
+        """Has calls of the pages' functions counted from here on."""
+        self.ask("Profiler.enable")
+        self.ask("Profiler.startPreciseCoverage", callCount=True, detailed=False)
+
+    def calls(self):
+        """Returns how many calls of the page's functions there were since the last time."""
+        scripts = [it["functions"] for it in self.ask("Profiler.takePreciseCoverage")["result"]]
+        # (what a test evaluates is a script of a few functions)
+        return sum(
+            each["count"]
+            for functions in scripts
+            if len(functions) > FEW_FUNCTIONS
+            for it in functions
+            for each in it["ranges"]
+        )
 
     def press(self, key, modifiers=0, **more):
         for kind in ("keyDown", "keyUp"):

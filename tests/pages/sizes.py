@@ -1,79 +1,87 @@
-"""How long a click takes until the next frame, as ratios: a long schedule next to a short one, many branches, many bits."""
-import json
+"""What a click costs on large documents, next to 20 steps, counted rather than timed, so that other work on the machine changes nothing.
 
+Counted are calls of the page's functions, lines that the program writes, and elements that the page has.
+"""
 from pages.live import holds
 
-FRAME = 1000 / 60
-# At 3,000 steps a click takes at most this many frames more than at 20.
-MOST_MORE = 3
-TIMED = """(async () => { const begun = performance.now(); document.querySelector(%s).click();
-  while (document.documentElement.ariaBusy === "true") await new Promise((done) => setTimeout(done));
-  await new Promise((done) => requestAnimationFrame(() => setTimeout(done)));
-  return performance.now() - begun; })()"""
 CYCLE = "w 0 3\ng 0 0\ng 0 0\nr 1\ng 1 0\ng 1 1\ng 0 0\nr 2\ng 2 0\ng 1 0\n".splitlines(True)
 UNARY, MATRIX = "tower 2\nunary 4 2 0\n", "tower 2\nmatrix 4 2 1 15\n"
+COUNT = 3000
 GESTURES = {
     "step": '.actor [data-action^="g"]:enabled, .actor [data-action^="w"]:enabled',
     "move": "[data-do=left]",
     "undo": "#undo:enabled",
 }
-TRIES, ROUNDS = 7, 3
+# How many calls and lines more a gesture may take for each step of a schedule, about twice of what it does: an edit takes the
+# whole history and the saved branches again, and each line of the script is answered.
+MOST_OF_A_STEP = {"step": (40, 3.5), "move": (14, 0.1), "undo": (40, 2)}
+MOST_OF_AN_INSERT = {"step": (60, 5), "move": (26, 2), "undo": (66, 4)}
+# Each column is narrower if there are many, so that more are drawn.
+MOST_ELEMENTS_MORE = 400
+# likewise the most calls, lines and elements of any gesture
+MOST = {
+    "60 branches more": (350_000, 4_500, 2_600),
+    "4,096 bits": (450_000, 5_000, 3_300),
+    "100,000 steps": (4_300_000, 300_000, 1_500),
+}
 
 
 def steps(count):
     return "".join((CYCLE * (count // len(CYCLE) + 1))[:count])
 
 
-def times(page, tower, script):
-    """Returns the least time of each gesture, in milliseconds: other work on the machine only adds to it."""
+def counted(page):
+    """Returns how many calls there were since the last time, how many lines in all, and how many elements there are."""
+    lines = "Number(document.querySelector('#inner').dataset.lines)"
+    return page.chrome.calls(), page.value(lines), page.count("*")
+
+
+def costs(page, tower, script):
+    """Returns the calls, lines and elements of each gesture at the end of a schedule."""
     page.open(tower, script)
     page.key("End")
-    return {
-        name: min(page.value(TIMED % json.dumps(selector)) for _ in range(TRIES))
-        for name, selector in GESTURES.items()
-    }
+    page.chrome.count_calls()
+    found = {}
+    for name, selector in GESTURES.items():
+        _, before, _ = counted(page)
+        page.value(f"document.querySelector({selector!r}).click()")
+        page.wait()
+        page.value("new Promise((done) => requestAnimationFrame(() => setTimeout(done)))")
+        calls, lines, elements = counted(page)
+        found[name] = calls, lines - before, elements
+    return found
 
 
-def report(name, found, short):
-    ratios = ", ".join(f"{it} {found[it] / short[it]:.1f}" for it in found)
-    print(f"{name}, times as long as with 20 steps: {ratios}", flush=True)
+def dearer(name, found, short, most):
+    """Returns by which gestures a schedule of COUNT steps is too dear, next to 20 steps."""
+    faults = []
+    for it, (calls, lines) in most.items():
+        more = [a - b for a, b in zip(found[it], short[it])]
+        if are_more(more, (calls * COUNT, lines * COUNT, MOST_ELEMENTS_MORE)):
+            faults.append(f"{name}: {it} takes {found[it]}, and {short[it]} with 20 steps")
+    return faults
 
 
-def short_times(page):
-    return times(page, UNARY + steps(20), "0 join\n")
-
-
-def slower(page, name, tower, script):
-    """Returns by which gestures a document is too slow, next to 20 steps before and after it."""
-    before, found, after = short_times(page), times(page, tower, script), short_times(page)
-    report(name, found, before)
-    # (a machine that has become busy meanwhile is slower at 20 steps too)
-    least = {it: max(before[it], after[it]) for it in found}
-    return [
-        f"{name}: {it} takes {found[it]:.0f} ms, and {least[it]:.0f} ms with 20 steps"
-        for it in found
-        if found[it] - least[it] > MOST_MORE * FRAME
-    ]
+def are_more(found, most):
+    return any(a > b for a, b in zip(found, most))
 
 
 def long_schedules(page):
-    """At 3,000 steps, in a file or inserted by the script, a click takes hardly longer than at 20."""
-    inserts = "".join(f"0 insert main {at} {step}" for at, step in enumerate(CYCLE * 300))
-    for name, tower, script in (
-        ("3,000 steps", UNARY + steps(3000), "0 join\n"),
-        ("3,000 inserts", UNARY, f"0 join\n{inserts}"),
+    """At 3,000 steps, in a file or inserted by the script, a gesture costs little more for each step."""
+    short = costs(page, UNARY + steps(20), "0 join\n")
+    inserts = "".join(
+        f"0 insert main {at} {step}" for at, step in enumerate(steps(COUNT).splitlines(True))
+    )
+    for name, tower, script, most in (
+        ("steps", UNARY + steps(COUNT), "0 join\n", MOST_OF_A_STEP),
+        ("inserts", UNARY, f"0 join\n{inserts}", MOST_OF_AN_INSERT),
     ):
-        # (once is enough, as other work on the machine may slow all the others down)
-        for _ in range(ROUNDS):
-            faults = slower(page, name, tower, script)
-            if not faults:
-                break
+        faults = dearer(f"{COUNT} {name}", costs(page, tower, script), short, most)
         holds(not faults, faults)
 
 
 def large_documents(page):
-    """60 branches, 4,096 bits and 100,000 steps stay usable."""
-    short = short_times(page)
+    """With 60 branches, with 4,096 bits and with 100,000 steps each gesture costs at most what is known."""
     forks = "".join(
         f"0 fork main {at * 5} b{at}\n"
         + "".join(f"0 insert b{at} {at * 5 + it} g 0 0\n" for it in range(10))
@@ -85,6 +93,5 @@ def large_documents(page):
         ("4,096 bits", four, "0 join\n"),
         ("100,000 steps", UNARY + steps(100000), "0 join\n"),
     ):
-        found = times(page, tower, script)
-        report(name, found, short)
-        holds(max(found.values()) < 2000, f"{name}: {found}")
+        for it, cost in costs(page, tower, script).items():
+            holds(not are_more(cost, MOST[name]), f"{name}: {it} takes {cost}, at most {MOST[name]}")
