@@ -134,11 +134,15 @@ export class Facts {
   // last: while a bit is being written, those with either value of it
   numbersAt(register, place, written) {
     const { size, readers } = this.codes, bits = this.page("state", place)?.bits || "";
-    const inWork = this.bitInWork(register, place), indices = between(0, size);
-    const firstOne = (copy, value) => indices.find((index) => {
-      const cell = register.cell + copy + index * readers;
-      return cell === inWork ? value : bits[cell] === "1";
-    }) ?? null;
+    const inWork = this.bitInWork(register, place);
+    // (each place of each register asks this)
+    const firstOne = (copy, value) => {
+      for (let index = 0; index < size; index++) {
+        const cell = register.cell + copy + index * readers;
+        if (cell === inWork ? value : bits[cell] === "1") return index;
+      }
+      return null;
+    };
     const copies = between(0, written === null ? 1 : readers);
     const found = copies.flatMap((copy) => [firstOne(copy, false), firstOne(copy, true)]);
     return [...new Set(found)].sort((a, b) => (a === written) - (b === written));
