@@ -1,9 +1,11 @@
 """The panel of all answers: predictions, what a read could have given, and what is too much to search."""
 import re
 
-from pages.live import holds, same
+from pages.live import TURNS, holds, same
 from pages.reader import Reader
 
+# a search takes at most 120 seconds for each of three limits
+MOST_TURNS = 10 * TURNS
 FOUND = "document.querySelector('[data-find-again]')"
 ROWS = """Object.fromEntries([...document.querySelectorAll('#answers [data-answers]')].map((it) =>
   [it.dataset.answers, it.localName === 'button']))"""
@@ -95,10 +97,5 @@ def too_many(page):
         page.until("document.querySelector('[data-find-stop]')")
         if wanted.startswith("The"):
             page.click("[data-find-stop]")
-        for _ in range(4):
-            try:
-                page.until("document.querySelector('[data-find]')")
-                break
-            except AssertionError:
-                continue
+        page.until("document.querySelector('[data-find]')", turns=MOST_TURNS)
         holds(wanted in page.text("#answers-said"), page.text("#answers-said"))

@@ -46,9 +46,9 @@ class Page:
         self.chrome.open(self.address + given)
         self.wait()
 
-    def until(self, expression, message=None):
+    def until(self, expression, message=None, turns=TURNS):
         """Waits until an expression holds in the page."""
-        for _ in range(TURNS):
+        for _ in range(turns):
             if self.chrome.value(f"Boolean({expression})"):
                 return
             time.sleep(TURN)
