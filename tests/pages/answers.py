@@ -1,4 +1,8 @@
-"""The panel of all answers: predictions, what a read could have given, and what is too much to search."""
+"""The panel of all answers: what lessons ask, what a read could have given, predictions, and what is too much to search.
+
+Which lists are possible, and how short their schedules are, is from reasoning about the towers: lesson 5's four and three lists, say.
+"""
+import json
 import re
 
 from pages.live import TURNS, holds, same
@@ -7,6 +11,40 @@ from pages.reader import Reader
 # a search takes at most 120 seconds for each of three limits
 MOST_TURNS = 10 * TURNS
 FOUND = "document.querySelector('[data-find-again]')"
+DRAWN = "'drawn' in document.querySelector('#study-text').dataset"
+# each lesson's question: the register, each list that can be guessed or found, and whether it has a schedule
+ASKED = {
+    "05-new-old-inversion": {
+        "unary 2 1 0": {
+            "p0 written p1 0 0": True,
+            "p0 written p1 0 1": True,
+            "p0 written p1 1 0": True,
+            "p0 written p1 1 1": True,
+        },
+        "stamped 2 1": {
+            "p0 written p1 0 0": True,
+            "p0 written p1 0 1": True,
+            "p0 written p1 1 0": False,
+            "p0 written p1 1 1": True,
+        },
+    },
+    "06-two-readers": {
+        "regular 2 0": {
+            "p0 written p1 0 p2 0": True,
+            "p0 written p1 1 p2 0": True,
+            "p0 written p1 0 p2 1": False,
+            "p0 written p1 1 p2 1": True,
+        }
+    },
+    "08-matrix": {
+        "matrix 2 2 1 2": {
+            "p0 written 0 p1 written": True,
+            "p0 written 1 p1 written": False,
+            "p0 written 1 p1 spent-matrix": True,
+            "p0 spent-matrix 0 p1 written": True,
+        }
+    },
+}
 ROWS = """Object.fromEntries([...document.querySelectorAll('#answers [data-answers]')].map((it) =>
   [it.dataset.answers, it.localName === 'button']))"""
 
@@ -15,6 +53,35 @@ def find(page):
     page.click("[data-find]")
     page.until(FOUND, f"nothing is found: {page.text('#answers')}")
     page.wait()
+
+
+def to_lesson(page, folder):
+    page.do("study")
+    page.click(f'#study-list [data-study="{folder}"]')
+    page.until(
+        f"{DRAWN} && document.querySelector('#study-list [data-study=\\'{folder}\\'][aria-current]')"
+    )
+
+
+def lessons_ask(page, program):
+    """Lessons 5, 6 and 8 ask for all answers: each possible list loads as a branch that gives it, and "no schedule" says what it means."""
+    page.open()
+    for folder, towers in ASKED.items():
+        for line, wanted in towers.items():
+            to_lesson(page, folder)
+            page.click(f'#study-text [data-ask="{line}"]')
+            page.until(f"document.querySelector('#tower-line').textContent === {json.dumps(line)}")
+            page.wait()
+            find(page)
+            same(page.value(ROWS), wanted, line)
+            same(page.count("#answers .no-schedule"), int(False in wanted.values()), line)
+            for number, key in enumerate(it for it, is_there in wanted.items() if is_there):
+                page.click(f'#answers [data-answers="{key}"]')
+                page.until(
+                    f"document.querySelector('#at').textContent.startsWith('answer{number + 1 if number else ''},')"
+                )
+                page.wait()
+                same(gave(page, program), key, line)
 
 
 def gave(page, program):

@@ -78,7 +78,7 @@ IN_FIREFOX = {
     "sharing": ("links", "nothing_lost", "which_tower", "forty_files", "judged_by"),
 }
 # What needs the program of all answers.
-OF_ALL_ANSWERS = ("predictions", "a_read", "too_many")
+OF_ALL_ANSWERS = ("lessons_ask", "predictions", "a_read", "too_many")
 if build.module.SEARCH in build.module.PROGRAMS:
     ALL["answers"] = IN_FIREFOX["answers"] = OF_ALL_ANSWERS
 MODULES = {
