@@ -13,6 +13,8 @@ import { element, mounted } from "./elements.js";
 
 const LONG_SCHEDULE = 60, LEAST_WIDTH = 560, EDGES = 30, PLAY_PAUSE = 900;
 const COLUMN = { least: 34, most: 104 };
+// the figures of the lesson that is shown
+const shown = new Set();
 // a branch up to a place, in rows that are as wide as there is room
 async function picture(model, branch, place, room) {
   const { length } = branch, fitting = Math.floor((room - LABEL - MARGIN) / Math.max(1, length));
@@ -92,6 +94,12 @@ class Figure {
     else this.put(this.place + 1);
   }
 }
+// draws the lesson's figures again, as wide as there is room now
+export function redrawFigures() {
+  for (const it of shown)
+    if (it.target.isConnected) it.put(it.place);
+    else shown.delete(it);
+}
 // the tower without the number's inversions that can take a time line's operations
 function secondOf({ tower }, { steps }) {
   const isStamped = (it) => it.startsWith("stamped ");
@@ -116,5 +124,8 @@ export async function putFigure(target, lesson, enter, enterBoth) {
     target.replaceChildren(text,
       fold(`as a picture, ${branch.length} steps`, figure.row, figure.drawn, figure.why));
   else target.replaceChildren(figure.row, figure.drawn, figure.why, fold("as text", text));
+  shown.add(figure);
   await figure.put(branch.length);
+  // (at first the names of the rows are in sight)
+  figure.drawn.scrollLeft = 0;
 }

@@ -4,6 +4,7 @@ import { packedData } from "./engine.js";
 import { act, isSaying, say } from "./acting.js";
 import { closeMenu, openMenu } from "./deck.js";
 import { one } from "./elements.js";
+import { redrawFigures } from "./figures.js";
 import { documentInAddress, firstDocument, leaveAddress, watchDrops } from "./files.js";
 import { actAs, begin, change, clickRead, commands, does, draw, focusOn } from "./gestures.js";
 import { move, openFiles, putWelcome, redraw, show, study, views } from "./gestures.js";
@@ -62,7 +63,10 @@ one("#scroll").addEventListener("scroll", () => {
   isScrolled = true;
   act(() => { isScrolled = false; return draw(false); });
 });
-addEventListener("resize", () => now.model && redraw(true));
+addEventListener("resize", () => {
+  if (now.model) redraw(true);
+  redrawFigures();
+});
 addEventListener("hashchange", async () => {
   leaveAddress();
   const given = await documentInAddress();

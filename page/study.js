@@ -113,6 +113,8 @@ export function putStudy(folder, begin, { isAnswered = false, ask } = {}) {
   article.append(lastRow(lessons, lesson));
   document.body.classList.add("studying");
   one("#study").hidden = false;
+  // (on a phone the list is one row)
+  one("#study-list [aria-current]").scrollIntoView({ block: "nearest", inline: "nearest" });
   one("#study-scroll").scrollTop = 0;
   scrollTo(0, 0);
   const enter = (part) => {
