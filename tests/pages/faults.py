@@ -20,7 +20,7 @@ SENTENCES = {
     "trap": r"The program stopped by a fault: .*unreachable.*\.",
     "deep": r"The program ran out of stack\.",
 }
-DAMAGED, CHUNK = 1500, 25
+DAMAGED, CHUNK = 1500, 5
 STOPPED, TOO_LONG = (
     "The run was stopped.",
     r"The program took longer than [0-9]+ seconds and was stopped\.",

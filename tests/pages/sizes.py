@@ -1,6 +1,7 @@
-"""What a click costs on large documents, next to 20 steps, counted rather than timed, so that other work on the machine changes nothing.
+"""What a click costs on large documents, next to 20 steps.
 
-Counted are calls of the page's functions, lines that the program writes, and elements that the page has.
+It is counted, so that other work on the machine changes nothing: calls of the page's functions,
+lines that the program writes, and elements that the page has.
 """
 from pages.live import holds
 
@@ -12,8 +13,9 @@ GESTURES = {
     "move": "[data-do=left]",
     "undo": "#undo:enabled",
 }
-# How many calls and lines more a gesture may take for each step of a schedule, about twice of what it does: an edit takes the
-# whole history and the saved branches again, and each line of the script is answered.
+# How many calls and lines more a gesture may take for each step of a schedule, about twice of what
+# it does: an edit takes the whole history and the saved branches again, and each line of the script
+# is answered.
 MOST_OF_A_STEP = {"step": (40, 3.5), "move": (14, 0.1), "undo": (40, 2)}
 MOST_OF_AN_INSERT = {"step": (60, 5), "move": (26, 2), "undo": (66, 4)}
 # Each column is narrower if there are many, so that more are drawn.
@@ -31,7 +33,7 @@ def steps(count):
 
 
 def counted(page):
-    """Returns how many calls there were since the last time, how many lines in all, and how many elements there are."""
+    """Returns how many calls there were since the last time, all lines, and all elements."""
     lines = "Number(document.querySelector('#inner').dataset.lines)"
     return page.chrome.calls(), page.value(lines), page.count("*")
 
@@ -81,7 +83,7 @@ def long_schedules(page):
 
 
 def large_documents(page):
-    """With 60 branches, with 4,096 bits and with 100,000 steps each gesture costs at most what is known."""
+    """With 60 branches, 4,096 bits or 100,000 steps a gesture costs at most what is known."""
     forks = "".join(
         f"0 fork main {at * 5} b{at}\n"
         + "".join(f"0 insert b{at} {at * 5 + it} g 0 0\n" for it in range(10))

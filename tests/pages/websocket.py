@@ -4,7 +4,7 @@ import os
 import socket
 import struct
 
-PATIENCE = 120
+PATIENCE = 600
 FIRST_OF_TEXT, LAST_FRAME, MASKED, SHORT, MEDIUM, LONG = 0x81, 0x80, 0x80, 125, 126, 127
 
 
