@@ -69,7 +69,7 @@ def are_more(found, most):
 
 
 def long_schedules(page):
-    """At 3,000 steps, in a file or inserted by the script, a gesture costs little more for each step."""
+    """At 3,000 steps, in a file or inserted by the script, each costs a gesture little more."""
     short = costs(page, UNARY + steps(20), "0 join\n")
     inserts = "".join(
         f"0 insert main {at} {step}" for at, step in enumerate(steps(COUNT).splitlines(True))
@@ -96,4 +96,5 @@ def large_documents(page):
         ("100,000 steps", UNARY + steps(100000), "0 join\n"),
     ):
         for it, cost in costs(page, tower, script).items():
-            holds(not are_more(cost, MOST[name]), f"{name}: {it} takes {cost}, at most {MOST[name]}")
+            most = MOST[name]
+            holds(not are_more(cost, most), f"{name}: {it} takes {cost}, at most {most}")
