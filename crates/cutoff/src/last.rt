@@ -75,7 +75,7 @@ pub(crate) fn exit_named<'a, R: Register>(
 
 /// The exit of the run stored in the segment `key`, to be shared. If `key` is `None`, or no run is
 /// stored there, a copy of `start`.
-fn shared_exit<R: Register>(
+pub(crate) fn shared_exit<R: Register>(
     alloc: Global,
     trie: &Trie<Stored<R>>,
     start: &Config<R>,

@@ -1,6 +1,7 @@
 //! Plans: for each branch, a job for its first segment that no stored run fits.
 
 ghost use Rattle.std.specs.Prelude.{◌≡◌, ℕ, List, [], ◌∷◌, Option, None, Some, OnOk, IfOk, map};
+ghost use Rattle.std.specs.Arc.{arc_value};
 ghost use Rattle.frames.specs.Configuration.{Configuration};
 ghost use Rattle.frames.specs.Recorded.{AllFit};
 ghost use Rattle.schedule_trie.specs.Forest.{step_of};
@@ -12,7 +13,7 @@ ghost use Rattle.cutoff.specs.Plans.{Descends, Planned, Plans, with_job, job_of,
 ghost use Rattle.cutoff.specs.Prefixes.{IsMarked, exit_or_start};
 ghost use Rattle.cutoff.specs.Sights.{AreSeen, HasDescendedAbove, HasDescended, IsUnseenPart, LooksBelow, sight_at, unseen};
 
-use crate::last::exit_named;
+use crate::last::{exit_named, shared_exit};
 use crate::settle::{fitting, segment_cells};
 use crate::sight::{Sight, known, see};
 use crate::stored::Stored;
@@ -24,29 +25,31 @@ use schedule_trie::slot::Slot;
 use schedule_trie::trie::{SegKey, Trie};
 use std::alloc::{AllocError, Global};
 use std::marker::Model;
+use std::sync::Arc;
 
 /// A segment to be replayed: its key, the configuration that replay reaches at its start, and its
 /// steps. The type guarantees that each step fits the register.
 #[derive(Drop)]
 pub struct Job<R: Register> {
     pub key: SegKey,
-    pub entry: Config<R>,
+    pub entry: Arc<Config<R>>,
     pub steps: Steps,
 }
 
 impl<R: Register> Model for Job<R> {
+    ghost use Rattle.std.specs.Arc.{arc_value};
     ghost use Rattle.frames.specs.Recorded.{AllFit};
     ghost use Rattle.cutoff.specs.Plans.{Planned};
 
     ghost Value = { Planned R R.Pending };
 
-    ghost view = { λ j. record { key = j.key; entry = j.entry; steps = j.steps } };
+    ghost view = { λ j. record { key = j.key; entry = arc_value j.entry; steps = j.steps } };
 
-    ghost invariant = { λ j. AllFit (R.behaviour j.entry.register) j.steps };
+    ghost invariant = { λ j. AllFit (R.behaviour (arc_value j.entry).register) j.steps };
 }
 
-/// How many segments a plan has records for at first.
-const MORE_SIGHTS: usize = 64;
+/// For how many segments a plan reserves memory at first.
+const MORE_SEGMENTS: usize = 64;
 
 /// The jobs of a plan so far, and what the plan has found at each segment, by the segment's key.
 #[derive(Drop)]
@@ -86,21 +89,24 @@ pub(crate) fn plan_all<R: Register>(
 {
     let mut planning = Planning {
         jobs: Vec::new(base.alloc),
-        seen: Vec::with_capacity(base.alloc, MORE_SIGHTS)?,
+        seen: Vec::with_capacity(base.alloc, MORE_SEGMENTS)?,
     };
-    plan_branch(base, index, &mut planning)?;
+    // one list for all branches, so that memory for it is reserved once
+    let mut keys = Vec::with_capacity(base.alloc, MORE_SEGMENTS)?;
+    plan_branch(base, index, &mut keys, &mut planning)?;
     for other in 0..base.trie.branches() as usize {
-        plan_branch(base, other, &mut planning)?;
+        plan_branch(base, other, &mut keys, &mut planning)?;
     }
     let Planning { jobs, .. } = planning;
     Ok(jobs)
 }
 
 /// Adds a job for the first segment of the branch at `index` that no stored run fits, if there is
-/// such a segment and it has no job yet.
+/// such a segment and it has no job yet. `keys` is a list for its use.
 fn plan_branch<R: Register>(
     base: &Base<'_, R>,
     index: usize,
+    keys: &mut Vec<SegKey>,
     planning: &mut Planning<R>,
 ) -> Result<(), AllocError>
     requires linked { AreLinked R.PartialEq.eq base.now.start.now base.now.trie.now }
@@ -118,39 +124,40 @@ fn plan_branch<R: Register>(
         × (planning.new.jobs.items ≡ with_job planning.old.jobs.items
         (job_of base.now.trie.now missed end))) }
 {
-    let (above_fits, keys) = unseen_keys(base, &planning.seen, index)?;
-    let mut fits = above_fits;
-    for key in &keys {
+    let mut fits = unseen_keys(base, &planning.seen, index, keys)?;
+    for key in keys.as_slice() {
         fits = visit(base, *key, fits, planning)?;
     }
     Ok(())
 }
 
 /// Climbs from the last segment of a branch until it meets a segment that is marked or was visited.
-/// Returns whether stored runs fit down to that segment, and the keys of the branch's segments
-/// below that one, in order. If it meets no such segment, returns true and all keys of the branch.
+/// Returns whether stored runs fit down to that segment, and leaves in `keys` the keys of the
+/// branch's segments below that one, in order. If it meets no such segment, returns true, and
+/// leaves all keys of the branch.
 fn unseen_keys<R: Register>(
     base: &Base<'_, R>,
     seen: &[Sight],
     index: usize,
-) -> Result<(bool, Vec<SegKey>), AllocError>
+    keys: &mut Vec<SegKey>,
+) -> Result<bool, AllocError>
     requires { IsCut base.now.trie.now }
     ensures { IfOk result
-        (λ r. IsUnseenPart base.now.mark seen.now (keys_in base.now.trie.now.strands index) r.0
-        r.1.items) }
+        (λ fits. IsUnseenPart base.now.mark seen.now (keys_in base.now.trie.now.strands index) fits
+        keys.new.items) }
 {
-    let mut keys = Vec::new(base.alloc);
+    keys.clear();
     let mut at = base.trie.last_at(index);
     while let Some(key) = at {
         if let Some(fits) = known(base.mark, seen, key) {
             keys.reverse();
-            return Ok((fits, keys));
+            return Ok(fits);
         }
         keys.push(key)?;
         at = base.trie.above(key);
     }
     keys.reverse();
-    Ok((true, keys))
+    Ok(true)
 }
 
 /// Visits the segment `key`, and returns whether stored runs fit down to it. `above_fits` says
@@ -215,24 +222,24 @@ fn look_below<R: Register>(
         let _exit = stored.exit();
         return Ok(true);
     }
-    let job = job_at(base.alloc, base.trie, key, config)?;
+    let entry = shared_exit(base.alloc, base.trie, base.start, above)?;
+    let job = job_at(base.alloc, base.trie, key, entry)?;
     jobs.push(job)?;
     Ok(false)
 }
 
-/// The job of the segment `key`, at whose start replay reaches `config`.
+/// The job of the segment `key`, at whose start replay reaches `entry`.
 fn job_at<R: Register>(
     alloc: Global,
     trie: &Trie<Stored<R>>,
     key: SegKey,
-    config: &Config<R>,
+    entry: Arc<Config<R>>,
 ) -> Result<Job<R>, AllocError>
-    requires { AllFit (R.behaviour config.now.register) (steps_at trie.now key) }
-    ensures { IfOk result (λ job. Some job ≡ job_of trie.now (Some key) config.now) }
+    requires { AllFit (R.behaviour (arc_value entry).register) (steps_at trie.now key) }
+    ensures { IfOk result (λ job. Some job ≡ job_of trie.now (Some key) (arc_value entry)) }
 {
     let steps = steps_in(alloc, segment_cells(trie, key))?;
     let steps = Steps::new(steps);
-    let entry = config.copy(alloc)?;
     Ok(Job { key, entry, steps })
 }
 

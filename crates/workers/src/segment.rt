@@ -1,7 +1,7 @@
 //! The jobs of a chart's plan (segments to replay), as jobs that a crew can run.
 
 use crate::job;
-use checkpoints::run::{Run, run_segment};
+use checkpoints::run::{Run, run_of};
 use cutoff::plan::Job;
 use frames::register::Register;
 use schedule_trie::trie::SegKey;
@@ -25,7 +25,8 @@ impl<R: Register> job::Runnable for Job<R> {
     }
 
     fn run(&self, alloc: Global) -> Result<Arc<Run<R>>, AllocError> {
-        let run = run_segment(alloc, &self.entry, self.steps.as_slice())?;
+        let entry = Arc::try_clone(&self.entry)?;
+        let run = run_of(alloc, entry, self.steps.as_slice())?;
         Ok(Arc::new(alloc, run)?)
     }
 }

@@ -12,7 +12,7 @@ pub loop-at-init : goal.loop-at-init
 loop-at-init g c =
     let keys = keys_in c.args.base.now.trie.now.strands c.args.index in
     let last = subst (IsLast keys) (sym c.last_at-at.ensures) (last_is keys (path_once c.args.base.now.trie.now c.requires c.args.index)) in
-    rw c.new-keys.ensures.items (record { climbing = climbing_first (IsUnseen c.args.seen.now) keys c.last_at-at.result last })
+    rw c.clear.ensures.items (record { climbing = climbing_first (IsUnseen c.args.seen.now) keys c.last_at-at.result last })
 
 pub loop-at-smaller : goal.loop-at-smaller
 loop-at-smaller g c =
