@@ -37,6 +37,7 @@ def desk(room):
 def fills(room):
     fills_apart(room)
     fills_shared(room)
+    fills_along_main(room)
 
 
 def fills_apart(room):
@@ -87,3 +88,30 @@ def fills_shared(room):
         print(
             f"  {branches} branches of {count}: {first} the first fill, {all_of_them} all {needed}"
         )
+
+
+def fills_along_main(room):
+    """Branches forked along `main`: the first fill after a look at its end, and after an edit too."""
+    branches, own, path = 400, 300, f"{room}/along"
+    print(f"instructions of the first fill of {branches} branches of {own} steps, by main's length")
+    taken = []
+    for count in (25_000, 50_000, 100_000):
+        steps = "".join(f"{SHORT_WRITES[at % len(SHORT_WRITES)]}\n" for at in range(count))
+        with open(path, "w", encoding="ascii") as file:
+            file.write(f"bench 1\nsafe 0\nbranch main 0 0\n{steps}")
+            for at in range(branches):
+                shared = count * (at + 1) // (branches + 1) // 6 * 6
+                file.write(f"branch b{at} 0 {shared}\n")
+                file.writelines(f"{SHORT_WRITES[it % len(SHORT_WRITES)]}\n" for it in range(own))
+        words = [path, "--cells", "2000000", "--branches", "1024"]
+        look, edit = f"0 state main {count}\n", "0 replace main 1 g 0 1\n"
+        taken.append(
+            [
+                instructions(words, f"{before}0 fill main\n", room)
+                - instructions(words, before, room)
+                for before in (look, look + edit)
+            ]
+        )
+        print(f"  {count}: {taken[-1][0]} after a look, {taken[-1][1]} after an edit")
+    growths = [f"{last / first - 1:.1%}" for first, last in zip(taken[0], taken[-1])]
+    print(f"  growth from the shortest to the longest: {growths[0]}, {growths[1]}")
