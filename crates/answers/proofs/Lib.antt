@@ -6,4 +6,5 @@ pub mod Gathering
 pub mod Building
 pub mod Searching
 pub mod Ranked
+pub mod Tidying
 mod Examples

@@ -20,6 +20,7 @@ use crate::moves::{Moves, copies, step_by};
 use crate::outcomes::{Outcomes, no_answers};
 use crate::question::Question;
 use crate::state::State;
+use crate::tidy::tidy;
 use breadth_first::mark::{Mark, Unreached};
 use breadth_first::path::path_to;
 use breadth_first::reach::{Reached, reach};
@@ -30,7 +31,7 @@ use std::alloc::{AllocError, Global};
 
 impl<R: Register> State<R> {
     /// The initial state of a register that holds `value`.
-    fn initial(alloc: Global, register: R, value: u32) -> Result<State<R>, AllocError>
+    pub(crate) fn initial(alloc: Global, register: R, value: u32) -> Result<State<R>, AllocError>
         requires { value < (R.behaviour register).values }
         ensures { IfOk result (λ s. s ≡ first_state (R.behaviour register) value register) }
     {
@@ -230,7 +231,10 @@ fn answer<'q, R: Register>(alloc: Global, moves: &Moves<'q, R>, most: u32) -> Re
         Ok(reached) => reached,
         Err(why) => return Err(why),
     };
-    let Ok(possible) = gather(alloc, moves, &reached, most) else {
+    let Ok(mut possible) = gather(alloc, moves, &reached, most) else {
+        return Err(Unfound::Memory);
+    };
+    let Ok(()) = tidy(alloc, moves, &mut possible) else {
         return Err(Unfound::Memory);
     };
     let states = reached.nodes.len();

@@ -4,6 +4,7 @@
 mod cycles;
 mod digest;
 mod done;
+mod draft;
 pub mod find;
 pub mod fits;
 pub mod found;
@@ -11,3 +12,4 @@ pub mod moves;
 pub mod outcomes;
 pub mod question;
 pub mod state;
+mod tidy;

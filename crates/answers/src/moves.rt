@@ -163,7 +163,7 @@ pub(crate) fn step_by(
 
 /// Whether the step is enabled: its process hasn't stopped, and is idle if the step is an
 /// invocation, or has an operation pending if it is a bit action.
-fn is_enabled<R: Register>(config: &Config<R>, step: Step) -> bool
+pub(crate) fn is_enabled<R: Register>(config: &Config<R>, step: Step) -> bool
     ensures { result ≡ is_enabled config.now step }
 {
     let p = step.process();

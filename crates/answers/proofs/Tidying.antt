@@ -1,0 +1,107 @@
+-- Steps made one after another, what they have at the end, and a list in which other steps have the
+-- same answers.
+use Rattle.std.proofs.Common.{◌≡◌, ℕ, zero, suc, ◌≤◌, ◌⊎◌, inl, inr, List, [], ◌∷◌, ◌++◌, length, Option, Some, true, slice_get, refl, sym, ap, subst, ◌∙◌, arith}
+use Rattle.std.specs.Prelude.{slice_set}
+use Rattle.std.specs.Global.{Vec}
+use Rattle.std.proofs.lemmas.Bool.{cases_eq}
+use Rattle.std.proofs.lemmas.Option.{none-some, same_Some}
+use Rattle.safe_bit.specs.Memory.{Memory}
+use Rattle.frames.specs.declared.types.Op.{Op}
+use Rattle.frames.specs.declared.types.Step.{Step}
+use Rattle.frames.specs.Behaviour.{Behaviour, IsLawful}
+use Rattle.frames.specs.Configuration.{fits_step}
+use Rattle.answers.specs.declared.found.Possible.{Possible}
+use Rattle.answers.specs.declared.question.Question.{Question}
+use Rattle.answers.specs.Questions.{IsScheduleOf, HasAnswers}
+use Rattle.answers.specs.Answers.{AllAnswered, HasItsSchedule, IsListed}
+use Rattle.answers.specs.States.{StateOf, IsStateOfRun, AreAllOver, advanced, first_state, step_by}
+use Rattle.answers.specs.laws.StateLaws.{answers_eq, answers_decide}
+use Rattle.answers.proofs.Allowed.{named_permitted}
+use Rattle.answers.proofs.DoneStates.{at_answers, done_schedule}
+use Rattle.answers.proofs.Schedules.{run_first, run_more}
+
+module _ {R P : Type 0} (is : R → Behaviour P) (b : Behaviour P) (q : Question) where
+  pub no_steps : (r : R) (x : StateOf R P) (steps : List Step) → is r ≡ b → x ≡ first_state b q.value r → steps ≡ [] → IsStateOfRun is b q.value q steps x
+  no_steps r x steps e first none =
+      subst (λ (s : List Step). IsStateOfRun is b q.value q s x) (sym none)
+      (subst (IsStateOfRun is b q.value q []) (sym first) (run_first is b q.value q r e))
+
+  pub one_more : (Holds : Memory → Type 0) (Reach : ℕ → Op → P → Type 0) → IsLawful b Holds Reach → (steps more : List Step) (x z : StateOf R P) (p kind : ℕ) (s : Step)
+      → IsStateOfRun is b q.value q steps x → step_by q x.answers p kind ≡ Some s → fits_step (is x.configuration.register) s ≡ true
+      → more ≡ steps ++ s ∷ [] → z ≡ advanced (is x.configuration.register) x s → IsStateOfRun is b q.value q more z
+  one_more Holds Reach lawful steps more x z p kind s run names fits e made =
+      let fits_b : fits_step b s ≡ true = ap (λ (a : Behaviour P). fits_step a s) (sym run.at.behaves) ∙ fits in
+      let made_b : z ≡ advanced b x s = made ∙ ap (λ (a : Behaviour P). advanced a x s) run.at.behaves in
+      subst (λ (l : List Step). IsStateOfRun is b q.value q l z) (sym e)
+      (subst (IsStateOfRun is b q.value q (steps ++ s ∷ [])) (sym made_b)
+      (run_more is b q.value q Holds Reach lawful steps x s run fits_b (named_permitted q x.answers p kind s names)))
+
+  -- the steps to a done state with the answers listed
+  pub done_steps : (steps : Vec Step) (x : StateOf R P) (a : Possible) → IsStateOfRun is b q.value q steps.items x → AreAllOver b q x
+      → answers_eq x.answers a.answers.items ≡ true → HasItsSchedule b q (record a { steps = steps })
+  done_steps steps x a run done same = record {
+    schedule = done_schedule is b q steps.items x run done;
+    answers = subst (HasAnswers b q.value steps.items) ((answers_decide x.answers a.answers.items).0 same) (at_answers is b q steps.items x run.at);
+  }
+
+-- an item of a list with another item in place i is that item, or one of the list
+new_or_old : {X : Type 0} (xs : List X) (i j : ℕ) (y x : X) → slice_get (slice_set xs i y) j ≡ Some x → ((j ≡ i) × (y ≡ x)) ⊎ (slice_get xs j ≡ Some x)
+new_or_old [] i j y x h = absurd (none-some x h)
+new_or_old (d ∷ ds) zero zero y x h = inl (refl, same_Some y x h)
+new_or_old (d ∷ ds) zero (suc j) y x h = inr h
+new_or_old (d ∷ ds) (suc i) zero y x h = inr h
+new_or_old (d ∷ ds) (suc i) (suc j) y x h = elim (new_or_old ds i j y x h) [ inl p ↦ inl (ap suc p.0, p.1) | inr o ↦ inr o ]
+
+there : {X : Type 0} (xs : List X) (i : ℕ) (y x : X) → slice_get xs i ≡ Some x → slice_get (slice_set xs i y) i ≡ Some y
+there [] i y x h = absurd (none-some x h)
+there (d ∷ ds) zero y x h = refl
+there (d ∷ ds) (suc i) y x h = there ds i y x h
+
+elsewhere : {X : Type 0} (xs : List X) (i j : ℕ) (y x : X) → (j ≡ i → ⊥) → slice_get xs j ≡ Some x → slice_get (slice_set xs i y) j ≡ Some x
+elsewhere [] i j y x ne h = absurd (none-some x h)
+elsewhere (d ∷ ds) zero zero y x ne h = absurd (ne refl)
+elsewhere (d ∷ ds) zero (suc j) y x ne h = h
+elsewhere (d ∷ ds) (suc i) zero y x ne h = h
+elsewhere (d ∷ ds) (suc i) (suc j) y x ne h = elsewhere ds i j y x (λ e. ne (ap suc e)) h
+
+-- Possible answers with other steps, as many, are listed in place i.
+module _ {P : Type 0} (b : Behaviour P) (q : Question) (found : List Possible) (i : ℕ) (a z : Possible) (stored : slice_get found i ≡ Some a)
+    (answers : z.answers.items ≡ a.answers.items) (long : length z.steps.items ≡ length a.steps.items) (sound : HasItsSchedule b q z) (all : AllAnswered b q found) where
+  -- what was listed in a place has the same answers
+  before : (j : ℕ) (c : Possible) → slice_get (slice_set found i z) j ≡ Some c → (d : Possible) × ((slice_get found j ≡ Some d) × (c.answers.items ≡ d.answers.items))
+  before j c h = elim (new_or_old found i j z c h) [
+    | inl p ↦ (a, (ap (slice_get found) p.0 ∙ stored, ap (λ (n : Possible). n.answers.items) (sym p.1) ∙ answers))
+    | inr o ↦ (c, (o, refl))
+  ]
+
+  pub other_steps : AllAnswered b q (slice_set found i z)
+  other_steps = record {
+    sound = λ j c h. elim (new_or_old found i j z c h) [ inl p ↦ subst (HasItsSchedule b q) p.1 sound | inr o ↦ all.sound j c o ];
+    complete = λ steps schedule. still steps (all.complete steps schedule);
+    once = λ j k c d h l e.
+        let o = before j c h in
+        let n = before k d l in
+        all.once j k o.0 n.0 o.1.0 n.1.0 (sym o.1.1 ∙ (e ∙ n.1.1));
+  }
+    where
+      still : (steps : List Step) → IsListed b q found steps → IsListed b q (slice_set found i z) steps
+      still steps l = elim (cases_eq l.index i) [
+        | inl e ↦
+            let same : a ≡ l.possible = same_Some a l.possible (sym stored ∙ (ap (slice_get found) (sym e) ∙ l.stored)) in
+            let short = l.shortest in
+            let as_long : length a.steps.items ≡ length l.possible.steps.items = ap (λ (n : Possible). length n.steps.items) same in
+            record {
+              index = i;
+              possible = z;
+              stored = there found i z a stored;
+              answers = subst (HasAnswers b q.value steps) (sym (answers ∙ ap (λ (n : Possible). n.answers.items) same)) l.answers;
+              shortest = omega (arith, long, as_long, short);
+            }
+        | inr ne ↦ record {
+          index = l.index;
+          possible = l.possible;
+          stored = elsewhere found i l.index z l.possible ne l.stored;
+          answers = l.answers;
+          shortest = l.shortest;
+        }
+      ]
