@@ -1,6 +1,6 @@
 -- Steps made one after another, what they have at the end, and a list in which other steps have the
 -- same answers.
-use Rattle.std.proofs.Common.{◌≡◌, ℕ, zero, suc, ◌≤◌, ◌⊎◌, inl, inr, List, [], ◌∷◌, ◌++◌, length, Option, Some, true, slice_get, refl, sym, ap, subst, ◌∙◌, arith}
+use Rattle.std.proofs.Common.{◌≡◌, ℕ, zero, suc, ◌⊎◌, inl, inr, List, [], ◌∷◌, ◌++◌, length, Some, true, slice_get, refl, sym, ap, subst, ◌∙◌, arith}
 use Rattle.std.specs.Prelude.{slice_set}
 use Rattle.std.specs.Global.{Vec}
 use Rattle.std.proofs.lemmas.Bool.{cases_eq}
@@ -12,7 +12,7 @@ use Rattle.frames.specs.Behaviour.{Behaviour, IsLawful}
 use Rattle.frames.specs.Configuration.{fits_step}
 use Rattle.answers.specs.declared.found.Possible.{Possible}
 use Rattle.answers.specs.declared.question.Question.{Question}
-use Rattle.answers.specs.Questions.{IsScheduleOf, HasAnswers}
+use Rattle.answers.specs.Questions.{HasAnswers}
 use Rattle.answers.specs.Answers.{AllAnswered, HasItsSchedule, IsListed}
 use Rattle.answers.specs.States.{StateOf, IsStateOfRun, AreAllOver, advanced, first_state, step_by}
 use Rattle.answers.specs.laws.StateLaws.{answers_eq, answers_decide}

@@ -13,13 +13,14 @@ use frames::types::{ActionKind, Outcome, Step};
 use std::alloc::{AllocError, Global};
 
 /// The first steps of a schedule, the state after them, and how many hit reads end in them and
-/// switches between processes there are.
+/// switches between processes there are; and how many steps the process of the last one makes.
 #[derive(Drop)]
 pub(crate) struct Draft<R: Register> {
     pub(crate) steps: Vec<Step>,
     pub(crate) state: State<R>,
     hits: usize,
     switches: usize,
+    own: usize,
 }
 
 /// Whether the step ends a hit read.
@@ -79,11 +80,13 @@ impl<R: Register> Draft<R> {
         let switch = if is_switch { 1 } else { 0 };
         let mut steps = Vec::from_slice(alloc, &self.steps)?;
         steps.push(step)?;
+        let own = count_of(&steps, step.process());
         Ok(Draft {
             steps,
             state,
             hits: self.hits.saturating_add(hit),
             switches: self.switches.saturating_add(switch),
+            own,
         })
     }
 
@@ -95,7 +98,9 @@ impl<R: Register> Draft<R> {
 
     /// Whether the states are equal, and the last steps are of the same process.
     pub(crate) fn is_like(&self, other: &Draft<R>) -> bool {
-        last_process(&self.steps) == last_process(&other.steps) && self.state == other.state
+        self.own == other.own
+            && last_process(&self.steps) == last_process(&other.steps)
+            && self.state == other.state
     }
 
     /// Whether process `p`'s outcomes are the first ones that it has in `whole`.
@@ -112,9 +117,7 @@ impl<R: Register> Draft<R> {
     /// Whether this draft, in which process `p` makes the last step, may become one that is easier
     /// than `given`, has the same answers, and as many steps of each process.
     pub(crate) fn may_become_easier(&self, given: &Draft<R>, p: u32) -> bool {
-        self.is_easier(given)
-            && count_of(&self.steps, p) <= count_of(&given.steps, p)
-            && self.agrees(given, p)
+        self.is_easier(given) && self.own <= count_of(&given.steps, p) && self.agrees(given, p)
     }
 }
 
@@ -136,6 +139,7 @@ pub(crate) fn first_draft<'q, R: Register>(
         state,
         hits: 0,
         switches: 0,
+        own: 0,
     })
 }
 

@@ -23,7 +23,7 @@ use frames::types::Step;
 use std::alloc::{AllocError, Global};
 
 /// The most drafts of one length that are kept.
-const MOST_DRAFTS: usize = 200;
+const MOST_DRAFTS: usize = 100;
 
 /// The place of a draft that this one may replace: of the one that is like it, or, if many are kept,
 /// of the one that costs most. `None` if there is no such draft.
