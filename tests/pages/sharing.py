@@ -15,6 +15,9 @@ BASE = "https://example.org/towerbench.html"
 MOST_LINK, MOST_PAGE = 400, 900_000
 FOLDED = """(() => { globalThis.copied = ""; const clipboard = { writeText: async (text) => { globalThis.copied = text; } };
   Object.defineProperty(navigator, "clipboard", { value: clipboard, configurable: true }); return 0; })()"""
+IN_SIGHT = """(({ left, right }) => left >= 0 && right <= innerWidth)(
+  document.querySelector("#study-list [aria-current]").getBoundingClientRect())"""
+PICTURE = "document.querySelector('.drawn-here svg').clientWidth"
 TASK = "document.querySelector('#task')"
 
 
@@ -288,6 +291,19 @@ def room(page):
         wide = page.value("document.documentElement.scrollWidth")
         holds(wide <= 390, f"{name}: it is {wide} wide")
         page.do("studyClose" if name == "study" else "study")
+    page.click('#study-list [data-study="08-matrix"]')
+    holds(page.value(IN_SIGHT), "the list doesn't show the lesson")
+    lesson_resized(page)
+
+
+def lesson_resized(page):
+    """A lesson's picture begins with the names of its rows, and is drawn again if the width changes."""
+    page.click('#study-list [data-study="01-safe-bit"]')
+    page.until("'drawn' in document.querySelector('#study-text').dataset")
+    same(page.value("document.querySelector('.drawn-here').scrollLeft"), 0)
+    for width, is_right in ((1600, f"{PICTURE} > 600"), (390, f"{PICTURE} < 600")):
+        page.chrome.size(width, 844)
+        page.until(is_right, f"at {width} the picture isn't drawn again")
 
 
 def hostile(rounds=200):
