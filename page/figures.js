@@ -52,7 +52,12 @@ class Figure {
       button("a step on", "\u25b6", () => this.by(1)), this.at);
     this.pause();
   }
+  // (if there is less room, the place stays in sight)
   async put(place) {
+    await this.draw(place);
+    this.drawn.scrollLeft = this.drawn.scrollWidth;
+  }
+  async draw(place) {
     const { range, at, drawn, target, model, branch } = this, { length } = branch;
     const wide = (target.closest("article")?.clientWidth || 0) - EDGES, turn = ++this.turn;
     this.place = Math.max(0, Math.min(length, place));
@@ -61,10 +66,7 @@ class Figure {
     at.textContent = this.place === length ? `all ${length} steps`
       : `place ${this.place} of ${length}, before ${branch.step(this.place)}`;
     const rows = await picture(model, branch, this.place, Math.max(LEAST_WIDTH, wide));
-    if (turn !== this.turn) return;
-    drawn.replaceChildren(...rows);
-    // (if there is less room, the place stays in sight)
-    drawn.scrollLeft = drawn.scrollWidth;
+    if (turn === this.turn) drawn.replaceChildren(...rows);
   }
   // (nothing as long as a prediction is asked for)
   explain({ target }) {
@@ -97,7 +99,7 @@ class Figure {
 // draws the lesson's figures again, as wide as there is room now
 export function redrawFigures() {
   for (const it of shown)
-    if (it.target.isConnected) it.put(it.place);
+    if (it.target.isConnected) it.draw(it.place);
     else shown.delete(it);
 }
 // the tower without the number's inversions that can take a time line's operations
@@ -125,7 +127,5 @@ export async function putFigure(target, lesson, enter, enterBoth) {
       fold(`as a picture, ${branch.length} steps`, figure.row, figure.drawn, figure.why));
   else target.replaceChildren(figure.row, figure.drawn, figure.why, fold("as text", text));
   shown.add(figure);
-  await figure.put(branch.length);
-  // (at first the names of the rows are in sight)
-  figure.drawn.scrollLeft = 0;
+  await figure.draw(branch.length);
 }

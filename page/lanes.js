@@ -95,11 +95,12 @@ export class Lanes {
   }
   // a read's verdict, or a refusal (the verdict of what isn't drawn above stays next to the veil)
   ending(it, end, top) {
-    const { drawing, shared } = this;
+    const { drawing, reading, shared } = this;
     if (it.ending === "refused") return this.refused(it, end, top);
     if (it.ending !== "returned" || it.kind !== "read") return [];
     const words = `${it.value} ${SIGNS[it.verdict] || ""} ${it.verdict}`.trim();
-    const least = drawing.left(it.ended >= shared ? shared : 0) + widthOf(words) + 10;
+    const first = Math.max(reading.from, it.ended >= shared ? shared : 0);
+    const least = drawing.left(first) + widthOf(words) + 10;
     return [drawing.verdict(it, words, Math.max(end, least), top - TAG, TAG)];
   }
   // what an operation does and gave, again and again on a long bar, but not over a diamond
