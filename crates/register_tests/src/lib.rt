@@ -9,6 +9,8 @@ mod built_towers;
 #[cfg(test)]
 mod configurations;
 #[cfg(test)]
+mod easiest;
+#[cfg(test)]
 mod files;
 #[cfg(test)]
 mod questions;
