@@ -12,14 +12,28 @@ use frames::register::Register;
 use frames::types::{ActionKind, Outcome, Step};
 use std::alloc::{AllocError, Global};
 
-/// The first steps of a schedule, the state after them, and how many hit reads end in them and
-/// switches between processes there are; and how many steps the process of the last one makes.
+/// What makes steps hard to read: the hit reads that end in them, and the switches between
+/// processes.
+#[derive(Clone, Copy, Debug, PartialEq, Eq)]
+struct Effort {
+    hits: usize,
+    switches: usize,
+}
+
+impl Effort {
+    /// Whether there are fewer hit reads than in another one, or as many and fewer switches.
+    fn is_less(self, other: Effort) -> bool {
+        self.hits < other.hits || (self.hits == other.hits && self.switches < other.switches)
+    }
+}
+
+/// The first steps of a schedule, the state after them, and what makes them hard to read; and how
+/// many steps the process of the last one makes.
 #[derive(Drop)]
 pub(crate) struct Draft<R: Register> {
     pub(crate) steps: Vec<Step>,
     pub(crate) state: State<R>,
-    hits: usize,
-    switches: usize,
+    effort: Effort,
     own: usize,
 }
 
@@ -35,6 +49,14 @@ fn is_hit<R: Register>(config: &Config<R>, step: Step) -> bool {
         return false;
     };
     action.kind == ActionKind::ReadEnd && cell.hit
+}
+
+/// Whether the step is a bit action with choice 1.
+fn is_choice_1(step: Step) -> bool {
+    match step {
+        Step::Go { c, .. } => c == 1,
+        _ => false,
+    }
 }
 
 /// The process of the last step; `None` if there is no step.
@@ -70,30 +92,34 @@ impl<R: Register> Draft<R> {
             ≡ advanced (R.behaviour self.now.state.configuration.register) self.now.state step) }
     {
         let state = self.state.advanced(alloc, step)?;
-        let last = last_process(&self.steps);
-        let is_switch = last.is_some() && last != Some(step.process());
-        let hit = if is_hit(&self.state.config, step) {
-            1
-        } else {
-            0
-        };
-        let switch = if is_switch { 1 } else { 0 };
+        let effort = self.effort_with(step);
         let mut steps = Vec::from_slice(alloc, &self.steps)?;
         steps.push(step)?;
         let own = count_of(&steps, step.process());
         Ok(Draft {
             steps,
             state,
-            hits: self.hits.saturating_add(hit),
-            switches: self.switches.saturating_add(switch),
+            effort,
             own,
         })
     }
 
-    /// Whether fewer hit reads end in this draft than in another one, or as many and there are fewer
-    /// switches.
+    /// What makes this draft hard to read with one more step.
+    fn effort_with(&self, step: Step) -> Effort {
+        let mut effort = self.effort;
+        if is_hit(&self.state.config, step) {
+            effort.hits = effort.hits.saturating_add(1);
+        }
+        let last = last_process(&self.steps);
+        if last.is_some() && last != Some(step.process()) {
+            effort.switches = effort.switches.saturating_add(1);
+        }
+        effort
+    }
+
+    /// Whether this draft is easier to read than another one.
     pub(crate) fn is_easier(&self, other: &Draft<R>) -> bool {
-        self.hits < other.hits || (self.hits == other.hits && self.switches < other.switches)
+        self.effort.is_less(other.effort)
     }
 
     /// Whether the states are equal, and the last steps are of the same process.
@@ -104,7 +130,7 @@ impl<R: Register> Draft<R> {
     }
 
     /// Whether process `p`'s outcomes are the first ones that it has in `whole`.
-    fn agrees(&self, whole: &Draft<R>, p: u32) -> bool {
+    pub(crate) fn agrees(&self, whole: &Draft<R>, p: u32) -> bool {
         let Some(outcomes) = self.state.answers.get(p as usize) else {
             return false;
         };
@@ -114,10 +140,14 @@ impl<R: Register> Draft<R> {
         is_beginning(outcomes.as_slice(), list.as_slice())
     }
 
-    /// Whether this draft, in which process `p` makes the last step, may become one that is easier
-    /// than `given`, has the same answers, and as many steps of each process.
-    pub(crate) fn may_become_easier(&self, given: &Draft<R>, p: u32) -> bool {
-        self.is_easier(given) && self.own <= count_of(&given.steps, p) && self.agrees(given, p)
+    /// Whether this draft with one more step may become one that is easier than `given`, and has as
+    /// many steps of each process. Of two choices that have no effect, 0 is taken.
+    pub(crate) fn may_take(&self, given: &Draft<R>, step: Step) -> bool {
+        let p = step.process();
+        let has_effect = is_hit(&self.state.config, step) || !is_choice_1(step);
+        has_effect
+            && self.effort_with(step).is_less(given.effort)
+            && count_of(&self.steps, p) < count_of(&given.steps, p)
     }
 }
 
@@ -137,8 +167,10 @@ pub(crate) fn first_draft<'q, R: Register>(
     Ok(Draft {
         steps,
         state,
-        hits: 0,
-        switches: 0,
+        effort: Effort {
+            hits: 0,
+            switches: 0,
+        },
         own: 0,
     })
 }

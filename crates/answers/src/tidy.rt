@@ -23,7 +23,11 @@ use frames::types::Step;
 use std::alloc::{AllocError, Global};
 
 /// The most drafts of one length that are kept.
-const MOST_DRAFTS: usize = 100;
+const MOST_DRAFTS: usize = 32;
+
+/// The most lists whose schedules are made easier to read: with more, it would take longer than the
+/// search.
+const MOST_LISTS: usize = 16;
 
 /// The place of a draft that this one may replace: of the one that is like it, or, if many are kept,
 /// of the one that costs most. `None` if there is no such draft.
@@ -72,10 +76,13 @@ fn keep_longer<'q, R: Register>(
             let Some(step) = step_after(moves, draft, p, kind) else {
                 continue;
             };
+            if !draft.may_take(given, step) {
+                continue;
+            }
             let Ok(longer) = draft.with_step(alloc, step) else {
                 return Err(AllocError);
             };
-            if !longer.may_become_easier(given, p) {
+            if !longer.agrees(given, p) {
                 continue;
             }
             let Ok(()) = keep(kept, longer) else {
@@ -238,6 +245,9 @@ pub(crate) fn tidy<'q, R: Register>(
     ensures { OnOk result (AllAnswered (R.behaviour moves.now.register) moves.now.question.now
         found.new.items) }
 {
+    if found.len() > MOST_LISTS {
+        return Ok(());
+    }
     for index in 0..found.len() {
         if index >= found.len() {
             break;
