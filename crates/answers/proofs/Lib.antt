@@ -3,8 +3,10 @@ pub mod Allowed
 pub mod Schedules
 pub mod DoneStates
 pub mod Gathering
+pub mod Goals
+pub mod Listed
 pub mod Building
-pub mod Searching
 pub mod Ranked
 pub mod Tidying
+pub mod Written
 mod Examples

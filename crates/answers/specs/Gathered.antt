@@ -1,13 +1,17 @@
 -- What a search keeps while it lists the answers of the states that it found, one after another.
 use Rattle.std.specs.Prelude.{◌≡◌, ℕ, ◌*◌, ◌<◌, ◌≤◌, Bool, Some, List, length, slice_get}
+use Rattle.safe_bit.specs.Memory.{Memory}
+use Rattle.frames.specs.declared.types.Op.{Op}
 use Rattle.frames.specs.declared.types.Step.{Step}
 use Rattle.frames.specs.Behaviour.{Behaviour}
 use Rattle.breadth_first.specs.declared.mark.Mark.{Mark}
-use Rattle.breadth_first.specs.Paths.{depth_at, AreTooMany, IsAllReached, LeadsBy}
+use Rattle.breadth_first.specs.Paths.{depth_at, AreTooMany, LeadsBy}
+use Rattle.breadth_first.specs.Searches.{IsReached}
 use Rattle.answers.specs.declared.found.Possible.{Possible}
 use Rattle.answers.specs.declared.question.Question.{Question}
 use Rattle.answers.specs.Answers.{HasItsSchedule}
 use Rattle.answers.specs.States.{StateOf, AreAllOver, IsStateOfRun, first_state, moved}
+use Rattle.answers.specs.Graphs.{IsStateOf, moves_of}
 use Rattle.answers.specs.laws.StateLaws.{state_eq}
 
 -- the answers of state k are listed, with at most d steps
@@ -25,18 +29,17 @@ pub record IsGathered {R P : Type 0} (b : Behaviour P) (q : Question) (keys : Li
   pub covers : (j : ℕ) (k : StateOf R P) → j < at → slice_get keys j ≡ Some k → AreAllOver b q k → IsCovered found k (depth_at marks j)
   pub once : (i j : ℕ) (a c : Possible) → slice_get found i ≡ Some a → slice_get found j ≡ Some c → a.answers.items ≡ c.answers.items → i ≡ j
 
--- these steps lead to a state from which the marks that are left lead to the node at `index`
-pub record IsBuilding {R P : Type 0} (is : R → Behaviour P) (b : Behaviour P) (q : Question) (keys : List (StateOf R P)) (index : ℕ) (steps : List Step) (left : List Mark) : Type 0 where
-  pub state : StateOf R P
-  pub key : StateOf R P
-  pub stored : slice_get keys index ≡ Some key
+-- these steps lead to `state`, from which the marks that are left lead to `key`
+pub record IsBuilding {R P : Type 0} (is : R → Behaviour P) (b : Behaviour P) (q : Question) (key state : StateOf R P) (steps : List Step) (left : List Mark) : Type 0 where
+  pub nodes : List (StateOf R P)
   pub run : IsStateOfRun is b q.value q steps state
-  pub leads : LeadsBy (b.processes * 4) (λ x l. moved (is x.configuration.register) q x l) keys state left key
+  pub leads : LeadsBy (b.processes * 4) (λ x l. moved (is x.configuration.register) q x l) nodes state left key
 
 module _ {R P : Type 0} (is : R → Behaviour P) (E : R → R → Bool) (F : P → P → Bool) (q : Question) (r : R) where
-  -- the states that the question's moves reach from the initial state of register r, and their marks
-  pub record IsSearched (keys : List (StateOf R P)) (marks : List Mark) : Type 0 where
-    pub all : IsAllReached ((is r).processes * 4) (λ x l. moved (is x.configuration.register) q x l) (state_eq E F) (first_state (is r) q.value r) keys marks
+  -- the states that the question's moves reach from the initial state of register r: their keys,
+  -- which of them are done, and their marks
+  abbrev pub IsSearched : (Memory → Type 0) → (ℕ → Op → P → Type 0) → List (List ℕ) → List Bool → List Mark → Type 0
+  IsSearched Holds Reaches keys goals marks = IsReached (moves_of is q r) (state_eq E F) (IsStateOf (is r) Holds Reaches r) keys goals marks
 
   -- the question's moves reach more than `most` states from there, none equal to another
   pub record AreTooManyStates (most : ℕ) : Type 0 where

@@ -2,5 +2,6 @@ pub mod Questions
 pub mod States
 pub mod Answers
 pub mod Gathered
-pub mod Digests
+pub mod Packing
+pub mod Graphs
 pub mod laws

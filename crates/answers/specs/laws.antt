@@ -1,1 +1,3 @@
 pub mod StateLaws
+pub mod Packed
+pub mod KeyLaws

@@ -9,13 +9,13 @@ ghost use Rattle.answers.specs.declared.found.Unfound.TheVariants.{TooMany, Unfi
 ghost use Rattle.answers.specs.laws.StateLaws.{answers_eq};
 ghost use Rattle.answers.specs.Questions.{FitsQuestion};
 ghost use Rattle.answers.specs.States as spec;
-ghost use Rattle.answers.specs.States.{StateOf, IsStateOfRun, first_state};
+ghost use Rattle.answers.specs.States.{StateOf, first_state};
 ghost use Rattle.answers.specs.Answers.{AllAnswered};
 ghost use Rattle.answers.specs.Gathered.{AreTooManyStates, IsBuilding, IsGathered, IsSearched};
 
-use crate::done::is_done;
 use crate::fits::fits;
 use crate::found::{Found, Possible, Unfound};
+use crate::key::Key;
 use crate::moves::{Moves, copies, step_by};
 use crate::outcomes::{Outcomes, no_answers};
 use crate::question::Question;
@@ -41,18 +41,20 @@ impl<R: Register> State<R> {
     }
 }
 
-/// The step of the move that a mark notes.
-fn step_at<'q, R: Register>(
-    moves: &Moves<'q, R>,
-    reached: &Reached<State<R>>,
-    mark: Mark,
-) -> Option<Step>
+/// A state, and the steps of a schedule that leads to it.
+#[derive(Drop)]
+struct Walk<R: Register> {
+    state: State<R>,
+    steps: Vec<Step>,
+}
+
+/// The step of the move that a mark notes, from the state that the move leads from.
+fn step_at<'q, R: Register>(moves: &Moves<'q, R>, state: &State<R>, mark: Mark) -> Option<Step>
     requires labelled { mark.label < (R.behaviour moves.now.register).processes * 4 }
-    ensures { (x : StateOf R R.Pending) → slice_get reached.now.nodes.keys mark.parent ≡ Some x
-        → result ≡ spec.step_by moves.now.question.now x.answers (mark.label / 4) (mark.label % 4) }
+    ensures { result ≡ spec.step_by moves.now.question.now state.now.answers (mark.label / 4)
+        (mark.label % 4) }
 {
     let _processes = moves.register.processes();
-    let state = reached.nodes.get_index(mark.parent as usize)?;
     step_by(
         moves.question,
         &state.answers,
@@ -61,57 +63,72 @@ fn step_at<'q, R: Register>(
     )
 }
 
-/// The steps along a path from the initial state to the one at `index`.
-fn steps_along<'q, R: Register>(
+/// The state to which a path leads from `start`, and the steps along the path.
+fn walk_along<'q, R: Register>(
     alloc: Global,
     moves: &Moves<'q, R>,
-    reached: &Reached<State<R>>,
+    start: State<R>,
     path: &[Mark],
-    index: u32,
-) -> Result<Vec<Step>, AllocError>
-    requires { IsBuilding R.behaviour (R.behaviour moves.now.register) moves.now.question.now
-        reached.now.nodes.keys index [] path.now }
-    ensures built { IfOk result (λ steps. IsBuilding R.behaviour (R.behaviour moves.now.register)
-        moves.now.question.now reached.now.nodes.keys index steps.items []) }
-    ensures long { IfOk result (λ steps. length steps.items ≡ length path.now) }
+) -> Result<Walk<R>, AllocError>
+    requires { (key : StateOf R R.Pending) × IsBuilding R.behaviour
+        (R.behaviour moves.now.register) moves.now.question.now key start [] path.now }
+    ensures led { IfOk result (λ w. (key : StateOf R R.Pending)
+        → IsBuilding R.behaviour (R.behaviour moves.now.register) moves.now.question.now key
+        start [] path.now
+        → IsBuilding R.behaviour (R.behaviour moves.now.register) moves.now.question.now key
+        w.state w.steps.items []) }
+    ensures long { IfOk result (λ w. length w.steps.items ≡ length path.now) }
 {
+    let mut state = start;
     let mut steps = Vec::new(alloc);
     for mark in path {
-        let Some(step) = step_at(moves, reached, *mark) else {
+        let Some(step) = step_at(moves, &state, *mark) else {
             unreachable!();
+        };
+        let Ok(next) = state.advanced(alloc, step) else {
+            return Err(AllocError);
         };
         let Ok(()) = steps.push(step) else {
             return Err(AllocError);
         };
+        state = next;
     }
-    Ok(steps)
+    Ok(Walk { state, steps })
 }
 
-/// The steps of a shortest schedule that leads to the state at `index`.
-fn steps_to<'q, R: Register>(
+/// The state at `index`, and the steps of a shortest schedule that leads to it.
+fn walk_to<'q, R: Register>(
     alloc: Global,
     moves: &Moves<'q, R>,
-    reached: &Reached<State<R>>,
+    reached: &Reached<Key>,
     index: u32,
-) -> Result<Vec<Step>, AllocError>
+) -> Result<Walk<R>, AllocError>
+    requires value { moves.now.question.now.value < (R.behaviour moves.now.register).values }
     requires searched { IsSearched R.behaviour R.PartialEq.eq R.Pending.PartialEq.eq
-        moves.now.question.now moves.now.register
-        reached.now.nodes.keys reached.now.marks.items }
-    requires there { index < length reached.now.nodes.keys }
-    ensures run { IfOk result (λ steps. (k : StateOf R R.Pending)
-        → slice_get reached.now.nodes.keys index ≡ Some k
-        → IsStateOfRun R.behaviour (R.behaviour moves.now.register) moves.now.question.now.value
-        moves.now.question.now steps.items k) }
-    ensures long { IfOk result (λ steps. length steps.items
+        moves.now.question.now moves.now.register (R.Holds moves.now.register)
+        (R.Reaches moves.now.register) reached.now.keys.keys reached.now.goals.items
+        reached.now.marks.items }
+    requires there { index < length reached.now.marks.items }
+    ensures led { IfOk result (λ w. (s : IsSearched R.behaviour R.PartialEq.eq
+        R.Pending.PartialEq.eq moves.now.question.now moves.now.register
+        (R.Holds moves.now.register) (R.Reaches moves.now.register) reached.now.keys.keys
+        reached.now.goals.items reached.now.marks.items)
+        (k : StateOf R R.Pending) → slice_get s.nodes index ≡ Some k
+        → IsBuilding R.behaviour (R.behaviour moves.now.register) moves.now.question.now k
+        w.state w.steps.items []) }
+    ensures long { IfOk result (λ w. length w.steps.items
         ≡ depth_at reached.now.marks.items index) }
 {
-    let Ok(path) = path_to(alloc, moves, reached, index) else {
+    let Ok(path) = path_to(alloc, moves, &reached.marks, index) else {
         return Err(AllocError);
     };
-    let Ok(steps) = steps_along(alloc, moves, reached, &path, index) else {
+    let Ok(start) = State::initial(alloc, moves.register, moves.question.value) else {
         return Err(AllocError);
     };
-    Ok(steps)
+    let Ok(walk) = walk_along(alloc, moves, start, &path) else {
+        return Err(AllocError);
+    };
+    Ok(walk)
 }
 
 /// Whether these answers are those of `possible`.
@@ -132,31 +149,35 @@ fn is_listed(found: &[Possible], answers: &[Outcomes]) -> bool
 fn gather_one<'q, R: Register>(
     alloc: Global,
     moves: &Moves<'q, R>,
-    reached: &Reached<State<R>>,
+    reached: &Reached<Key>,
     index: u32,
     found: &mut Vec<Possible>,
 ) -> Result<(), AllocError>
+    requires value { moves.now.question.now.value < (R.behaviour moves.now.register).values }
     requires searched { IsSearched R.behaviour R.PartialEq.eq R.Pending.PartialEq.eq
-        moves.now.question.now moves.now.register
-        reached.now.nodes.keys reached.now.marks.items }
-    requires there { index < length reached.now.nodes.keys }
-    requires gathered { IsGathered (R.behaviour moves.now.register) moves.now.question.now
-        reached.now.nodes.keys reached.now.marks.items index found.old.items }
-    ensures { OnOk result (IsGathered (R.behaviour moves.now.register) moves.now.question.now
-        reached.now.nodes.keys reached.now.marks.items (index + 1) found.new.items) }
+        moves.now.question.now moves.now.register (R.Holds moves.now.register)
+        (R.Reaches moves.now.register) reached.now.keys.keys reached.now.goals.items
+        reached.now.marks.items }
+    requires there { index < length reached.now.marks.items }
+    ensures { OnOk result ((s : IsSearched R.behaviour R.PartialEq.eq R.Pending.PartialEq.eq
+        moves.now.question.now moves.now.register (R.Holds moves.now.register)
+        (R.Reaches moves.now.register) reached.now.keys.keys reached.now.goals.items
+        reached.now.marks.items)
+        → IsGathered (R.behaviour moves.now.register) moves.now.question.now s.nodes
+        reached.now.marks.items index found.old.items
+        → IsGathered (R.behaviour moves.now.register) moves.now.question.now s.nodes
+        reached.now.marks.items (index + 1) found.new.items) }
 {
-    let Some(state) = reached.nodes.get_index(index as usize) else {
-        unreachable!();
-    };
-    if !is_done(moves, state) {
+    if !reached.goals[index as usize] {
         return Ok(());
     }
+    let Ok(walk) = walk_to(alloc, moves, reached, index) else {
+        return Err(AllocError);
+    };
+    let Walk { state, steps } = walk;
     if is_listed(found, &state.answers) {
         return Ok(());
     }
-    let Ok(steps) = steps_to(alloc, moves, reached, index) else {
-        return Err(AllocError);
-    };
     let Ok(answers) = copies(alloc, &state.answers) else {
         return Err(AllocError);
     };
@@ -170,19 +191,21 @@ fn gather_one<'q, R: Register>(
 fn gather<'q, R: Register>(
     alloc: Global,
     moves: &Moves<'q, R>,
-    reached: &Reached<State<R>>,
+    reached: &Reached<Key>,
     most: u32,
 ) -> Result<Vec<Possible>, AllocError>
+    requires value { moves.now.question.now.value < (R.behaviour moves.now.register).values }
     requires searched { IsSearched R.behaviour R.PartialEq.eq R.Pending.PartialEq.eq
-        moves.now.question.now moves.now.register
-        reached.now.nodes.keys reached.now.marks.items }
-    requires few { length reached.now.nodes.keys ≤ most }
+        moves.now.question.now moves.now.register (R.Holds moves.now.register)
+        (R.Reaches moves.now.register) reached.now.keys.keys reached.now.goals.items
+        reached.now.marks.items }
+    requires few { length reached.now.keys.keys ≤ most }
     ensures { IfOk result (λ found. AllAnswered (R.behaviour moves.now.register)
         moves.now.question.now found.items) }
 {
     let mut found = Vec::new(alloc);
     for index in 0..most {
-        if index as usize >= reached.nodes.len() {
+        if index as usize >= reached.marks.len() {
             break;
         }
         let Ok(()) = gather_one(alloc, moves, reached, index, &mut found) else {
@@ -197,12 +220,13 @@ fn explore<'q, R: Register>(
     alloc: Global,
     moves: &Moves<'q, R>,
     most: u32,
-) -> Result<Reached<State<R>>, Unfound>
+) -> Result<Reached<Key>, Unfound>
     requires { moves.now.question.now.value < (R.behaviour moves.now.register).values }
     ensures searched { IfOk result (λ r. IsSearched R.behaviour R.PartialEq.eq
-        R.Pending.PartialEq.eq moves.now.question.now moves.now.register r.nodes.keys
+        R.Pending.PartialEq.eq moves.now.question.now moves.now.register
+        (R.Holds moves.now.register) (R.Reaches moves.now.register) r.keys.keys r.goals.items
         r.marks.items) }
-    ensures few { IfOk result (λ r. length r.nodes.keys ≤ most) }
+    ensures few { IfOk result (λ r. length r.keys.keys ≤ most) }
     ensures fit { result ≡ Err Unfit → ⊥ }
     ensures too_many { result ≡ Err TooMany → AreTooManyStates R.behaviour R.PartialEq.eq
         R.Pending.PartialEq.eq moves.now.question.now moves.now.register most }
@@ -237,7 +261,7 @@ fn answer<'q, R: Register>(alloc: Global, moves: &Moves<'q, R>, most: u32) -> Re
     let Ok(()) = tidy(alloc, moves, &mut possible) else {
         return Err(Unfound::Memory);
     };
-    let states = reached.nodes.len();
+    let states = reached.keys.len();
     Ok(Found { possible, states })
 }
 

@@ -2,14 +2,15 @@
 #![tactic(auto)]
 
 mod cycles;
-mod digest;
 mod done;
 mod draft;
 pub mod find;
 pub mod fits;
 pub mod found;
+pub mod key;
 pub mod moves;
 pub mod outcomes;
+mod packing;
 pub mod question;
 pub mod state;
 mod tidy;

@@ -6,6 +6,8 @@ ghost use Rattle.frames.specs.Configuration.{is_enabled, fits_step};
 ghost use Rattle.answers.specs.Questions.{allows, next_of, operations_of, stops_in, outcomes_by, event_in, events_in};
 ghost use Rattle.answers.specs.States.{advanced, ended_counts, invoking_step, option_list, step_by};
 
+use crate::done::is_done;
+use crate::key::Key;
 use crate::outcomes::Outcomes;
 use crate::question::{After, Question};
 use crate::state::State;
@@ -26,13 +28,15 @@ pub struct Moves<'q, R: Register> {
 impl<'q, R: Register> Graph for Moves<'q, R> {
     type Node = State<R>;
 
-    ghost use Rattle.std.specs.Prelude.{◌*◌};
-    ghost use Rattle.answers.specs.States.{moved};
+    type Key = Key;
+
+    ghost use Rattle.answers.specs.Graphs.{IsStateOf, moves_of};
+    ghost use Rattle.answers.specs.laws.KeyLaws.{same_keys, state_after};
     ghost use Rattle.answers.specs.laws.StateLaws.{moved_alike};
 
-    ghost labels = { λ g. (R.behaviour g.register).processes * 4 };
+    ghost shape = { λ g. moves_of R.behaviour g.question.now g.register };
 
-    ghost move_by = { λ g x l. moved (R.behaviour x.configuration.register) g.question.now x l };
+    ghost Holds = { λ g. IsStateOf (R.behaviour g.register) (R.Holds g.register) (R.Reaches g.register) g.register };
 
     fn count(&self) -> usize {
         self.register.processes() as usize * 4
@@ -56,7 +60,19 @@ impl<'q, R: Register> Graph for Moves<'q, R> {
         Ok(Some(next))
     }
 
+    fn key(&self, alloc: Global, node: &State<R>) -> Result<Key, AllocError> {
+        Key::of(alloc, node)
+    }
+
+    fn is_goal(&self, node: &State<R>) -> bool {
+        is_done(self, node)
+    }
+
     ghost alike = { λ g. moved_alike R.PartialEq.eq R.Pending.PartialEq.eq R.same_pending R.behaviour R.alike g.question.now };
+
+    ghost holds_after = { λ g. state_after R.behaviour g.register (R.Holds g.register) (R.Reaches g.register) (R.lawful g.register) g.question.now };
+
+    ghost same_key = { λ g. same_keys R.behaviour g.register (R.Holds g.register) (R.Reaches g.register) (R.lawful g.register) (R.point g.register) (R.reports g.register) R.PartialEq.eq R.Eq.laws R.Pending.PartialEq.eq R.same_pending };
 }
 
 /// The number of operations that process `p` has ended.

@@ -1,14 +1,10 @@
 //! The states of a search for answers, as nodes of a graph.
 
 ghost use Rattle.std.specs.Prelude.{◌≡◌};
-ghost use Rattle.std.specs.Hash as fed;
-ghost use Rattle.answers.specs.Digests as spec;
 
-use crate::digest;
 use crate::outcomes::Outcomes;
 use frames::config::Config;
 use frames::register::Register;
-use std::hash::{Hash, Hasher};
 use std::marker::Model;
 
 /// A configuration, and for each process the outcomes of the operations that it has ended.
@@ -42,17 +38,4 @@ impl<R: Register> Eq for State<R> {
     ghost use Rattle.answers.specs.laws.StateLaws.{state_equivalence};
 
     ghost laws = { state_equivalence R.PartialEq.eq R.Pending.PartialEq.eq R.same_pending R.Eq.laws };
-}
-
-impl<R: Register> Hash for State<R> {
-    ghost use Rattle.answers.specs.laws.StateLaws.{states_hash_alike};
-
-    ghost hash_input = { λ s. fed.u64 (spec.state_code (R.behaviour s.configuration.register)
-        s.configuration.memory s.configuration.running s.configuration.stopped s.answers) };
-
-    ghost respects_eq = { states_hash_alike R.PartialEq.eq R.Pending.PartialEq.eq R.same_pending R.behaviour R.alike };
-
-    fn hash<H: Hasher>(&self, state: &mut H) {
-        state.write_u64(digest::of_state(&self.config, &self.answers));
-    }
 }

@@ -234,7 +234,7 @@ module _ {N : Type 0} (labels : ℕ) (move : N → ℕ → Option N) where
 
     -- a node is noted, or an equal one was there
     module _ (keys : List N) (marks : List Mark) (at l d : ℕ) (x y : N) (s : IsServing labels move eq keys marks at) where
-      followed_there : slice_get keys at ≡ Some x → move x l ≡ Some y → list_any (eq y) keys ≡ true
+      pub followed_there : slice_get keys at ≡ Some x → move x l ≡ Some y → list_any (eq y) keys ≡ true
           → IsFollowed labels move eq keys marks keys marks at l
       followed_there here moves there = record {
         serving = s;
@@ -251,7 +251,7 @@ module _ {N : Type 0} (labels : ℕ) (move : N → ℕ → Option N) where
               let k : w ≡ y = same_Some w y (sym mv ∙ (ap (λ n. move n l) e ∙ moves)) in
               subst (λ n. IsFound labels move eq keys marks n (depth_at marks at + 1)) (sym k) f
 
-      followed_new : slice_get keys at ≡ Some x → l < labels → move x l ≡ Some y → d ≡ depth_at marks at + 1 → list_any (eq y) keys ≡ false
+      pub followed_new : slice_get keys at ≡ Some x → l < labels → move x l ≡ Some y → d ≡ depth_at marks at + 1 → list_any (eq y) keys ≡ false
           → IsFollowed labels move eq keys marks (keys ++ y ∷ []) (marks ++ (record { parent = at; label = l; depth = d }) ∷ []) at l
       followed_new here lab moves deep new =
           let m : Mark = record { parent = at; label = l; depth = d } in
@@ -270,14 +270,3 @@ module _ {N : Type 0} (labels : ℕ) (move : N → ℕ → Option N) where
               let e : z ≡ x = same_Some z x (sym h ∙ here) in
               let k : w ≡ y = same_Some w y (sym mv ∙ (ap (λ n. move n l) e ∙ moves)) in
               record { index = f.index; key = f.key; stored = f.stored; same = subst (λ n. eq n f.key ≡ true) (sym k) f.same; within = omega (arith, f.within, deep) }
-
-      pub followed_noted : (new_keys : List N) (new_marks : List Mark) (most : ℕ) → slice_get keys at ≡ Some x → l < labels → move x l ≡ Some y → d ≡ depth_at marks at + 1
-          → ((list_any (eq y) keys ≡ true) × ((new_keys ≡ keys) × (new_marks ≡ marks)))
-          ⊎ ((list_any (eq y) keys ≡ false) × ((new_keys ≡ keys ++ y ∷ []) × ((new_marks ≡ marks ++ (record { parent = at; label = l; depth = d }) ∷ []) × (length keys < most))))
-          → IsFollowed labels move eq keys marks new_keys new_marks at l
-      followed_noted ks ms most here lab moves deep (inl a) =
-          subst (λ (k : List N). IsFollowed labels move eq keys marks k ms at l) (sym a.1.0)
-          (subst (λ (m : List Mark). IsFollowed labels move eq keys marks keys m at l) (sym a.1.1) (followed_there here moves a.0))
-      followed_noted ks ms most here lab moves deep (inr a) =
-          subst (λ (k : List N). IsFollowed labels move eq keys marks k ms at l) (sym a.1.0)
-          (subst (λ (m : List Mark). IsFollowed labels move eq keys marks (keys ++ y ∷ []) m at l) (sym a.1.1.0) (followed_new here lab moves deep a.0))

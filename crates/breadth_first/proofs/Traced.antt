@@ -2,7 +2,7 @@
 use Rattle.std.proofs.Common.{◌≡◌, ℕ, zero, suc, ◌+◌, ◌<◌, ◌≤◌, inl, inr, List, [], ◌∷◌, ◌++◌, Option, Some, length, slice_get, refl, sym, ap, subst, ◌∙◌, arith}
 use Rattle.std.specs.Prelude.{reverse}
 use Rattle.std.proofs.lemmas.Option.{same_Some, slice_get_cases}
-use Rattle.std.proofs.lemmas.List.{reverse-append, length-reverse, length_push}
+use Rattle.std.proofs.lemmas.List.{reverse-append, length_push}
 use Rattle.breadth_first.specs.declared.mark.Mark.{Mark}
 use Rattle.breadth_first.specs.Paths.{noted_mark, depth_at, IsTrail, LeadsBy}
 
@@ -68,6 +68,3 @@ module _ {N : Type 0} (labels : ℕ) (move : N → ℕ → Option N) (keys : Lis
     traced_all index at made path d all start key s k =
         let first : at ≡ 0 = at_first at d.there (omega (arith, d.depth, all)) in
         d.leads start key (ap (slice_get keys) first ∙ s) k
-
-    pub traced_length : (index at made : ℕ) (path : List Mark) → IsTraced index at made path → depth_at marks index ≤ made → length (reverse path) ≡ depth_at marks index
-    traced_length index at made path d all = length-reverse path ∙ (d.long ∙ omega (arith, d.depth, all))

@@ -1,6 +1,7 @@
 //! Graphs whose moves have labels.
 
-ghost use Rattle.std.specs.Prelude.{◌≡◌, ℕ, ◌<◌, Option, Some, true, IfOk};
+ghost use Rattle.std.specs.Prelude.{◌≡◌, ℕ, ◌<◌, Some, true, IfOk};
+ghost use Rattle.breadth_first.specs.Shape.{Shape};
 
 use std::alloc::{AllocError, Global};
 use std::hash::Hash;
@@ -8,17 +9,20 @@ use std::hash::Hash;
 /// A graph. From a node, each label leads to at most one node.
 pub trait Graph {
     /// A node; equal nodes are searched once.
-    type Node: Eq + Hash + Drop;
+    type Node: Eq + Drop;
 
-    // The number of labels.
-    ghost labels: { Self → ℕ };
+    /// What a search keeps of each node. Nodes are equal exactly if their keys are.
+    type Key: Eq + Hash + Drop;
 
-    // The node to which a label leads, if any.
-    ghost move_by: { Self → Self.Node → ℕ → Option Self.Node };
+    // The labels, the moves, the node that a search begins at, the nodes' keys, and the goals.
+    ghost shape: { Self → Shape Self.Node Self.Key };
+
+    // What holds of each node that a search meets.
+    ghost Holds: { Self → Self.Node → Type 0 };
 
     /// The number of labels. The labels are 0 to one less than this number.
     fn count(&self) -> usize
-        ensures { result ≡ labels self.now };
+        ensures { result ≡ (shape self.now).labels };
 
     /// The node to which the label leads from this node, if any. `AllocError` if memory runs out.
     fn next(
@@ -27,11 +31,27 @@ pub trait Graph {
         node: &Self::Node,
         label: usize,
     ) -> Result<Option<Self::Node>, AllocError>
-        requires { label < labels self.now }
-        ensures { IfOk result (λ r. r ≡ move_by self.now node.now label) };
+        requires { label < (shape self.now).labels }
+        ensures { IfOk result (λ r. r ≡ (shape self.now).move node.now label) };
+
+    /// The node's key. `AllocError` if memory runs out.
+    fn key(&self, alloc: Global, node: &Self::Node) -> Result<Self::Key, AllocError>
+        ensures { IfOk result (λ k. k ≡ (shape self.now).key node.now) };
+
+    /// Whether the node is a goal.
+    fn is_goal(&self, node: &Self::Node) -> bool
+        ensures { result ≡ (shape self.now).is_goal node.now };
 
     // From equal nodes each label leads to equal nodes.
     ghost alike: { (g : Self) (x y : Self.Node) → Self.Node.eq x y ≡ true → (l : ℕ) (z : Self.Node)
-        → move_by g x l ≡ Some z
-        → (w : Self.Node) × ((move_by g y l ≡ Some w) × (Self.Node.eq z w ≡ true)) };
+        → (shape g).move x l ≡ Some z
+        → (w : Self.Node) × (((shape g).move y l ≡ Some w) × (Self.Node.eq z w ≡ true)) };
+
+    // `Holds` is kept by each move.
+    ghost holds_after: { (g : Self) (x y : Self.Node) (l : ℕ) → Holds g x
+        → (shape g).move x l ≡ Some y → Holds g y };
+
+    // Keys are equal exactly if their nodes are.
+    ghost same_key: { (g : Self) (x y : Self.Node) → Holds g x → Holds g y
+        → Self.Key.eq ((shape g).key x) ((shape g).key y) ≡ Self.Node.eq x y };
 }

@@ -1,11 +1,10 @@
 //! Paths to the nodes that a search has found.
 
-ghost use Rattle.std.specs.Prelude.{◌≡◌, ◌<◌, Some, IfOk, length, slice_get};
+ghost use Rattle.std.specs.Prelude.{◌≡◌, ◌<◌, List, Some, IfOk, length, slice_get};
 ghost use Rattle.breadth_first.specs.Paths.{IsTrail, LeadsBy, depth_at};
 
 use crate::graph::Graph;
 use crate::mark::Mark;
-use crate::reach::Reached;
 use std::alloc::{AllocError, Global};
 
 /// The path by which the node at this index was found: a mark for each of its moves, from the start
@@ -14,24 +13,25 @@ use std::alloc::{AllocError, Global};
 pub fn path_to<G: Graph>(
     alloc: Global,
     graph: &G,
-    reached: &Reached<G::Node>,
+    marks: &[Mark],
     index: u32,
 ) -> Result<Vec<Mark>, AllocError>
-    requires trail { IsTrail (G.labels graph.now) (G.move_by graph.now) reached.now.nodes.keys
-        reached.now.marks.items }
-    requires there { index < length reached.now.nodes.keys }
-    ensures leads { IfOk result (λ path. (start key : G.Node)
-        → slice_get reached.now.nodes.keys 0 ≡ Some start
-        → slice_get reached.now.nodes.keys index ≡ Some key
-        → LeadsBy (G.labels graph.now) (G.move_by graph.now) reached.now.nodes.keys
+    requires trail { (nodes : List G.Node) × IsTrail (G.shape graph.now).labels
+        (G.shape graph.now).move nodes marks.now }
+    requires there { index < length marks.now }
+    ensures leads { IfOk result (λ path. (nodes : List G.Node)
+        → IsTrail (G.shape graph.now).labels (G.shape graph.now).move nodes marks.now
+        → (start key : G.Node)
+        → slice_get nodes 0 ≡ Some start
+        → slice_get nodes index ≡ Some key
+        → LeadsBy (G.shape graph.now).labels (G.shape graph.now).move nodes
         start path.items key) }
-    ensures long { IfOk result (λ path. length path.items
-        ≡ depth_at reached.now.marks.items index) }
+    ensures long { IfOk result (λ path. length path.items ≡ depth_at marks.now index) }
 {
     let mut path = Vec::new(alloc);
     let mut at = index;
-    for _ in 0..reached.marks[index as usize].depth {
-        let mark = reached.marks[at as usize];
+    for _ in 0..marks[index as usize].depth {
+        let mark = marks[at as usize];
         let Ok(()) = path.push(mark) else {
             return Err(AllocError);
         };

@@ -1,22 +1,33 @@
 //! The search.
 
-ghost use Rattle.std.specs.Prelude.{◌≡◌, ℕ, ◌+◌, ◌<◌, ◌≤◌, ◌++◌, [], ◌∷◌, true, false, ◌⊎◌, Some, Err, length, slice_get, OnOk, IfOk};
+ghost use Rattle.std.specs.Prelude.{◌≡◌, ℕ, ◌+◌, ◌<◌, ◌≤◌, false, ◌⊎◌, Some, Err, List, [], ◌∷◌, ◌++◌, length, slice_get, OnOk, IfOk};
 ghost use Rattle.std.specs.List.{list_any};
-ghost use Rattle.breadth_first.specs.Paths.{IsServing, IsFollowed, IsAllReached, AreTooMany};
+ghost use Rattle.breadth_first.specs.Paths.{AreTooMany};
+ghost use Rattle.breadth_first.specs.Searches.{IsThere, IsAdded, IsSearching, IsSearch, IsSearchAt, IsStepped, IsReached};
 ghost use Rattle.breadth_first.specs.declared.mark.Unreached.TheVariants.{TooMany};
 
 use crate::graph::Graph;
 use crate::mark::{Mark, Unreached};
 use indexmap::IndexSet;
 use std::alloc::Global;
+use std::collections::VecDeque;
 use std::hash::Hash;
 
-/// The nodes that are reached, none equal to another, in the order in which they were met, and for
-/// each a mark, which says how it was met. Of two nodes the later one is no nearer to the start.
+/// The nodes that are reached, in the order in which they were met: for each its key, whether it is
+/// a goal, and a mark, which says how it was met. Of two nodes the later one is no nearer to the
+/// start.
 #[derive(Drop)]
-pub struct Reached<N: Eq + Hash + Drop> {
-    pub nodes: IndexSet<N>,
+pub struct Reached<K: Eq + Hash + Drop> {
+    pub keys: IndexSet<K>,
+    pub goals: Vec<bool>,
     pub marks: Vec<Mark>,
+}
+
+/// A search in progress. The queue has the nodes that are met but not served.
+#[derive(Drop)]
+struct Search<N: Drop, K: Eq + Hash + Drop> {
+    reached: Reached<K>,
+    queue: VecDeque<N>,
 }
 
 /// All nodes that are reachable from the start, each by a shortest path, if they are at most `most`.
@@ -26,136 +37,209 @@ pub fn reach<G: Graph>(
     graph: &G,
     start: G::Node,
     most: u32,
-) -> Result<Reached<G::Node>, Unreached>
-    ensures all { IfOk result (λ r. IsAllReached (G.labels graph.now) (G.move_by graph.now)
-        G.Node.eq start r.nodes.keys r.marks.items) }
-    ensures fits { IfOk result (λ r. length r.nodes.keys ≤ most) }
-    ensures few { IfOk result (λ _. AreTooMany (G.labels graph.now) (G.move_by graph.now)
-        G.Node.eq start most → ⊥) }
-    ensures too_many { result ≡ Err TooMany
-        → AreTooMany (G.labels graph.now) (G.move_by graph.now) G.Node.eq start most }
+) -> Result<Reached<G::Key>, Unreached>
+    requires starts { start ≡ (G.shape graph.now).origin }
+    requires holds { G.Holds graph.now start }
+    ensures all { IfOk result (λ r. IsReached (G.shape graph.now) G.Node.eq (G.Holds graph.now)
+        r.keys.keys r.goals.items r.marks.items) }
+    ensures fits { IfOk result (λ r. length r.keys.keys ≤ most) }
+    ensures few { IfOk result (λ _. AreTooMany (G.shape graph.now).labels
+        (G.shape graph.now).move G.Node.eq (G.shape graph.now).origin most → ⊥) }
+    ensures too_many { result ≡ Err TooMany → AreTooMany (G.shape graph.now).labels
+        (G.shape graph.now).move G.Node.eq (G.shape graph.now).origin most }
 {
-    let nodes = IndexSet::new(alloc);
-    let marks = Vec::new(alloc);
-    let mut reached = Reached { nodes, marks };
+    let mut search = begin::<G>(alloc);
     let origin = Mark {
         parent: 0,
         label: 0,
         depth: 0,
     };
-    if let Err(why) = reached.note(start, origin, most) {
+    if let Err(why) = meet(alloc, graph, &mut search, start, origin, most) {
         return Err(why);
     }
+    if let Err(why) = serve_all(alloc, graph, &mut search, most) {
+        return Err(why);
+    }
+    Ok(search.reached)
+}
+
+/// Serves the nodes in the queue, and those that this adds to it.
+fn serve_all<G: Graph>(
+    alloc: Global,
+    graph: &G,
+    search: &mut Search<G::Node, G::Key>,
+    most: u32,
+) -> Result<(), Unreached>
+    requires searching { IsSearch (G.shape graph.now) G.Node.eq (G.Holds graph.now)
+        search.old.reached.keys.keys search.old.reached.goals.items
+        search.old.reached.marks.items search.old.queue.items 0 0 }
+    requires fits { length search.old.reached.keys.keys ≤ most }
+    ensures all { OnOk result (IsReached (G.shape graph.now) G.Node.eq (G.Holds graph.now)
+        search.new.reached.keys.keys search.new.reached.goals.items
+        search.new.reached.marks.items) }
+    ensures fits { OnOk result (length search.new.reached.keys.keys ≤ most) }
+    ensures too_many { result ≡ Err TooMany → AreTooMany (G.shape graph.now).labels
+        (G.shape graph.now).move G.Node.eq (G.shape graph.now).origin most }
+{
     for at in 0..most {
-        if at as usize >= reached.nodes.len() {
+        let Some(node) = search.queue.pop_front() else {
             break;
-        }
-        if let Err(why) = serve(alloc, graph, &mut reached, at, most) {
+        };
+        if let Err(why) = serve(alloc, graph, search, &node, at, most) {
             return Err(why);
         }
     }
-    Ok(reached)
+    Ok(())
 }
 
-impl<N: Eq + Hash + Drop> Reached<N> {
-    /// Notes a node with its mark, unless an equal node is noted. `TooMany` if `most` others are.
-    fn note(&mut self, next: N, mark: Mark, most: u32) -> Result<(), Unreached>
-        ensures noted { OnOk result (
-            ((list_any (N.eq next) self.old.nodes.keys ≡ true)
-            × ((self.new.nodes.keys ≡ self.old.nodes.keys)
-            × (self.new.marks.items ≡ self.old.marks.items)))
-            ⊎ ((list_any (N.eq next) self.old.nodes.keys ≡ false)
-            × ((self.new.nodes.keys ≡ self.old.nodes.keys ++ next ∷ [])
-            × ((self.new.marks.items ≡ self.old.marks.items ++ mark ∷ [])
-            × (length self.old.nodes.keys < most))))) }
-        ensures too_many { result ≡ Err TooMany → (list_any (N.eq next) self.old.nodes.keys ≡ false)
-            × (most ≤ length self.old.nodes.keys) }
-    {
-        if self.nodes.len() >= most as usize {
-            if self.nodes.contains(&next) {
-                return Ok(());
-            }
-            return Err(Unreached::TooMany);
-        }
-        let Ok(added) = self.nodes.insert(next) else {
-            return Err(Unreached::Memory);
-        };
-        if !added {
+/// A search that has met no node.
+fn begin<G: Graph>(alloc: Global) -> Search<G::Node, G::Key>
+    ensures keys { result.reached.keys.keys ≡ [] }
+    ensures goals { result.reached.goals.items ≡ [] }
+    ensures marks { result.reached.marks.items ≡ [] }
+    ensures queue { result.queue.items ≡ [] }
+{
+    let keys = IndexSet::new(alloc);
+    let goals = Vec::new(alloc);
+    let marks = Vec::new(alloc);
+    let reached = Reached { keys, goals, marks };
+    let queue = VecDeque::new(alloc);
+    Search { reached, queue }
+}
+
+/// Notes a node with its mark, unless an equal node is noted. `TooMany` if `most` others are.
+fn meet<G: Graph>(
+    alloc: Global,
+    graph: &G,
+    search: &mut Search<G::Node, G::Key>,
+    node: G::Node,
+    mark: Mark,
+    most: u32,
+) -> Result<(), Unreached>
+    ensures met { OnOk result (
+        IsThere (G.shape graph.now) G.Key.eq node
+        search.old.reached.keys.keys search.new.reached.keys.keys
+        search.old.reached.goals.items search.new.reached.goals.items
+        search.old.reached.marks.items search.new.reached.marks.items
+        search.old.queue.items search.new.queue.items
+        ⊎ IsAdded (G.shape graph.now) G.Key.eq node mark most
+        search.old.reached.keys.keys search.new.reached.keys.keys
+        search.old.reached.goals.items search.new.reached.goals.items
+        search.old.reached.marks.items search.new.reached.marks.items
+        search.old.queue.items search.new.queue.items) }
+    ensures too_many { result ≡ Err TooMany
+        → (list_any (G.Key.eq ((G.shape graph.now).key node)) search.old.reached.keys.keys ≡ false)
+        × (most ≤ length search.old.reached.keys.keys) }
+{
+    let Ok(key) = graph.key(alloc, &node) else {
+        return Err(Unreached::Memory);
+    };
+    let goal = graph.is_goal(&node);
+    if search.reached.keys.len() >= most as usize {
+        if search.reached.keys.contains(&key) {
             return Ok(());
         }
-        let Ok(()) = self.marks.push(mark) else {
+        return Err(Unreached::TooMany);
+    }
+    let Ok(added) = search.reached.keys.insert(key) else {
+        return Err(Unreached::Memory);
+    };
+    if !added {
+        return Ok(());
+    }
+    search.add(node, goal, mark)
+}
+
+impl<N: Drop, K: Eq + Hash + Drop> Search<N, K> {
+    /// Adds a node to the queue, with its goal and its mark.
+    fn add(&mut self, node: N, goal: bool, mark: Mark) -> Result<(), Unreached>
+        ensures keys { self.new.reached.keys ≡ self.old.reached.keys }
+        ensures goals { OnOk result
+            (self.new.reached.goals.items ≡ self.old.reached.goals.items ++ goal ∷ []) }
+        ensures marks { OnOk result
+            (self.new.reached.marks.items ≡ self.old.reached.marks.items ++ mark ∷ []) }
+        ensures queue { OnOk result (self.new.queue.items ≡ self.old.queue.items ++ node ∷ []) }
+        ensures memory { result ≡ Err TooMany → ⊥ }
+    {
+        let Ok(()) = self.reached.goals.push(goal) else {
+            return Err(Unreached::Memory);
+        };
+        let Ok(()) = self.reached.marks.push(mark) else {
+            return Err(Unreached::Memory);
+        };
+        let Ok(()) = self.queue.push_back(node) else {
             return Err(Unreached::Memory);
         };
         Ok(())
     }
 }
 
-/// Follows the move by one label from the node at index `at`.
+/// Follows the move by one label from `node`, which is the one at index `at`.
 fn follow<G: Graph>(
     alloc: Global,
     graph: &G,
-    reached: &mut Reached<G::Node>,
+    search: &mut Search<G::Node, G::Key>,
+    node: &G::Node,
     at: u32,
     label: usize,
     most: u32,
 ) -> Result<(), Unreached>
-    requires serving { IsServing (G.labels graph.now) (G.move_by graph.now) G.Node.eq
-        reached.old.nodes.keys reached.old.marks.items at }
-    requires here { at < length reached.old.nodes.keys }
-    requires labelled { label < G.labels graph.now }
+    requires searching { IsSearchAt (G.shape graph.now) G.Node.eq (G.Holds graph.now) node.now
+        search.old.reached.keys.keys search.old.reached.goals.items
+        search.old.reached.marks.items search.old.queue.items at }
+    requires labelled { label < (G.shape graph.now).labels }
     requires room { at < most }
-    requires fits { length reached.old.nodes.keys ≤ most }
-    ensures followed { OnOk result (IsFollowed (G.labels graph.now) (G.move_by graph.now)
-        G.Node.eq reached.old.nodes.keys reached.old.marks.items
-        reached.new.nodes.keys reached.new.marks.items at label) }
-    ensures fits { OnOk result (length reached.new.nodes.keys ≤ most) }
-    ensures too_many { result ≡ Err TooMany → (start : G.Node)
-        → slice_get reached.old.nodes.keys 0 ≡ Some start
-        → AreTooMany (G.labels graph.now) (G.move_by graph.now) G.Node.eq start most }
+    requires fits { length search.old.reached.keys.keys ≤ most }
+    ensures followed { OnOk result ((nodes : List G.Node) → slice_get nodes at ≡ Some node.now
+        → IsSearching (G.shape graph.now) G.Node.eq (G.Holds graph.now) nodes
+        search.old.reached.keys.keys search.old.reached.goals.items
+        search.old.reached.marks.items search.old.queue.items (at + 1) at
+        → IsStepped (G.shape graph.now) G.Node.eq (G.Holds graph.now) nodes
+        search.old.reached.marks.items
+        search.new.reached.keys.keys search.new.reached.goals.items
+        search.new.reached.marks.items search.new.queue.items at label) }
+    ensures fits { OnOk result (length search.new.reached.keys.keys ≤ most) }
+    ensures too_many { result ≡ Err TooMany → AreTooMany (G.shape graph.now).labels
+        (G.shape graph.now).move G.Node.eq (G.shape graph.now).origin most }
 {
-    let Some(node) = reached.nodes.get_index(at as usize) else {
-        unreachable!();
-    };
     let Ok(found) = graph.next(alloc, node, label) else {
         return Err(Unreached::Memory);
     };
     let Some(next) = found else {
         return Ok(());
     };
-    let depth = reached.marks[at as usize].depth + 1;
+    let depth = search.reached.marks[at as usize].depth + 1;
     let mark = Mark {
         parent: at,
         label,
         depth,
     };
-    reached.note(next, mark, most)
+    meet(alloc, graph, search, next, mark, most)
 }
 
-/// Follows all moves from the node at index `at`.
+/// Follows all moves from `node`, which is the one at index `at`.
 fn serve<G: Graph>(
     alloc: Global,
     graph: &G,
-    reached: &mut Reached<G::Node>,
+    search: &mut Search<G::Node, G::Key>,
+    node: &G::Node,
     at: u32,
     most: u32,
 ) -> Result<(), Unreached>
-    requires serving { IsServing (G.labels graph.now) (G.move_by graph.now) G.Node.eq
-        reached.old.nodes.keys reached.old.marks.items at }
-    requires here { at < length reached.old.nodes.keys }
+    requires searching { IsSearchAt (G.shape graph.now) G.Node.eq (G.Holds graph.now) node.now
+        search.old.reached.keys.keys search.old.reached.goals.items
+        search.old.reached.marks.items search.old.queue.items at }
     requires room { at < most }
-    requires fits { length reached.old.nodes.keys ≤ most }
-    ensures served { OnOk result (IsServing (G.labels graph.now) (G.move_by graph.now)
-        G.Node.eq reached.new.nodes.keys reached.new.marks.items (at + 1)) }
-    ensures grown { OnOk result ((i : ℕ) (x : G.Node)
-        → slice_get reached.old.nodes.keys i ≡ Some x
-        → slice_get reached.new.nodes.keys i ≡ Some x) }
-    ensures fits { OnOk result (length reached.new.nodes.keys ≤ most) }
-    ensures too_many { result ≡ Err TooMany → (start : G.Node)
-        → slice_get reached.old.nodes.keys 0 ≡ Some start
-        → AreTooMany (G.labels graph.now) (G.move_by graph.now) G.Node.eq start most }
+    requires fits { length search.old.reached.keys.keys ≤ most }
+    ensures served { OnOk result (IsSearch (G.shape graph.now) G.Node.eq (G.Holds graph.now)
+        search.new.reached.keys.keys search.new.reached.goals.items
+        search.new.reached.marks.items search.new.queue.items (at + 1) (at + 1)) }
+    ensures fits { OnOk result (length search.new.reached.keys.keys ≤ most) }
+    ensures too_many { result ≡ Err TooMany → AreTooMany (G.shape graph.now).labels
+        (G.shape graph.now).move G.Node.eq (G.shape graph.now).origin most }
 {
     for label in 0..graph.count() {
-        if let Err(why) = follow(alloc, graph, reached, at, label, most) {
+        if let Err(why) = follow(alloc, graph, search, node, at, label, most) {
             return Err(why);
         }
     }

@@ -4,7 +4,6 @@ use mathlib.Core.Bool.{◌&&◌}
 use Rattle.std.specs.Bool.{Decides}
 use Rattle.std.specs.Cmp.{IsPartialEquivalence, IsEquivalence, equiv, partial_equiv_from_equiv, on_per, and_per}
 use Rattle.std.specs.Cmp.Lexicographic.{pointwise}
-use Rattle.std.specs.Hash as fed
 use Rattle.std.specs.Ordering.{on, eq_of_both}
 use Rattle.std.proofs.lemmas.Bool.Decides.{Decides-and, Decides-like}
 use Rattle.std.proofs.lemmas.Option.{none-some, same_Some}
@@ -22,7 +21,6 @@ use Rattle.frames.specs.Configuration.{Configuration, fits_step, is_enabled, ste
 use Rattle.frames.specs.Equality.{configuration_eq, configuration_per, configuration_decides, SameConfiguration}
 use Rattle.std.proofs.lemmas.Bool.Decides.{Decides-eqb}
 use Rattle.answers.specs.declared.question.Question.{Question}
-use Rattle.answers.specs.Digests.{state_code}
 use Rattle.answers.specs.States.{StateOf, moved, moved_if, advanced, step_by}
 
 -- whether two outcomes are equal
@@ -143,12 +141,3 @@ module _ {R P : Type 0} (E : R → R → Bool) (F : P → P → Bool) where
           subst (λ (b : Behaviour P). (w : StateOf R P) × ((moved b q y l ≡ Some w) × (state_eq z w ≡ true))) (alike x.configuration.register y.configuration.register same.configuration.register)
           (subst (λ (a : List (List Outcome)). (w : StateOf R P) × ((moved_if (is x.configuration.register) y (step_by q a (l / 4) (l % 4)) ≡ Some w) × (state_eq z w ≡ true))) same.answers
           (by_step (is x.configuration.register) x y (step_by q x.answers (l / 4) (l % 4)) z same m))
-
-      -- equal states have the same hash
-      pub states_hash_alike : (a b : StateOf R P) → state_eq a b ≡ true
-          → fed.u64 (state_code (is a.configuration.register) a.configuration.memory a.configuration.running a.configuration.stopped a.answers)
-          ≡ fed.u64 (state_code (is b.configuration.register) b.configuration.memory b.configuration.running b.configuration.stopped b.answers)
-      states_hash_alike a b h =
-          let same = (state_decides a b).0 h in
-          let c = same.configuration in
-          λ i. fed.u64 (state_code (alike a.configuration.register b.configuration.register c.register i) (c.memory i) (c.running i) (c.stopped i) (same.answers i))

@@ -1,13 +1,14 @@
-use Rattle.std.proofs.Common.{Err}
-use Rattle.answers.proofs.Searching.{searched_from, many_from}
+use Rattle.std.proofs.Common.{Err, sym, subst}
+use Rattle.answers.specs.Graphs.{IsStateOf}
+use Rattle.answers.proofs.Goals.{first_holds}
 use Rattle.answers.proofs.find.explore.Goals as goal
 
-pub returns-in-Ok-reach-clause-searched : goal.returns-in-Ok-reach-clause-searched
-returns-in-Ok-reach-clause-searched g c =
-    searched_from g.R.Behaves.behaviour g.R.PartialEq.eq g.R.Pending.PartialEq.eq c.args.moves.now.question.now c.args.moves.now.register c.in-Ok.start c.in-Ok.ensures
-    c.in-Ok-reach.reached.nodes.keys c.in-Ok-reach.reached.marks.items c.in-Ok-reach.ensures.all
+pub reach-requires-clause-holds : goal.reach-requires-clause-holds
+reach-requires-clause-holds g c =
+    let r = c.args.moves.now.register in
+    let b = g.R.Behaves.behaviour r in
+    subst (IsStateOf b (g.R.Register.Holds r) (g.R.Register.Reaches r) r) (sym c.in-Ok.ensures)
+    (first_holds b (g.R.Register.Holds r) (g.R.Register.Reaches r) (g.met.R.Register.lawful r) r c.args.moves.now.question.now.value c.requires)
 
 pub returns-in-Err-TooMany-clause-too_many : goal.returns-in-Err-TooMany-clause-too_many
-returns-in-Err-TooMany-clause-too_many g c e =
-    many_from g.R.Behaves.behaviour g.R.PartialEq.eq g.R.Pending.PartialEq.eq c.args.moves.now.question.now c.args.moves.now.register c.in-Ok.start c.in-Ok.ensures
-    c.args.most (c.in-Err-TooMany.ensures.too_many (λ i. Err (c.in-Err-TooMany.field-0-is i)))
+returns-in-Err-TooMany-clause-too_many g c e = record { many = c.in-Err-TooMany.ensures.too_many (λ i. Err (c.in-Err-TooMany.field-0-is i)) }

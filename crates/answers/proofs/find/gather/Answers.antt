@@ -1,4 +1,5 @@
-use Rattle.std.proofs.Common.{refl, sym, subst, arith}
+use Rattle.std.proofs.Common.{◌≡◌, length, refl, sym, subst, ap, ◌∙◌, arith}
+use Rattle.std.proofs.lemmas.List.{length-map}
 use Rattle.answers.specs.Gathered.{IsGathered}
 use Rattle.answers.proofs.DoneStates.{met}
 use Rattle.answers.proofs.Gathering.{gathered_all, gathered_none}
@@ -6,21 +7,22 @@ use Rattle.answers.proofs.find.gather.Goals as goal
 use Rattle.answers.proofs.find.gather.Goals.{else-loop-index-test, then-loop-index-test+then-index-len}
 
 pub loop-index-init : goal.loop-index-init
-loop-index-init g c =
+loop-index-init g c s =
     let b = g.R.Behaves.behaviour c.args.moves.now.register in
     let q = c.args.moves.now.question.now in
-    let keys = c.args.reached.now.nodes.keys in
     let marks = c.args.reached.now.marks.items in
-    subst (IsGathered b q keys marks 0) (sym c.new-found.ensures.items) (gathered_none b q keys marks)
+    subst (IsGathered b q s.nodes marks 0) (sym c.new-found.ensures.items) (gathered_none b q s.nodes marks)
 
 pub returns : goal.returns
 returns g c =
     let r = c.args.moves.now.register in
     let b = g.R.Behaves.behaviour r in
     let q = c.args.moves.now.question.now in
-    let keys = c.args.reached.now.nodes.keys in
+    let s = c.requires.searched in
     let marks = c.args.reached.now.marks.items in
-    gathered_all b q keys marks g.R.Behaves.behaviour c.loop-index.index c.loop-index.found.items c.loop-index.invariant
-    (elim c.loop-index-test.branch [ else-loop-index-test w ↦ omega arith | then-loop-index-test+then-index-len w ↦ omega arith ])
+    let marked : length marks ≡ length s.nodes = s.all.trail.marked in
+    let many : length c.args.reached.now.keys.keys ≡ length s.nodes = ap length s.kept.by_key ∙ length-map s.nodes _ in
+    gathered_all b q s.nodes marks g.R.Behaves.behaviour c.loop-index.index c.loop-index.found.items (c.loop-index.invariant s)
+    (elim c.loop-index-test.branch [ else-loop-index-test w ↦ omega (arith, marked, many) | then-loop-index-test+then-index-len w ↦ omega (arith, marked, many) ])
     (met g.R.Behaves.behaviour b q g.R.PartialEq.eq g.R.Pending.PartialEq.eq g.met.R.Register.same_pending (g.R.Register.Holds r) (g.R.Register.Reaches r) (g.met.R.Register.lawful r) r refl
-    keys marks c.requires.searched.all)
+    s.nodes marks s.all)

@@ -1,49 +1,35 @@
-use Rattle.std.proofs.Common.{◌≡◌, ◌+◌, slice_get, Some, sym, ap, subst, ◌∙◌, true≢false}
+use Rattle.std.proofs.Common.{◌≡◌, ◌+◌, refl, sym, subst, ap, ◌∙◌}
 use Rattle.std.specs.List.{list_any}
 use Rattle.answers.specs.declared.found.Possible.{Possible}
-use Rattle.answers.specs.Answers.{HasItsSchedule}
 use Rattle.answers.specs.Gathered.{IsGathered}
-use Rattle.answers.specs.Questions.{HasAnswers}
 use Rattle.answers.specs.States.{StateOf}
 use Rattle.answers.specs.laws.StateLaws.{answers_eq}
-use Rattle.answers.proofs.DoneStates.{done_schedule, at_answers}
-use Rattle.answers.proofs.Gathering.{covered_listed, gathered_push, gathered_skip}
+use Rattle.answers.proofs.Goals.{passed_over}
+use Rattle.answers.proofs.Listed.{listed_before, listed_now}
 use Rattle.answers.proofs.find.gather_one.Goals as goal
 
-pub returns-then-not-is_done : goal.returns-then-not-is_done
-returns-then-not-is_done g c =
-    gathered_skip (g.R.Behaves.behaviour c.args.moves.now.register) c.args.moves.now.question.now c.args.reached.now.nodes.keys c.args.reached.now.marks.items
-    c.requires.searched.all.sorted c.args.index c.args.found.now.items c.requires.gathered c.in-Some.state.now (sym c.in-Some.ensures.key)
-    (λ done. absurd (true≢false (sym (c.is_done.ensures.1 done) ∙ c.if-not-is_done.true)))
+pub returns-then-not-index : goal.returns-then-not-index
+returns-then-not-index g c s h =
+    passed_over (g.R.Behaves.behaviour c.args.moves.now.register) c.args.moves.now.question.now s.nodes c.args.reached.now.goals.items c.args.reached.now.marks.items s.all.trail.marked s.kept.by_goal
+    c.args.index c.index.result.now c.index.ensures s.all.sorted c.args.found.now.items h c.requires.there c.if-not-index.true
 
 pub returns-then-is_listed : goal.returns-then-is_listed
-returns-then-is_listed g c =
-    let b = g.R.Behaves.behaviour c.args.moves.now.register in
-    let k = c.in-Some.state.now in
-    let answers : c.deref-2.result.now ≡ k.answers = c.deref-2.ensures.value ∙ ap (λ (s : StateOf _ _). s.answers) c.state.view_is in
-    gathered_skip b c.args.moves.now.question.now c.args.reached.now.nodes.keys c.args.reached.now.marks.items
-    c.requires.searched.all.sorted c.args.index c.args.found.now.items c.requires.gathered k (sym c.in-Some.ensures.key)
-    (λ done. covered_listed b c.args.moves.now.question.now c.args.reached.now.nodes.keys c.args.reached.now.marks.items
-    c.requires.searched.all.sorted c.args.index c.args.found.now.items c.requires.gathered k (sym c.in-Some.ensures.key)
-    ((λ i. list_any (λ (a : Possible). answers_eq a.answers.items (sym answers i)) (sym c.deref.ensures.value i)) ∙ (sym c.is_listed.ensures ∙ c.if-is_listed.true)))
+returns-then-is_listed g c s h =
+    let state = c.in-Ok.walk.state in
+    let answers : c.deref-2.result.now ≡ state.answers = c.deref-2.ensures.value ∙ ap (λ (x : StateOf _ _). x.answers) c.state.view_is in
+    listed_before g.R.Behaves.behaviour (g.R.Behaves.behaviour c.args.moves.now.register) c.args.moves.now.question.now s.nodes c.args.reached.now.goals.items c.args.reached.now.marks.items s.all.trail.marked s.kept.by_goal
+    c.args.index c.index.result.now c.index.ensures s.all.sorted c.args.found.now.items h c.requires.there c.if-not-index.false state
+    c.in-Ok.walk.steps.items (c.in-Ok.ensures.led s)
+    ((λ i. list_any (λ (a : Possible). answers_eq a.answers.items (sym answers i)) (sym c.deref.ensures.value i)) ∙ (sym c.is_listed.ensures ∙ c.if-is_listed.true))
 
 pub returns : goal.returns
-returns g c =
-    let r = c.args.moves.now.register in
-    let b = g.R.Behaves.behaviour r in
-    let q = c.args.moves.now.question.now in
-    let keys = c.args.reached.now.nodes.keys in
-    let marks = c.args.reached.now.marks.items in
-    let k = c.in-Some.state.now in
-    let stored : slice_get keys c.args.index ≡ Some k = sym c.in-Some.ensures.key in
-    let answers : c.deref-2.result.now ≡ k.answers = c.deref-2.ensures.value ∙ ap (λ (s : StateOf _ _). s.answers) c.state.view_is in
-    let copied : c.in-Ok-copies.answers.items ≡ k.answers = c.in-Ok-copies.ensures ∙ (c.deref-3.ensures.value ∙ ap (λ (s : StateOf _ _). s.answers) c.state.view_is) in
-    let a : Possible = record { answers = c.in-Ok-copies.answers; steps = c.in-Ok.steps } in
-    let run = c.in-Ok.ensures.run k stored in
-    let sound : HasItsSchedule b q a = record {
-      schedule = done_schedule g.R.Behaves.behaviour b q c.in-Ok.steps.items k run (c.is_done.ensures.0 c.if-not-is_done.false);
-      answers = subst (HasAnswers b q.value c.in-Ok.steps.items) (sym copied) (at_answers g.R.Behaves.behaviour b q c.in-Ok.steps.items k run.at);
-    } in
-    subst (IsGathered b q keys marks (c.args.index + 1)) (sym c.in-Ok-push.ensures.items)
-    (gathered_push b q keys marks c.requires.searched.all.sorted c.args.index c.args.found.now.items c.requires.gathered k stored a sound copied c.in-Ok.ensures.long
-    ((λ i. list_any (λ (p : Possible). answers_eq p.answers.items (sym answers i)) (sym c.deref.ensures.value i)) ∙ (sym c.is_listed.ensures ∙ c.if-is_listed.false)))
+returns g c s h =
+    let state = c.in-Ok.walk.state in
+    let answers : c.deref-2.result.now ≡ state.answers = c.deref-2.ensures.value ∙ ap (λ (x : StateOf _ _). x.answers) c.state.view_is in
+    let copied : c.in-Ok-copies.answers.items ≡ state.answers = c.in-Ok-copies.ensures ∙ (c.deref-3.ensures.value ∙ ap (λ (x : StateOf _ _). x.answers) c.state.view_is) in
+    subst (IsGathered (g.R.Behaves.behaviour c.args.moves.now.register) c.args.moves.now.question.now s.nodes c.args.reached.now.marks.items (c.args.index + 1)) (sym c.in-Ok-push.ensures.items)
+    (listed_now g.R.Behaves.behaviour (g.R.Behaves.behaviour c.args.moves.now.register) c.args.moves.now.question.now s.nodes c.args.reached.now.goals.items c.args.reached.now.marks.items s.all.trail.marked s.kept.by_goal
+    c.args.index c.index.result.now c.index.ensures s.all.sorted c.args.found.now.items h c.requires.there c.if-not-index.false state
+    c.in-Ok.walk.steps.items (c.in-Ok.ensures.led s)
+    ((λ i. list_any (λ (a : Possible). answers_eq a.answers.items (sym answers i)) (sym c.deref.ensures.value i)) ∙ (sym c.is_listed.ensures ∙ c.if-is_listed.false))
+    c.in-Ok.ensures.long (record { answers = c.in-Ok-copies.answers; steps = c.in-Ok.walk.steps }) copied refl)

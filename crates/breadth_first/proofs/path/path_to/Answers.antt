@@ -1,38 +1,23 @@
-use Rattle.std.proofs.Common.{◌≡◌, ◌+◌, List, length, sym, ap, subst, ◌∙◌, arith}
-use Rattle.std.proofs.lemmas.List.{get_or_read}
+use Rattle.std.proofs.Common.{◌+◌, List, length, sym, ap, subst, refl, ◌∙◌, arith}
+use Rattle.std.proofs.lemmas.List.{length_push}
 use Rattle.breadth_first.specs.declared.mark.Mark.{Mark}
-use Rattle.breadth_first.specs.Paths.{mark_of_start, noted_mark, depth_at, LeadsBy}
-use Rattle.breadth_first.proofs.Traced.{IsTraced, traced_none, traced_more, traced_all, traced_length}
+use Rattle.breadth_first.specs.Paths.{noted_mark, LeadsBy}
+use Rattle.breadth_first.proofs.Traced.{IsTraced, traced_more, traced_all}
 use Rattle.breadth_first.proofs.path.path_to.Goals as goal
-
-pub loop-init : goal.loop-init
-loop-init g c =
-    subst (IsTraced (g.G.Graph.labels c.args.graph.now) (g.G.Graph.move_by c.args.graph.now) c.args.reached.now.nodes.keys c.args.reached.now.marks.items c.args.index c.args.index 0)
-    (sym c.new-path.ensures.items)
-    (traced_none (g.G.Graph.labels c.args.graph.now) (g.G.Graph.move_by c.args.graph.now) c.args.reached.now.nodes.keys c.args.reached.now.marks.items c.args.index c.requires.there)
 
 pub loop-preserved : goal.loop-preserved
 loop-preserved g c =
-    let marks : List Mark = c.args.reached.now.marks.items in
-    let first : c.index.result.now.depth ≡ depth_at marks c.args.index = ap (λ (m : Mark). m.depth) (get_or_read marks c.args.index c.index.result.now (omega (arith, c.requires.there, c.requires.trail.marked)) c.index.ensures mark_of_start) in
-    let is : c.index-mark.result.now ≡ noted_mark marks c.loop.at = get_or_read marks c.loop.at c.index-mark.result.now (omega (arith, c.loop.invariant.there, c.requires.trail.marked)) c.index-mark.ensures mark_of_start in
-    subst (IsTraced (g.G.Graph.labels c.args.graph.now) (g.G.Graph.move_by c.args.graph.now) c.args.reached.now.nodes.keys marks c.args.index c.index-mark.result.now.parent (c.loop.counter + 1))
-    (sym c.in-Ok.ensures.items)
-    (traced_more (g.G.Graph.labels c.args.graph.now) (g.G.Graph.move_by c.args.graph.now) c.args.reached.now.nodes.keys marks c.requires.trail c.args.index c.loop.at c.loop.counter c.loop.path.items c.index-mark.result.now
-    c.loop.invariant (omega (arith, c.loop-test.true, first)) is)
+    let marks : List Mark = c.args.marks.now in
+    let shape = g.G.Graph.shape c.args.graph.now in
+    let was = c.loop.invariant in
+    record {
+      long = ap length c.in-Ok.ensures.items ∙ (length_push c.loop.path.items (noted_mark marks c.loop.at) ∙ ap (λ n. n + 1) was.long);
+      traced = λ nodes t. subst (IsTraced shape.labels shape.move nodes marks c.args.index (noted_mark marks c.loop.at).parent (c.loop.counter + 1)) (sym c.in-Ok.ensures.items)
+          (traced_more shape.labels shape.move nodes marks t c.args.index c.loop.at c.loop.counter c.loop.path.items (noted_mark marks c.loop.at) (was.traced nodes t) c.loop-test.true refl);
+    }
 
 pub returns-clause-leads : goal.returns-clause-leads
-returns-clause-leads g c start key s k =
-    let marks : List Mark = c.args.reached.now.marks.items in
-    let first : c.index.result.now.depth ≡ depth_at marks c.args.index = ap (λ (m : Mark). m.depth) (get_or_read marks c.args.index c.index.result.now (omega (arith, c.requires.there, c.requires.trail.marked)) c.index.ensures mark_of_start) in
-    subst (λ (path : List Mark). LeadsBy (g.G.Graph.labels c.args.graph.now) (g.G.Graph.move_by c.args.graph.now) c.args.reached.now.nodes.keys start path key) (sym c.reverse.ensures.items)
-    (traced_all (g.G.Graph.labels c.args.graph.now) (g.G.Graph.move_by c.args.graph.now) c.args.reached.now.nodes.keys marks c.requires.trail c.args.index c.loop.at c.loop.counter c.loop.path.items c.loop.invariant
-    (omega (arith, c.loop-test.false, first)) start key s k)
-
-pub returns-clause-long : goal.returns-clause-long
-returns-clause-long g c =
-    let marks : List Mark = c.args.reached.now.marks.items in
-    let first : c.index.result.now.depth ≡ depth_at marks c.args.index = ap (λ (m : Mark). m.depth) (get_or_read marks c.args.index c.index.result.now (omega (arith, c.requires.there, c.requires.trail.marked)) c.index.ensures mark_of_start) in
-    ap length c.reverse.ensures.items
-    ∙ traced_length (g.G.Graph.labels c.args.graph.now) (g.G.Graph.move_by c.args.graph.now) c.args.reached.now.nodes.keys marks c.requires.trail c.args.index c.loop.at c.loop.counter c.loop.path.items c.loop.invariant
-    (omega (arith, c.loop-test.false, first))
+returns-clause-leads g c nodes t start key s k =
+    let shape = g.G.Graph.shape c.args.graph.now in
+    subst (λ (path : List Mark). LeadsBy shape.labels shape.move nodes start path key) (sym c.reverse.ensures.items)
+    (traced_all shape.labels shape.move nodes c.args.marks.now t c.args.index c.loop.at c.loop.counter c.loop.path.items (c.loop.invariant.traced nodes t) (omega (arith, c.loop-test.false)) start key s k)

@@ -1,5 +1,11 @@
+use Rattle.std.proofs.Common.{List, ◌≡◌, length}
+use Rattle.breadth_first.specs.Paths.{IsTrail}
 use Rattle.breadth_first.proofs.Traced.{IsTraced}
 use Rattle.breadth_first.proofs.path.path_to.Given as goal
 
 abbrev pub invariant-loop : goal.invariant-loop
-invariant-loop g l = IsTraced (g.G.Graph.labels l.graph) (g.G.Graph.move_by l.graph) l.reached.nodes.keys l.reached.marks.items l.index l.at l.counter l.path.items
+invariant-loop g l = record {
+  long : length l.path.items ≡ l.counter;
+  traced : (nodes : List g.row.G-Node.Denot) → IsTrail (g.G.Graph.shape l.graph).labels (g.G.Graph.shape l.graph).move nodes l.marks
+      → IsTraced (g.G.Graph.shape l.graph).labels (g.G.Graph.shape l.graph).move nodes l.marks l.index l.at l.counter l.path.items;
+}

@@ -1,33 +1,33 @@
-use Rattle.std.proofs.Common.{◌≡◌, Err, arith}
-use Rattle.std.proofs.lemmas.List.{nil_from_length}
+use Rattle.std.proofs.Common.{◌≡◌, ◌∷◌, [], Err, length, ap, arith}
 use Rattle.breadth_first.specs.declared.mark.Unreached.TheVariants.{TooMany}
-use Rattle.breadth_first.proofs.Served.{all_reached, none_allowed}
-use Rattle.breadth_first.proofs.Started.{begun, no_more}
+use Rattle.breadth_first.proofs.Served.{none_allowed}
+use Rattle.breadth_first.proofs.Searched.{search_begun, no_more_keys}
 use Rattle.breadth_first.proofs.reach.reach.Goals as goal
-use Rattle.breadth_first.proofs.reach.reach.Goals.{else-loop-at-test, then-loop-at-test+then-at-len}
 
 pub returns-in-Err-clause-too_many : goal.returns-in-Err-clause-too_many
 returns-in-Err-clause-too_many g c e =
+    let shape = g.G.Graph.shape c.args.graph.now in
     let same : c.in-Err.why ≡ TooMany = cc in
     let t = c.in-Err.ensures.too_many (λ i. Err (same i)) in
-    none_allowed (g.G.Graph.labels c.args.graph.now) (g.G.Graph.move_by c.args.graph.now) g.G.Node.PartialEq.eq g.met.G.Node.Eq.laws (g.met.G.Graph.alike c.args.graph.now)
-    c.args.start c.args.most (omega (arith, t.1, c.new-nodes.ensures.len))
+    let none : length c.begin-search.result.reached.keys.keys ≡ 0 = ap length c.begin-search.ensures.keys in
+    none_allowed shape.labels shape.move g.G.Node.PartialEq.eq g.met.G.Node.Eq.laws (g.met.G.Graph.alike c.args.graph.now) shape.origin c.args.most (omega (arith, t.1, none))
 
-pub loop-at-init : goal.loop-at-init
-loop-at-init g c =
-    let b = begun (g.G.Graph.labels c.args.graph.now) (g.G.Graph.move_by c.args.graph.now) g.G.Node.PartialEq.eq g.met.G.Node.Eq.laws (g.met.G.Graph.alike c.args.graph.now)
-    c.args.start c.new-nodes.result.keys c.note.new.self.nodes.keys c.new-marks.result.items c.note.new.self.marks.items c.args.most
-    (nil_from_length c.new-nodes.result.keys c.new-nodes.ensures.len) c.new-marks.ensures.items c.in_default.ensures.noted in
-    record { serving = b.serving; first = b.first; fits = b.fits }
-
-pub returns-clause-all : goal.returns-clause-all
-returns-clause-all g c =
-    all_reached (g.G.Graph.labels c.args.graph.now) (g.G.Graph.move_by c.args.graph.now) g.G.Node.PartialEq.eq g.met.G.Node.Eq.laws (g.met.G.Graph.alike c.args.graph.now)
-    c.args.start c.loop-at.reached.nodes.keys c.loop-at.reached.marks.items c.loop-at.at c.loop-at.invariant.serving
-    (elim c.loop-at-test.branch [ else-loop-at-test w ↦ omega arith | then-loop-at-test+then-at-len w ↦ omega arith ])
-    c.loop-at.invariant.first
+pub serve_all-requires-clause-searching : goal.serve_all-requires-clause-searching
+serve_all-requires-clause-searching g c = record {
+  nodes = c.args.start ∷ [];
+  searching = (search_begun (g.G.Graph.shape c.args.graph.now) g.G.Node.PartialEq.eq g.G.Key.PartialEq.eq (g.G.Graph.Holds c.args.graph.now)
+      (g.met.G.Graph.same_key c.args.graph.now) g.met.G.Node.Eq.laws (g.met.G.Graph.alike c.args.graph.now)
+      c.args.start c.args.most c.requires.starts c.requires.holds
+      c.begin-search.result.reached.keys.keys c.meet.new.search.reached.keys.keys
+      c.begin-search.result.reached.goals.items c.meet.new.search.reached.goals.items
+      c.begin-search.result.reached.marks.items c.meet.new.search.reached.marks.items
+      c.begin-search.result.queue.items c.meet.new.search.queue.items
+      c.begin-search.ensures.keys c.begin-search.ensures.goals c.begin-search.ensures.marks c.begin-search.ensures.queue c.in_default.ensures.met).0;
+}
 
 pub returns-clause-few : goal.returns-clause-few
 returns-clause-few g c =
-    no_more (g.G.Graph.labels c.args.graph.now) (g.G.Graph.move_by c.args.graph.now) g.G.Node.PartialEq.eq g.met.G.Node.Eq.laws (g.met.G.Graph.alike c.args.graph.now)
-    c.args.start c.loop-at.reached.nodes.keys c.loop-at.reached.marks.items c.args.most (returns-clause-all g c) c.loop-at.invariant.fits
+    no_more_keys (g.G.Graph.shape c.args.graph.now) g.G.Node.PartialEq.eq g.G.Key.PartialEq.eq (g.G.Graph.Holds c.args.graph.now)
+    g.met.G.Node.Eq.laws (g.met.G.Graph.alike c.args.graph.now)
+    c.serve_all.new.search.reached.keys.keys c.serve_all.new.search.reached.goals.items c.serve_all.new.search.reached.marks.items
+    c.args.most c.in_default-serve_all.ensures.all c.in_default-serve_all.ensures.fits

@@ -1,14 +1,31 @@
-use Rattle.breadth_first.proofs.Followed.{grown_within, met_more}
+use Rattle.std.proofs.Common.{arith}
+use Rattle.breadth_first.proofs.Serving.{labels_none, labels_at, labels_more, labels_all}
 use Rattle.breadth_first.proofs.reach.serve.Goals as goal
 
+pub loop-label-init : goal.loop-label-init
+loop-label-init g c = record {
+  met = labels_none (g.G.Graph.shape c.args.graph.now) g.G.Node.PartialEq.eq (g.G.Graph.Holds c.args.graph.now) c.args.node.now c.args.at
+      c.args.search.now.reached.keys.keys c.args.search.now.reached.goals.items c.args.search.now.reached.marks.items c.args.search.now.queue.items c.requires.searching;
+  fits = c.requires.fits;
+}
+
+pub follow-requires-clause-searching : goal.follow-requires-clause-searching
+follow-requires-clause-searching g c =
+    labels_at (g.G.Graph.shape c.args.graph.now) g.G.Node.PartialEq.eq (g.G.Graph.Holds c.args.graph.now) c.args.node.now c.args.at
+    c.loop-label.search.reached.keys.keys c.loop-label.search.reached.goals.items c.loop-label.search.reached.marks.items c.loop-label.search.queue.items
+    c.loop-label.label c.loop-label.invariant.met
+
 pub loop-label-preserved : goal.loop-label-preserved
-loop-label-preserved g c =
-    let f = c.in_default.ensures.followed in
-    let i = c.loop-label.invariant in
-    record {
-      serving = f.serving;
-      grown = λ j x h. f.grown j x (i.grown j x h);
-      here = grown_within c.loop-label.reached.nodes.keys c.follow.new.reached.nodes.keys c.args.at f.grown i.here;
-      fits = c.in_default.ensures.fits;
-      met = met_more (g.G.Graph.labels c.args.graph.now) (g.G.Graph.move_by c.args.graph.now) g.G.Node.PartialEq.eq c.loop-label.reached.nodes.keys c.follow.new.reached.nodes.keys c.loop-label.reached.marks.items c.follow.new.reached.marks.items c.args.at c.loop-label.label f i.here i.met;
-    }
+loop-label-preserved g c = record {
+  met = labels_more (g.G.Graph.shape c.args.graph.now) g.G.Node.PartialEq.eq (g.G.Graph.Holds c.args.graph.now) c.args.node.now c.args.at
+      c.loop-label.search.reached.keys.keys c.loop-label.search.reached.goals.items c.loop-label.search.reached.marks.items c.loop-label.search.queue.items
+      c.loop-label.label c.loop-label.invariant.met
+      c.follow.new.search.reached.keys.keys c.follow.new.search.reached.goals.items c.follow.new.search.reached.marks.items c.follow.new.search.queue.items c.in_default.ensures.followed;
+  fits = c.in_default.ensures.fits;
+}
+
+pub returns-clause-served : goal.returns-clause-served
+returns-clause-served g c =
+    labels_all (g.G.Graph.shape c.args.graph.now) g.G.Node.PartialEq.eq (g.G.Graph.Holds c.args.graph.now) c.args.node.now c.args.at
+    c.loop-label.search.reached.keys.keys c.loop-label.search.reached.goals.items c.loop-label.search.reached.marks.items c.loop-label.search.queue.items
+    c.loop-label.label c.loop-label.invariant.met (omega (arith, c.loop-label-test.false, c.count-label-end.ensures))

@@ -1,0 +1,312 @@
+-- Packing loses nothing: equal numbers and bytes are those of equal lists.
+use Rattle.std.proofs.Common.{◌≡◌, ℕ, zero, suc, ◌+◌, ◌*◌, ◌/◌, ◌%◌, ◌<◌, Bool, true, false, List, [], ◌∷◌, ◌++◌, length, map, replicate, Option, None, Some, refl, sym, ap, ◌∙◌, append_assoc, add-one, if◌then◌else◌, arith}
+use Rattle.std.specs.Prelude.{◌==◌, nat_lt}
+use Rattle.std.proofs.lemmas.Bool.{ltb-true}
+use Rattle.std.proofs.lemmas.Bool.Decides.{Decides-eqb}
+use Rattle.safe_bit.specs.declared.Cell.{Cell}
+use Rattle.frames.specs.declared.types.Op.{Op}
+use Rattle.frames.specs.declared.types.Op.TheVariants as op
+use Rattle.frames.specs.declared.types.Frame.{Frame}
+use Rattle.frames.specs.declared.types.FrameLayer.{FrameLayer}
+use Rattle.frames.specs.declared.types.FrameLayer.TheVariants as layers
+use Rattle.frames.specs.declared.types.Layer.TheVariants as spent
+use Rattle.frames.specs.declared.types.Outcome.{Outcome}
+use Rattle.frames.specs.declared.types.Outcome.TheVariants.{Value, Written, Spent}
+use Rattle.answers.specs.Packing.{half_bytes, number_bytes, packed, by_gaps, cell_code, op_code, layer_code, name_numbers, frame_numbers, frames_numbers, outcome_code, stack_numbers, outcomes_numbers}
+
+parts : {X : Type 0} {x y : X} {xs ys : List X} → x ∷ xs ≡ y ∷ ys → (x ≡ y) × (xs ≡ ys)
+parts h = (cc, cc)
+
+-- numbers
+same_by_256 : (n m : ℕ) → n % 256 ≡ m % 256 → n / 256 ≡ m / 256 → n ≡ m
+same_by_256 n m a b = omega (arith, a, b)
+
+same_by_halves : (n m : ℕ) → n % 4294967296 ≡ m % 4294967296 → n / 4294967296 ≡ m / 4294967296 → n ≡ m
+same_by_halves n m a b = omega (arith, a, b)
+
+same_half : (n m : ℕ) (r s : List ℕ) → half_bytes n ++ r ≡ half_bytes m ++ s → (n ≡ m) × (r ≡ s)
+same_half n m r s h =
+    let a = parts h in
+    let b = parts a.1 in
+    let c = parts b.1 in
+    let d = parts c.1 in
+    (same_by_256 n m a.0 (same_by_256 (n / 256) (m / 256) b.0 (same_by_256 (n / 256 / 256) (m / 256 / 256) c.0 d.0)), d.1)
+
+same_halves : (n m : ℕ) (r s : List ℕ) → (half_bytes (n % 4294967296) ++ half_bytes (n / 4294967296)) ++ r ≡ (half_bytes (m % 4294967296) ++ half_bytes (m / 4294967296)) ++ s
+    → (n ≡ m) × (r ≡ s)
+same_halves n m r s h =
+    let a = same_half (n % 4294967296) (m % 4294967296) (half_bytes (n / 4294967296) ++ r) (half_bytes (m / 4294967296) ++ s) h in
+    let b = same_half (n / 4294967296) (m / 4294967296) r s a.1 in
+    (same_by_halves n m a.0 b.0, b.1)
+
+-- by the tests whether a number is small and whether two bytes are enough
+abbrev bytes_by : Bool → Bool → ℕ → List ℕ
+bytes_by t u n = if t then n ∷ [] else if u then (192 + n / 256) ∷ n % 256 ∷ [] else 255 ∷ half_bytes (n % 4294967296) ++ half_bytes (n / 4294967296)
+
+same_by_tests : (t u v w : Bool) (n m : ℕ) (r s : List ℕ) → nat_lt n 192 ≡ t → nat_lt n 16128 ≡ u → nat_lt m 192 ≡ v → nat_lt m 16128 ≡ w
+    → bytes_by t u n ++ r ≡ bytes_by v w m ++ s → (n ≡ m) × (r ≡ s)
+same_by_tests true u true w n m r s a b c d h = parts h
+same_by_tests true u false true n m r s a b c d h = let e = parts h in let low = ltb-true n 192 a in absurd (omega (arith, e.0, low))
+same_by_tests true u false false n m r s a b c d h = let e = parts h in let low = ltb-true n 192 a in absurd (omega (arith, e.0, low))
+same_by_tests false true true w n m r s a b c d h = let e = parts h in let low = ltb-true m 192 c in absurd (omega (arith, e.0, low))
+same_by_tests false true false true n m r s a b c d h =
+    let e = parts h in
+    let f = parts e.1 in
+    let high : n / 256 ≡ m / 256 = omega (arith, e.0) in
+    (same_by_256 n m f.0 high, f.1)
+same_by_tests false true false false n m r s a b c d h = let e = parts h in let low = ltb-true n 16128 b in absurd (omega (arith, e.0, low))
+same_by_tests false false true w n m r s a b c d h = let e = parts h in let low = ltb-true m 192 c in absurd (omega (arith, e.0, low))
+same_by_tests false false false true n m r s a b c d h = let e = parts h in let low = ltb-true m 16128 d in absurd (omega (arith, e.0, low))
+same_by_tests false false false false n m r s a b c d h = same_halves n m r s (parts h).1
+
+same_number : (n m : ℕ) (r s : List ℕ) → number_bytes n ++ r ≡ number_bytes m ++ s → (n ≡ m) × (r ≡ s)
+same_number n m r s h = same_by_tests (nat_lt n 192) (nat_lt n 16128) (nat_lt m 192) (nat_lt m 16128) n m r s refl refl refl refl h
+
+no_first : {X : Type 0} {x : X} {xs : List X} → x ∷ xs ≡ [] → ⊥
+no_first {X} {x} {xs} h = let e : length (x ∷ xs) ≡ 0 = ap length h in omega (arith, e)
+
+some_bytes : (t u : Bool) (n : ℕ) (r : List ℕ) → bytes_by t u n ++ r ≡ [] → ⊥
+some_bytes true u n r h = no_first h
+some_bytes false true n r h = no_first h
+some_bytes false false n r h = no_first h
+
+pub same_packed : (ns ms : List ℕ) → packed ns ≡ packed ms → ns ≡ ms
+same_packed [] [] h = refl
+same_packed [] (m ∷ ms) h = absurd (some_bytes (nat_lt m 192) (nat_lt m 16128) m (packed ms) (sym h))
+same_packed (n ∷ ns) [] h = absurd (some_bytes (nat_lt n 192) (nat_lt n 16128) n (packed ns) h)
+same_packed (n ∷ ns) (m ∷ ms) h = let p = same_number n m (packed ns) (packed ms) h in λ i. p.0 i ∷ same_packed ns ms p.1 i
+
+-- lists with gaps
+one_zero : (n : ℕ) (xs : List ℕ) → replicate (suc n) 0 ++ xs ≡ replicate n 0 ++ 0 ∷ xs
+one_zero zero xs = refl
+one_zero (suc n) xs = ap (λ l. 0 ∷ l) (one_zero n xs)
+
+zeros_before : (n : ℕ) (xs : List ℕ) → replicate (n + 1) 0 ++ xs ≡ replicate n 0 ++ 0 ∷ xs
+zeros_before n xs = ap (λ k. replicate k 0 ++ xs) (add-one n) ∙ one_zero n xs
+
+-- by the tests whether the first number is 0 and whether it is 1
+abbrev gaps_by : Bool → Bool → ℕ → ℕ → List ℕ → List ℕ
+gaps_by t u n x xs = if t then by_gaps (n + 1) xs else if u then 2 * n ∷ by_gaps 0 xs else (2 * n + 1) ∷ x ∷ by_gaps 0 xs
+
+-- n zeros before xs, and m before ys, are equal if what is written of them is
+abbrev AreSame : List ℕ → List ℕ → ℕ → ℕ → List ℕ → List ℕ → Type 0
+AreSame xs ys n m r s = (replicate n 0 ++ xs ≡ replicate m 0 ++ ys) × (r ≡ s)
+
+more_zeros : (xs ys : List ℕ) (y n m : ℕ) (r s : List ℕ) → y ≡ 0 → AreSame xs ys n (m + 1) r s → AreSame xs (y ∷ ys) n m r s
+more_zeros xs ys y n m r s e h = (h.0 ∙ (zeros_before m ys ∙ (λ i. replicate m 0 ++ sym e i ∷ ys)), h.1)
+
+zeros_more : (xs ys : List ℕ) (x n m : ℕ) (r s : List ℕ) → x ≡ 0 → AreSame xs ys (n + 1) m r s → AreSame (x ∷ xs) ys n m r s
+zeros_more xs ys x n m r s e h = ((λ i. replicate n 0 ++ e i ∷ xs) ∙ (sym (zeros_before n xs) ∙ h.0), h.1)
+
+is_zero : (x : ℕ) → (x == 0) ≡ true → x ≡ 0
+is_zero x h = (Decides-eqb x 0).0 h
+
+is_one : (x : ℕ) → (x == 1) ≡ true → x ≡ 1
+is_one x h = (Decides-eqb x 1).0 h
+
+-- an empty list against ys
+gaps_none : (ys : List ℕ) (n m : ℕ) (r s : List ℕ) → n ≡ m + length ys → 2 * n ∷ r ≡ by_gaps m ys ++ s → AreSame [] ys n m r s
+gaps_none [] n m r s len h = let p = parts h in let e : n ≡ m = omega (arith, p.0) in ((λ i. replicate (e i) 0 ++ []), p.1)
+gaps_none (y ∷ ys) n m r s len h = by (y == 0) (y == 1) refl h (λ k g. gaps_none ys n (m + 1) r s k g)
+  where
+    by : (t u : Bool) → (y == 0) ≡ t → 2 * n ∷ r ≡ gaps_by t u m y ys ++ s
+        → (n ≡ m + 1 + length ys → 2 * n ∷ r ≡ by_gaps (m + 1) ys ++ s → AreSame [] ys n (m + 1) r s) → AreSame [] (y ∷ ys) n m r s
+    by true u e g later = more_zeros [] ys y n m r s (is_zero y e) (later (omega (arith, len)) g)
+    by false true e g later = let p = parts g in absurd (omega (arith, p.0, len))
+    by false false e g later = let p = parts g in absurd (omega (arith, p.0, len))
+
+-- a list that begins with a 1 against ys
+gaps_one : (x : ℕ) (xs : List ℕ) → x ≡ 1 → ((ys : List ℕ) (n m : ℕ) (r s : List ℕ) → n + length xs ≡ m + length ys → by_gaps n xs ++ r ≡ by_gaps m ys ++ s → AreSame xs ys n m r s)
+    → (ys : List ℕ) (n m : ℕ) (r s : List ℕ) → n + length (x ∷ xs) ≡ m + length ys → gaps_by false true n x xs ++ r ≡ by_gaps m ys ++ s → AreSame (x ∷ xs) ys n m r s
+gaps_one x xs is rest [] n m r s len h = let p = parts h in absurd (omega (arith, p.0, len))
+gaps_one x xs is rest (y ∷ ys) n m r s len h = by (y == 0) (y == 1) refl refl h (λ k g. gaps_one x xs is rest ys n (m + 1) r s k g)
+  where
+    by : (t u : Bool) → (y == 0) ≡ t → (y == 1) ≡ u → gaps_by false true n x xs ++ r ≡ gaps_by t u m y ys ++ s
+        → (n + length (x ∷ xs) ≡ m + 1 + length ys → gaps_by false true n x xs ++ r ≡ by_gaps (m + 1) ys ++ s → AreSame (x ∷ xs) ys n (m + 1) r s)
+        → AreSame (x ∷ xs) (y ∷ ys) n m r s
+    by true u e f g later = more_zeros (x ∷ xs) ys y n m r s (is_zero y e) (later (omega (arith, len)) g)
+    by false true e f g later =
+        let p = parts g in
+        let k : n ≡ m = omega (arith, p.0) in
+        let q = rest ys 0 0 r s (omega (arith, len, k)) p.1 in
+        ((λ i. replicate (k i) 0 ++ (is ∙ sym (is_one y f)) i ∷ q.0 i), q.1)
+    by false false e f g later = let p = parts g in absurd (omega (arith, p.0))
+
+-- a list that begins with a greater number against ys
+gaps_greater : (x : ℕ) (xs : List ℕ) → ((ys : List ℕ) (n m : ℕ) (r s : List ℕ) → n + length xs ≡ m + length ys → by_gaps n xs ++ r ≡ by_gaps m ys ++ s → AreSame xs ys n m r s)
+    → (ys : List ℕ) (n m : ℕ) (r s : List ℕ) → n + length (x ∷ xs) ≡ m + length ys → gaps_by false false n x xs ++ r ≡ by_gaps m ys ++ s → AreSame (x ∷ xs) ys n m r s
+gaps_greater x xs rest [] n m r s len h = let p = parts h in absurd (omega (arith, p.0, len))
+gaps_greater x xs rest (y ∷ ys) n m r s len h = by (y == 0) (y == 1) refl h (λ k g. gaps_greater x xs rest ys n (m + 1) r s k g)
+  where
+    by : (t u : Bool) → (y == 0) ≡ t → gaps_by false false n x xs ++ r ≡ gaps_by t u m y ys ++ s
+        → (n + length (x ∷ xs) ≡ m + 1 + length ys → gaps_by false false n x xs ++ r ≡ by_gaps (m + 1) ys ++ s → AreSame (x ∷ xs) ys n (m + 1) r s)
+        → AreSame (x ∷ xs) (y ∷ ys) n m r s
+    by true u e g later = more_zeros (x ∷ xs) ys y n m r s (is_zero y e) (later (omega (arith, len)) g)
+    by false true e g later = let p = parts g in absurd (omega (arith, p.0))
+    by false false e g later =
+        let p = parts g in
+        let k : n ≡ m = omega (arith, p.0) in
+        let d = parts p.1 in
+        let q = rest ys 0 0 r s (omega (arith, len, k)) d.1 in
+        ((λ i. replicate (k i) 0 ++ d.0 i ∷ q.0 i), q.1)
+
+same_gaps : (xs ys : List ℕ) (n m : ℕ) (r s : List ℕ) → n + length xs ≡ m + length ys → by_gaps n xs ++ r ≡ by_gaps m ys ++ s → AreSame xs ys n m r s
+same_gaps [] ys n m r s len h = gaps_none ys n m r s (omega (arith, len)) h
+same_gaps (x ∷ xs) ys n m r s len h = by (x == 0) (x == 1) refl refl h (λ zs k l t u. same_gaps xs zs k l t u)
+  where
+    by : (t u : Bool) → (x == 0) ≡ t → (x == 1) ≡ u → gaps_by t u n x xs ++ r ≡ by_gaps m ys ++ s
+        → ((zs : List ℕ) (k l : ℕ) (t u : List ℕ) → k + length xs ≡ l + length zs → by_gaps k xs ++ t ≡ by_gaps l zs ++ u → AreSame xs zs k l t u)
+        → AreSame (x ∷ xs) ys n m r s
+    by true u e f g rest = zeros_more xs ys x n m r s (is_zero x e) (rest ys (n + 1) m r s (omega (arith, len)) g)
+    by false true e f g rest = gaps_one x xs (is_one x f) rest ys n m r s len g
+    by false false e f g rest = gaps_greater x xs rest ys n m r s len g
+
+pub same_list : (xs ys r s : List ℕ) → length xs ≡ length ys → by_gaps 0 xs ++ r ≡ by_gaps 0 ys ++ s → (xs ≡ ys) × (r ≡ s)
+same_list xs ys r s len h = same_gaps xs ys 0 0 r s (ap (λ n. 0 + n) len) h
+
+-- cells
+abbrev writing_of : ℕ → Option Bool
+writing_of n = if n == 0 then None else if n == 1 then Some false else Some true
+
+abbrev cell_of : ℕ → Cell
+cell_of n = record { value = n % 2 == 1; writing = writing_of (n / 2 % 4); reading = n / 8 % 2 == 1; hit = n / 16 == 1 }
+
+decoded_by : (v : Bool) (w : Option Bool) (r h : Bool)
+    → cell_of (cell_code (record { value = v; writing = w; reading = r; hit = h })) ≡ record { value = v; writing = w; reading = r; hit = h }
+decoded_by false None false false = refl
+decoded_by false None false true = refl
+decoded_by false None true false = refl
+decoded_by false None true true = refl
+decoded_by false (Some false) false false = refl
+decoded_by false (Some false) false true = refl
+decoded_by false (Some false) true false = refl
+decoded_by false (Some false) true true = refl
+decoded_by false (Some true) false false = refl
+decoded_by false (Some true) false true = refl
+decoded_by false (Some true) true false = refl
+decoded_by false (Some true) true true = refl
+decoded_by true None false false = refl
+decoded_by true None false true = refl
+decoded_by true None true false = refl
+decoded_by true None true true = refl
+decoded_by true (Some false) false false = refl
+decoded_by true (Some false) false true = refl
+decoded_by true (Some false) true false = refl
+decoded_by true (Some false) true true = refl
+decoded_by true (Some true) false false = refl
+decoded_by true (Some true) false true = refl
+decoded_by true (Some true) true false = refl
+decoded_by true (Some true) true true = refl
+
+decoded : (c : Cell) → cell_of (cell_code c) ≡ c
+decoded c = decoded_by c.value c.writing c.reading c.hit
+
+pub same_cells : (xs ys : List Cell) → map cell_code xs ≡ map cell_code ys → xs ≡ ys
+same_cells [] [] h = refl
+same_cells [] (y ∷ ys) h = cc
+same_cells (x ∷ xs) [] h = cc
+same_cells (x ∷ xs) (y ∷ ys) h =
+    let p = parts h in
+    let e : x ≡ y = sym (decoded x) ∙ (ap cell_of p.0 ∙ decoded y) in
+    λ i. e i ∷ same_cells xs ys p.1 i
+
+-- frames
+same_op : (a b : Op) → op_code a ≡ op_code b → a ≡ b
+same_op op.Read op.Read h = refl
+same_op op.Read (op.Write w) h = absurd (omega (arith, h))
+same_op (op.Write v) op.Read h = absurd (omega (arith, h))
+same_op (op.Write v) (op.Write w) h = let e : v ≡ w = omega (arith, h) in ap op.Write e
+
+layer_low : (a : FrameLayer) → layer_code a < 8
+layer_low layers.Safe = omega arith
+layer_low layers.Copies = omega arith
+layer_low layers.Regular = omega arith
+layer_low layers.Unary = omega arith
+layer_low layers.Stamped = omega arith
+layer_low layers.MatrixRead = omega arith
+layer_low layers.MatrixWrite = omega arith
+layer_low (layers.Named n) = omega arith
+
+same_layer : (a b : FrameLayer) (r s : List ℕ) → layer_code a ≡ layer_code b → name_numbers a ++ r ≡ name_numbers b ++ s → (a ≡ b) × (r ≡ s)
+same_layer layers.Safe layers.Safe r s e h = (refl, h)
+same_layer layers.Copies layers.Copies r s e h = (refl, h)
+same_layer layers.Regular layers.Regular r s e h = (refl, h)
+same_layer layers.Unary layers.Unary r s e h = (refl, h)
+same_layer layers.Stamped layers.Stamped r s e h = (refl, h)
+same_layer layers.MatrixRead layers.MatrixRead r s e h = (refl, h)
+same_layer layers.MatrixWrite layers.MatrixWrite r s e h = (refl, h)
+same_layer (layers.Named a) (layers.Named b) r s e h =
+    let p = parts h in
+    let q = parts p.1 in
+    let t = parts q.1 in
+    ((λ i. layers.Named (record { 0 = p.0 i; 1 = q.0 i; 2 = t.0 i })), t.1)
+same_layer _ _ r s e h = absurd (omega (arith, e))
+
+same_frame : (f g : Frame) (r s : List ℕ) → frame_numbers f ++ r ≡ frame_numbers g ++ s → (f ≡ g) × (r ≡ s)
+same_frame f g r s h =
+    let p = parts h in
+    let q = parts p.1 in
+    let t = parts q.1 in
+    let low = layer_low f.layer in
+    let low' = layer_low g.layer in
+    let head = p.0 in
+    let codes : layer_code f.layer ≡ layer_code g.layer = omega (arith, head, low, low') in
+    let ops : op_code f.op ≡ op_code g.op = omega (arith, head, codes) in
+    let l = same_layer f.layer g.layer r s codes t.1 in
+    ((λ i. record { layer = l.0 i; op = same_op f.op g.op ops i; i = q.0 i; x = t.0 i }), l.1)
+
+same_frames : (fs gs : List Frame) (r s : List ℕ) → length fs ≡ length gs → frames_numbers fs ++ r ≡ frames_numbers gs ++ s → (fs ≡ gs) × (r ≡ s)
+same_frames [] [] r s len h = (refl, h)
+same_frames [] (g ∷ gs) r s len h = absurd (omega (arith, len))
+same_frames (f ∷ fs) [] r s len h = absurd (omega (arith, len))
+same_frames (f ∷ fs) (g ∷ gs) r s len h =
+    let p = same_frame f g (frames_numbers fs ++ r) (frames_numbers gs ++ s)
+    (sym (append_assoc (frame_numbers f) (frames_numbers fs) r) ∙ (h ∙ append_assoc (frame_numbers g) (frames_numbers gs) s)) in
+    let q = same_frames fs gs r s (omega (arith, len)) p.1 in
+    ((λ i. p.0 i ∷ q.0 i), q.1)
+
+-- outcomes
+same_outcome : (a b : Outcome) → outcome_code a ≡ outcome_code b → a ≡ b
+same_outcome Written Written h = refl
+same_outcome Written (Spent spent.Stamped) h = absurd (omega (arith, h))
+same_outcome Written (Spent spent.Matrix) h = absurd (omega (arith, h))
+same_outcome Written (Value w) h = absurd (omega (arith, h))
+same_outcome (Spent spent.Stamped) Written h = absurd (omega (arith, h))
+same_outcome (Spent spent.Stamped) (Spent spent.Stamped) h = refl
+same_outcome (Spent spent.Stamped) (Spent spent.Matrix) h = absurd (omega (arith, h))
+same_outcome (Spent spent.Stamped) (Value w) h = absurd (omega (arith, h))
+same_outcome (Spent spent.Matrix) Written h = absurd (omega (arith, h))
+same_outcome (Spent spent.Matrix) (Spent spent.Stamped) h = absurd (omega (arith, h))
+same_outcome (Spent spent.Matrix) (Spent spent.Matrix) h = refl
+same_outcome (Spent spent.Matrix) (Value w) h = absurd (omega (arith, h))
+same_outcome (Value v) Written h = absurd (omega (arith, h))
+same_outcome (Value v) (Spent spent.Stamped) h = absurd (omega (arith, h))
+same_outcome (Value v) (Spent spent.Matrix) h = absurd (omega (arith, h))
+same_outcome (Value v) (Value w) h = let e : v ≡ w = omega (arith, h) in ap Value e
+
+same_codes : (os us : List Outcome) (r s : List ℕ) → length os ≡ length us → map outcome_code os ++ r ≡ map outcome_code us ++ s → (os ≡ us) × (r ≡ s)
+same_codes [] [] r s len h = (refl, h)
+same_codes [] (u ∷ us) r s len h = absurd (omega (arith, len))
+same_codes (o ∷ os) [] r s len h = absurd (omega (arith, len))
+same_codes (o ∷ os) (u ∷ us) r s len h =
+    let p = parts h in
+    let q = same_codes os us r s (omega (arith, len)) p.1 in
+    ((λ i. same_outcome o u p.0 i ∷ q.0 i), q.1)
+
+-- stop marks
+same_stop : (t u : Bool) (n m : ℕ) → 2 * n + (if t then 1 else 0) ≡ 2 * m + (if u then 1 else 0) → (n ≡ m) × (t ≡ u)
+same_stop true true n m h = (omega (arith, h), refl)
+same_stop true false n m h = absurd (omega (arith, h))
+same_stop false true n m h = absurd (omega (arith, h))
+same_stop false false n m h = (omega (arith, h), refl)
+
+pub same_process : (fs gs : List Frame) (t u : Bool) (os us : List Outcome) (r s : List ℕ)
+    → (stack_numbers fs t ++ outcomes_numbers os) ++ r ≡ (stack_numbers gs u ++ outcomes_numbers us) ++ s
+    → ((fs ≡ gs) × (t ≡ u)) × ((os ≡ us) × (r ≡ s))
+same_process fs gs t u os us r s h =
+    let p = parts h in
+    let e = same_stop t u (length fs) (length gs) p.0 in
+    let f = same_frames fs gs (outcomes_numbers os ++ r) (outcomes_numbers us ++ s) e.0
+    (sym (append_assoc (frames_numbers fs) (outcomes_numbers os) r) ∙ (p.1 ∙ append_assoc (frames_numbers gs) (outcomes_numbers us) s)) in
+    let q = parts f.1 in
+    ((f.0, e.1), same_codes os us r s q.0 q.1)

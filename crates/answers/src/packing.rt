@@ -1,0 +1,293 @@
+//! The bytes of a state, under which the search keeps it.
+
+ghost use Rattle.std.specs.Prelude.{◌≡◌, ◌+◌, ◌*◌, ◌^◌, ◌<◌, ◌≤◌, ℕ, List, [], ◌∷◌, ◌++◌, length, map, slice_index_or, if◌then◌else◌, IfOk, OnOk};
+ghost use Rattle.frames.specs.Configuration.{is_stopped, running_at};
+ghost use Rattle.frames.specs.Flat.{stack_of};
+ghost use Rattle.frames.specs.declared.types.Outcome.TheVariants.{Spent};
+ghost use Rattle.answers.specs.Packing as spec;
+
+use crate::outcomes::Outcomes;
+use frames::config::Config;
+use frames::register::Register;
+use frames::types::{Frame, FrameLayer, Layer, Op, Outcome};
+use safe_bit::{Cell, Store};
+use std::alloc::{AllocError, Global};
+
+fn cell_code(cell: Cell) -> u64
+    ensures { result ≡ spec.cell_code cell }
+{
+    let value = if cell.value { 1 } else { 0 };
+    let writing = match cell.writing {
+        None => 0,
+        Some(false) => 2,
+        Some(true) => 4,
+    };
+    let reading = if cell.reading { 8 } else { 0 };
+    let hit = if cell.hit { 16 } else { 0 };
+    value + writing + reading + hit
+}
+
+fn op_code(op: Op) -> u64
+    ensures code { result ≡ spec.op_code op }
+    ensures low { result ≤ 4294967296 }
+{
+    match op {
+        Op::Read => 0,
+        Op::Write(v) => u64::from(v) + 1,
+    }
+}
+
+fn layer_code(layer: FrameLayer) -> u64
+    ensures code { result ≡ spec.layer_code layer }
+    ensures low { result ≤ 7 }
+{
+    match layer {
+        FrameLayer::Safe => 0,
+        FrameLayer::Copies => 1,
+        FrameLayer::Regular => 2,
+        FrameLayer::Unary => 3,
+        FrameLayer::Stamped => 4,
+        FrameLayer::MatrixRead => 5,
+        FrameLayer::MatrixWrite => 6,
+        FrameLayer::Named(_) => 7,
+    }
+}
+
+fn outcome_code(outcome: Outcome) -> u64
+    ensures { result ≡ spec.outcome_code outcome }
+{
+    match outcome {
+        Outcome::Written => 0,
+        Outcome::Spent(layer) => spent_code(layer),
+        Outcome::Value(v) => u64::from(v) + 3,
+    }
+}
+
+fn spent_code(layer: Layer) -> u64
+    ensures { result ≡ spec.outcome_code (Spent layer) }
+{
+    match layer {
+        Layer::Stamped => 1,
+        Layer::Matrix => 2,
+    }
+}
+
+/// Adds a number of a list that has `gap` zeros before it. Returns the number of zeros before the
+/// list's next number.
+fn add_after(numbers: &mut Vec<u64>, gap: u64, number: u64) -> Result<u64, AllocError>
+    requires { gap < 2 ^ 32 }
+    ensures added { IfOk result (λ next. (later : List ℕ)
+        → numbers.new.items ++ spec.by_gaps next later
+        ≡ numbers.old.items ++ spec.by_gaps gap (number ∷ later)) }
+    ensures low { IfOk result (λ next. next ≤ gap + 1) }
+{
+    if number == 0 {
+        return Ok(gap + 1);
+    }
+    if number == 1 {
+        numbers.push(2 * gap)?;
+        return Ok(0);
+    }
+    numbers.push(2 * gap + 1)?;
+    numbers.push(number)?;
+    Ok(0)
+}
+
+fn add_cells(numbers: &mut Vec<u64>, cells: &[Cell]) -> Result<(), AllocError>
+    requires { length cells.now < 2 ^ 32 }
+    ensures { OnOk result (numbers.new.items
+        ≡ numbers.old.items ++ spec.by_gaps 0 (map spec.cell_code cells.now)) }
+{
+    let mut gap = 0;
+    for cell in cells {
+        gap = add_after(numbers, gap, cell_code(*cell))?;
+    }
+    numbers.push(2 * gap)?;
+    Ok(())
+}
+
+fn add_words(numbers: &mut Vec<u64>, words: &[u32]) -> Result<(), AllocError>
+    requires { length words.now < 2 ^ 32 }
+    ensures { OnOk result (numbers.new.items
+        ≡ numbers.old.items ++ spec.by_gaps 0 words.now) }
+{
+    let mut gap = 0;
+    for word in words {
+        gap = add_after(numbers, gap, u64::from(*word))?;
+    }
+    numbers.push(2 * gap)?;
+    Ok(())
+}
+
+fn add_store(numbers: &mut Vec<u64>, store: &Store) -> Result<(), AllocError>
+    ensures { OnOk result (numbers.new.items
+        ≡ numbers.old.items ++ spec.memory_numbers store.now) }
+{
+    store.numbered();
+    add_cells(numbers, store.cells())?;
+    add_words(numbers, store.words())
+}
+
+fn add_name(numbers: &mut Vec<u64>, layer: FrameLayer) -> Result<(), AllocError>
+    ensures { OnOk result (numbers.new.items ≡ numbers.old.items ++ spec.name_numbers layer) }
+{
+    if let FrameLayer::Named(name) = layer {
+        numbers.push(u64::from(name.0))?;
+        numbers.push(u64::from(name.1))?;
+        numbers.push(u64::from(name.2))?;
+    }
+    Ok(())
+}
+
+fn add_frame(numbers: &mut Vec<u64>, frame: Frame) -> Result<(), AllocError>
+    ensures { OnOk result (numbers.new.items ≡ numbers.old.items ++ spec.frame_numbers frame) }
+{
+    numbers.push(layer_code(frame.layer) + 8 * op_code(frame.op))?;
+    numbers.push(u64::from(frame.i))?;
+    numbers.push(u64::from(frame.x))?;
+    add_name(numbers, frame.layer)
+}
+
+fn add_frames(numbers: &mut Vec<u64>, frames: &[Frame]) -> Result<(), AllocError>
+    ensures { OnOk result (numbers.new.items
+        ≡ numbers.old.items ++ spec.frames_numbers frames.now) }
+{
+    for frame in frames {
+        add_frame(numbers, *frame)?;
+    }
+    Ok(())
+}
+
+fn add_stack(numbers: &mut Vec<u64>, frames: &[Frame], stopped: bool) -> Result<(), AllocError>
+    requires { length frames.now ≤ 8 }
+    ensures { OnOk result (numbers.new.items
+        ≡ numbers.old.items ++ spec.stack_numbers frames.now stopped) }
+{
+    let stop = if stopped { 1 } else { 0 };
+    numbers.push(2 * frames.len() as u64 + stop)?;
+    add_frames(numbers, frames)
+}
+
+fn add_outcomes(numbers: &mut Vec<u64>, outcomes: &[Outcome]) -> Result<(), AllocError>
+    ensures { OnOk result (numbers.new.items
+        ≡ numbers.old.items ++ spec.outcomes_numbers outcomes.now) }
+{
+    numbers.push(outcomes.len() as u64)?;
+    for outcome in outcomes {
+        numbers.push(outcome_code(*outcome))?;
+    }
+    Ok(())
+}
+
+/// Adds process `p`'s frames and stop mark.
+fn add_pending<R: Register>(
+    numbers: &mut Vec<u64>,
+    config: &Config<R>,
+    p: u32,
+) -> Result<(), AllocError>
+    ensures { OnOk result (numbers.new.items ≡ numbers.old.items
+        ++ spec.stack_numbers (stack_of (R.behaviour config.now.register) (running_at p config.now))
+        (is_stopped p config.now)) }
+{
+    let stopped = config.stopped(p);
+    match config.stack(config.store().allocator(), p) {
+        Some(stack) => add_stack(numbers, stack.as_slice(), stopped),
+        None => add_stack(numbers, &[], stopped),
+    }
+}
+
+/// Adds the outcomes of process `p`'s operations.
+fn add_answers(numbers: &mut Vec<u64>, answers: &[Outcomes], p: u32) -> Result<(), AllocError>
+    ensures { OnOk result (numbers.new.items ≡ numbers.old.items
+        ++ spec.outcomes_numbers (slice_index_or answers.now p [])) }
+{
+    match answers.get(p as usize) {
+        Some(outcomes) => add_outcomes(numbers, outcomes.as_slice()),
+        None => add_outcomes(numbers, &[]),
+    }
+}
+
+fn add_process<R: Register>(
+    numbers: &mut Vec<u64>,
+    config: &Config<R>,
+    answers: &[Outcomes],
+    p: u32,
+) -> Result<(), AllocError>
+    ensures { OnOk result (numbers.new.items ≡ numbers.old.items
+        ++ spec.process_numbers (R.behaviour config.now.register) config.now.running
+        config.now.stopped answers.now p) }
+{
+    add_pending(numbers, config, p)?;
+    add_answers(numbers, answers, p)
+}
+
+/// Numbers for a configuration and answers.
+fn numbers_of<R: Register>(
+    alloc: Global,
+    config: &Config<R>,
+    answers: &[Outcomes],
+) -> Result<Vec<u64>, AllocError>
+    ensures { IfOk result (λ n. n.items ≡ spec.state_numbers (R.behaviour config.now.register)
+        config.now.memory config.now.running config.now.stopped answers.now) }
+{
+    let mut numbers = Vec::new(alloc);
+    add_store(&mut numbers, config.store())?;
+    for p in 0..config.register().processes() {
+        add_process(&mut numbers, config, answers, p)?;
+    }
+    Ok(numbers)
+}
+
+/// Adds the four bytes of a number below 2^32, the lowest first.
+fn add_half(bytes: &mut Vec<u8>, number: u64) -> Result<(), AllocError>
+    requires { number < 4294967296 }
+    ensures { OnOk result (bytes.new.items ≡ bytes.old.items ++ spec.half_bytes number) }
+{
+    bytes.push((number % 256) as u8)?;
+    bytes.push((number / 256 % 256) as u8)?;
+    bytes.push((number / 256 / 256 % 256) as u8)?;
+    bytes.push((number / 256 / 256 / 256) as u8)?;
+    Ok(())
+}
+
+fn add_number(bytes: &mut Vec<u8>, number: u64) -> Result<(), AllocError>
+    ensures { OnOk result (bytes.new.items ≡ bytes.old.items ++ spec.number_bytes number) }
+{
+    if number < 192 {
+        bytes.push(number as u8)?;
+        return Ok(());
+    }
+    if number < 16128 {
+        bytes.push((192 + number / 256) as u8)?;
+        bytes.push((number % 256) as u8)?;
+        return Ok(());
+    }
+    bytes.push(255)?;
+    add_half(bytes, number % 4294967296)?;
+    add_half(bytes, number / 4294967296)
+}
+
+/// The bytes of these numbers, with no room to spare.
+fn packed(alloc: Global, numbers: &[u64]) -> Result<Vec<u8>, AllocError>
+    ensures { IfOk result (λ bytes. bytes.items ≡ spec.packed numbers.now) }
+{
+    let mut bytes = Vec::new(alloc);
+    for number in numbers {
+        add_number(&mut bytes, *number)?;
+    }
+    Vec::from_slice(alloc, &bytes)
+}
+
+/// The bytes of a configuration and answers: of all cells, words, frames, stops and answers.
+pub(crate) fn bytes_of<R: Register>(
+    alloc: Global,
+    config: &Config<R>,
+    answers: &[Outcomes],
+) -> Result<Vec<u8>, AllocError>
+    ensures { IfOk result (λ bytes. bytes.items
+        ≡ spec.packed (spec.state_numbers (R.behaviour config.now.register)
+        config.now.memory config.now.running config.now.stopped answers.now)) }
+{
+    let numbers = numbers_of(alloc, config, answers)?;
+    packed(alloc, &numbers)
+}

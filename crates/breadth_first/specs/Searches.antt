@@ -1,0 +1,62 @@
+-- What a search keeps of the nodes that it has met, of which only those in its queue are whole.
+use Rattle.std.specs.Prelude.{◌≡◌, ℕ, ◌+◌, ◌<◌, Bool, true, false, List, [], ◌∷◌, ◌++◌, Some, length, map, drop, slice_get}
+use Rattle.std.specs.List.{list_any}
+use Rattle.breadth_first.specs.declared.mark.Mark.{Mark}
+use Rattle.breadth_first.specs.Paths.{IsServing, IsFollowed, IsAllReached}
+use Rattle.breadth_first.specs.Shape.{Shape}
+
+module _ {N K : Type 0} (g : Shape N K) where
+  module _ (eq_key : K → K → Bool) where
+    -- a node whose key was there isn't noted again
+    pub record IsThere (node : N) (keys new_keys : List K) (goals new_goals : List Bool) (marks new_marks : List Mark) (queue new_queue : List N) : Type 0 where
+      pub old : list_any (eq_key (g.key node)) keys ≡ true
+      pub keys_stay : new_keys ≡ keys
+      pub goals_stay : new_goals ≡ goals
+      pub marks_stay : new_marks ≡ marks
+      pub queue_stays : new_queue ≡ queue
+
+    -- a node whose key wasn't there is noted, and waits in the queue
+    pub record IsAdded (node : N) (mark : Mark) (most : ℕ) (keys new_keys : List K) (goals new_goals : List Bool) (marks new_marks : List Mark) (queue new_queue : List N) : Type 0 where
+      pub new : list_any (eq_key (g.key node)) keys ≡ false
+      pub room : length keys < most
+      pub keys_grow : new_keys ≡ keys ++ g.key node ∷ []
+      pub goals_grow : new_goals ≡ goals ++ g.is_goal node ∷ []
+      pub marks_grow : new_marks ≡ marks ++ mark ∷ []
+      pub queue_grows : new_queue ≡ queue ++ node ∷ []
+
+  module _ (eq : N → N → Bool) (Holds : N → Type 0) where
+    -- the keys and the goals are those of these nodes
+    pub record IsKept (nodes : List N) (keys : List K) (goals : List Bool) : Type 0 where
+      pub by_key : keys ≡ map g.key nodes
+      pub by_goal : goals ≡ map g.is_goal nodes
+      pub hold : (i : ℕ) (x : N) → slice_get nodes i ≡ Some x → Holds x
+
+    -- the nodes before index `at` are served; those from index `from` on wait in the queue
+    pub record IsSearching (nodes : List N) (keys : List K) (goals : List Bool) (marks : List Mark) (queue : List N) (from at : ℕ) : Type 0 where
+      pub serving : IsServing g.labels g.move eq nodes marks at
+      pub first : slice_get nodes 0 ≡ Some g.origin
+      pub kept : IsKept nodes keys goals
+      pub waiting : queue ≡ drop from nodes
+
+    -- a search of some nodes
+    pub record IsSearch (keys : List K) (goals : List Bool) (marks : List Mark) (queue : List N) (from at : ℕ) : Type 0 where
+      pub nodes : List N
+      pub searching : IsSearching nodes keys goals marks queue from at
+
+    -- and the node at index `at` is x
+    pub record IsSearchAt (x : N) (keys : List K) (goals : List Bool) (marks : List Mark) (queue : List N) (at : ℕ) : Type 0 where
+      pub nodes : List N
+      pub here : slice_get nodes at ≡ Some x
+      pub searching : IsSearching nodes keys goals marks queue (at + 1) at
+
+    -- one label's move from the node at `at` is followed
+    pub record IsStepped (nodes : List N) (marks : List Mark) (new_keys : List K) (new_goals : List Bool) (new_marks : List Mark) (new_queue : List N) (at l : ℕ) : Type 0 where
+      pub new_nodes : List N
+      pub searching : IsSearching new_nodes new_keys new_goals new_marks new_queue (at + 1) at
+      pub followed : IsFollowed g.labels g.move eq nodes marks new_nodes new_marks at l
+
+    -- all nodes that are reachable: their keys, which are goals, and how each was met
+    pub record IsReached (keys : List K) (goals : List Bool) (marks : List Mark) : Type 0 where
+      pub nodes : List N
+      pub kept : IsKept nodes keys goals
+      pub all : IsAllReached g.labels g.move eq g.origin nodes marks
