@@ -15,7 +15,7 @@ use std::alloc::{AllocError, Global};
 use std::hash::{Hash, Hasher};
 use std::marker::Model;
 
-/// A state, packed: its bytes, which differ from those of each other state. Contracts see the bytes.
+/// A state, packed: its bytes, which differ from those of other states. Contracts see the bytes.
 #[derive(Drop)]
 pub struct Key {
     bytes: Vec<u8>,

@@ -1,9 +1,14 @@
 -- Worked examples of definitions that claim that something exists: a case, and a near miss.
-use Rattle.std.proofs.Common.{◌≡◌, ℕ, zero, suc, ◌<◌, ◌≤◌, List, [], ◌∷◌, Option, Some, None, true, true≢false, nat_eq, length, slice_get, refl, sym, ap, ◌∙◌, arith}
+use Rattle.std.proofs.Common.{◌≡◌, ℕ, zero, suc, ◌<◌, ◌≤◌, List, [], ◌∷◌, Option, Some, None, true, false, true≢false, nat_eq, length, map, slice_get, refl, sym, ap, ◌∙◌, arith}
 use Rattle.std.specs.List.{IsDistinct}
+use Rattle.std.proofs.lemmas.Bool.Decides.{Decides-eqb}
+use Rattle.std.proofs.lemmas.Cmp.{nat_eq_equiv}
 use Rattle.std.proofs.lemmas.Option.{none-some, same_Some}
 use Rattle.breadth_first.specs.declared.mark.Mark.{Mark}
-use Rattle.breadth_first.specs.Paths.{mark_of_start, depth_at, Moves, Reaches, LeadsBy, IsFound, AreTooMany}
+use Rattle.breadth_first.specs.Paths.{mark_of_start, depth_at, Moves, Reaches, LeadsBy, IsFound, IsServing, AreTooMany}
+use Rattle.breadth_first.specs.Searches.{IsReached}
+use Rattle.breadth_first.specs.Shape.{Shape}
+use Rattle.breadth_first.proofs.Served.{all_reached, serving_first}
 
 -- a graph whose one label leads from 0 to 1, and nowhere from any other node
 abbrev move : ℕ → ℕ → Option ℕ
@@ -89,3 +94,37 @@ one_start (x ∷ y ∷ nodes) d r m =
 -- without labels one node is reachable, which is allowed
 AreTooMany-fails : AreTooMany 0 move nat_eq 0 1 → ⊥
 AreTooMany-fails h = one_start h.nodes h.distinct h.reached h.many
+
+-- a graph without labels, whose keys are its nodes
+abbrev alone : Shape ℕ ℕ
+alone = record { labels = 0; move = move; origin = 0; key = λ n. n; is_goal = λ n. false }
+
+same_moves : (x y : ℕ) → nat_eq x y ≡ true → (l z : ℕ) → move x l ≡ Some z → (w : ℕ) × ((move y l ≡ Some w) × (nat_eq z w ≡ true))
+same_moves x y e l z m = (z, (ap (λ n. move n l) (sym ((Decides-eqb x y).0 e)) ∙ m, nat_eq_equiv.refl z))
+
+start_served : IsServing 0 move nat_eq (0 ∷ []) (mark_of_start ∷ []) 1
+start_served =
+    let s = serving_first 0 move nat_eq nat_eq_equiv same_moves 0 in
+    record {
+      trail = s.trail;
+      distinct = s.distinct;
+      sorted = s.sorted;
+      near = λ j next lt. absurd (omega (arith, next));
+      served = λ i k lt h y mv. absurd (omega (arith, mv.1.0));
+    }
+
+-- its search finds the start alone
+IsReached-holds : IsReached alone nat_eq (λ n. Unit {0}) (0 ∷ []) (false ∷ []) (mark_of_start ∷ [])
+IsReached-holds = record {
+  nodes = 0 ∷ [];
+  kept = record { by_key = refl; by_goal = refl; hold = λ i x h. tt };
+  all = all_reached 0 move nat_eq nat_eq_equiv same_moves 0 (0 ∷ []) (mark_of_start ∷ []) 1 start_served (omega arith) refl;
+}
+
+none_starts : (nodes : List ℕ) → [] ≡ map (λ n. n) nodes → slice_get nodes 0 ≡ Some 0 → ⊥
+none_starts [] e s = none-some 0 s
+none_starts (x ∷ nodes) e s = let long : 0 ≡ length (map (λ n. n) (x ∷ nodes)) = ap length e in absurd (omega (arith, long))
+
+-- a search without keys has missed the start
+IsReached-fails : IsReached alone nat_eq (λ n. Unit {0}) [] [] [] → ⊥
+IsReached-fails h = none_starts h.nodes h.kept.by_key h.all.starts

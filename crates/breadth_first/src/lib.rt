@@ -1,8 +1,8 @@
 //! Breadth-first search of a graph whose moves have labels.
 //!
-//! The nodes met so far are a queue and the set of visited nodes at once: an `IndexSet` keeps them in
-//! the order in which they were met. Each has a mark, which says how it was met, so the marks along
-//! a node's parents give a shortest path to it.
+//! Of each node that is met the search keeps its key, in an `IndexSet`, whose order is that in which
+//! the nodes were met, and a mark, which says how it was met: the marks along a node's parents give
+//! a shortest path to it. Whole nodes are kept in a queue until they are served.
 #![tactic(auto)]
 
 pub mod graph;
