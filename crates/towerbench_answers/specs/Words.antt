@@ -3,8 +3,8 @@ use Rattle.std.specs.Prelude.{◌≡◌, ℕ, ◌||◌, ◌&&◌, ◌==◌, not,
 use Rattle.std.specs.Str.{bytes_eq}
 use Rattle.towerbench_answers.specs.declared.ending.AnswersEnding.{AnswersEnding}
 use Rattle.towerbench_answers.specs.declared.ending.AnswersEnding.TheVariants.{Done, Refused, Faulted}
-use Rattle.towerbench_answers.specs.declared.words.Asked.{Asked}
-use Rattle.towerbench_answers.specs.declared.words.Asked.TheVariants.{File, Help, Nothing}
+use Rattle.towerbench_answers.specs.declared.asked.Asked.{Asked}
+use Rattle.towerbench_answers.specs.declared.asked.Asked.TheVariants.{File, Help, Nothing}
 
 -- whether a word asks for the help
 abbrev pub is_help : List ℕ → Bool

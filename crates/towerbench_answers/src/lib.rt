@@ -2,12 +2,12 @@
 //! are possible. The program passes its streams and the words of its command line to `answers_tool`.
 #![tactic(auto)]
 
+mod asked;
 mod ending;
 mod program;
 mod source;
-mod words;
 
+pub use asked::{Asked, read_words};
 pub use ending::{AnswersEnding, AnswersProgramFault};
 pub use program::answers_tool;
 pub use source::QuestionSourceFault;
-pub use words::{Asked, read_words};

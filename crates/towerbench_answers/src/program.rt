@@ -5,9 +5,9 @@ ghost use Rattle.std.specs.IoError.{error_kind};
 ghost use Rattle.std.specs.String.{string_bytes};
 ghost use Rattle.towerbench_answers.specs.Words.{are_refused, answers_status, ends_refused};
 
+use crate::asked::{Asked, read_words};
 use crate::ending::{AnswersEnding, AnswersProgramFault};
 use crate::source::bytes_at;
-use crate::words::{Asked, read_words};
 use answer_lines::answer;
 use conversation::streams::write_whole;
 use std::alloc::Global;
