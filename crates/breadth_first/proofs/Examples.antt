@@ -5,7 +5,7 @@ use Rattle.std.proofs.lemmas.Bool.Decides.{Decides-eqb}
 use Rattle.std.proofs.lemmas.Cmp.{nat_eq_equiv}
 use Rattle.std.proofs.lemmas.Option.{none-some, same_Some}
 use Rattle.breadth_first.specs.declared.mark.Mark.{Mark}
-use Rattle.breadth_first.specs.Paths.{mark_of_start, depth_at, Moves, Reaches, LeadsBy, IsFound, IsServing, AreTooMany}
+use Rattle.breadth_first.specs.Paths.{mark_of_start, depth_at, Moves, Reaches, IsMade, IsTrail, LeadsBy, IsFound, IsServing, AreTooMany}
 use Rattle.breadth_first.specs.Searches.{IsReached}
 use Rattle.breadth_first.specs.Shape.{Shape}
 use Rattle.breadth_first.proofs.Served.{all_reached, serving_first}
@@ -41,6 +41,19 @@ Reaches-fails h = from h.0 h.1.0 h.1.1.1.1
     from : (x : ℕ) → Reaches 1 move 0 1 x → move x h.1.1.0 ≡ Some 1 → ⊥
     from zero r e = let one : 1 ≡ 0 = same_Some 1 0 (ap (λ n. move n r.1.1.0) (sym r.1.0) ∙ r.1.1.1.1) in absurd (omega (arith, one))
     from (suc x) r e = none-some 1 e
+
+two_made : (i k : ℕ) → 0 < i → slice_get keys i ≡ Some k → IsMade 1 move keys marks i k
+two_made zero k lt s = absurd (omega (arith, lt))
+two_made (suc zero) k lt s = record { parent = 0; earlier = omega arith; stored = refl; labelled = omega arith; made = s; deeper = refl }
+two_made (suc (suc i)) k lt s = absurd (none-some k s)
+
+-- these are the marks of the nodes 0 and 1
+path_to-holds : (nodes : List ℕ) × IsTrail 1 move nodes marks
+path_to-holds = (keys, record { marked = refl; first = refl; made = two_made })
+
+-- a start that is one move deep is that of no nodes
+path_to-fails : ((nodes : List ℕ) × IsTrail 1 move nodes (record { parent = 0; label = 0; depth = 1 } ∷ [])) → ⊥
+path_to-fails h = let deep : 1 ≡ 0 = h.1.first in absurd (omega (arith, deep))
 
 -- the mark of node 1 leads from 0 to 1
 LeadsBy-holds : LeadsBy 1 move keys 0 (record { parent = 0; label = 0; depth = 1 } ∷ []) 1
