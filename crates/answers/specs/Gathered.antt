@@ -6,7 +6,7 @@ use Rattle.frames.specs.declared.types.Step.{Step}
 use Rattle.frames.specs.Behaviour.{Behaviour}
 use Rattle.breadth_first.specs.declared.mark.Mark.{Mark}
 use Rattle.breadth_first.specs.Paths.{depth_at, AreTooMany, LeadsBy}
-use Rattle.breadth_first.specs.Searches.{IsReached}
+use Rattle.breadth_first.specs.Searches.{IsWholeSearch}
 use Rattle.answers.specs.declared.found.Possible.{Possible}
 use Rattle.answers.specs.declared.question.Question.{Question}
 use Rattle.answers.specs.Answers.{HasItsSchedule}
@@ -39,7 +39,7 @@ module _ {R P : Type 0} (is : R → Behaviour P) (E : R → R → Bool) (F : P �
   -- the states that the question's moves reach from the initial state of register r: their keys,
   -- which of them are done, and their marks
   abbrev pub IsSearched : (Memory → Type 0) → (ℕ → Op → P → Type 0) → List (List ℕ) → List Bool → List Mark → Type 0
-  IsSearched Holds Reaches keys goals marks = IsReached (moves_of is q r) (state_eq E F) (IsStateOf (is r) Holds Reaches r) keys goals marks
+  IsSearched Holds Reaches keys goals marks = IsWholeSearch (moves_of is q r) (state_eq E F) (IsStateOf (is r) Holds Reaches r) keys goals marks
 
   -- the question's moves reach more than `most` states from there, none equal to another
   pub record AreTooManyStates (most : ℕ) : Type 0 where

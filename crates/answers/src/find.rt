@@ -15,7 +15,7 @@ ghost use Rattle.answers.specs.Gathered.{AreTooManyStates, IsBuilding, IsGathere
 
 use crate::fits::fits;
 use crate::found::{Found, Possible, Unfound};
-use crate::key::Key;
+use crate::key::StateKey;
 use crate::moves::{Moves, copies, step_by};
 use crate::outcomes::{Outcomes, no_answers};
 use crate::question::Question;
@@ -100,7 +100,7 @@ fn walk_along<'q, R: Register>(
 fn walk_to<'q, R: Register>(
     alloc: Global,
     moves: &Moves<'q, R>,
-    reached: &Reached<Key>,
+    reached: &Reached<StateKey>,
     index: u32,
 ) -> Result<Walk<R>, AllocError>
     requires value { moves.now.question.now.value < (R.behaviour moves.now.register).values }
@@ -149,7 +149,7 @@ fn is_listed(found: &[Possible], answers: &[Outcomes]) -> bool
 fn gather_one<'q, R: Register>(
     alloc: Global,
     moves: &Moves<'q, R>,
-    reached: &Reached<Key>,
+    reached: &Reached<StateKey>,
     index: u32,
     found: &mut Vec<Possible>,
 ) -> Result<(), AllocError>
@@ -191,7 +191,7 @@ fn gather_one<'q, R: Register>(
 fn gather<'q, R: Register>(
     alloc: Global,
     moves: &Moves<'q, R>,
-    reached: &Reached<Key>,
+    reached: &Reached<StateKey>,
     most: u32,
 ) -> Result<Vec<Possible>, AllocError>
     requires value { moves.now.question.now.value < (R.behaviour moves.now.register).values }
@@ -220,7 +220,7 @@ fn explore<'q, R: Register>(
     alloc: Global,
     moves: &Moves<'q, R>,
     most: u32,
-) -> Result<Reached<Key>, Unfound>
+) -> Result<Reached<StateKey>, Unfound>
     requires { moves.now.question.now.value < (R.behaviour moves.now.register).values }
     ensures searched { IfOk result (λ r. IsSearched R.behaviour R.PartialEq.eq
         R.Pending.PartialEq.eq moves.now.question.now moves.now.register

@@ -17,11 +17,11 @@ use std::marker::Model;
 
 /// A state, packed: its bytes, which differ from those of other states. Contracts see the bytes.
 #[derive(Drop)]
-pub struct Key {
+pub struct StateKey {
     bytes: Vec<u8>,
 }
 
-impl Model for Key {
+impl Model for StateKey {
     ghost use Rattle.std.specs.Prelude.{ℕ, List};
 
     ghost Value = { List ℕ };
@@ -29,21 +29,21 @@ impl Model for Key {
     ghost view = { λ k. k.bytes.items };
 }
 
-impl PartialEq for Key {
+impl PartialEq for StateKey {
     ghost eq = { pointwise nat_eq };
 
     ghost laws = { partial_equiv_from_equiv nat_list_eq_equiv };
 
-    fn eq(&self, other: &Key) -> bool {
+    fn eq(&self, other: &StateKey) -> bool {
         self.as_bytes() == other.as_bytes()
     }
 }
 
-impl Eq for Key {
+impl Eq for StateKey {
     ghost laws = { nat_list_eq_equiv };
 }
 
-impl Hash for Key {
+impl Hash for StateKey {
     ghost hash_input = { fed.slice fed.u8 };
 
     ghost respects_eq = { Prim.search (hashing, rules) };
@@ -53,14 +53,14 @@ impl Hash for Key {
     }
 }
 
-impl Key {
+impl StateKey {
     /// The key of a state. `AllocError` if memory runs out.
-    pub(crate) fn of<R: Register>(alloc: Global, state: &State<R>) -> Result<Key, AllocError>
+    pub(crate) fn of<R: Register>(alloc: Global, state: &State<R>) -> Result<StateKey, AllocError>
         ensures { IfOk result (λ k. k
             ≡ state_bytes (R.behaviour state.now.configuration.register) state.now) }
     {
         let bytes = bytes_of(alloc, &state.config, &state.answers)?;
-        Ok(Key { bytes })
+        Ok(StateKey { bytes })
     }
 
     fn as_bytes(&self) -> &[u8]

@@ -7,7 +7,7 @@ ghost use Rattle.answers.specs.Questions.{allows, next_of, operations_of, stops_
 ghost use Rattle.answers.specs.States.{advanced, ended_counts, invoking_step, option_list, step_by};
 
 use crate::done::is_done;
-use crate::key::Key;
+use crate::key::StateKey;
 use crate::outcomes::Outcomes;
 use crate::question::{After, Question};
 use crate::state::State;
@@ -28,7 +28,7 @@ pub struct Moves<'q, R: Register> {
 impl<'q, R: Register> Graph for Moves<'q, R> {
     type Node = State<R>;
 
-    type Key = Key;
+    type Key = StateKey;
 
     ghost use Rattle.answers.specs.Graphs.{IsStateOf, moves_of};
     ghost use Rattle.answers.specs.laws.KeyLaws.{same_keys, state_after};
@@ -60,8 +60,8 @@ impl<'q, R: Register> Graph for Moves<'q, R> {
         Ok(Some(next))
     }
 
-    fn key(&self, alloc: Global, node: &State<R>) -> Result<Key, AllocError> {
-        Key::of(alloc, node)
+    fn key(&self, alloc: Global, node: &State<R>) -> Result<StateKey, AllocError> {
+        StateKey::of(alloc, node)
     }
 
     fn is_goal(&self, node: &State<R>) -> bool {

@@ -6,7 +6,7 @@ use Rattle.std.proofs.lemmas.Cmp.{nat_eq_equiv}
 use Rattle.std.proofs.lemmas.Option.{none-some, same_Some}
 use Rattle.breadth_first.specs.declared.mark.Mark.{Mark}
 use Rattle.breadth_first.specs.Paths.{mark_of_start, depth_at, Moves, Reaches, IsMade, IsTrail, LeadsBy, IsFound, IsServing, AreTooMany}
-use Rattle.breadth_first.specs.Searches.{IsReached}
+use Rattle.breadth_first.specs.Searches.{IsWholeSearch}
 use Rattle.breadth_first.specs.Shape.{Shape}
 use Rattle.breadth_first.proofs.Served.{all_reached, serving_first}
 
@@ -127,8 +127,8 @@ start_served =
     }
 
 -- its search finds the start alone
-IsReached-holds : IsReached alone nat_eq (λ n. Unit {0}) (0 ∷ []) (false ∷ []) (mark_of_start ∷ [])
-IsReached-holds = record {
+IsWholeSearch-holds : IsWholeSearch alone nat_eq (λ n. Unit {0}) (0 ∷ []) (false ∷ []) (mark_of_start ∷ [])
+IsWholeSearch-holds = record {
   nodes = 0 ∷ [];
   kept = record { by_key = refl; by_goal = refl; hold = λ i x h. tt };
   all = all_reached 0 move nat_eq nat_eq_equiv same_moves 0 (0 ∷ []) (mark_of_start ∷ []) 1 start_served (omega arith) refl;
@@ -139,5 +139,5 @@ none_starts [] e s = none-some 0 s
 none_starts (x ∷ nodes) e s = let long : 0 ≡ length (map (λ n. n) (x ∷ nodes)) = ap length e in absurd (omega (arith, long))
 
 -- a search without keys has missed the start
-IsReached-fails : IsReached alone nat_eq (λ n. Unit {0}) [] [] [] → ⊥
-IsReached-fails h = none_starts h.nodes h.kept.by_key h.all.starts
+IsWholeSearch-fails : IsWholeSearch alone nat_eq (λ n. Unit {0}) [] [] [] → ⊥
+IsWholeSearch-fails h = none_starts h.nodes h.kept.by_key h.all.starts

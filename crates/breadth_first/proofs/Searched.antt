@@ -7,7 +7,7 @@ use Rattle.std.proofs.lemmas.Option.{none-some, slice_get_within}
 use Rattle.breadth_first.specs.declared.mark.Mark.{Mark}
 use Rattle.breadth_first.specs.Shape.{Shape}
 use Rattle.breadth_first.specs.Paths.{mark_of_start, depth_at, AreTooMany}
-use Rattle.breadth_first.specs.Searches.{IsThere, IsAdded, IsKept, IsSearching, IsSearch, IsSearchAt, IsStepped, IsReached}
+use Rattle.breadth_first.specs.Searches.{IsOldNode, IsNewNode, AreKeysOf, IsSearching, IsSearch, IsSearchAt, IsStepped, IsWholeSearch}
 use Rattle.breadth_first.proofs.Pushed.{old_or_new}
 use Rattle.breadth_first.proofs.Served.{all_reached, followed_there, followed_new, too_many}
 use Rattle.breadth_first.proofs.Started.{HasBegun, begun, no_more}
@@ -31,18 +31,18 @@ module _ {N K : Type 0} (g : Shape N K) (eq : N → N → Bool) (eq_key : K → 
   any_key same y [] h all = refl
   any_key same y (x ∷ nodes) h all = λ i. same y x h (all 0 x refl) i || any_key same y nodes h (λ j z e. all (suc j) z e) i
 
-  pub kept_more : (nodes : List N) (y : N) (keys new_keys : List K) (goals new_goals : List Bool) → IsKept g eq Holds nodes keys goals → Holds y
-      → new_keys ≡ keys ++ g.key y ∷ [] → new_goals ≡ goals ++ g.is_goal y ∷ [] → IsKept g eq Holds (nodes ++ y ∷ []) new_keys new_goals
+  pub kept_more : (nodes : List N) (y : N) (keys new_keys : List K) (goals new_goals : List Bool) → AreKeysOf g eq Holds nodes keys goals → Holds y
+      → new_keys ≡ keys ++ g.key y ∷ [] → new_goals ≡ goals ++ g.is_goal y ∷ [] → AreKeysOf g eq Holds (nodes ++ y ∷ []) new_keys new_goals
   kept_more nodes y keys new_keys goals new_goals k h by_key by_goal = record {
     by_key = by_key ∙ (ap (λ ks. ks ++ g.key y ∷ []) k.by_key ∙ sym (map-append g.key nodes (y ∷ [])));
     by_goal = by_goal ∙ (ap (λ gs. gs ++ g.is_goal y ∷ []) k.by_goal ∙ sym (map-append g.is_goal nodes (y ∷ [])));
     hold = λ i x s. elim (old_or_new nodes y i x s) [ inl p ↦ k.hold i x p | inr q ↦ subst Holds (sym q.1) h ];
   }
 
-  pub kept_none : IsKept g eq Holds [] [] []
+  pub kept_none : AreKeysOf g eq Holds [] [] []
   kept_none = record { by_key = refl; by_goal = refl; hold = λ i x s. absurd (none-some x s) }
 
-  pub as_many : (nodes : List N) (keys : List K) (goals : List Bool) → IsKept g eq Holds nodes keys goals → length keys ≡ length nodes
+  pub as_many : (nodes : List N) (keys : List K) (goals : List Bool) → AreKeysOf g eq Holds nodes keys goals → length keys ≡ length nodes
   as_many nodes keys goals k = ap length k.by_key ∙ length-map nodes g.key
 
   -- a search that has met the start alone
@@ -50,7 +50,7 @@ module _ {N K : Type 0} (g : Shape N K) (eq : N → N → Bool) (eq_key : K → 
       (alike : (x y : N) → eq x y ≡ true → (l : ℕ) (z : N) → g.move x l ≡ Some z → (w : N) × ((g.move y l ≡ Some w) × (eq z w ≡ true)))
       (start : N) (most : ℕ) → start ≡ g.origin → Holds start
       → (no_keys keys : List K) (no_goals goals : List Bool) (no_marks marks : List Mark) (no_queue queue : List N) → no_keys ≡ [] → no_goals ≡ [] → no_marks ≡ [] → no_queue ≡ []
-      → (IsThere g eq_key start no_keys keys no_goals goals no_marks marks no_queue queue ⊎ IsAdded g eq_key start mark_of_start most no_keys keys no_goals goals no_marks marks no_queue queue)
+      → (IsOldNode g eq_key start no_keys keys no_goals goals no_marks marks no_queue queue ⊎ IsNewNode g eq_key start mark_of_start most no_keys keys no_goals goals no_marks marks no_queue queue)
       → IsSearching g eq Holds (start ∷ []) keys goals marks queue 0 0 × (length keys ≤ most)
   search_begun same laws alike start most e h no_keys keys no_goals goals no_marks marks no_queue queue nk ng nm nq (inl t) =
       absurd (true≢false (sym t.old ∙ ap (list_any (eq_key (g.key start))) nk))
@@ -74,8 +74,8 @@ module _ {N K : Type 0} (g : Shape N K) (eq : N → N → Bool) (eq_key : K → 
         (alike : (x y : N) → eq x y ≡ true → (l : ℕ) (z : N) → g.move x l ≡ Some z → (w : N) × ((g.move y l ≡ Some w) × (eq z w ≡ true)))
         (x y : N) (l d most : ℕ) → Holds y → slice_get nodes at ≡ Some x → l < g.labels → g.move x l ≡ Some y → d ≡ depth_at marks at + 1
         → (new_keys : List K) (new_goals : List Bool) (new_marks : List Mark) (new_queue : List N)
-        → (IsThere g eq_key y keys new_keys goals new_goals marks new_marks queue new_queue
-        ⊎ IsAdded g eq_key y (record { parent = at; label = l; depth = d }) most keys new_keys goals new_goals marks new_marks queue new_queue)
+        → (IsOldNode g eq_key y keys new_keys goals new_goals marks new_marks queue new_queue
+        ⊎ IsNewNode g eq_key y (record { parent = at; label = l; depth = d }) most keys new_keys goals new_goals marks new_marks queue new_queue)
         → IsStepped g eq Holds nodes marks new_keys new_goals new_marks new_queue at l
     stepped same laws alike x y l d most h here lab moves deep new_keys new_goals new_marks new_queue (inl t) =
         let there : list_any (eq y) nodes ≡ true = sym (any_key same y nodes h s.kept.hold) ∙ (ap (list_any (eq_key (g.key y))) (sym s.kept.by_key) ∙ t.old) in
@@ -129,7 +129,7 @@ module _ {N K : Type 0} (g : Shape N K) (eq : N → N → Bool) (eq_key : K → 
 
     searched_all : (laws : IsEquivalence eq)
         (alike : (x y : N) → eq x y ≡ true → (l : ℕ) (z : N) → g.move x l ≡ Some z → (w : N) × ((g.move y l ≡ Some w) × (eq z w ≡ true)))
-        → length s.nodes ≤ at → IsReached g eq Holds keys goals marks
+        → length s.nodes ≤ at → IsWholeSearch g eq Holds keys goals marks
     searched_all laws alike all = record {
       nodes = s.nodes;
       kept = s.searching.kept;
@@ -139,7 +139,7 @@ module _ {N K : Type 0} (g : Shape N K) (eq : N → N → Bool) (eq_key : K → 
     -- once the queue is empty, all is found
     pub searched_empty : (laws : IsEquivalence eq)
         (alike : (x y : N) → eq x y ≡ true → (l : ℕ) (z : N) → g.move x l ≡ Some z → (w : N) × ((g.move y l ≡ Some w) × (eq z w ≡ true)))
-        → queue ≡ drop 1 queue → IsReached g eq Holds keys goals marks
+        → queue ≡ drop 1 queue → IsWholeSearch g eq Holds keys goals marks
     searched_empty laws alike e =
         let none : length queue ≡ 0 = none_in queue e in
         let left : length queue ≡ length s.nodes - at = ap length s.searching.waiting ∙ length-drop at s.nodes in
@@ -148,12 +148,12 @@ module _ {N K : Type 0} (g : Shape N K) (eq : N → N → Bool) (eq_key : K → 
     -- and so it is once as many nodes are served as are allowed
     pub searched_full : (laws : IsEquivalence eq)
         (alike : (x y : N) → eq x y ≡ true → (l : ℕ) (z : N) → g.move x l ≡ Some z → (w : N) × ((g.move y l ≡ Some w) × (eq z w ≡ true)))
-        → length keys ≤ at → IsReached g eq Holds keys goals marks
+        → length keys ≤ at → IsWholeSearch g eq Holds keys goals marks
     searched_full laws alike few = let many = as_many s.nodes keys goals s.searching.kept in searched_all laws alike (omega (arith, few, many))
 
   pub no_more_keys : (laws : IsEquivalence eq)
       (alike : (x y : N) → eq x y ≡ true → (l : ℕ) (z : N) → g.move x l ≡ Some z → (w : N) × ((g.move y l ≡ Some w) × (eq z w ≡ true)))
-      (keys : List K) (goals : List Bool) (marks : List Mark) (most : ℕ) → IsReached g eq Holds keys goals marks → length keys ≤ most → AreTooMany g.labels g.move eq g.origin most → ⊥
+      (keys : List K) (goals : List Bool) (marks : List Mark) (most : ℕ) → IsWholeSearch g eq Holds keys goals marks → length keys ≤ most → AreTooMany g.labels g.move eq g.origin most → ⊥
   no_more_keys laws alike keys goals marks most r few =
       let many = as_many r.nodes keys goals r.kept in
       no_more g.labels g.move eq laws alike g.origin r.nodes marks most r.all (omega (arith, few, many))

@@ -8,7 +8,7 @@ use Rattle.breadth_first.specs.Shape.{Shape}
 module _ {N K : Type 0} (g : Shape N K) where
   module _ (eq_key : K → K → Bool) where
     -- a node whose key was there isn't noted again
-    pub record IsThere (node : N) (keys new_keys : List K) (goals new_goals : List Bool) (marks new_marks : List Mark) (queue new_queue : List N) : Type 0 where
+    pub record IsOldNode (node : N) (keys new_keys : List K) (goals new_goals : List Bool) (marks new_marks : List Mark) (queue new_queue : List N) : Type 0 where
       pub old : list_any (eq_key (g.key node)) keys ≡ true
       pub keys_stay : new_keys ≡ keys
       pub goals_stay : new_goals ≡ goals
@@ -16,7 +16,7 @@ module _ {N K : Type 0} (g : Shape N K) where
       pub queue_stays : new_queue ≡ queue
 
     -- a node whose key wasn't there is noted, and waits in the queue
-    pub record IsAdded (node : N) (mark : Mark) (most : ℕ) (keys new_keys : List K) (goals new_goals : List Bool) (marks new_marks : List Mark) (queue new_queue : List N) : Type 0 where
+    pub record IsNewNode (node : N) (mark : Mark) (most : ℕ) (keys new_keys : List K) (goals new_goals : List Bool) (marks new_marks : List Mark) (queue new_queue : List N) : Type 0 where
       pub new : list_any (eq_key (g.key node)) keys ≡ false
       pub room : length keys < most
       pub keys_grow : new_keys ≡ keys ++ g.key node ∷ []
@@ -26,7 +26,7 @@ module _ {N K : Type 0} (g : Shape N K) where
 
   module _ (eq : N → N → Bool) (Holds : N → Type 0) where
     -- the keys and the goals are those of these nodes
-    pub record IsKept (nodes : List N) (keys : List K) (goals : List Bool) : Type 0 where
+    pub record AreKeysOf (nodes : List N) (keys : List K) (goals : List Bool) : Type 0 where
       pub by_key : keys ≡ map g.key nodes
       pub by_goal : goals ≡ map g.is_goal nodes
       pub hold : (i : ℕ) (x : N) → slice_get nodes i ≡ Some x → Holds x
@@ -35,7 +35,7 @@ module _ {N K : Type 0} (g : Shape N K) where
     pub record IsSearching (nodes : List N) (keys : List K) (goals : List Bool) (marks : List Mark) (queue : List N) (from at : ℕ) : Type 0 where
       pub serving : IsServing g.labels g.move eq nodes marks at
       pub first : slice_get nodes 0 ≡ Some g.origin
-      pub kept : IsKept nodes keys goals
+      pub kept : AreKeysOf nodes keys goals
       pub waiting : queue ≡ drop from nodes
 
     -- a search of some nodes
@@ -56,7 +56,7 @@ module _ {N K : Type 0} (g : Shape N K) where
       pub followed : IsFollowed g.labels g.move eq nodes marks new_nodes new_marks at l
 
     -- all nodes that are reachable: their keys, which are goals, and how each was met
-    pub record IsReached (keys : List K) (goals : List Bool) (marks : List Mark) : Type 0 where
+    pub record IsWholeSearch (keys : List K) (goals : List Bool) (marks : List Mark) : Type 0 where
       pub nodes : List N
-      pub kept : IsKept nodes keys goals
+      pub kept : AreKeysOf nodes keys goals
       pub all : IsAllReached g.labels g.move eq g.origin nodes marks

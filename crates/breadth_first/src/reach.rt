@@ -3,7 +3,7 @@
 ghost use Rattle.std.specs.Prelude.{◌≡◌, ℕ, ◌+◌, ◌<◌, ◌≤◌, false, ◌⊎◌, Some, Err, List, [], ◌∷◌, ◌++◌, length, slice_get, OnOk, IfOk};
 ghost use Rattle.std.specs.List.{list_any};
 ghost use Rattle.breadth_first.specs.Paths.{AreTooMany};
-ghost use Rattle.breadth_first.specs.Searches.{IsThere, IsAdded, IsSearching, IsSearch, IsSearchAt, IsStepped, IsReached};
+ghost use Rattle.breadth_first.specs.Searches.{IsOldNode, IsNewNode, IsSearching, IsSearch, IsSearchAt, IsStepped, IsWholeSearch};
 ghost use Rattle.breadth_first.specs.declared.mark.Unreached.TheVariants.{TooMany};
 
 use crate::graph::Graph;
@@ -26,6 +26,7 @@ pub struct Reached<K: Eq + Hash + Drop> {
 /// A search in progress. The queue has the nodes that are met but not served.
 #[derive(Drop)]
 struct Search<N: Drop, K: Eq + Hash + Drop> {
+    alloc: Global,
     reached: Reached<K>,
     queue: VecDeque<N>,
 }
@@ -40,7 +41,7 @@ pub fn reach<G: Graph>(
 ) -> Result<Reached<G::Key>, Unreached>
     requires starts { start ≡ (G.shape graph.now).origin }
     requires holds { G.Holds graph.now start }
-    ensures all { IfOk result (λ r. IsReached (G.shape graph.now) G.Node.eq (G.Holds graph.now)
+    ensures all { IfOk result (λ r. IsWholeSearch (G.shape graph.now) G.Node.eq (G.Holds graph.now)
         r.keys.keys r.goals.items r.marks.items) }
     ensures fits { IfOk result (λ r. length r.keys.keys ≤ most) }
     ensures few { IfOk result (λ _. AreTooMany (G.shape graph.now).labels
@@ -54,10 +55,10 @@ pub fn reach<G: Graph>(
         label: 0,
         depth: 0,
     };
-    if let Err(why) = meet(alloc, graph, &mut search, start, origin, most) {
+    if let Err(why) = meet(graph, &mut search, start, origin, most) {
         return Err(why);
     }
-    if let Err(why) = serve_all(alloc, graph, &mut search, most) {
+    if let Err(why) = serve_all(graph, &mut search, most) {
         return Err(why);
     }
     Ok(search.reached)
@@ -65,7 +66,6 @@ pub fn reach<G: Graph>(
 
 /// Serves the nodes in the queue, and those that this adds to it.
 fn serve_all<G: Graph>(
-    alloc: Global,
     graph: &G,
     search: &mut Search<G::Node, G::Key>,
     most: u32,
@@ -74,7 +74,7 @@ fn serve_all<G: Graph>(
         search.old.reached.keys.keys search.old.reached.goals.items
         search.old.reached.marks.items search.old.queue.items 0 0 }
     requires fits { length search.old.reached.keys.keys ≤ most }
-    ensures all { OnOk result (IsReached (G.shape graph.now) G.Node.eq (G.Holds graph.now)
+    ensures all { OnOk result (IsWholeSearch (G.shape graph.now) G.Node.eq (G.Holds graph.now)
         search.new.reached.keys.keys search.new.reached.goals.items
         search.new.reached.marks.items) }
     ensures fits { OnOk result (length search.new.reached.keys.keys ≤ most) }
@@ -85,7 +85,7 @@ fn serve_all<G: Graph>(
         let Some(node) = search.queue.pop_front() else {
             break;
         };
-        if let Err(why) = serve(alloc, graph, search, &node, at, most) {
+        if let Err(why) = serve(graph, search, &node, at, most) {
             return Err(why);
         }
     }
@@ -104,12 +104,15 @@ fn begin<G: Graph>(alloc: Global) -> Search<G::Node, G::Key>
     let marks = Vec::new(alloc);
     let reached = Reached { keys, goals, marks };
     let queue = VecDeque::new(alloc);
-    Search { reached, queue }
+    Search {
+        alloc,
+        reached,
+        queue,
+    }
 }
 
 /// Notes a node with its mark, unless an equal node is noted. `TooMany` if `most` others are.
 fn meet<G: Graph>(
-    alloc: Global,
     graph: &G,
     search: &mut Search<G::Node, G::Key>,
     node: G::Node,
@@ -117,12 +120,12 @@ fn meet<G: Graph>(
     most: u32,
 ) -> Result<(), Unreached>
     ensures met { OnOk result (
-        IsThere (G.shape graph.now) G.Key.eq node
+        IsOldNode (G.shape graph.now) G.Key.eq node
         search.old.reached.keys.keys search.new.reached.keys.keys
         search.old.reached.goals.items search.new.reached.goals.items
         search.old.reached.marks.items search.new.reached.marks.items
         search.old.queue.items search.new.queue.items
-        ⊎ IsAdded (G.shape graph.now) G.Key.eq node mark most
+        ⊎ IsNewNode (G.shape graph.now) G.Key.eq node mark most
         search.old.reached.keys.keys search.new.reached.keys.keys
         search.old.reached.goals.items search.new.reached.goals.items
         search.old.reached.marks.items search.new.reached.marks.items
@@ -131,7 +134,7 @@ fn meet<G: Graph>(
         → (list_any (G.Key.eq ((G.shape graph.now).key node)) search.old.reached.keys.keys ≡ false)
         × (most ≤ length search.old.reached.keys.keys) }
 {
-    let Ok(key) = graph.key(alloc, &node) else {
+    let Ok(key) = graph.key(search.alloc, &node) else {
         return Err(Unreached::Memory);
     };
     let goal = graph.is_goal(&node);
@@ -176,7 +179,6 @@ impl<N: Drop, K: Eq + Hash + Drop> Search<N, K> {
 
 /// Follows the move by one label from `node`, which is the one at index `at`.
 fn follow<G: Graph>(
-    alloc: Global,
     graph: &G,
     search: &mut Search<G::Node, G::Key>,
     node: &G::Node,
@@ -202,7 +204,7 @@ fn follow<G: Graph>(
     ensures too_many { result ≡ Err TooMany → AreTooMany (G.shape graph.now).labels
         (G.shape graph.now).move G.Node.eq (G.shape graph.now).origin most }
 {
-    let Ok(found) = graph.next(alloc, node, label) else {
+    let Ok(found) = graph.next(search.alloc, node, label) else {
         return Err(Unreached::Memory);
     };
     let Some(next) = found else {
@@ -214,12 +216,11 @@ fn follow<G: Graph>(
         label,
         depth,
     };
-    meet(alloc, graph, search, next, mark, most)
+    meet(graph, search, next, mark, most)
 }
 
 /// Follows all moves from `node`, which is the one at index `at`.
 fn serve<G: Graph>(
-    alloc: Global,
     graph: &G,
     search: &mut Search<G::Node, G::Key>,
     node: &G::Node,
@@ -239,7 +240,7 @@ fn serve<G: Graph>(
         (G.shape graph.now).move G.Node.eq (G.shape graph.now).origin most }
 {
     for label in 0..graph.count() {
-        if let Err(why) = follow(alloc, graph, search, node, at, label, most) {
+        if let Err(why) = follow(graph, search, node, at, label, most) {
             return Err(why);
         }
     }
