@@ -2,7 +2,7 @@
 """All answers, outside the prover: what `towerbench-answers` lists is compared with runs of `towerbench`.
 
 usage: tests/answers.py BENCH ANSWERS          all of it; the paths are those of the two built programs
-       tests/answers.py BENCH ANSWERS SCHEDULES  tries so many random schedules instead of 100,000
+       tests/answers.py BENCH ANSWERS SCHEDULES  tries that number of random schedules, not 100,000
 
 - own: each listed schedule, run by `towerbench`, has no void step, and gives just its answers; the
   lists are in the order of their lengths, and none is listed twice;

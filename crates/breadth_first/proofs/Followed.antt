@@ -1,19 +1,11 @@
 -- One more label's move is followed.
 use Rattle.std.proofs.Common.{◌≡◌, ℕ, ◌+◌, ◌<◌, inl, inr, List, Option, Some, length, slice_get, Bool, sym, ap, subst, ◌∙◌, arith}
 use Rattle.std.proofs.lemmas.Bool.{cases_lt}
-use Rattle.std.proofs.lemmas.Option.{slice_get_within, slice_get_cases}
+use Rattle.std.proofs.lemmas.Option.{slice_get_cases}
 use Rattle.breadth_first.specs.declared.mark.Mark.{Mark}
 use Rattle.breadth_first.specs.Paths.{depth_at, IsFound, IsFollowed}
 
--- a list whose items stay is no shorter
-pub grown_within : {X : Type 0} (xs ys : List X) (at : ℕ) → ((i : ℕ) (x : X) → slice_get xs i ≡ Some x → slice_get ys i ≡ Some x)
-    → at < length xs → at < length ys
-grown_within xs ys at grown lt = elim ((slice_get_cases xs at).1) [
-  | inl a ↦ slice_get_within ys at a.0 (grown at a.0 a.2)
-  | inr b ↦ absurd (omega (arith, lt, b.0))
-]
-
--- and has the same item there
+-- a list whose items stay has the same item there
 pub grown_same : {X : Type 0} (xs ys : List X) (at : ℕ) (x : X) → ((i : ℕ) (x : X) → slice_get xs i ≡ Some x → slice_get ys i ≡ Some x)
     → at < length xs → slice_get ys at ≡ Some x → slice_get xs at ≡ Some x
 grown_same xs ys at x grown lt h = elim ((slice_get_cases xs at).1) [

@@ -14,14 +14,6 @@ module _ {N : Type 0} (labels : ℕ) (move : N → ℕ → Option N) (keys : Lis
     pub long : length path ≡ made
     pub leads : (x key : N) → slice_get keys at ≡ Some x → slice_get keys index ≡ Some key → LeadsBy labels move keys x (reverse path) key
 
-  pub traced_none : (index : ℕ) → index < length keys → IsTraced index index 0 []
-  traced_none index lt = record {
-    there = lt;
-    depth = omega arith;
-    long = refl;
-    leads = λ x key h k. same_Some key x (sym k ∙ h);
-  }
-
   module _ (t : IsTrail labels move keys marks) where
     -- a node deeper than the start isn't the start
     not_first : (at : ℕ) → 0 < depth_at marks at → 0 < at

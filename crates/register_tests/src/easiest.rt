@@ -277,7 +277,7 @@ fn asked(alloc: Global, readers: &[usize]) -> Result<Question, AllocError> {
     })
 }
 
-/// Two reads while a number is written: that of lesson 5, where new comes before old.
+/// Two reads while a number is written: that of lesson 5, in which new comes before old.
 #[test]
 fn two_reads_of_a_unary_number(rt: HostRuntime) -> Result<(), Fail> {
     let question = asked(rt.alloc(), &[2])?;

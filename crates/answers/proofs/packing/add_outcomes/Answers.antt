@@ -10,5 +10,5 @@ loop-outcome-init c =
 
 pub returns : goal.returns
 returns c =
-    written_all (λ o. outcome_code o ∷ []) (map outcome_code) (λ x xs. refl) refl c.args.outcomes.now c.loop-outcome.outcome-index
+    written_all (map outcome_code) refl c.args.outcomes.now c.loop-outcome.outcome-index
     c.loop-outcome.numbers.items (c.args.numbers.now.items ++ outcomes_numbers c.args.outcomes.now) c.loop-outcome.invariant c.loop-outcome-test.false
