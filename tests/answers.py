@@ -125,7 +125,11 @@ def ask(program, text):
         file.write(text)
         file.flush()
         ran = subprocess.run(
-            [program, file.name], stdout=subprocess.PIPE, stderr=subprocess.PIPE, text=True, check=False
+            [program, file.name],
+            stdout=subprocess.PIPE,
+            stderr=subprocess.PIPE,
+            text=True,
+            check=False,
         )
     if ran.returncode:
         raise ValueError(f"status {ran.returncode}: {ran.stderr.strip()}")
@@ -278,7 +282,11 @@ def fault_of_random(bench, question, listed, count):
     rng = random.Random(f"{SEED} {question.text}")
     # (at least as long as any operation in a listed schedule)
     most = max(
-        [sum(s.startswith(f"g {p} ") for s in it.steps) for it in listed for p in question.operations]
+        [
+            sum(s.startswith(f"g {p} ") for s in it.steps)
+            for it in listed
+            for p in question.operations
+        ]
     )
     for first in range(0, count, BRANCHES):
         some = [schedule(question, most, rng) for _ in range(min(BRANCHES, count - first))]
@@ -379,9 +387,7 @@ def fault_of_small(bench, answers, line):
 def tests(bench, answers, count=QUICK_SCHEDULES, small=QUICK):
     """Returns the tests by their names, each a call that returns what is wrong, or None."""
     each = -(-count // len(QUESTIONS))
-    found = {
-        it: functools.partial(fault_of_question, bench, answers, it, each) for it in QUESTIONS
-    }
+    found = {it: functools.partial(fault_of_question, bench, answers, it, each) for it in QUESTIONS}
     for it in small:
         found[f"all schedules of {it}"] = functools.partial(fault_of_small, bench, answers, it)
     found["planted wrong answers"] = functools.partial(fault_of_plants, bench, answers)

@@ -73,7 +73,11 @@ def fault_of_faulty(program, text, fault):
         file.write(text)
         file.flush()
         ran = subprocess.run(
-            [program, file.name], stdout=subprocess.PIPE, stderr=subprocess.PIPE, text=True, check=False
+            [program, file.name],
+            stdout=subprocess.PIPE,
+            stderr=subprocess.PIPE,
+            text=True,
+            check=False,
         )
     if (ran.returncode, ran.stdout, ran.stderr) != (FAULTED, "", f"{NAME}{fault}\n"):
         return f"status {ran.returncode}: {ran.stdout[:100]!r}, {ran.stderr!r}"
