@@ -86,10 +86,8 @@ def reasons(page):
     opened(page, STAMPED)
     click_in(page, '.operation.read[data-at="13"]')
     holds(
-        page.said().endswith(
-            "Its scan read bit 0, hit, chosen 1: so it found code 0 = stamp 0, value 0. But p1 remembered code 3 = "
-            "stamp 1, value 1, which is greater, and gives that one's value, 1."
-        ),
+        "Its scan read bit 0, hit, chosen 1: so it found code 0 = stamp 0, value 0. But p1 remembered code 3 = "
+        "stamp 1, value 1, which is greater, and gives that one's value, 1." in page.said(),
         page.said(),
     )
     same(
