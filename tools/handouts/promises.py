@@ -4,7 +4,12 @@ import re
 CELL, RULE = re.compile(r"^\| (.*?) \|"), re.compile(r"^\|[-|]+\|$")
 HEADS = "| In words |"
 # the sections that speak of what a user of the program sees
-SECTIONS = ("The headline", "End to end", "The tower law")
+SECTIONS = (
+    "The headline",
+    "End to end",
+    "In addition to the specified program",
+    "The tower law",
+)
 FIRST = "# Promises\n\nWhat is proved of the program, in words. Its sources have the statement of each, and say what is trusted.\n"
 
 
