@@ -58,7 +58,14 @@ MORE_IN_A_ROW = {
         "shared-insert",
         "thousand-steps-filled",
     ),
-    6: ("bench-file", "breaks", "script-lines", "shared-insert", "thousand-steps-filled"),
+    6: (
+        "bench-file",
+        "breaks",
+        "late-run",
+        "script-lines",
+        "shared-insert",
+        "thousand-steps-filled",
+    ),
 }
 # A crate whose tests are tried if no source is newer than they are, a test's name, and how many
 # growths are refused in a row: some make a call again that was refused memory, more often than so.
