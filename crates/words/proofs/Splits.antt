@@ -1,27 +1,25 @@
 -- A text is cut at each byte that passes a test.
 use Rattle.std.specs.Option.{option_map}
-use Rattle.std.proofs.Common.{Bor, Option, Some, None, not, is_some, ◌==◌, ◌≡◌, ℕ, ◌+◌, ◌<◌, ◌≤◌, Bool, true, false, cond, List, [], ◌∷◌, length, get_or, take, drop, refl, sym, ap, ◌∙◌, arith}
-use Rattle.std.specs.List.{slice_split, onto_first, position_or_len}
-use Rattle.std.proofs.lemmas.Bool.{false_from_ne_true}
-use Rattle.std.proofs.lemmas.List.{get_or_default}
-use Rattle.std.proofs.lemmas.List.Sums.{position_or_len_is}
+use Rattle.std.proofs.Common.{Bor, Option, Some, None, not, is_some, ◌==◌, ◌≡◌, ℕ, ◌+◌, ◌<◌, ◌≤◌, Bool, true, false, cond, List, [], ◌∷◌, length, take, drop, refl, sym, ap, ◌∙◌, arith}
+use Rattle.std.specs.List.{slice_split, onto_first, position, position_or_len}
+use Rattle.std.proofs.lemmas.Grind.{common_steps}
+use Rattle.std.proofs.lemmas.List.Sums.{fails_before_first}
 use Rattle.std.proofs.lemmas.List.Splits.{slice_split_none, slice_split_first}
 use Rattle.words.specs.Words.{parts_left, is_end}
 
 module _ (p : ℕ → Bool) where
   -- a text in which no byte passes the test is one part
-  pub split_whole : (xs : List ℕ) → ((k : ℕ) → 0 ≤ k → k < length xs → p (get_or xs k 0) ≡ true → ⊥) → slice_split p xs ≡ xs ∷ []
-  split_whole xs none =
-      slice_split_none p xs (λ (m : ℕ) (d : ℕ) (less : m < length xs).
-      ap p (get_or_default xs m d 0 less) ∙ false_from_ne_true (p (get_or xs m 0)) (none m (omega arith) less))
+  pub split_whole : (xs : List ℕ) → position p xs ≡ None → slice_split p xs ≡ xs ∷ []
+  split_whole xs h =
+      let all : length xs ≤ position_or_len p xs = grind (arith, common_steps) in
+      slice_split_none p xs (λ (m : ℕ) (d : ℕ) (lt : m < length xs). fails_before_first p xs m d (omega arith))
 
   -- the first part ends at the first byte that passes the test
-  pub split_first : (xs : List ℕ) (end : ℕ) → end < length xs → ((k : ℕ) → 0 ≤ k → k < end → p (get_or xs k 0) ≡ true → ⊥) → p (get_or xs end 0) ≡ true
-      → slice_split p xs ≡ take end xs ∷ slice_split p (drop (end + 1) xs)
-  split_first xs end less none here =
-      let at : position_or_len p xs ≡ end = position_or_len_is p xs end 0 (omega (arith, less))
-      (λ (k : ℕ) (before : k < end). false_from_ne_true (p (get_or xs k 0)) (none k (omega arith) before)) (λ _. here) in
-      slice_split_first p xs 0 (omega (arith, at, less)) ∙ ap (λ n. take n xs ∷ slice_split p (drop (n + 1) xs)) at
+  pub split_first : (xs : List ℕ) (k : ℕ) → position p xs ≡ Some k → slice_split p xs ≡ take k xs ∷ slice_split p (drop (k + 1) xs)
+  split_first xs k h =
+      let at : position_or_len p xs ≡ k = grind (arith, common_steps) in
+      let inside : k < length xs = grind (arith, common_steps) in
+      slice_split_first p xs 0 (omega arith) ∙ ap (λ n. take n xs ∷ slice_split p (drop (n + 1) xs)) at
 
   -- there is always a part
   pub onto_first_some : (x : ℕ) (parts : List (List ℕ)) → is_end (onto_first x parts) ≡ false

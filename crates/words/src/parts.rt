@@ -1,10 +1,9 @@
 //! The parts of a text, such as the words of a line.
 
-ghost use Rattle.std.specs.Prelude.{◌≡◌, ◌∷◌};
+ghost use Rattle.std.specs.Prelude.{◌≡◌, ◌==◌, ◌∷◌, position};
 ghost use Rattle.std.specs.Option.{option_map};
 ghost use Rattle.words.specs.Words.{parts, parts_left, next, after_next, is_end};
 
-use bstr::ByteSlice;
 use std::marker::Model;
 
 /// The parts of a text that aren't taken yet. The text is cut into parts at its separators.
@@ -62,11 +61,19 @@ pub(crate) fn first_part(text: &[u8], separator: u8) -> (&[u8], Option<&[u8]>)
     ensures { parts separator text.now ≡ result.0.now ∷ parts_left separator
         (option_map (λ t. t.now) result.1) }
 {
-    match text.find_byte(separator) {
+    match first_place(text, separator) {
         None => (text, None),
         Some(end) => {
             let (part, following) = text.split_at(end);
             (part, Some(&following[1..]))
         }
     }
+}
+
+/// The index of the first byte that equals `byte`; `None` if there is none.
+fn first_place(text: &[u8], byte: u8) -> Option<usize>
+    ensures { result ≡ position (λ b. b == byte) text.now }
+{
+    // Parts are short: one test for each byte costs less than a call that tests many at once.
+    text.iter().position(|b| *b == byte)
 }
