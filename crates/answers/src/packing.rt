@@ -123,7 +123,7 @@ fn add_store(numbers: &mut Vec<u64>, store: &Store) -> Result<(), AllocError>
     ensures { OnOk result (numbers.new.items
         ≡ numbers.old.items ++ spec.memory_numbers store.now) }
 {
-    store.numbered();
+    store.lemma_numbered();
     add_cells(numbers, store.cells())?;
     add_words(numbers, store.words())
 }

@@ -141,7 +141,7 @@ impl<R: Register> Chart<R> {
 
     /// Does nothing. Its contract guarantees that each step of each branch fits the chart's
     /// register, and that the initial value is one of the register's values.
-    pub fn steps_fit(&self)
+    pub fn lemma_steps_fit(&self)
         ensures fit { StepsFit (R.behaviour self.now.start.register) (forest self.now.cut) }
         ensures within { self.now.value < (R.behaviour self.now.start.register).values }
     {
@@ -167,13 +167,13 @@ impl<R: Register> Chart<R> {
     /// their names differ, branches with a common cell have the same cells up to it, and each
     /// cell's number is below the number of cells ever made. The forest is cut into segments, and
     /// each branch begins from the initial configuration.
-    pub fn held(&self)
+    pub fn lemma_invariant(&self)
         ensures forest { IsForest (forest self.now.cut) }
         ensures cut { IsCut self.now.cut }
         ensures initial { self.now.start ≡ initial_configuration
             (R.behaviour self.now.start.register) self.now.start.register self.now.value }
     {
-        self.trie.held()
+        self.trie.lemma_invariant()
     }
 
     /// The name of the branch at `index`, in the order the branches were made; `None` if there is

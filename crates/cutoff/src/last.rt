@@ -163,7 +163,7 @@ fn settle_rest<R: Register>(
     if last == 0 {
         return Ok(replayed);
     }
-    trie.held();
+    trie.lemma_invariant();
     let (_, hanging) = keys_down_to(alloc, trie, Some(rest.hung), key)?;
     for below in &hanging {
         let here = settle_after(alloc, trie, next, start, above, *below)?;

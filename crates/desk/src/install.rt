@@ -33,10 +33,10 @@ impl<R: Register> Work<Journal<R>> for Install<R> {
 
     fn work(&mut self, journal: &mut Journal<R>, _number: u32) -> Option<Installation> {
         let book = &mut *journal.book;
-        book.held();
+        book.lemma_invariant();
         let run = self.run.take()?;
         let answer = offer(book, self.key, run);
-        book.held();
+        book.lemma_invariant();
         Some(answer)
     }
 }

@@ -32,7 +32,7 @@ impl<R: Register> Work<Journal<R>> for Plan<'_> {
 
     fn work(&mut self, journal: &mut Journal<R>, _number: u32) -> Result<Vec<Job<R>>, Refusal> {
         let book = &*journal.book;
-        book.held();
+        book.lemma_invariant();
         jobs_left(self.alloc, book, self.branch)
     }
 }

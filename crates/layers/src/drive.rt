@@ -106,7 +106,7 @@ impl<L: Construction, S: Register> Layered<L, S> {
         ensures { let words = splice base (first_words self.now value) store.old.words in
             store.new ≡ record store.old { words = words } }
     {
-        store.numbered();
+        store.lemma_numbered();
         for word in 0..self.layer.shape().words {
             store.set_word(base + word, self.layer.first_word(value, word));
         }
@@ -115,23 +115,23 @@ impl<L: Construction, S: Register> Layered<L, S> {
     /// Does nothing. Its contract states that the layer's cells and words, if they begin at `at`
     /// and lie inside the store, end below 2^32.
     #[inline]
-    pub(crate) fn placed(&self, store: &Store, at: Place)
+    pub(crate) fn lemma_placed(&self, store: &Store, at: Place)
         requires inside { LiesIn at (behaviour self.now).size store.now }
         ensures { IsPlaced at (behaviour self.now).size }
     {
-        store.numbered();
+        store.lemma_numbered();
     }
 
     /// Does nothing. Its contract states: if the layer's memory begins at `at`, lies inside the
     /// store, and satisfies `Holds`, then it also ends below 2^32. These facts together are `Lies`.
     #[inline]
-    pub(crate) fn lies(&self, store: &Store, at: Place)
+    pub(crate) fn lemma_lies(&self, store: &Store, at: Place)
         requires inside { LiesIn at (behaviour self.now).size store.now }
         requires holds { Holds self.now (S.Holds self.now.below)
             (own_memory self.now at store.now) }
         ensures { Lies self.now (S.Holds self.now.below) at store.now }
     {
-        self.placed(store, at);
+        self.lemma_placed(store, at);
     }
 
     /// The place in the store of the layer's part number `part`, if the layer's memory begins at

@@ -114,7 +114,7 @@ impl<L: Construction, S: Register> Register for Layered<L, S> {
     }
 
     fn init(&self, store: &mut Store, at: Place, value: u32) {
-        self.placed(store, at);
+        self.lemma_placed(store, at);
         self.init_parts(store, at, value);
         let base = self.words_at(at);
         self.init_words(store, base, value);
@@ -168,7 +168,7 @@ impl<L: Construction, S: Register> Register for Layered<L, S> {
         op: Op,
         stack: &mut FlatStack,
     ) -> Option<Outcome> {
-        self.lies(store, at);
+        self.lemma_lies(store, at);
         let continuation = self.start(store, at, who, op);
         self.run(store, at, continuation, stack)
     }
@@ -183,7 +183,7 @@ impl<L: Construction, S: Register> Register for Layered<L, S> {
         first: usize,
         choice: bool,
     ) -> Progress {
-        self.lies(store, at);
+        self.lemma_lies(store, at);
         let task = self.layer.find(who, stack.frame(first));
         let progress = self.push(store, at, task, stack, first, choice);
         let Some(outcome) = progress.end else {

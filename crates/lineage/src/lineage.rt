@@ -134,7 +134,7 @@ impl<X: Drop> Lineage<X> {
     /// Does nothing. Its contract states what the type guarantees: each key on a path has an item,
     /// each item is on a path, and paths that share a key have the same keys before it (so no key
     /// is twice in a path).
-    pub fn held(&self)
+    pub fn lemma_invariant(&self)
         ensures { IsFamily self.now }
     {
         let _count = self.tips.len();

@@ -110,7 +110,7 @@ impl Store {
 
     /// Does nothing. Callers use its contract, which states that the store has fewer than 2^32
     /// cells and fewer than 2^32 words.
-    pub fn numbered(&self)
+    pub fn lemma_numbered(&self)
         ensures { IsNumbered self.now }
     {
         let _cells = &self.cells;

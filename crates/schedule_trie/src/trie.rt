@@ -145,7 +145,7 @@ impl<T: Drop> Trie<T> {
     /// well-formed names; two branches with a common cell have the same cells up to that cell; each
     /// segment has 1 to 128 cells; branches that share a segment share all segments above it; and
     /// the numbers of branches and of cells made are within the limits.
-    pub fn held(&self)
+    pub fn lemma_invariant(&self)
         ensures forest { IsForest (forest self.now) }
         ensures names { HaveNames (forest self.now).branches }
         ensures whole { IsWhole self.now }

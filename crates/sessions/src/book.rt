@@ -152,11 +152,11 @@ impl<R: Register> Book<R> {
         let Ok(()) = self.log.reserve(1) else {
             return Reply::No(Refusal::Memory);
         };
-        self.workspace.chart.held();
+        self.workspace.chart.lemma_invariant();
         let Ok(reply) = self.workspace.answer(alloc, who, if_at, command) else {
             return Reply::No(Refusal::Memory);
         };
-        self.workspace.chart.held();
+        self.workspace.chart.lemma_invariant();
         push_within(&mut self.log, entry(chair, who, if_at, command, &reply));
         reply
     }
@@ -243,12 +243,12 @@ impl<R: Register> Book<R> {
     /// and its length is within its limit; the branches are cut into segments of 1 to 128 cells;
     /// and replay begins from the initial configuration of the register and value that the book
     /// opened with.
-    pub fn held(&self)
+    pub fn lemma_invariant(&self)
         ensures log { IsHeld R.behaviour self.now }
         ensures cut { IsCut self.now.now.chart.cut }
         ensures begins { BeginsAtOpening R.behaviour self.now }
     {
-        self.workspace.chart.held();
+        self.workspace.chart.lemma_invariant();
     }
 
     /// How many edits were accepted.

@@ -116,7 +116,7 @@ impl Construction for StampedRules {
     ) -> Continuation<StampedTask> {
         match (task, outcome) {
             (StampedTask::Reading, Outcome::Value(code)) => {
-                store.numbered();
+                store.lemma_numbered();
                 let best = store.word(base + 1).max(code);
                 store.set_word(base + 1, best);
                 Continuation::Ends(Outcome::Value(best % self.values))

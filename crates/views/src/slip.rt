@@ -209,7 +209,7 @@ fn settled<R: Register>(
         (steps_in (forest chart.old.cut) branch.now) }
     ensures within { chart.old.value < (R.behaviour chart.old.start.register).values }
 {
-    chart.steps_fit();
+    chart.lemma_steps_fit();
     if shows_events(kind) {
         let Some(len) = chart.len(branch) else {
             return Err(Refusal::NoBranch);

@@ -74,7 +74,7 @@ impl<R: Register> Chart<R> {
         ensures fit { let b = R.behaviour self.now.start.register in
             IfOk result (λ r. LimbsFit b r.items) }
     {
-        self.steps_fit();
+        self.lemma_steps_fit();
         self.trie.limbs(alloc)
     }
 }

@@ -58,7 +58,7 @@ impl<T: Drop> Trie<T> {
         ensures { result ≡ length (line (piece_at self.now.pieces)
             (keys_to (keys_in self.now.strands index) last)) }
     {
-        self.held();
+        self.lemma_invariant();
         let mut len = 0;
         let mut at = last;
         while let Some(up) = self.slots_up(at) {

@@ -84,7 +84,7 @@ impl<T: Drop> Trie<T> {
             → IsForkedWhole self.old self.new index name) }
         ensures err { OnErr result (self.new ≡ self.old) }
     {
-        self.held();
+        self.lemma_invariant();
         if place == 0 {
             return self.fork_after(index, None, name);
         }

@@ -67,7 +67,7 @@ impl<T: Drop> Trie<T> {
         ensures ok { OnOk result (IsInserted self.old self.new index place step) }
         ensures err { OnErr result (self.new ≡ self.old) }
     {
-        self.held();
+        self.lemma_invariant();
         match self.find_cell(index, place) {
             Some((key, offset)) => self.put_before(alloc, key, offset, step),
             None => self.push_last(alloc, index, step),

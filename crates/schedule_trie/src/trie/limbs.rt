@@ -34,7 +34,7 @@ impl<T: Drop> Trie<T> {
         ensures some { IfOk result (λ r. 0 < length r.items) }
         ensures near { IfOk result (λ r. FitLimits self.now.limits r.items) }
     {
-        self.held();
+        self.lemma_invariant();
         let mut limbs = Vec::new(alloc);
         let mut marks = self.no_marks(alloc)?;
         for index in 0..self.branches() {

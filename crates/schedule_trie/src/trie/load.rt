@@ -77,7 +77,7 @@ impl<T: Drop> Trie<T> {
         requires { CanGrow self.old limb.now }
         ensures { OnOk result (IsGrown self.old self.new limb.now) }
     {
-        self.held();
+        self.lemma_invariant();
         let from = limb.from as usize;
         self.learn_len(from);
         let index = self.branches() as usize;

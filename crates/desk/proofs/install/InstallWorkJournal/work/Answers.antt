@@ -7,12 +7,12 @@ returns-in_err-run-clause-kept g c =
     let is = g.R.Behaves.behaviour in
     let first = c.journal.inside.first.value in
     let old = c.deref_mut-book.result.now in
-    reads_so is first old old (taken is first c.deref_mut-book.ensures.value c.journal.invariant c.journal.view_is) refl c.held.ensures.log (λ n w. Unit {0}) refl refl tt
+    reads_so is first old old (taken is first c.deref_mut-book.ensures.value c.journal.invariant c.journal.view_is) refl c.lemma_invariant.ensures.log (λ n w. Unit {0}) refl refl tt
 
 pub returns-clause-kept : goal.returns-clause-kept
 returns-clause-kept g c =
     let is = g.R.Behaves.behaviour in
     let first = c.journal.inside.first.value in
     let told = c.offer-answer.ensures in
-    reads_so is first c.deref_mut-book.result.now c.offer-answer.new.book (taken is first c.deref_mut-book.ensures.value c.journal.invariant c.journal.view_is) told.opening c.held-2.ensures.log
+    reads_so is first c.deref_mut-book.result.now c.offer-answer.new.book (taken is first c.deref_mut-book.ensures.value c.journal.invariant c.journal.view_is) told.opening c.lemma_invariant-2.ensures.log
     (λ n w. Unit {0}) told.world told.log tt

@@ -8,7 +8,7 @@ pub push-progress-requires-clause-may_be_at : goal.push-progress-requires-clause
 push-progress-requires-clause-may_be_at g c =
     let l = over (g.met.S.Register.lawful c.args.self.now.below) (g.met.L.Construction.sound c.args.self.now.layer) c.args.self.now.fit in
     let n = c.requires.may_be_at.1.0 in
-    let on = stands_at l c.lies.ensures c.args.who c.args.first c.args.stack.now c.args.choice c.frame.ensures c.find-task.ensures
+    let on = stands_at l c.lemma_lies.ensures c.args.who c.args.first c.args.stack.now c.args.choice c.frame.ensures c.find-task.ensures
     c.requires.may_be_at.0 n c.requires.may_be_at.1.1 in
     (c.args.who, (c.requires.may_be_at.0, (n.below, on)))
 
@@ -16,49 +16,49 @@ pub returns-in_default-clause-lands : goal.returns-in_default-clause-lands
 returns-in_default-clause-lands g c =
     let l = over (g.met.S.Register.lawful c.args.self.now.below) (g.met.L.Construction.sound c.args.self.now.layer) c.args.self.now.fit in
     let none : c.push-progress.result.end ≡ None = search rules in
-    λ o n on. waits l c.lies.ensures c.args.who c.args.first c.args.stack.now c.args.choice c.frame.ensures c.find-task.ensures
+    λ o n on. waits l c.lemma_lies.ensures c.args.who c.args.first c.args.stack.now c.args.choice c.frame.ensures c.find-task.ensures
     c.push-progress.new.stack (c.push-progress.ensures.lands c.args.who) on none
 
 pub returns-in_default-clause-chosen : goal.returns-in_default-clause-chosen
 returns-in_default-clause-chosen g c =
     let l = over (g.met.S.Register.lawful c.args.self.now.below) (g.met.L.Construction.sound c.args.self.now.layer) c.args.self.now.fit in
-    chooses l c.lies.ensures c.args.who c.args.first c.args.stack.now c.args.choice c.frame.ensures c.find-task.ensures
+    chooses l c.lemma_lies.ensures c.args.who c.args.first c.args.stack.now c.args.choice c.frame.ensures c.find-task.ensures
     c.push-progress.result.chosen (c.push-progress.ensures.chosen c.args.who)
 
 pub frame-requires-2 : goal.frame-requires-2
 frame-requires-2 g c =
     let l = over (g.met.S.Register.lawful c.args.self.now.below) (g.met.L.Construction.sound c.args.self.now.layer) c.args.self.now.fit in
-    stands_still l c.lies.ensures c.args.who c.args.first c.args.stack.now c.args.choice c.frame.ensures c.find-task.ensures
+    stands_still l c.lemma_lies.ensures c.args.who c.args.first c.args.stack.now c.args.choice c.frame.ensures c.find-task.ensures
     c.push-progress.new.stack c.in-Some.is c.push-progress.ensures.own
 
 pub truncate-requires : goal.truncate-requires
 truncate-requires g c =
     let l = over (g.met.S.Register.lawful c.args.self.now.below) (g.met.L.Construction.sound c.args.self.now.layer) c.args.self.now.fit in
-    let there = stands_still l c.lies.ensures c.args.who c.args.first c.args.stack.now c.args.choice c.frame.ensures c.find-task.ensures
+    let there = stands_still l c.lemma_lies.ensures c.args.who c.args.first c.args.stack.now c.args.choice c.frame.ensures c.find-task.ensures
     c.push-progress.new.stack c.in-Some.is c.push-progress.ensures.own in
     omega (arith, there)
 
 pub follow-end-requires-clause-lies : goal.follow-end-requires-clause-lies
 follow-end-requires-clause-lies g c =
     let l = over (g.met.S.Register.lawful c.args.self.now.below) (g.met.L.Construction.sound c.args.self.now.layer) c.args.self.now.fit in
-    ended_lies l c.lies.ensures c.args.who c.args.first c.args.stack.now c.args.choice c.frame.ensures c.find-task.ensures
+    ended_lies l c.lemma_lies.ensures c.args.who c.args.first c.args.stack.now c.args.choice c.frame.ensures c.find-task.ensures
     c.push-progress.new.stack (c.push-progress.ensures.lands c.args.who) c.requires.may_be_at.1.1 c.in-Some.is
 
 pub follow-end-requires-clause-may_be_at : goal.follow-end-requires-clause-may_be_at
 follow-end-requires-clause-may_be_at g c =
     let l = over (g.met.S.Register.lawful c.args.self.now.below) (g.met.L.Construction.sound c.args.self.now.layer) c.args.self.now.fit in
-    let same = found_again l c.lies.ensures c.args.who c.args.first c.args.stack.now c.args.choice c.frame.ensures c.find-task.ensures
+    let same = found_again l c.lemma_lies.ensures c.args.who c.args.first c.args.stack.now c.args.choice c.frame.ensures c.find-task.ensures
     c.push-progress.new.stack c.in-Some.is c.push-progress.ensures.own c.frame-2.ensures c.find-ended.ensures in
-    let ended = again_stands l c.lies.ensures c.args.who c.args.first c.args.stack.now c.args.choice c.frame.ensures c.find-task.ensures
+    let ended = again_stands l c.lemma_lies.ensures c.args.who c.args.first c.args.stack.now c.args.choice c.frame.ensures c.find-task.ensures
     c.push-progress.new.stack (c.push-progress.ensures.lands c.args.who) c.requires.may_be_at.1.1 c.in-Some.is c.find-ended.result same in
     (c.args.who, (c.requires.may_be_at.0, ended.0))
 
 pub follow-end-requires-clause-answers : goal.follow-end-requires-clause-answers
 follow-end-requires-clause-answers g c =
     let l = over (g.met.S.Register.lawful c.args.self.now.below) (g.met.L.Construction.sound c.args.self.now.layer) c.args.self.now.fit in
-    let same = found_again l c.lies.ensures c.args.who c.args.first c.args.stack.now c.args.choice c.frame.ensures c.find-task.ensures
+    let same = found_again l c.lemma_lies.ensures c.args.who c.args.first c.args.stack.now c.args.choice c.frame.ensures c.find-task.ensures
     c.push-progress.new.stack c.in-Some.is c.push-progress.ensures.own c.frame-2.ensures c.find-ended.ensures in
-    (again_stands l c.lies.ensures c.args.who c.args.first c.args.stack.now c.args.choice c.frame.ensures c.find-task.ensures
+    (again_stands l c.lemma_lies.ensures c.args.who c.args.first c.args.stack.now c.args.choice c.frame.ensures c.find-task.ensures
     c.push-progress.new.stack (c.push-progress.ensures.lands c.args.who) c.requires.may_be_at.1.1 c.in-Some.is c.find-ended.result same).1
 
 pub follow-end-requires-clause-room : goal.follow-end-requires-clause-room
@@ -68,20 +68,20 @@ follow-end-requires-clause-room g c =
 pub returns-clause-lands : goal.returns-clause-lands
 returns-clause-lands g c =
     let l = over (g.met.S.Register.lawful c.args.self.now.below) (g.met.L.Construction.sound c.args.self.now.layer) c.args.self.now.fit in
-    let same = found_again l c.lies.ensures c.args.who c.args.first c.args.stack.now c.args.choice c.frame.ensures c.find-task.ensures
+    let same = found_again l c.lemma_lies.ensures c.args.who c.args.first c.args.stack.now c.args.choice c.frame.ensures c.find-task.ensures
     c.push-progress.new.stack c.in-Some.is c.push-progress.ensures.own c.frame-2.ensures c.find-ended.ensures in
-    λ o n on. ended_goes_on l c.lies.ensures c.args.who c.args.first c.args.stack.now c.args.choice c.frame.ensures c.find-task.ensures
+    λ o n on. ended_goes_on l c.lemma_lies.ensures c.args.who c.args.first c.args.stack.now c.args.choice c.frame.ensures c.find-task.ensures
     c.push-progress.new.stack (c.push-progress.ensures.lands c.args.who) on c.in-Some.is
     c.find-ended.result same c.truncate.new.self c.truncate.ensures c.follow-end.result c.follow-end.new.stack c.follow-end.new.store c.follow-end.ensures
 
 pub returns-clause-chosen : goal.returns-clause-chosen
 returns-clause-chosen g c =
     let l = over (g.met.S.Register.lawful c.args.self.now.below) (g.met.L.Construction.sound c.args.self.now.layer) c.args.self.now.fit in
-    chooses l c.lies.ensures c.args.who c.args.first c.args.stack.now c.args.choice c.frame.ensures c.find-task.ensures
+    chooses l c.lemma_lies.ensures c.args.who c.args.first c.args.stack.now c.args.choice c.frame.ensures c.find-task.ensures
     c.push-progress.result.chosen (c.push-progress.ensures.chosen c.args.who)
 
 pub frame-requires : goal.frame-requires
 frame-requires g c = index_there c.args.first c.args.stack.now _ _ c.requires.may_be_at.1.1.there
 
 pub push-progress-requires-clause-lies : goal.push-progress-requires-clause-lies
-push-progress-requires-clause-lies g c = c.lies.ensures
+push-progress-requires-clause-lies g c = c.lemma_lies.ensures

@@ -34,12 +34,12 @@ invariant_of-self-2 g c =
       held = detach_held t (record t { segments = c.replace_path.new.self; made = t.made + c.len_at-len.result }) c.args.index c.len_at-len.result c.in_ok-copies.copies.items c.self.invariant.held
           (subst (λ z. c.args.index < length z.strands) (sym view) c.requires.index)
           (subst (λ z. AreCopies (piece_at z.pieces) z.made (keys_in z.strands c.args.index) c.in_ok-copies.copies.items) (sym view) c.in_ok-copies.ensures)
-          c.in_ok-replace_path.ensures.ok c.held.ensures refl refl refl size (subst (λ n. t.made + n ≤ t.limits.cells) (sym size) room);
+          c.in_ok-replace_path.ensures.ok c.lemma_invariant.ensures refl refl refl size (subst (λ n. t.made + n ≤ t.limits.cells) (sym size) room);
       lengths = detached_lengths (cut_of t) (cut_of u) t.branches.entries c.self.invariant.lengths c.args.index
           (detach_told t u c.args.index c.len_at-len.result c.in_ok-copies.copies.items c.self.invariant.held
           (subst (λ z. c.args.index < length z.strands) (sym view) c.requires.index)
           (subst (λ z. AreCopies (piece_at z.pieces) z.made (keys_in z.strands c.args.index) c.in_ok-copies.copies.items) (sym view) c.in_ok-copies.ensures)
-          c.in_ok-replace_path.ensures.ok c.held.ensures refl refl refl size);
+          c.in_ok-replace_path.ensures.ok c.lemma_invariant.ensures refl refl refl size);
       names = c.self.invariant.names;
     }
 
@@ -52,4 +52,4 @@ returns-clause-ok g c =
     (detach_told t (record t { segments = c.replace_path.new.self; made = t.made + c.len_at-len.result }) c.args.index c.len_at-len.result c.in_ok-copies.copies.items c.self.invariant.held
     (subst (λ z. c.args.index < length z.strands) (sym view) c.requires.index)
     (subst (λ z. AreCopies (piece_at z.pieces) z.made (keys_in z.strands c.args.index) c.in_ok-copies.copies.items) (sym view) c.in_ok-copies.ensures)
-    c.in_ok-replace_path.ensures.ok c.held.ensures refl refl refl size)
+    c.in_ok-replace_path.ensures.ok c.lemma_invariant.ensures refl refl refl size)

@@ -31,4 +31,4 @@ pub returns : goal.returns
 returns g c =
     subst (λ z. IsGrown c.args.self.now z c.args.limb.now) (sym c.keep_len.ensures)
     (is_grown c.args.self.now _ c.fork_at.new.self c.push_all.new.self c.args.limb.now _ c.branches-index.result c.requires c.learn_len-index.ensures.same c.as_slice-steps.ensures
-    c.branches-index.ensures.count c.in_ok-fork_at.ensures.ok c.in_ok-push_all.ensures c.held.ensures.forest)
+    c.branches-index.ensures.count c.in_ok-fork_at.ensures.ok c.in_ok-push_all.ensures c.lemma_invariant.ensures.forest)

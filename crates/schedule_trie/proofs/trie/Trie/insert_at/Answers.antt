@@ -10,7 +10,7 @@ on_ok (Err e) P Q f p = tt
 pub returns-in-Some-clause-ok : goal.returns-in-Some-clause-ok
 returns-in-Some-clause-ok g c =
     on_ok c.put_before.result _ _
-    (inserted_before c.args.self.now c.put_before.new.self c.args.index c.args.place c.in-Some.key c.in-Some.offset c.args.step c.in-Some.ensures.found c.held.ensures.whole.sound)
+    (inserted_before c.args.self.now c.put_before.new.self c.args.index c.args.place c.in-Some.key c.in-Some.offset c.args.step c.in-Some.ensures.found c.lemma_invariant.ensures.whole.sound)
     c.put_before.ensures.ok
 
 pub returns-in-None-clause-ok : goal.returns-in-None-clause-ok

@@ -13,7 +13,7 @@ answer-requires g c =
     let sound = c.self.invariant.sound in
     let few : (forest s.chart.cut).made ≤ MOST_CELLS_MADE = omega (arith, sound.few_cells, sound.in_range.most_cells) in
     record {
-      within = are_within (forest s.chart.cut) s.cursors c.held.ensures.forest few sound.all_placed;
+      within = are_within (forest s.chart.cut) s.cursors c.lemma_invariant.ensures.forest few sound.all_placed;
       breaks = sound.breaks;
       few_edits = omega (arith, sound.few_edits, c.self.invariant.held.few, c.self.invariant.held.most_log);
     }
@@ -38,7 +38,7 @@ invariant_of-self-2 g c =
     let is = g.R.Behaves.behaviour in
     let count = c.len.ensures.count ∙ ap (λ h. length h.log) (sym c.self.view_is) in
     book_more is i.first.value i.workspace c.answer.new.self i.log c.reserve.new.self i.log_limit c.len.result c.self.invariant count c.if-len-self.false c.reserve.ensures.items
-    c.push_within.new.list (entry c.args.chair c.args.who c.args.if_at c.args.command.now c.in-Ok-answer.reply) c.entry.result c.entry.ensures c.push_within.ensures c.in-Ok-answer.ensures c.held.ensures.forest c.held-2.ensures.forest
+    c.push_within.new.list (entry c.args.chair c.args.who c.args.if_at c.args.command.now c.in-Ok-answer.reply) c.entry.result c.entry.ensures c.push_within.ensures c.in-Ok-answer.ensures c.lemma_invariant.ensures.forest c.lemma_invariant-2.ensures.forest
 
 pub returns-clause-acts : goal.returns-clause-acts
 returns-clause-acts g c =

@@ -2,7 +2,7 @@ use Rattle.schedule_trie.proofs.Shared.{is_forest}
 use Rattle.schedule_trie.proofs.NamesKept.{have_names}
 use Rattle.std.proofs.Common.{subst}
 use Rattle.schedule_trie.specs.Cut.{IsWhole}
-use Rattle.schedule_trie.proofs.trie.Trie.held.Goals as goal
+use Rattle.schedule_trie.proofs.trie.Trie.lemma_invariant.Goals as goal
 
 pub returns-clause-forest : goal.returns-clause-forest
 returns-clause-forest g c = rw (← c.self.view_is) (is_forest c.self.inside c.self.invariant.held c.len-count.ensures.unique)
