@@ -18,9 +18,10 @@ import functools
 import os
 import random
 import re
-import subprocess
 import sys
 import tempfile
+
+from commands import output_of
 
 # Questions on all six towers, each as its file's lines. They have at most 20,000 states.
 QUESTIONS = (
@@ -124,16 +125,7 @@ def ask(program, text):
     with tempfile.NamedTemporaryFile("w", encoding="ascii") as file:
         file.write(text)
         file.flush()
-        ran = subprocess.run(
-            [program, file.name],
-            stdout=subprocess.PIPE,
-            stderr=subprocess.PIPE,
-            text=True,
-            check=False,
-        )
-    if ran.returncode:
-        raise ValueError(f"status {ran.returncode}: {ran.stderr.strip()}")
-    return listed_in(ran.stdout)[1]
+        return listed_in(output_of([program, file.name]))[1]
 
 
 def name_of(number):
@@ -155,17 +147,9 @@ def pages_of(bench, tower, schedules):
     with tempfile.NamedTemporaryFile("w", encoding="ascii", suffix=".bench") as file:
         file.write("\n".join(lines) + "\n")
         file.flush()
-        ran = subprocess.run(
-            [bench, file.name, "--cells", "20000000", "--branches", "1024"],
-            input="\n".join(script) + "\n",
-            stdout=subprocess.PIPE,
-            stderr=subprocess.PIPE,
-            text=True,
-            check=False,
-        )
-    if ran.returncode:
-        raise ValueError(f"status {ran.returncode}: {ran.stderr.strip()}")
-    return [it.splitlines()[1:] for it in re.split(r"(?m)^0: ", ran.stdout)[1:]]
+        words = [bench, file.name, "--cells", "20000000", "--branches", "1024"]
+        output = output_of(words, "\n".join(script) + "\n")
+    return [it.splitlines()[1:] for it in re.split(r"(?m)^0: ", output)[1:]]
 
 
 def went(question, steps, lines):

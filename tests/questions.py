@@ -15,6 +15,7 @@ import subprocess
 import tempfile
 
 import answers
+from commands import ran
 
 EXAMPLES = "examples"
 FAULTS = "tests/questions/faults.txt"
@@ -72,15 +73,9 @@ def fault_of_faulty(program, text, fault):
     with tempfile.NamedTemporaryFile("w", encoding="ascii") as file:
         file.write(text)
         file.flush()
-        ran = subprocess.run(
-            [program, file.name],
-            stdout=subprocess.PIPE,
-            stderr=subprocess.PIPE,
-            text=True,
-            check=False,
-        )
-    if (ran.returncode, ran.stdout, ran.stderr) != (FAULTED, "", f"{NAME}{fault}\n"):
-        return f"status {ran.returncode}: {ran.stdout[:100]!r}, {ran.stderr!r}"
+        it = ran([program, file.name])
+    if (it.returncode, it.stdout, it.stderr) != (FAULTED, "", f"{NAME}{fault}\n"):
+        return f"status {it.returncode}: {it.stdout[:100]!r}, {it.stderr!r}"
     return None
 
 
@@ -99,23 +94,21 @@ WORDS = (
 
 def fault_of_words(program, words, status, begins, errors):
     """Returns what is wrong with what the program does on words, or None."""
-    ran = subprocess.run(
-        [program, *words], stdout=subprocess.PIPE, stderr=subprocess.PIPE, text=True, check=False
-    )
-    is_right = ran.stdout.startswith(begins) if begins else not ran.stdout
-    if (ran.returncode, ran.stderr) != (status, errors) or not is_right:
-        return f"status {ran.returncode}: {ran.stdout[:100]!r}, {ran.stderr!r}"
+    it = ran([program, *words])
+    is_right = it.stdout.startswith(begins) if begins else not it.stdout
+    if (it.returncode, it.stderr) != (status, errors) or not is_right:
+        return f"status {it.returncode}: {it.stdout[:100]!r}, {it.stderr!r}"
     return None
 
 
 def fault_of_full(program):
     """Returns what is wrong with what the program says if its output can't be written, or None."""
     with open("/dev/full", "wb") as full:
-        ran = subprocess.run(
+        it = subprocess.run(
             [program, f"{examples()[0]}.question"], stdout=full, stderr=subprocess.PIPE, check=False
         )
     wanted = f"{NAME}write failed\n".encode()
-    return None if (ran.returncode, ran.stderr) == (FAULTED, wanted) else repr(ran)
+    return None if (it.returncode, it.stderr) == (FAULTED, wanted) else repr(it)
 
 
 def fault_of_row(bench, program, question, wanted, count):

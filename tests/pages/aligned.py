@@ -5,9 +5,9 @@ An operation that takes no action on the second tower, as a write of the value t
 import json
 import random
 import shutil
-import subprocess
 import tempfile
 
+from commands import output_of
 from pages import build
 from trials import Test
 
@@ -71,16 +71,8 @@ def fault_of_transfers():
         build.put_modules(room, "aligned.mjs")
         with open(f"{room}/schedules", "w", encoding="ascii") as file:
             file.writelines(f"{json.dumps(it)}\n" for it in schedules)
-        done = subprocess.run(
-            ["node", f"{room}/aligned.mjs", build.made_module(), f"{room}/schedules"],
-            stdout=subprocess.PIPE,
-            stderr=subprocess.PIPE,
-            text=True,
-            check=False,
-        )
-    if done.returncode:
-        raise ValueError(f"node ended with status {done.returncode}: {done.stderr.strip()[-300:]}")
-    made = [json.loads(it) for it in done.stdout.splitlines()]
+        words = ["node", f"{room}/aligned.mjs", build.made_module(), f"{room}/schedules"]
+        made = [json.loads(it) for it in output_of(words).splitlines()]
     if len(made) < 2 * len(schedules):
         return f"only {len(made)} schedules were made of {len(schedules)}"
     faults = [it for it in (fault_of(*each[:4]) for each in made) if it]

@@ -58,24 +58,28 @@ ALL = {
     "faults": ("other_programs", "no_answer", "damaged_files", "damaged_answers"),
     "sizes": ("long_schedules", "large_documents"),
 }
-# What needs no more than both drivers have.
+# What needs more than the driver of Firefox has.
+IN_CHROMIUM_ALONE = {
+    "keyboard",
+    "files",
+    "paper",
+    "walks",
+    "goals_in_words",
+    "exercises",
+    "lesson_on_paper",
+    "policy",
+    "short_links",
+    "one_file",
+    "words",
+    "room",
+    "hostile_documents",
+    *ALL["depths"],
+    *ALL["faults"],
+    *ALL["sizes"],
+}
 IN_FIREFOX = {
-    "gestures": (
-        "first_screen",
-        "lesson_by_clicks",
-        "processes",
-        "steps",
-        "branches",
-        "breaks",
-        "sessions",
-        "typed",
-        "tower_limits",
-        "copies",
-    ),
-    "drawn": ("documents",),
-    "exercises": ("solved_by_clicks", "wrong_choice"),
-    "lessons": ("lessons", "a_lesson_line_by_line"),
-    "sharing": ("links", "nothing_lost", "which_tower", "forty_files", "judged_by"),
+    module: tuple(it for it in names if it not in IN_CHROMIUM_ALONE)
+    for module, names in ALL.items()
 }
 # What needs the program of all answers.
 OF_ALL_ANSWERS = ("lessons_ask", "predictions", "a_read", "too_many")

@@ -9,9 +9,9 @@ import itertools
 import json
 import re
 import shutil
-import subprocess
 import tempfile
 
+from commands import output_of
 from pages import build
 from trials import Test
 
@@ -236,17 +236,8 @@ def sentences(lines):
     """Returns what the page says of each history's reads, by the step at which each begins."""
     with tempfile.TemporaryDirectory() as room:
         build.put_modules(room, "sentences.mjs")
-        done = subprocess.run(
-            ["node", f"{room}/sentences.mjs"],
-            input="".join(lines),
-            stdout=subprocess.PIPE,
-            stderr=subprocess.PIPE,
-            text=True,
-            check=False,
-        )
-    if done.returncode:
-        raise ValueError(f"node ended with status {done.returncode}: {done.stderr.strip()[-300:]}")
-    return [json.loads(it) for it in done.stdout.splitlines()]
+        output = output_of(["node", f"{room}/sentences.mjs"], "".join(lines))
+    return [json.loads(it) for it in output.splitlines()]
 
 
 def fault_of_history(operations, notes, said):
