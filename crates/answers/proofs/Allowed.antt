@@ -15,7 +15,7 @@ use Rattle.frames.specs.declared.types.Step.{Step}
 use Rattle.frames.specs.declared.types.Step.TheVariants as step
 use Rattle.frames.specs.declared.running.Running.{Running}
 use Rattle.frames.specs.Behaviour.{Behaviour}
-use Rattle.frames.specs.Fitting.{process_of}
+use Rattle.frames.specs.Steps.{process_of}
 use Rattle.frames.specs.Configuration.{Configuration, running_at, is_stopped, events_of, is_ready, is_enabled, acting, acting_unless, invoking, going, return_of, chosen_of, in_order}
 use Rattle.answers.specs.declared.question.Question.{Question}
 use Rattle.answers.specs.Questions.{event_in, events_in, outcomes_by, next_of, stops_in, AreAllowed}

@@ -12,7 +12,7 @@ use Rattle.frames.specs.declared.types.Event.{Event}
 use Rattle.frames.specs.declared.types.Step.{Step}
 use Rattle.frames.specs.declared.types.Step.TheVariants as step
 use Rattle.frames.specs.Behaviour.{Behaviour, IsLawful}
-use Rattle.frames.specs.Fitting.{process_of}
+use Rattle.frames.specs.Steps.{process_of}
 use Rattle.frames.specs.Voids.{IsVoid}
 use Rattle.frames.specs.laws.Steps.{process_there, void_unless_enabled}
 use Rattle.frames.specs.Configuration.{fits_step, is_enabled, stepped, events_of, history}

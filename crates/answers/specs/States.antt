@@ -8,7 +8,7 @@ use Rattle.frames.specs.declared.types.StepEvents.{StepEvents}
 use Rattle.frames.specs.declared.types.Step.{Step}
 use Rattle.frames.specs.declared.types.Step.TheVariants as step
 use Rattle.frames.specs.Behaviour.{Behaviour}
-use Rattle.frames.specs.Fitting.{process_of}
+use Rattle.frames.specs.Steps.{process_of}
 use Rattle.frames.specs.Configuration.{Configuration, initial_configuration, running_at, is_stopped, fits_step, is_enabled, stepped, events_of}
 use Rattle.frames.specs.Recorded.{Alone, AllFit, shown}
 use Rattle.answers.specs.declared.question.Question.{Question}

@@ -8,7 +8,7 @@ use Rattle.frames.specs.declared.types.Reason.TheVariants as reason
 use Rattle.frames.specs.declared.types.Step.{Step}
 use Rattle.frames.specs.declared.types.Step.TheVariants as step
 use Rattle.frames.specs.declared.types.StepEvents.{StepEvents}
-use Rattle.frames.specs.Fitting.{process_of}
+use Rattle.frames.specs.Steps.{process_of}
 use Rattle.checkpoints.specs.declared.mark.Mark.{Mark}
 use Rattle.checkpoints.specs.declared.mark.Mark.TheVariants.{Nothing, First, Second, Both, Invoked, Wrote, Busy, Idle, Stopped, GotZero, GotOne}
 use Rattle.checkpoints.specs.declared.events.Reported.{Reported}

@@ -1,7 +1,7 @@
 //! Marks: which events a step recorded. An event that follows from step and mark isn't stored.
 
 ghost use Rattle.std.specs.Prelude.{◌≡◌, Some, IfSome};
-ghost use Rattle.frames.specs.Fitting.{process_of};
+ghost use Rattle.frames.specs.Steps.{process_of};
 ghost use Rattle.frames.specs.declared.types.Event.TheVariants as event;
 ghost use Rattle.frames.specs.declared.types.Step.{Step as StepSpec};
 ghost use Rattle.checkpoints.specs.Reports as spec;

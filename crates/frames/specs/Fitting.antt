@@ -1,10 +1,10 @@
 -- Which steps fit a register. This depends on the number of processes, and on the operations that
 -- fit each process.
 use Rattle.std.specs.Prelude.{ℕ, Bool, ◌&&◌, nat_lt}
-use Rattle.frames.specs.declared.types.Op.{Op}
-use Rattle.frames.specs.declared.types.Op.TheVariants as op
-use Rattle.frames.specs.declared.types.Step.{Step}
-use Rattle.frames.specs.declared.types.Step.TheVariants as step
+use Rattle.steps.specs.declared.types.Op.{Op}
+use Rattle.steps.specs.declared.types.Op.TheVariants as op
+use Rattle.steps.specs.declared.types.Step.{Step}
+use Rattle.steps.specs.declared.types.Step.TheVariants as step
 use Rattle.frames.specs.Behaviour.{Behaviour}
 
 -- what decides which steps fit: the number of processes, and which operations fit each process
@@ -15,13 +15,6 @@ pub record Roles : Type 0 where
 -- a register's number of processes, and which operations fit each process
 abbrev pub roles_of : {P : Type 0} → Behaviour P → Roles
 roles_of b = record { processes = b.processes; suits = b.suits }
-
--- the process that makes a step
-abbrev pub process_of : Step → ℕ
-process_of (step.Write p v) = p
-process_of (step.Read p) = p
-process_of (step.Go p c) = p
-process_of (step.Stop p) = p
 
 -- Whether a step fits a register with these roles. An invocation fits if its operation fits its
 -- process; for a write, this can depend on the value. A bit action fits if its process exists and

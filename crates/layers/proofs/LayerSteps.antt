@@ -18,7 +18,7 @@ use Rattle.frames.specs.declared.types.Step.TheVariants as step
 use Rattle.frames.specs.declared.running.Running.{Running}
 use Rattle.layers.specs.declared.nested.Nested.{Nested}
 use Rattle.frames.specs.Behaviour.{Behaviour, Begun, Moved}
-use Rattle.frames.specs.Fitting.{process_of}
+use Rattle.frames.specs.Steps.{process_of}
 use Rattle.frames.specs.Flat.{IsReached}
 use Rattle.frames.specs.Configuration.{running_at, is_stopped, stepped, events_of, return_of, still_running, chosen_of, in_order, fits_step, history, replayed}
 use Rattle.frames.specs.Parked.{IsConfiguration}

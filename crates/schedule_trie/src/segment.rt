@@ -6,7 +6,7 @@ ghost use Rattle.schedule_trie.specs.Slots.{set_step};
 ghost use Rattle.schedule_trie.specs.Forest.{renumbered};
 
 use crate::slot::Slot;
-use frames::types::Step;
+use steps::types::Step;
 use std::alloc::{AllocError, Global};
 
 /// The greatest number of cells in a segment.

@@ -1,6 +1,6 @@
 //! Cells, each with its step.
 
-use frames::types::{HasStep, Step};
+use steps::types::{HasStep, Step};
 
 /// A cell: its number and its step.
 #[derive(Clone, Copy, Debug, PartialEq, Eq)]

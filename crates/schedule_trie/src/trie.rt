@@ -27,7 +27,7 @@ use crate::refusal::Refusal;
 pub use crate::segment::SegKey;
 use crate::segment::Segment;
 use crate::slot::Slot;
-use frames::types::Step;
+use steps::types::Step;
 use indexmap::IndexMap;
 use lineage::lineage::Lineage;
 use std::alloc::{AllocError, Global};

@@ -22,7 +22,7 @@ use Rattle.frames.specs.declared.types.Next.TheVariants.{Pending, Done}
 use Rattle.frames.specs.declared.running.Running.{Running}
 use Rattle.frames.specs.Behaviour.{Behaviour, Begun, Moved, IsLawful}
 use Rattle.frames.specs.Configuration.{in_order, return_of, chosen_of, acted, Acted, acting_unless, events_of, stepped, replayed, history, put_acted, with_stop_mark, running_at, is_stopped, fits_step}
-use Rattle.frames.specs.Fitting.{process_of}
+use Rattle.frames.specs.Steps.{process_of}
 use Rattle.frames.specs.Flat.{IsReached}
 use Rattle.frames.specs.Parked.{IsConfiguration}
 use Rattle.frames.specs.Recorded.{Alone, AllFit, at_index, indexed, first_configuration}

@@ -10,7 +10,7 @@ use Rattle.std.specs.Prelude.{IfNone}
 use Rattle.std.specs.List.{list_all}
 use Rattle.frames.specs.declared.types.Step.{Step}
 use Rattle.frames.specs.declared.types.Step.TheVariants as step
-use Rattle.frames.specs.Fitting.{process_of}
+use Rattle.frames.specs.Steps.{process_of}
 use Rattle.words.specs.Steps.{step_text, HasShortNumbers}
 use Rattle.words.specs.Fronts.{begins_with_digit, IsWholeNumber}
 use Rattle.words.proofs.Numbers.{digits-decimal, digit_first, eight_digits, nine_digits}

@@ -17,7 +17,7 @@ use Rattle.frames.specs.declared.types.Step.{Step}
 use Rattle.frames.specs.declared.running.Running.{Running}
 use Rattle.frames.specs.Behaviour.{Behaviour, IsLawful}
 use Rattle.frames.specs.Configuration.{fits_step, is_enabled}
-use Rattle.frames.specs.Fitting.{process_of}
+use Rattle.frames.specs.Steps.{process_of}
 use Rattle.frames.specs.Flat.{FramesGivePoint, running_of, stack_of}
 use Rattle.frames.specs.laws.Flat.{slot_by_frames}
 use Rattle.frames.specs.laws.Steps.{step_keeps}

@@ -12,7 +12,7 @@ use crate::name::Name;
 use crate::refusal::Refusal;
 use crate::segment::{MOST_SLOTS, SegKey, Segment};
 use crate::slot::Slot;
-use frames::types::Step;
+use steps::types::Step;
 use std::alloc::{AllocError, Global};
 
 /// When an insert cuts a full segment in two, the first part gets this many of the old cells.

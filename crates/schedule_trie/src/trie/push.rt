@@ -7,7 +7,7 @@ use super::Trie;
 use super::lengths::set_length;
 use crate::segment::{MOST_SLOTS, SegKey, Segment};
 use crate::slot::Slot;
-use frames::types::Step;
+use steps::types::Step;
 use std::alloc::{AllocError, Global};
 
 impl<T: Drop> Trie<T> {
