@@ -137,6 +137,7 @@ impl<X: Drop> Lineage<X> {
     pub fn lemma_invariant(&self)
         ensures { IsFamily self.now }
     {
+        // for the proof: reading a field opens the model, so what its invariant says is known
         let _count = self.tips.len();
     }
 

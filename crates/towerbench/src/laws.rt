@@ -15,10 +15,13 @@ pub fn pages_show_no_stray(bit: &RegularTower, number: &UnaryTower, register: &S
     ensures unary { NeverShowsStray (⟦<UnaryTower as Behaves>⟧.behaviour number.now) }
     ensures stamped { NeverShowsStray (⟦<StampedTower as Behaves>⟧.behaviour register.now) }
 {
+    // for the proof: a regular bit is regular, so it never shows a stray read
     regular_is_regular(bit);
     never_shows_stray(bit);
+    // for the proof: a unary number is regular, so it never shows a stray read
     unary_is_regular(number);
     never_shows_stray(number);
+    // for the proof: a stamped register is atomic, so it never shows a stray read
     stamped_is_atomic(register);
     never_shows_stray(register);
 }

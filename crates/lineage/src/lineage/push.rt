@@ -40,6 +40,7 @@ pub(super) fn reserve_node<X>(nodes: &mut Slab<Node<X>>, tips: usize) -> Result<
     // the number of holders must fit in a word; if it might not, this reserve is sure to fail
     if nodes.len() >= usize::MAX - tips {
         nodes.reserve(usize::MAX)?;
+        // for the proof: a capacity is less than 2^64, so that reserve hasn't succeeded
         let _most = nodes.capacity();
         unreachable!();
     }
