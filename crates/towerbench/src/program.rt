@@ -62,6 +62,7 @@ pub fn tool<F: Files + AllocGlobal + Threads + Wait + Sync, R: Read, W: Write, E
         }
         Err(e) if e.kind() == ErrorKind::OutOfMemory => report_fault(errors, ProgramFault::Memory),
         Err(_) => {
+            // The status says the same, even if this line can't be written.
             let _ = writeln!(errors, "towerbench: a word of the command line is not text");
             2
         }
@@ -75,6 +76,7 @@ fn report<E: Write>(errors: &mut E, ending: Ending) -> u8
     match ending {
         Ending::Done => 0,
         Ending::Refused(text) => {
+            // The status says the same, even if the text can't be written.
             let _ = errors.write_all(text.as_bytes());
             2
         }

@@ -96,6 +96,7 @@ fn replace<F: Files + AllocGlobal>(
         Err(e) => Err(e),
     };
     if replaced.is_err() {
+        // If the new file can't be removed either, the next save to this path removes it.
         let _ = fs::remove_file(files, new_path.as_str());
     }
     replaced

@@ -22,10 +22,10 @@ Lists the answers that the operations in FILE can have, each with a shortest sch
 Usage: towerbench-answers FILE
 ";
 
-/// Does what `words`, the words after the program's name, ask for: writes to `writer` the answers to
-/// the question in the file that they name, or the help. Reports a fault or a refusal to `errors`.
-/// Returns the exit status: 0 if the answers or the help were written, 1 after a fault, and 2 if the
-/// words are refused.
+/// Does what `words`, the words after the program's name, ask for: writes to `writer` the answers
+/// to the question in the file that they name, or the help. Reports a fault or a refusal to
+/// `errors`. Returns the exit status: 0 if the answers or the help were written, 1 after a fault,
+/// and 2 if the words are refused. The status is the same if the report can't be written.
 pub fn answers_tool<F: Files + AllocGlobal, W: Write, E: Write>(
     files: &F,
     words: io::Result<Vec<String>>,
@@ -63,7 +63,8 @@ pub fn answers_tool<F: Files + AllocGlobal, W: Write, E: Write>(
     }
 }
 
-/// Reports how the program ended, unless it ended well, and returns the exit status.
+/// Reports how the program ended, unless it ended well, and returns the exit status, even if the
+/// report can't be written.
 fn report<E: Write>(errors: &mut E, ending: AnswersEnding) -> u8
     ensures { result ≡ answers_status ending }
 {

@@ -132,6 +132,7 @@ impl<R: Register> Lens<R> {
         let mut config = config;
         for place in made..count {
             config = advanced(run, place, place + 1, config);
+            // A place that can't be kept, for lack of memory, is replayed when it is shown next.
             let _ = self.keep(alloc, run, place + 1, &config);
         }
         config

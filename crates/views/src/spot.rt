@@ -30,6 +30,7 @@ pub(crate) fn make<R: Register>(config: &mut Config<R>, steps: &[Step])
     ensures { config.new ≡ replayed (R.behaviour config.old.register) config.old steps.now }
 {
     for step in steps {
+        // The events that the step records aren't needed here.
         config.step(*step);
     }
 }
