@@ -65,7 +65,8 @@ impl fmt::Display for QuestionFaultKind {
     }
 }
 
-/// A fault of a file. `line` is the number of the line that has the fault, counted from 1.
+/// A fault of a file. `line` is the number of the line that has the fault, counted from 1. If
+/// memory ran out, it is the number of the line that was being read.
 #[derive(Clone, Copy, Debug, PartialEq, Eq, Error)]
 pub struct QuestionFault {
     pub kind: QuestionFaultKind,

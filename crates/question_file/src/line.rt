@@ -39,7 +39,8 @@ fn question_kind(kind: tower_file::FaultKind) -> QuestionFaultKind
     }
 }
 
-/// The tower file that has this line as its tower and no steps.
+/// The tower file that has this line as its tower and no steps. It is made because `tower_file`
+/// parses whole files only.
 fn tower_file_of(alloc: Global, line: &[u8]) -> Result<Vec<u8>, AllocError>
     ensures { IfOk result (λ text. text.items ≡ spec.tower_file_of line.now) }
 {

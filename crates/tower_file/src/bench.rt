@@ -44,9 +44,8 @@ impl BenchFile {
         }
     }
 
-    /// The file with this tower and these limbs. The tower must be lawful. There must be at least
-    /// one limb. Each limb must have a new name and satisfy `may_share`, given the limbs before it;
-    /// its `from` and `shared` must be below 10^9, and its steps must fit the tower.
+    /// The file with this tower and these limbs. All that `BenchFile` says of a file's tower and
+    /// limbs must hold of them.
     pub fn of_lawful(spec: TowerSpec, limbs: Vec<Limb>) -> BenchFile
         requires lawful { IsLawfulBench (bench_of spec limbs.items) }
         ensures { as_bench result ≡ bench_of spec limbs.items }
