@@ -215,7 +215,8 @@ fn gather<'q, R: Register>(
     Ok(found)
 }
 
-/// All states that the question's schedules reach, if they are at most `most`.
+/// All states that the question's schedules reach, if they are at most `most`. The error
+/// is never `Unfit`.
 fn explore<'q, R: Register>(
     alloc: Global,
     moves: &Moves<'q, R>,
@@ -241,7 +242,8 @@ fn explore<'q, R: Register>(
     }
 }
 
-/// All answers to a question whose initial value is one of the register's values.
+/// All answers to a question whose initial value is one of the register's values. The error
+/// is never `Unfit`.
 fn answer<'q, R: Register>(alloc: Global, moves: &Moves<'q, R>, most: u32) -> Result<Found, Unfound>
     requires { moves.now.question.now.value < (R.behaviour moves.now.register).values }
     ensures answered { IfOk result (λ f. AllAnswered (R.behaviour moves.now.register)

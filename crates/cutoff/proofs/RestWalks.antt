@@ -1,4 +1,4 @@
--- A walk down the segments left of a branch, after a part that stored runs are known to fit.
+-- A walk down the remaining segments of a branch, below those that are known to have fitting runs.
 use Rattle.std.proofs.Common.{◌≡◌, ◌⊎◌, ℕ, suc, drop, get_or, ◌+◌, ◌-◌, ◌<◌, ◌≤◌, Bool, true, false, List, [], ◌∷◌, ◌++◌, length, map, Option, Some, None, IsSome, inl, inr, refl, sym, ap, subst, ◌∙◌, arith, append_assoc, append-nil, true≢false}
 use Rattle.std.specs.Prelude.{min}
 use Rattle.std.specs.Cmp.{IsPartialEquivalence, IsEquivalence}

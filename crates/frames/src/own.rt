@@ -132,7 +132,7 @@ pub fn proceed<R: Register>(
     if stack.is_empty() {
         return alone(Event::Void(who, Reason::Idle));
     }
-    // made only here, since a void step needs none
+    // computed after the test, since a void step needs no choice
     let choice = c == 1;
     let progress = go_own(register, store, who, stack, choice);
     let chosen = match progress.chosen {
