@@ -12,7 +12,7 @@ use Rattle.tower_file.specs.declared.fault.FaultKind.TheVariants.{NotAscii, BadH
 use Rattle.tower_file.specs.declared.fault.FileFault.{FileFault}
 use Rattle.tower_file.specs.Faults.{Fails, Gives, MemoryOnlyIf}
 use Rattle.tower_file.specs.Towers.{is_lawful_tower}
-use Rattle.tower_file.specs.Benches.{IsLawfulBench, bench_of, is_some, are_lawful}
+use Rattle.tower_file.specs.Benches.{IsLawfulBench, bench_of, has_limbs, are_lawful}
 use Rattle.tower_file.specs.Spelling.{text_with_end, tower_text}
 use Rattle.tower_file.specs.BenchSpelling.{bench_header, bench_spelling, SpellsBench, SpellsLimbs, SpellsFront}
 use Rattle.tower_file.specs.Reading.{◌>>=◌, has_header, first_foreign, tower_of}
@@ -133,7 +133,7 @@ is_then_step t n limbs text_with_end s h =
 pub bench_lawful : (t : TowerSpec) (n : ℕ) (left : List (List ℕ)) (limbs : List Limb) → is_lawful_tower t ≡ true → limbs_of t n [] left ≡ Ok limbs → IsLawfulBench (bench_of t limbs)
 bench_lawful t n left limbs lawful read =
     let a = limbs_are t n [] left limbs read in
-    and_from (is_lawful_tower t && is_some limbs) (are_lawful t limbs) (and_from (is_lawful_tower t) (is_some limbs) lawful a.some) (a.lawful refl)
+    and_from (is_lawful_tower t && has_limbs limbs) (are_lawful t limbs) (and_from (is_lawful_tower t) (has_limbs limbs) lawful a.some) (a.lawful refl)
 
 -- if the limbs of a prefix are read, a prefix of the bytes spells a bench file
 pub spells_front : (bytes : List ℕ) (t : TowerSpec) (left : List (List ℕ)) → first_foreign bytes ≡ None → has_header bench_header (lines bytes) ≡ true → tower_of (after_next (lines bytes)) ≡ Ok t
@@ -146,7 +146,7 @@ spells_front bytes t left plain header tower same s =
       rest = s.rest;
       bench = bench_of t s.limbs;
       spells = record {
-        lawful = and_from (is_lawful_tower t && is_some s.limbs) (are_lawful t s.limbs) (and_from (is_lawful_tower t) (is_some s.limbs) a.lawful s.some) s.lawful;
+        lawful = and_from (is_lawful_tower t && has_limbs s.limbs) (are_lawful t s.limbs) (and_from (is_lawful_tower t) (has_limbs s.limbs) a.lawful s.some) s.lawful;
         spelled = refl;
       };
       parts = sym (join_with_byte-slice_split 10 bytes) ∙ a.spelled (limbs_text s.limbs ++ s.rest) (ap (join_with_byte 10) (sym same) ∙ s.parts)

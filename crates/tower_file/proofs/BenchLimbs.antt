@@ -10,7 +10,7 @@ use Rattle.schedule_trie.specs.declared.limb.Limb.{Limb}
 use Rattle.schedule_trie.specs.Limbs.{is_new_name, may_share, are_lawful_after}
 use Rattle.tower_file.specs.declared.tower.TowerSpec.{TowerSpec}
 use Rattle.tower_file.specs.Towers.{fits}
-use Rattle.tower_file.specs.Benches.{is_some, has_fit, are_lawful}
+use Rattle.tower_file.specs.Benches.{has_limbs, has_fit, are_lawful}
 use Rattle.tower_file.specs.Spelling.{text_with_end}
 use Rattle.tower_file.specs.BenchSpelling.{branch_text, limb_text}
 use Rattle.tower_file.specs.BenchReading.{limb_with_step, put_step}
@@ -37,12 +37,12 @@ put_step-last (k ∷ m ∷ ls) l s = ap (λ z. k ∷ z) (put_step-last (m ∷ ls
 
 -- ---- there is a limb
 
-pub some_step : (ls : List Limb) (s : Step) → is_some ls ≡ true → is_some (put_step ls s) ≡ true
+pub some_step : (ls : List Limb) (s : Step) → has_limbs ls ≡ true → has_limbs (put_step ls s) ≡ true
 some_step [] s h = h
 some_step (l ∷ []) s h = refl
 some_step (l ∷ k ∷ ls) s h = refl
 
-pub some_last : (ls : List Limb) (l : Limb) → is_some (ls ++ l ∷ []) ≡ true
+pub some_last : (ls : List Limb) (l : Limb) → has_limbs (ls ++ l ∷ []) ≡ true
 some_last [] l = refl
 some_last (k ∷ ls) l = refl
 
@@ -53,7 +53,7 @@ with_step_text l s =
     ap (λ x. text_with_end (branch_text l) ++ x) (flat_map-append step_line l.steps (s ∷ []) ∙ ap (λ x. flat_map step_line l.steps ++ x) (append-nil (step_line s)))
     ∙ sym (append_assoc (text_with_end (branch_text l)) (flat_map step_line l.steps) (step_line s))
 
-pub put_step_text : (ls : List Limb) (s : Step) → is_some ls ≡ true → limbs_text (put_step ls s) ≡ limbs_text ls ++ step_line s
+pub put_step_text : (ls : List Limb) (s : Step) → has_limbs ls ≡ true → limbs_text (put_step ls s) ≡ limbs_text ls ++ step_line s
 put_step_text [] s h = absurd (true≢false (sym h))
 put_step_text (l ∷ []) s h = append-nil (limb_text (limb_with_step l s)) ∙ with_step_text l s ∙ ap (λ x. x ++ step_line s) (sym (append-nil (limb_text l)))
 put_step_text (l ∷ k ∷ ls) s h = ap (λ x. limb_text l ++ x) (put_step_text (k ∷ ls) s refl) ∙ sym (append_assoc (limb_text l) (limbs_text (k ∷ ls)) (step_line s))

@@ -18,7 +18,7 @@ use Rattle.tower_file.specs.declared.fault.FileFault.{FileFault}
 use Rattle.tower_file.specs.declared.version.Version.TheVariants.{Two}
 use Rattle.tower_file.specs.Faults.{fault}
 use Rattle.tower_file.specs.Towers.{is_lawful_tower, fits}
-use Rattle.tower_file.specs.Benches.{Bench, IsLawfulBench, bench_of, is_some, has_fit, are_lawful}
+use Rattle.tower_file.specs.Benches.{Bench, IsLawfulBench, bench_of, has_limbs, has_fit, are_lawful}
 use Rattle.tower_file.specs.Lines.{fitting_step, is_branch, branch_of}
 use Rattle.tower_file.specs.Spelling.{text_with_end, tower_text}
 use Rattle.tower_file.specs.BenchSpelling.{bench_header, branch_text, limb_text, bench_spelling, SpellsBench}
@@ -168,7 +168,7 @@ steps_again t e l (s ∷ ss) rest all small fit behind read =
     next_again t (e ++ l ∷ []) (step_text s) (steps_before ss rest) (e ++ limb_with_step l s ∷ []) all (more_steps ss rest behind) (λ n. step_line_again t n e l s small a.0)
     (steps_again t e (limb_with_step l s) ss rest all small a.1 behind (subst (λ x. AreRead t (e ++ x ∷ []) rest all) same read))
 
-ended_again : (t : TowerSpec) (e : List Limb) → is_some e ≡ true → AreRead t e ([] ∷ []) e
+ended_again : (t : TowerSpec) (e : List Limb) → has_limbs e ≡ true → AreRead t e ([] ∷ []) e
 unfolding limbs_of
 ended_again t e some = λ n. ap (λ b. cond b (Ok e) (Err (fault (cut_line e []) n))) some
 
@@ -192,16 +192,16 @@ next_limb t e l ls lawful fit =
     name_of_new : (e : List Limb) (name : List ℕ) → is_new_name e name ≡ true → is_name name ≡ true
     name_of_new e name h = (and_parts (is_name name) _ h).0
 
-limbs_again : (t : TowerSpec) (e ls : List Limb) → IsFew t → are_lawful_after e ls ≡ true → list_all (has_fit t) ls ≡ true → is_some (e ++ ls) ≡ true → AreRead t e (limb_lines ls) (e ++ ls)
+limbs_again : (t : TowerSpec) (e ls : List Limb) → IsFew t → are_lawful_after e ls ≡ true → list_all (has_fit t) ls ≡ true → has_limbs (e ++ ls) ≡ true → AreRead t e (limb_lines ls) (e ++ ls)
 limbs_again t e [] small lawful fit some =
     let same : e ++ [] ≡ e = append-nil e in
-    subst (λ x. AreRead t e ([] ∷ []) x) (sym same) (ended_again t e (subst (λ x. is_some x ≡ true) same some))
+    subst (λ x. AreRead t e ([] ∷ []) x) (sym same) (ended_again t e (subst (λ x. has_limbs x ≡ true) same some))
 limbs_again t e (l ∷ ls) small lawful fit some =
     let h = next_limb t e l ls lawful fit in
     let same : (e ++ l ∷ []) ++ ls ≡ e ++ l ∷ ls = append_assoc e (l ∷ []) ls in
     let others : AreRead t (e ++ l ∷ []) (limb_lines ls) (e ++ l ∷ ls) =
     subst (AreRead t (e ++ l ∷ []) (limb_lines ls)) same
-    (limbs_again t (e ++ l ∷ []) ls small h.later h.others (subst (λ x. is_some x ≡ true) (sym same) some)) in
+    (limbs_again t (e ++ l ∷ []) ls small h.later h.others (subst (λ x. has_limbs x ≡ true) (sym same) some)) in
     next_again t e (branch_text l) (steps_before l.steps (limb_lines ls)) (e ++ bare l ∷ []) (e ++ l ∷ ls) (more_steps l.steps (limb_lines ls) (more_limbs ls))
     (λ n. limb_line_again t n e l h.written h.new h.may)
     (steps_again t e (bare l) l.steps (limb_lines ls) (e ++ l ∷ ls) small h.fit (more_limbs ls) others)
@@ -244,14 +244,14 @@ limbs_plain t e (l ∷ ls) small lawful fit =
 
 record IsParted (b : Bench) : Type 0 where
   pub tower : is_lawful_tower b.spec ≡ true
-  pub some : is_some b.limbs ≡ true
+  pub some : has_limbs b.limbs ≡ true
   pub after : are_lawful_after [] b.limbs ≡ true
   pub fit : list_all (has_fit b.spec) b.limbs ≡ true
 
 parted : (b : Bench) → IsLawfulBench b → IsParted b
 parted b h =
-    let a = and_parts (is_lawful_tower b.spec && is_some b.limbs) (are_lawful b.spec b.limbs) h in
-    let c = and_parts (is_lawful_tower b.spec) (is_some b.limbs) a.0 in
+    let a = and_parts (is_lawful_tower b.spec && has_limbs b.limbs) (are_lawful b.spec b.limbs) h in
+    let c = and_parts (is_lawful_tower b.spec) (has_limbs b.limbs) a.0 in
     let d = and_parts (are_lawful_after [] b.limbs) (list_all (has_fit b.spec) b.limbs) a.1 in
     record { tower = c.0; some = c.1; after = d.0; fit = d.1 }
 

@@ -15,7 +15,7 @@ use Rattle.tower_file.specs.declared.fault.FaultKind.TheVariants.{BadHeader, Bad
 use Rattle.tower_file.specs.declared.version.Version.TheVariants.{Two}
 use Rattle.tower_file.specs.Faults.{fault}
 use Rattle.tower_file.specs.Towers.{is_lawful_tower}
-use Rattle.tower_file.specs.Benches.{Bench, bench_of, is_some, has_fit, are_lawful}
+use Rattle.tower_file.specs.Benches.{Bench, bench_of, has_limbs, has_fit, are_lawful}
 use Rattle.tower_file.specs.Lines.{fitting_step, is_branch, branch_of}
 use Rattle.tower_file.specs.Spelling.{text_with_end, tower_text}
 use Rattle.tower_file.specs.BenchSpelling.{bench_header, branch_text, SpellsBench}
@@ -61,7 +61,7 @@ branch_line (w ∷ v ∷ vs) l first h = ap (λ x. x ++ 32 ∷ join_with_byte 32
 -- a line adds a branch or a step to these limbs, which gives `more`
 pub record GoOn (t : TowerSpec) (limbs : List Limb) (said : List ℕ) (more : List Limb) : Type 0 where
   pub spelled : limbs_text more ≡ limbs_text limbs ++ text_with_end said
-  pub some : is_some more ≡ true
+  pub some : has_limbs more ≡ true
   pub lawful : are_lawful t limbs ≡ true → are_lawful t more ≡ true
 
 branch_goes_on : (t : TowerSpec) (n : ℕ) (limbs : List Limb) (said : List ℕ) (more : List Limb) → is_branch said ≡ true
@@ -87,7 +87,7 @@ branch_goes_on t n limbs said more first h =
 
 step_goes_on : (t : TowerSpec) (n : ℕ) (limbs : List Limb) (said : List ℕ) (more : List Limb) → then_step t n limbs said ≡ Ok more → GoOn t limbs said more
 step_goes_on t n limbs said more h =
-    let a = when_ok (is_some limbs) (ok_or (fitting_step Two t said) (fault BadStep n) >>= λ s. Ok (put_step limbs s)) (fault BadBranch n) more h in
+    let a = when_ok (has_limbs limbs) (ok_or (fitting_step Two t said) (fault BadStep n) >>= λ s. Ok (put_step limbs s)) (fault BadBranch n) more h in
     let b = bind_ok (ok_or (fitting_step Two t said) (fault BadStep n)) (λ s. Ok (put_step limbs s)) more a.1 in
     let s = b.0 in
     let is = fitting_is Two t said s (ok_or_ok (fitting_step Two t said) (fault BadStep n) s b.1) in
@@ -110,13 +110,13 @@ line_goes_on t n limbs said more h = by (is_branch said) refl h
 -- these lines add branches and steps to these limbs, which gives `all`
 pub record AreLimbs (t : TowerSpec) (limbs : List Limb) (said : List ℕ) (all : List Limb) : Type 0 where
   pub spelled : limbs_text limbs ++ said ≡ limbs_text all
-  pub some : is_some all ≡ true
+  pub some : has_limbs all ≡ true
   pub lawful : are_lawful t limbs ≡ true → are_lawful t all ≡ true
 
 ended_is : (t : TowerSpec) (n : ℕ) (limbs : List Limb) (rest : List ℕ) (all : List Limb) → limbs_at_end n limbs rest ≡ Ok all → AreLimbs t limbs rest all
 ended_is t n limbs rest all h =
-    let a = when_ok ((length rest == 0) && is_some limbs) (Ok limbs) (fault (cut_line limbs rest) n) all h in
-    let b = and_parts (length rest == 0) (is_some limbs) a.0 in
+    let a = when_ok ((length rest == 0) && has_limbs limbs) (Ok limbs) (fault (cut_line limbs rest) n) all h in
+    let b = and_parts (length rest == 0) (has_limbs limbs) a.0 in
     subst (AreLimbs t limbs rest) (ok_is limbs all a.1)
     (record {
       spelled = ap (λ x. limbs_text limbs ++ x) (nil_from_length rest (eqb-true (length rest) 0 b.0)) ∙ append-nil (limbs_text limbs);
@@ -177,6 +177,6 @@ bench_is ls b h =
     let behind = limbs_are t 3 [] (after_next (after_next ls)) limbs d.1 in
     subst (SpellsBench (join_with_byte 10 ls)) (ok_is (bench_of t limbs) b d.2)
     (record {
-      lawful = and_from (is_lawful_tower t && is_some limbs) (are_lawful t limbs) (and_from (is_lawful_tower t) (is_some limbs) front.lawful behind.some) (behind.lawful refl);
+      lawful = and_from (is_lawful_tower t && has_limbs limbs) (are_lawful t limbs) (and_from (is_lawful_tower t) (has_limbs limbs) front.lawful behind.some) (behind.lawful refl);
       spelled = front.spelled (limbs_text limbs) behind.spelled;
     })

@@ -10,7 +10,7 @@ use Rattle.tower_file.specs.declared.fault.FaultKind.TheVariants.{BadHeader, Bad
 use Rattle.tower_file.specs.declared.fault.FileFault.{FileFault}
 use Rattle.tower_file.specs.declared.version.Version.TheVariants.{Two}
 use Rattle.tower_file.specs.Faults.{fault}
-use Rattle.tower_file.specs.Benches.{Bench, bench_of, is_some}
+use Rattle.tower_file.specs.Benches.{Bench, bench_of, has_limbs}
 use Rattle.tower_file.specs.BenchSpelling.{bench_header}
 use Rattle.tower_file.specs.Lines.{fitting_step, is_branch, branch_of}
 use Rattle.tower_file.specs.Reading.{◌>>=◌, has_header, first_foreign, tower_of, reading_from}
@@ -48,7 +48,7 @@ then_branch n limbs ws = ok_or (branch_of ws) (fault BadBranch n) >>= put_limb n
 -- there is no limb, or else BadStep if the line doesn't spell a step that fits the tower.
 abbrev pub then_step : TowerSpec → ℕ → List Limb → List ℕ → Result (List Limb) FileFault
 then_step t n limbs line =
-    if is_some limbs then (ok_or (fitting_step Two t line) (fault BadStep n) >>= λ s. Ok (put_step limbs s))
+    if has_limbs limbs then (ok_or (fitting_step Two t line) (fault BadStep n) >>= λ s. Ok (put_step limbs s))
     else Err (fault BadBranch n)
 
 -- these limbs with line n added: a branch if the line's first word is `branch`, and otherwise a
@@ -59,13 +59,13 @@ then_line t n limbs line = if is_branch line then then_branch n limbs (after_nex
 -- the kind of fault of a line that follows these limbs and has no line end: BadBranch if its first
 -- word is `branch` or there is no limb, and otherwise BadStep
 abbrev pub cut_line : List Limb → List ℕ → FaultKind
-cut_line limbs line = if is_branch line || not (is_some limbs) then BadBranch else BadStep
+cut_line limbs line = if is_branch line || not (has_limbs limbs) then BadBranch else BadStep
 
 -- these limbs, when no line with a line end is left. There must be at least one limb, and `rest`,
 -- the text after the last line end, must be empty; otherwise there is a fault on line n, whose text
 -- is `rest`.
 abbrev pub limbs_at_end : ℕ → List Limb → List ℕ → Result (List Limb) FileFault
-limbs_at_end n limbs rest = if length rest == 0 && is_some limbs then Ok limbs else Err (fault (cut_line limbs rest) n)
+limbs_at_end n limbs rest = if length rest == 0 && has_limbs limbs then Ok limbs else Err (fault (cut_line limbs rest) n)
 
 -- these limbs with the branches and the steps of line n and later lines added; or the first fault
 -- of those lines. At the end there must be at least one limb, and no text after the last line end.

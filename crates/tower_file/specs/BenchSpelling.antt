@@ -4,7 +4,7 @@ use Rattle.std.specs.List.{flat_map, join_with_byte}
 use Rattle.schedule_trie.specs.declared.limb.Limb.{Limb}
 use Rattle.words.specs.Steps.{text, step_text}
 use Rattle.tower_file.specs.declared.tower.TowerSpec.{TowerSpec}
-use Rattle.tower_file.specs.Benches.{Bench, IsLawfulBench, is_some, are_lawful}
+use Rattle.tower_file.specs.Benches.{Bench, IsLawfulBench, has_limbs, are_lawful}
 use Rattle.tower_file.specs.Spelling.{text_with_end, tower_text}
 use Rattle.tower_file.specs.Reading.{first_foreign}
 
@@ -36,7 +36,7 @@ pub record SpellsBench (bytes : List ℕ) (b : Bench) : Type 0 where
 pub record SpellsLimbs (t : TowerSpec) (ls : List (List ℕ)) : Type 0 where
   pub limbs : List Limb
   pub rest : List ℕ
-  pub some : is_some limbs ≡ true
+  pub some : has_limbs limbs ≡ true
   pub lawful : are_lawful t limbs ≡ true
   pub parts : join_with_byte 10 ls ≡ flat_map limb_text limbs ++ rest
 

@@ -17,9 +17,9 @@ abbrev pub bench_of : TowerSpec → List Limb → Bench
 bench_of t limbs = record { spec = t; limbs = limbs }
 
 -- whether there is at least one limb
-abbrev pub is_some : List Limb → Bool
-is_some [] = false
-is_some (l ∷ ls) = true
+abbrev pub has_limbs : List Limb → Bool
+has_limbs [] = false
+has_limbs (l ∷ ls) = true
 
 -- whether the limb's `from` and `shared` have at most 9 digits, and its steps fit the tower
 abbrev pub has_fit : TowerSpec → Limb → Bool
@@ -34,7 +34,7 @@ are_lawful t limbs = are_lawful_after [] limbs && list_all (has_fit t) limbs
 -- whether the tower is lawful, there is at least one limb, and a bench file on this tower can have
 -- these limbs
 abbrev pub is_lawful_bench : Bench → Bool
-is_lawful_bench b = (is_lawful_tower b.spec && is_some b.limbs) && are_lawful b.spec b.limbs
+is_lawful_bench b = (is_lawful_tower b.spec && has_limbs b.limbs) && are_lawful b.spec b.limbs
 
 -- The bench is lawful: its tower is lawful, there is at least one limb, and a bench file on that
 -- tower can have these limbs.

@@ -2,7 +2,7 @@
 
 ghost use Rattle.std.specs.Prelude.{◌≡◌, ◌∷◌, [], ◌++◌, OnOk, not, true, map};
 ghost use Rattle.schedule_trie.specs.Limbs as spec;
-ghost use Rattle.tower_file.specs.Benches.{is_some};
+ghost use Rattle.tower_file.specs.Benches.{has_limbs};
 ghost use Rattle.tower_file.specs.BenchReading.{limb_name, put_step};
 
 use frames::types::Step;
@@ -45,7 +45,7 @@ impl NamedLimbs {
 
     /// Whether there are no limbs.
     pub(crate) fn is_empty(&self) -> bool
-        ensures { result ≡ not (is_some self.now) }
+        ensures { result ≡ not (has_limbs self.now) }
     {
         self.limbs.is_empty()
     }

@@ -15,7 +15,7 @@ use Rattle.schedule_trie.specs.declared.limits.TheConstants.{MOST_CELLS_MADE}
 use Rattle.schedule_trie.specs.Limbs.{FitLimits, AreLawfulLimbs, are_lawful_after}
 use Rattle.tower_file.specs.declared.tower.TowerSpec.{TowerSpec}
 use Rattle.tower_file.specs.Towers.{fits, is_lawful_tower}
-use Rattle.tower_file.specs.Benches.{IsLawfulBench, are_lawful, bench_of, has_fit, is_some}
+use Rattle.tower_file.specs.Benches.{IsLawfulBench, are_lawful, bench_of, has_fit, has_limbs}
 
 is_below : (a n : ℕ) → a < n → nat_lt a n ≡ true
 is_below a n h = by (nat_lt a n) refl
@@ -45,11 +45,11 @@ module _ {P : Type 0} (t : TowerSpec) (b : Behaviour P) (alike : (s : Step) → 
     have_fit ls fit near =
         list_all-from_AllPass (has_fit t) ls (λ k d within. has (slice_index_or ls k d) (near k d within).0 (near k d within).1 (fit k d within))
 
-is_one : (ls : List Limb) → 0 < length ls → is_some ls ≡ true
+is_one : (ls : List Limb) → 0 < length ls → has_limbs ls ≡ true
 is_one [] some = absurd (omega (arith, some))
 is_one (l ∷ ls) some = refl
 
-pub has_one : (ls : List Limb) → is_some ls ≡ true → 0 < length ls
+pub has_one : (ls : List Limb) → has_limbs ls ≡ true → 0 < length ls
 has_one [] e = absurd (cc)
 has_one (l ∷ ls) e = omega arith
 
@@ -59,17 +59,17 @@ lawful_bench t ls tower some lawful fit = rw (tower, is_one ls some, lawful, fit
 
 -- what is lawful in a lawful bench file
 module _ (t : TowerSpec) (ls : List Limb) (h : IsLawfulBench (bench_of t ls)) where
-  front : (is_lawful_tower t && is_some ls) ≡ true
-  front = (and_parts (is_lawful_tower t && is_some ls) (are_lawful t ls) h).0
+  front : (is_lawful_tower t && has_limbs ls) ≡ true
+  front = (and_parts (is_lawful_tower t && has_limbs ls) (are_lawful t ls) h).0
 
   back : are_lawful t ls ≡ true
-  back = (and_parts (is_lawful_tower t && is_some ls) (are_lawful t ls) h).1
+  back = (and_parts (is_lawful_tower t && has_limbs ls) (are_lawful t ls) h).1
 
   pub tower_is : is_lawful_tower t ≡ true
-  tower_is = (and_parts (is_lawful_tower t) (is_some ls) front).0
+  tower_is = (and_parts (is_lawful_tower t) (has_limbs ls) front).0
 
   pub some_limb : 0 < length ls
-  some_limb = has_one ls (and_parts (is_lawful_tower t) (is_some ls) front).1
+  some_limb = has_one ls (and_parts (is_lawful_tower t) (has_limbs ls) front).1
 
   pub limbs_lawful : AreLawfulLimbs ls
   limbs_lawful = (and_parts (are_lawful_after [] ls) (list_all (has_fit t) ls) back).0
