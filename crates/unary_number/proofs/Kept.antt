@@ -38,7 +38,7 @@ pub record UnaryInv (top : ℕ) (u : Seen) (j : View UnaryTask) : Type 0 where
 
 -- the scan from bit i on, upward; the last number is how many bits are above bit i
 abbrev pub looks_from : Outcome → ℕ → ℕ → ℕ → Program UnaryTask
-looks_from none who i left = Asks (Looking who i left) (λ o. after_look i (looks_above none who i left) o)
+looks_from not_found who i left = Asks (Looking who i left) (λ o. after_look i (looks_above not_found who i left) o)
 
 abbrev pub unary_watch : ℕ → Watch UnaryTask Seen
 unary_watch top = record { Good = IsNotStray; Inv = UnaryInv top }
@@ -115,12 +115,12 @@ not_stray_give r u x m h = go (x == u.fresh r) refl h
           | inr f ↦ (let n : Overlap ≡ Stray = sym (ap (λ d. if d then Overlap else Stray) f) ∙ k in let z : ⊥ = cc in z)
         ]
 
-module _ (none : Outcome) (values processes : ℕ) (two : 2 ≤ values) where
+module _ (not_found : Outcome) (values processes : ℕ) (two : 2 ≤ values) where
   abbrev top : ℕ
   top = values - 1
 
   abbrev t : Table UnaryTask
-  t = unary_table_with none values processes
+  t = unary_table_with not_found values processes
 
   abbrev w : Watch UnaryTask Seen
   w = unary_watch top
@@ -164,7 +164,7 @@ module _ (none : Outcome) (values processes : ℕ) (two : 2 ≤ values) where
       )
 
   begin_write : (u : Seen) (j : View UnaryTask) (p x : ℕ) → UnaryInv top u j → j.tasks p ≡ None → p ≡ 0 → x ≤ top
-      → Runs t w p (Write x) (λ e. Told IsNotStray u (in_order (Some (Invoke p (Write x))) e)) (unary_program none values p (Write x)) j
+      → Runs t w p (Write x) (λ e. Told IsNotStray u (in_order (Some (Invoke p (Write x))) e)) (unary_program not_found values p (Write x)) j
   begin_write u j p x h free zp lx =
       let op : Op = Write x in
       let v : Seen = sees (Some (Invoke p (Write x))) u in
@@ -252,16 +252,16 @@ module _ (none : Outcome) (values processes : ℕ) (two : 2 ≤ values) where
 
   runs_looks : (left i k p : ℕ) (op : Op) (Out : Option Event → Seen → Type 0) (u : Seen) (j : View UnaryTask) → (p ≡ 0 → ⊥) → i + left ≡ top → Beacon top i k (MayGive p u) j.parts
       → Lights top p u j.tasks j.parts → WriterSays top (j.tasks 0) u j.parts → Out None u → ((x : ℕ) → MayGive p u x → Out (Some (Got p x)) u)
-      → Runs t w p op Out (looks_from none p i left) j
+      → Runs t w p op Out (looks_from not_found p i left) j
   runs_looks zero i k p op Out u j np room bk l wr out og =
-      runs_look i zero k p op Out u j (Ends none) np room bk l wr out og
+      runs_look i zero k p op Out u j (Ends not_found) np room bk l wr out og
       (λ z bk2 lz wz. let lo : suc i ≤ k = bk2.low in let hi : k ≤ top = bk2.high in let n : ⊥ = omega (arith, lo, hi, room) in absurd n)
   runs_looks (suc left) i k p op Out u j np room bk l wr out og =
-      runs_look i (suc left) k p op Out u j (looks_above none p i (suc left)) np room bk l wr out og
+      runs_look i (suc left) k p op Out u j (looks_above not_found p i (suc left)) np room bk l wr out og
       (λ z bk2 lz wz. runs_looks left (suc i) k p op Out u z np (omega (arith, room)) bk2 lz wz out og)
 
   begins : (u : Seen) (j : View UnaryTask) (p : ℕ) (op : Op) → UnaryInv top u j → j.tasks p ≡ None → one_writer values processes p op ≡ true
-      → Runs t w p op (λ e. Told IsNotStray u (in_order (Some (Invoke p op)) e)) (unary_program none values p op) j
+      → Runs t w p op (λ e. Told IsNotStray u (in_order (Some (Invoke p op)) e)) (unary_program not_found values p op) j
   begins u j p (Write x) h free s =
       let lx = writer.no_other_value values processes p x s in
       begin_write u j p x h free (writer.writer_zero values processes p x s) (omega (arith, lx, two))
@@ -278,7 +278,7 @@ module _ (none : Outcome) (values processes : ℕ) (two : 2 ≤ values) where
   -- an operation of the writer on a bit has ended
   writer_ends : (u : Seen) (j : View UnaryTask) (p : ℕ) (op : Op) (task : UnaryTask) (chosen : Option (ℕ × Bool)) (o : Outcome) → UnaryInv top u j → p ≡ 0 → WriterAt top task u j.parts
       → Answers 2 (t.asks task).op o → IsNotSpent o
-      → Runs t w p op (λ e. Told IsNotStray u (in_order (chosen_of p chosen) e)) (unary_rest none task o)
+      → Runs t w p op (λ e. Told IsNotStray u (in_order (chosen_of p chosen) e)) (unary_rest not_found task o)
       (record j { parts = put (t.asks task).part (sees (Some (ended (t.asks task).who o)) (j.parts (t.asks task).part)) j.parts })
   writer_ends u j p op (Setting x) chosen (Value v) h zp wr ans pass = absurd ans
   writer_ends u j p op (Setting x) chosen (Spent s) h zp wr ans pass = absurd pass
@@ -301,15 +301,15 @@ module _ (none : Outcome) (values processes : ℕ) (two : 2 ≤ values) where
   -- a reader's read of a bit has ended
   look_ends : (u : Seen) (j : View UnaryTask) (p i left k v : ℕ) (op : Op) (chosen : Option (ℕ × Bool)) → UnaryInv top u j → (p ≡ 0 → ⊥) → Looks top p i left k u j.parts → v < 2
       → IsNotStray (record { reader = p; value = v; fresh = (j.parts i).fresh p; overlaps = (j.parts i).overlaps p })
-      → Runs t w p op (λ e. Told IsNotStray u (in_order (chosen_of p chosen) e)) (unary_rest none (Looking p i left) (Value v)) j
+      → Runs t w p op (λ e. Told IsNotStray u (in_order (chosen_of p chosen) e)) (unary_rest not_found (Looking p i left) (Value v)) j
   look_ends u j p i zero k v op chosen h np look lv good =
-      runs_found i zero k p v op (λ e. Told IsNotStray u (in_order (chosen_of p chosen) e)) u j (Ends none) np lv look (lights_for top p u j.tasks j.parts h.lights) h.writer good
+      runs_found i zero k p v op (λ e. Told IsNotStray u (in_order (chosen_of p chosen) e)) u j (Ends not_found) np lv look (lights_for top p u j.tasks j.parts h.lights) h.writer good
       (λ x m. told_gone IsNotStray p chosen (Some (Got p x)) u refl (not_stray_give p u x m, tt))
       (λ bk. let lo : suc i ≤ k = bk.low in let hi : k ≤ top = bk.high in let room : i + 0 ≡ top = look.room in let n : ⊥ = omega (arith, lo, hi, room) in absurd n)
   look_ends u j p i (suc left) k v op chosen h np look lv good =
       let room : i + suc left ≡ top = look.room in
       let l : Lights top p u j.tasks j.parts = lights_for top p u j.tasks j.parts h.lights in
-      runs_found i (suc left) k p v op (λ e. Told IsNotStray u (in_order (chosen_of p chosen) e)) u j (looks_above none p i (suc left)) np lv look l h.writer good
+      runs_found i (suc left) k p v op (λ e. Told IsNotStray u (in_order (chosen_of p chosen) e)) u j (looks_above not_found p i (suc left)) np lv look l h.writer good
       (λ x m. told_gone IsNotStray p chosen (Some (Got p x)) u refl (not_stray_give p u x m, tt))
       (λ bk. runs_looks left (suc i) k p op (λ e. Told IsNotStray u (in_order (chosen_of p chosen) e)) u j np (omega (arith, room)) bk l h.writer
       (told_gone IsNotStray p chosen None u refl tt)
@@ -317,7 +317,7 @@ module _ (none : Outcome) (values processes : ℕ) (two : 2 ≤ values) where
 
   reader_ends : (u : Seen) (j : View UnaryTask) (p : ℕ) (op : Op) (task : UnaryTask) (chosen : Option (ℕ × Bool)) (o : Outcome) → UnaryInv top u j → (p ≡ 0 → ⊥) → ReaderAt top p task u j.parts
       → Answers 2 (t.asks task).op o → IsNotSpent o → AllByRecursion IsNotStray (got (Some (ended (t.asks task).who o)) (j.parts (t.asks task).part))
-      → Runs t w p op (λ e. Told IsNotStray u (in_order (chosen_of p chosen) e)) (unary_rest none task o)
+      → Runs t w p op (λ e. Told IsNotStray u (in_order (chosen_of p chosen) e)) (unary_rest not_found task o)
       (record j { parts = put (t.asks task).part (sees (Some (ended (t.asks task).who o)) (j.parts (t.asks task).part)) j.parts })
   reader_ends u j p op (Setting x) chosen o h np rd ans pass good = absurd rd
   reader_ends u j p op (Clearing x i) chosen o h np rd ans pass good = absurd rd
@@ -326,13 +326,13 @@ module _ (none : Outcome) (values processes : ℕ) (two : 2 ≤ values) where
   reader_ends u j p op (Looking q i left) chosen (Value v) h np rd ans pass good =
       let g : IsNotStray (record { reader = p; value = v; fresh = (j.parts i).fresh p; overlaps = (j.parts i).overlaps p }) =
       subst (λ r. IsNotStray (record { reader = r; value = v; fresh = (j.parts i).fresh r; overlaps = (j.parts i).overlaps r })) rd.0 good.0 in
-      subst (λ f. Runs t w p op (λ e. Told IsNotStray u (in_order (chosen_of p chosen) e)) (unary_rest none (Looking q i left) (Value v)) (record j { parts = f })) (put_back i j.parts)
-      (subst (λ r. Runs t w p op (λ e. Told IsNotStray u (in_order (chosen_of p chosen) e)) (unary_rest none (Looking r i left) (Value v)) j) (sym rd.0)
+      subst (λ f. Runs t w p op (λ e. Told IsNotStray u (in_order (chosen_of p chosen) e)) (unary_rest not_found (Looking q i left) (Value v)) (record j { parts = f })) (put_back i j.parts)
+      (subst (λ r. Runs t w p op (λ e. Told IsNotStray u (in_order (chosen_of p chosen) e)) (unary_rest not_found (Looking r i left) (Value v)) j) (sym rd.0)
       (look_ends u j p i left rd.1.0 v op chosen h np rd.1.1 ans g))
 
   goes : (u : Seen) (j : View UnaryTask) (p : ℕ) (n : Standing UnaryTask) (chosen : Option (ℕ × Bool)) (o : Outcome) → UnaryInv top u j → j.tasks p ≡ Some n
       → Answers 2 (t.asks n.task).op o → IsNotSpent o → AllByRecursion IsNotStray (got (Some (ended (t.asks n.task).who o)) (j.parts (t.asks n.task).part))
-      → Runs t w p n.op (λ e. Told IsNotStray u (in_order (chosen_of p chosen) e)) (unary_rest none n.task o)
+      → Runs t w p n.op (λ e. Told IsNotStray u (in_order (chosen_of p chosen) e)) (unary_rest not_found n.task o)
       (record j { parts = put (t.asks n.task).part (sees (Some (ended (t.asks n.task).who o)) (j.parts (t.asks n.task).part)) j.parts })
   goes u j p n chosen o h mine ans pass good =
       elim (cases_eq p 0) [
@@ -391,8 +391,8 @@ module _ (none : Outcome) (values processes : ℕ) (two : 2 ≤ values) where
   unary_user p _ _ s = absurd s
 
 -- a unary number over a regular bit is regular, whatever the answer of a scan that finds no 1
-pub unary_over_regular : {P : Type 0} (b : Behaviour P) (Holds : Memory → Type 0) (Reaches : ℕ → Op → P → Type 0) (none : Outcome) (values processes : ℕ) (left : UnaryTask → ℕ) → 2 ≤ values → IsLawful b Holds Reaches
-    → IsSoundTable (unary_table_with none values processes) (UnaryMayBeAt values processes) left → FitsBelow (unary_table_with none values processes) b → IsRegular b
-    → IsRegular (layered (unary_table_with none values processes) b)
-unary_over_regular b Holds Reaches none values processes left two lawful sound fit regular =
-    layer_promises (over lawful sound fit) (λ part who. who) (unary_user none values processes two) IsNotStray (unary_watch (values - 1)) stray_alike stray_alike (λ who o h. h) regular (unary_kept none values processes two)
+pub unary_over_regular : {P : Type 0} (b : Behaviour P) (Holds : Memory → Type 0) (Reaches : ℕ → Op → P → Type 0) (not_found : Outcome) (values processes : ℕ) (left : UnaryTask → ℕ) → 2 ≤ values → IsLawful b Holds Reaches
+    → IsSoundTable (unary_table_with not_found values processes) (UnaryMayBeAt values processes) left → FitsBelow (unary_table_with not_found values processes) b → IsRegular b
+    → IsRegular (layered (unary_table_with not_found values processes) b)
+unary_over_regular b Holds Reaches not_found values processes left two lawful sound fit regular =
+    layer_promises (over lawful sound fit) (λ part who. who) (unary_user not_found values processes two) IsNotStray (unary_watch (values - 1)) stray_alike stray_alike (λ who o h. h) regular (unary_kept not_found values processes two)

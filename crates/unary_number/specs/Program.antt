@@ -34,23 +34,23 @@ after_look i onward Written = Ends Written
 after_look i onward (Spent layer) = Ends (Spent layer)
 
 -- the rest of a scan by process `who`, which reads the bits above bit i, upward, and ends with
--- outcome `none` if none of them gives 1; the last argument is the number of these bits
+-- outcome `not_found` if none of them gives 1; the last argument is the number of these bits
 abbrev pub looks_above : Outcome → ℕ → ℕ → ℕ → Program UnaryTask
-looks_above none who i zero = Ends none
-looks_above none who i (suc left) = Asks (Looking who (suc i) left) (λ outcome. after_look (suc i) (looks_above none who (suc i) left) outcome)
+looks_above not_found who i zero = Ends not_found
+looks_above not_found who i (suc left) = Asks (Looking who (suc i) left) (λ outcome. after_look (suc i) (looks_above not_found who (suc i) left) outcome)
 
 -- the program of an operation by process `who`: a write of x sets bit x and then clears the bits
--- below it; a read scans from bit 0 upward for the first 1, and ends with outcome `none` if it
+-- below it; a read scans from bit 0 upward for the first 1, and ends with outcome `not_found` if it
 -- finds no 1
 abbrev pub unary_program : Outcome → ℕ → ℕ → Op → Program UnaryTask
-unary_program none values who (op.Write x) = Asks (Setting x) (λ outcome. clears_below x x)
-unary_program none values who op.Read = Asks (Looking who 0 (values - 1)) (λ outcome. after_look 0 (looks_above none who 0 (values - 1)) outcome)
+unary_program not_found values who (op.Write x) = Asks (Setting x) (λ outcome. clears_below x x)
+unary_program not_found values who op.Read = Asks (Looking who 0 (values - 1)) (λ outcome. after_look 0 (looks_above not_found who 0 (values - 1)) outcome)
 
 -- the rest of an operation's program, after this task has ended with this outcome
 abbrev pub unary_rest : Outcome → UnaryTask → Outcome → Program UnaryTask
-unary_rest none (Setting x) outcome = clears_below x x
-unary_rest none (Clearing x i) outcome = clears_below x i
-unary_rest none (Looking who i left) outcome = after_look i (looks_above none who i left) outcome
+unary_rest not_found (Setting x) outcome = clears_below x x
+unary_rest not_found (Clearing x i) outcome = clears_below x i
+unary_rest not_found (Looking who i left) outcome = after_look i (looks_above not_found who i left) outcome
 
 -- what a task asks for: that a bit is set to 1 or cleared to 0 by its process 0, or read by its
 -- process `who`
@@ -73,9 +73,9 @@ abbrev pub unary_find : ℕ → ℕ → Frame → UnaryTask
 unary_find values who f = elim (f.op) [ op.Write x ↦ (if f.i == x then Setting x else Clearing x f.i) | op.Read ↦ Looking who f.i (values - 1 - f.i) ]
 
 -- The rules of a unary number of `values` values over bits of `processes` processes. At first only
--- the bit of the initial value is 1. A scan that finds no 1 ends with outcome `none`.
+-- the bit of the initial value is 1. A scan that finds no 1 ends with outcome `not_found`.
 abbrev pub unary_table_with : Outcome → ℕ → ℕ → Table UnaryTask
-unary_table_with none values processes = record {
+unary_table_with not_found values processes = record {
   values = values;
   processes = processes;
   suits = one_writer values processes;
@@ -86,9 +86,9 @@ unary_table_with none values processes = record {
   words = 0;
   first_word = λ value word. 0;
   bound = λ word. 0;
-  program = unary_program none values;
+  program = unary_program not_found values;
   asks = unary_asks;
-  rest = unary_rest none;
+  rest = unary_rest not_found;
   frame = unary_frame;
   find = unary_find values;
 }

@@ -26,8 +26,8 @@ unary_left (Setting x) = x
 unary_left (Clearing x i) = i
 unary_left (Looking who i left) = left
 
-module _ (none : Outcome) (values processes : ℕ) (two : LEAST_VALUES ≤ values) (some : 0 < processes)
-    (answered : Answers values op.Read none) where
+module _ (not_found : Outcome) (values processes : ℕ) (two : LEAST_VALUES ≤ values) (some : 0 < processes)
+    (answered : Answers values op.Read not_found) where
   first_bit : (value bit : ℕ) → (if bit == value then 1 else 0) < 2
   first_bit value bit = by_test (bit == value)
     where
@@ -35,12 +35,12 @@ module _ (none : Outcome) (values processes : ℕ) (two : LEAST_VALUES ≤ value
       by_test true = omega arith
       by_test false = omega arith
 
-  clears_sound : (who w x i : ℕ) → who ≡ 0 → x ≡ w → i ≤ w → w < values → IsSound (unary_table_with none values processes) (UnaryMayBeAt values processes who (op.Write w)) (Answers values (op.Write w)) (clears_below x i)
+  clears_sound : (who w x i : ℕ) → who ≡ 0 → x ≡ w → i ≤ w → w < values → IsSound (unary_table_with not_found values processes) (UnaryMayBeAt values processes who (op.Write w)) (Answers values (op.Write w)) (clears_below x i)
   clears_sound who w x zero writer same below low = tt
   clears_sound who w x (suc i) writer same below low = ((writer, same, omega arith, low), λ o. refl)
 
   looks_sound : (who reader i left : ℕ) → reader ≡ who → 1 ≤ who → who < processes → i + left + 1 ≡ values
-      → IsSound (unary_table_with none values processes) (UnaryMayBeAt values processes who op.Read) (Answers values op.Read) (looks_above none reader i left)
+      → IsSound (unary_table_with not_found values processes) (UnaryMayBeAt values processes who op.Read) (Answers values op.Read) (looks_above not_found reader i left)
   looks_sound who reader i zero same above below all = answered
   looks_sound who reader i (suc left) same above below all = ((same, above, below, omega arith), λ o. refl)
 
@@ -48,11 +48,11 @@ module _ (none : Outcome) (values processes : ℕ) (two : LEAST_VALUES ≤ value
   -- reader can be in, or ends with an outcome that suits a read); x, which the scan gives if the
   -- bit is 1, may be any value below `values`
   looked_sound : (who reader i left bit x : ℕ) → reader ≡ who → 1 ≤ who → who < processes → i + left + 1 ≡ values → x < values
-      → IsSound (unary_table_with none values processes) (UnaryMayBeAt values processes who op.Read) (Answers values op.Read) (after_look x (looks_above none reader i left) (Value bit))
+      → IsSound (unary_table_with not_found values processes) (UnaryMayBeAt values processes who op.Read) (Answers values op.Read) (after_look x (looks_above not_found reader i left) (Value bit))
   looked_sound who reader i left bit x same above below all small = by_test (bit == 1)
     where
-      by_test : (found : Bool) → IsSound (unary_table_with none values processes) (UnaryMayBeAt values processes who op.Read) (Answers values op.Read)
-          (if found then Ends (Value x) else looks_above none reader i left)
+      by_test : (found : Bool) → IsSound (unary_table_with not_found values processes) (UnaryMayBeAt values processes who op.Read) (Answers values op.Read)
+          (if found then Ends (Value x) else looks_above not_found reader i left)
       by_test true = small
       by_test false = looks_sound who reader i left same above below all
 
@@ -66,19 +66,19 @@ module _ (none : Outcome) (values processes : ℕ) (two : LEAST_VALUES ≤ value
   clears_fall w zero n le = tt
   clears_fall w (suc i) n le = omega arith
 
-  looks_fall : (who i left : ℕ) → Falls unary_left left (looks_above none who i left)
+  looks_fall : (who i left : ℕ) → Falls unary_left left (looks_above not_found who i left)
   looks_fall who i zero = tt
   looks_fall who i (suc left) = omega arith
 
-  look_falls : (who i left bit x : ℕ) → Falls unary_left left (after_look x (looks_above none who i left) (Value bit))
+  look_falls : (who i left bit x : ℕ) → Falls unary_left left (after_look x (looks_above not_found who i left) (Value bit))
   look_falls who i left bit x = by_test (bit == 1)
     where
-      by_test : (found : Bool) → Falls unary_left left (if found then Ends (Value x) else looks_above none who i left)
+      by_test : (found : Bool) → Falls unary_left left (if found then Ends (Value x) else looks_above not_found who i left)
       by_test true = tt
       by_test false = looks_fall who i left
 
   begins_sound : (who : ℕ) (o : Op) → one_writer values processes who o ≡ true
-      → IsSound (unary_table_with none values processes) (UnaryMayBeAt values processes who o) (Answers values o) (unary_program none values who o)
+      → IsSound (unary_table_with not_found values processes) (UnaryMayBeAt values processes who o) (Answers values o) (unary_program not_found values who o)
   begins_sound who (op.Write x) h = ((writer.writer_zero values processes who x h, refl, writer.no_other_value values processes who x h), λ o. refl)
   begins_sound who op.Read h = ((refl, writer.reader_some values processes who h, writer.reader_few values processes who h, omega arith), λ o. refl)
 
@@ -90,7 +90,7 @@ module _ (none : Outcome) (values processes : ℕ) (two : LEAST_VALUES ≤ value
   asks_fit who _ _ stands = absurd stands
 
   rest_sound : (who : ℕ) (o : Op) (task : UnaryTask) (outcome : Outcome) → UnaryMayBeAt values processes who o task → Answers 2 (unary_asks task).op outcome → IsNotSpent outcome
-      → IsSound (unary_table_with none values processes) (UnaryMayBeAt values processes who o) (Answers values o) (unary_rest none task outcome)
+      → IsSound (unary_table_with not_found values processes) (UnaryMayBeAt values processes who o) (Answers values o) (unary_rest not_found task outcome)
   rest_sound who (op.Write w) (Setting x) outcome stands answers on = clears_sound who w x x stands.0 stands.1 (omega (arith, stands.1)) stands.2
   rest_sound who (op.Write w) (Clearing x i) outcome stands answers on = clears_sound who w x i stands.0 stands.1 (omega (arith, stands.2)) stands.3
   rest_sound who op.Read (Looking reader i left) (Value bit) stands answers on =
@@ -100,7 +100,7 @@ module _ (none : Outcome) (values processes : ℕ) (two : LEAST_VALUES ≤ value
   rest_sound who _ _ outcome stands answers on = absurd stands
 
   rest_falls : (who : ℕ) (o : Op) (task : UnaryTask) (outcome : Outcome) → UnaryMayBeAt values processes who o task → Answers 2 (unary_asks task).op outcome → IsNotSpent outcome
-      → Falls unary_left (unary_left task) (unary_rest none task outcome)
+      → Falls unary_left (unary_left task) (unary_rest not_found task outcome)
   rest_falls who o (Setting x) outcome stands answers on = clears_fall x x x (omega arith)
   rest_falls who o (Clearing x i) outcome stands answers on = clears_fall x i i (omega arith)
   rest_falls who o (Looking reader i left) (Value bit) stands answers on = look_falls reader i left bit _
@@ -123,10 +123,10 @@ module _ (none : Outcome) (values processes : ℕ) (two : LEAST_VALUES ≤ value
   frame_gives_task who op.Read (Setting x) stands = absurd stands
   frame_gives_task who op.Read (Clearing x i) stands = absurd stands
 
-  -- the rules meet the laws that every layer's rules must meet, if a read may end with `none`, the
-  -- outcome of a scan that finds no 1
-  pub table_sound : IsSoundTable (unary_table_with none values processes) (UnaryMayBeAt values processes) unary_left
-  table_sound = writer.one_writer_sound (unary_table_with none values processes) (UnaryMayBeAt values processes) unary_left (λ who o. refl) (some)
+  -- the rules meet the laws that every layer's rules must meet, if a read may end with `not_found`,
+  -- the outcome of a scan that finds no 1
+  pub table_sound : IsSoundTable (unary_table_with not_found values processes) (UnaryMayBeAt values processes) unary_left
+  table_sound = writer.one_writer_sound (unary_table_with not_found values processes) (UnaryMayBeAt values processes) unary_left (λ who o. refl) (some)
       (λ v j lt below. first_bit v j) (λ v k lt below. omega arith)
       asks_fit may_be_at_suits frame_gives_task begins_sound rest_sound rest_falls
 
