@@ -1,5 +1,5 @@
 pub mod Splits
 pub mod Fronts
 pub mod AnsweredLines
-pub mod Turns
+pub mod Pieces
 mod Examples

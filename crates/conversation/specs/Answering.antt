@@ -52,9 +52,9 @@ pub record Reached {W : Type 0} (define : Definition W) (start : W) (before afte
 
 -- the result of answering one more piece of a script: all bytes read so far are answered, as
 -- `Reached` says; or there was a fault
-abbrev pub TurnsTo : {W : Type 0} → Definition W → W → Streams → Streams → ℕ → W → ℕ → List ℕ → Result ⊤ StreamFault → Type 0
-TurnsTo define start before after count world lines line (Ok done) = Reached define start before after count world lines line
-TurnsTo define start before after count world lines line (Err e) = EndsWithFault (answers_to define start) e before after
+abbrev pub PieceAnswered : {W : Type 0} → Definition W → W → Streams → Streams → ℕ → W → ℕ → List ℕ → Result ⊤ StreamFault → Type 0
+PieceAnswered define start before after count world lines line (Ok done) = Reached define start before after count world lines line
+PieceAnswered define start before after count world lines line (Err e) = EndsWithFault (answers_to define start) e before after
 
 -- the result at the end of a conversation: the whole script is answered, and leaves `world`; or
 -- there was a fault

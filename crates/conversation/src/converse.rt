@@ -6,7 +6,7 @@ ghost use Rattle.std.specs.Io.KnownBytes.{Appends, Consumes, IsAtEnd};
 ghost use Rattle.conversation.specs.declared.limits.TheConstants.{KEPT_BYTES, MOST_SCRIPT_BYTES};
 ghost use Rattle.conversation.specs.Moments.{Streams, streams};
 ghost use Rattle.conversation.specs.Scripts.{answers_to, AnswersBy, IsLineAnswer};
-ghost use Rattle.conversation.specs.Answering.{HasNoEnd, kept_with, AnswersFurther, Reached, TurnsTo, Finished};
+ghost use Rattle.conversation.specs.Answering.{HasNoEnd, kept_with, AnswersFurther, Reached, PieceAnswered, Finished};
 ghost use Rattle.conversation.specs.Conversations.{Leaves, EndsWithFault, WroteFront};
 ghost use Rattle.conversation.specs.Amounts.{MayEndBy, nothing};
 
@@ -160,7 +160,7 @@ impl Conversation {
     }
 
     /// Answers the lines that end in a piece of the script, and writes the answers.
-    fn turn<
+    fn answer_piece<
         A: Answers,
         F: Fn(&mut A, u32, &[u8], &mut Vec<u8>) -> Result<(), AllocError>,
         W: Write,
@@ -180,12 +180,12 @@ impl Conversation {
         ensures alone { A.alone answers.old → OnOk result (A.alone answers.new) }
         ensures fault { IfErr result
             (λ e. (e ≡ StreamFault.Memory) ⊎ (e ≡ StreamFault.Write)) }
-        ensures turned { A.alone answers.old
+        ensures answered { A.alone answers.old
             → (start : A.Worlds) (before : Streams) (unread next : Option (List ℕ)) (count : ℕ)
             → Consumes unread next piece.now → count + length piece.now ≤ MOST_SCRIPT_BYTES
             → Reached A.define start before (streams unread (W.contents writer.old))
             count (A.world answers.old) self.old.lines self.old.line.items
-            → TurnsTo A.define start before (streams next (W.contents writer.new))
+            → PieceAnswered A.define start before (streams next (W.contents writer.new))
             (count + length piece.now) (A.world answers.new) self.new.lines self.new.line.items
             result }
     {
@@ -300,7 +300,7 @@ pub fn converse<
         let Some(count) = piece else {
             return conversation.finish(answers, answer, writer);
         };
-        conversation.turn(answers, answer, &buffer[..count], writer)?;
+        conversation.answer_piece(answers, answer, &buffer[..count], writer)?;
     }
     Err(StreamFault::TooLong)
 }

@@ -1,5 +1,5 @@
 use Rattle.std.proofs.Common.{◌≡◌, refl, ap, arith}
-use Rattle.conversation.proofs.Turns.{reached_start, reached_kept, fault_read, fault_long, finished}
+use Rattle.conversation.proofs.Pieces.{reached_start, reached_kept, fault_read, fault_long, finished}
 use Rattle.conversation.proofs.converse.converse.Goals as goal
 
 pub reads-init : goal.reads-init

@@ -1,6 +1,6 @@
 use Rattle.std.proofs.Common.{[], arith}
 use Rattle.std.proofs.KnownBytes.{Consumes-nil}
-use Rattle.conversation.proofs.Turns.{fault_memory, fault_last, all_answered}
+use Rattle.conversation.proofs.Pieces.{fault_memory, fault_last, all_answered}
 use Rattle.conversation.proofs.converse.Conversation.finish.Goals as goal
 
 pub returns-in_default-clause-ended : goal.returns-in_default-clause-ended

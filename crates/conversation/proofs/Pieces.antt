@@ -1,4 +1,4 @@
--- What a turn and the end of a conversation do.
+-- What answering a piece of a script does, and the end of a conversation.
 use Rattle.std.proofs.Common.{◌≡◌, ℕ, ◌+◌, ◌<◌, ◌≤◌, Bool, List, [], ◌++◌, length, take, Option, refl, sym, ap, subst, ◌∙◌, arith, append_assoc, append-nil, length-append, inl, inr}
 use Rattle.std.specs.Io.KnownBytes.{Appends, Consumes, IsAtEnd}
 use Rattle.conversation.specs.declared.fault.StreamFault.TheVariants.{Read, Write, TooLong, Memory}
@@ -55,7 +55,7 @@ module _ {W : Type 0} (define : Definition W) (start : W) where
       went = told_whole define start r.seen world lines line r.text r.reported;
     }
 
-    -- what was read in a turn that runs out of memory goes unanswered
+    -- a piece whose answers run out of memory goes unanswered
     pub fault_memory : (next : Option (List ℕ)) (piece : List ℕ) → Consumes after.unread next piece → count + length piece ≤ MOST_SCRIPT_BYTES
         → EndsWithFault (answers_to define start) Memory before (streams next after.written)
     fault_memory next piece k few = record {
@@ -68,7 +68,7 @@ module _ {W : Type 0} (define : Definition W) (start : W) where
       went = (length r.reported.whole, told_first define start r.seen world lines line r.text r.reported piece);
     }
 
-    -- the answers of a turn, and the part of them that the writer took
+    -- the answers of a piece, and the part of them that the writer took
     module _ (next : Option (List ℕ)) (piece : List ℕ) (k : Consumes after.unread next piece) (n : ℕ) (size : length piece ≡ n)
         (new_world : W) (new_lines : ℕ) (new_line out : List ℕ) (t : HasAnswered define start (r.seen ++ piece) new_world new_lines new_line (r.text ++ out)) where
       pub reached_more : (last : Option (List ℕ)) (last_lines : ℕ) (last_line : List ℕ) → last_lines ≡ new_lines → last_line ≡ new_line → Appends after.written last out
@@ -106,7 +106,7 @@ module _ {W : Type 0} (define : Definition W) (start : W) where
             went = inl (h.0, sym all ∙ h.1);
           }
 
-    -- between turns no answer is held back, so all that was read is answered
+    -- between pieces no answer is held back, so all that was read is answered
     pub told_onto : (out : List ℕ) → out ≡ [] → HasAnswered define start r.seen world lines line (r.text ++ out)
     told_onto out e = record {
       marks = r.reported.marks;
