@@ -15,7 +15,7 @@ pub fn push_reply(out: &mut Vec<u8>, session: u32, reply: &Reply) -> Pushed
 {
     push_number(out, u64::from(session))?;
     push_text(out, ": ")?;
-    push_words(out, reply)?;
+    push_reply_text(out, reply)?;
     push_text(out, "\n")
 }
 
@@ -41,7 +41,7 @@ pub fn push_bad_line(out: &mut Vec<u8>, line: u32) -> Pushed
 }
 
 /// Adds the text of a reply, without the session's number and without a line end.
-fn push_words(out: &mut Vec<u8>, reply: &Reply) -> Pushed
+fn push_reply_text(out: &mut Vec<u8>, reply: &Reply) -> Pushed
     ensures { OnOk result (out.new.items ≡ out.old.items ++ spec.reply_text reply.now) }
 {
     match reply {

@@ -164,7 +164,7 @@ fn bench_of_lines(alloc: Global, bytes: &[u8]) -> Result<BenchFile, FileFault>
 }
 
 /// Reads a bench file. If its lines have a fault, also looks for a foreign byte (one that no file
-/// may have).
+/// may have). The clauses of `parse_bench` say the same, one by one.
 fn bench_of(alloc: Global, bytes: &[u8]) -> Result<BenchFile, FileFault>
     ensures parsed { reading.Parses as_bench SpellsBench spec.bench_of_lines bytes.now result }
     ensures memory { MemoryOnlyIf result (SpellsFront bytes.now) }

@@ -212,7 +212,7 @@ pub(crate) fn foreign_first<T>(bytes: &[u8], of_lines: Result<T, FileFault>) -> 
 }
 
 /// Reads a tower file. If its lines have a fault, also looks for a foreign byte (one that no file
-/// may have).
+/// may have). The clauses of `parse` say the same, one by one.
 fn file_of(alloc: Global, bytes: &[u8]) -> Result<TowerFile, FileFault>
     ensures parsed { spec.Parses as_file Spells spec.file_of_lines bytes.now result }
     ensures memory { MemoryOnlyIf result (SpellsSteps bytes.now) }
