@@ -136,7 +136,7 @@ pub struct Frame {
 }
 
 impl Frame {
-    /// Whether two frames are the same.
+    /// Whether two frames are the same: `==`, with a contract that says so.
     pub fn is(self, other: Frame) -> bool
         ensures { Decides result (self ≡ other) }
     {

@@ -26,6 +26,7 @@ use std::mem;
 #[derive(Drop)]
 pub struct Lineage<X> {
     nodes: Slab<Node<X>>,
+    // each path's last key
     tips: Vec<Above>,
 }
 

@@ -39,9 +39,12 @@ use std::marker::Model;
 #[derive(Drop)]
 pub struct Trie<T> {
     segments: Lineage<Segment<T>>,
+    // each branch's name, and its length if that is cached
     branches: IndexMap<Name, Option<u32>>,
+    // the number of cells ever made
     made: u32,
     limits: Limits,
+    // the index of the branch whose length was cached last
     learnt: usize,
 }
 

@@ -15,7 +15,7 @@ pub enum Op {
 }
 
 impl Op {
-    /// Whether two operations are the same.
+    /// Whether two operations are the same: `==`, with a contract that says so.
     pub fn is(self, other: Op) -> bool
         ensures { Decides result (self ≡ other) }
     {
