@@ -114,6 +114,7 @@ pub(crate) fn split<T: Counted, G: Given>(
     ensures given { (result.table_id ≡ place.old.table_id)
         × (result.me ≡ (handed T.by G.given place.old.me.0, [])) }
 {
+    // for the proof: only the contract uses `given`, to name the shares
     let _ = given;
     board.split_seat::<SplitOff<T, G>>(place)
 }
