@@ -5,7 +5,6 @@ ghost use Rattle.std.specs.Prelude.{◌≡◌};
 ghost use Rattle.std.specs.Bool.{Decides};
 
 use smallvec::SmallVec;
-
 pub use steps::types::{HasStep, Op, Step};
 
 /// The layers that can run out of stamps or tags.
