@@ -7,7 +7,7 @@ use Rattle.std.specs.Option.{unwrap_or}
 use Rattle.std.proofs.lemmas.Bool.{cases_eq}
 use Rattle.std.proofs.lemmas.List.{drop-append-le, get_or-drop, get_or_append_left, get_or_at, length-drop}
 use Rattle.std.proofs.lemmas.List.Folds.{list_any-append, list_any_at}
-use Rattle.steps.specs.declared.types.Op.TheVariants as op
+use Rattle.schedule_steps.specs.declared.types.Op.TheVariants as op
 use Rattle.frames.specs.declared.types.Event.{Event}
 use Rattle.frames.specs.declared.types.Event.TheVariants.{Invoke, Got, Wrote}
 use Rattle.frames.specs.declared.verdict.Reading.{Reading}

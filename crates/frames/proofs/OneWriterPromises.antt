@@ -6,19 +6,19 @@ use Rattle.std.proofs.lemmas.Bool.{or_parts}
 use Rattle.std.proofs.lemmas.List.Folds.{list_any-append}
 use Rattle.std.proofs.lemmas.List.Elements.{All-head, All-tail}
 use Rattle.safe_bit.specs.Memory.{Memory}
-use Rattle.steps.specs.declared.types.Op.{Op}
-use Rattle.steps.specs.declared.types.Op.TheVariants as op
+use Rattle.schedule_steps.specs.declared.types.Op.{Op}
+use Rattle.schedule_steps.specs.declared.types.Op.TheVariants as op
 use Rattle.frames.specs.declared.types.Outcome.TheVariants.{Value, Written, Spent}
 use Rattle.frames.specs.declared.types.Next.{Next}
 use Rattle.frames.specs.declared.types.Next.TheVariants.{Pending, Done}
-use Rattle.steps.specs.declared.types.Step.{Step}
-use Rattle.steps.specs.declared.types.Step.TheVariants as step
+use Rattle.schedule_steps.specs.declared.types.Step.{Step}
+use Rattle.schedule_steps.specs.declared.types.Step.TheVariants as step
 use Rattle.frames.specs.declared.types.Event.{Event}
 use Rattle.frames.specs.declared.types.Event.TheVariants.{Invoke, Got, Wrote}
 use Rattle.frames.specs.declared.types.StepEvents.{StepEvents}
 use Rattle.frames.specs.declared.running.Running.{Running}
 use Rattle.frames.specs.Behaviour.{Behaviour, IsLawful, ReachedOrAnswered, Answers}
-use Rattle.steps.specs.Steps.{process_of}
+use Rattle.schedule_steps.specs.Steps.{process_of}
 use Rattle.frames.specs.OneWriter.{HasOneWriter}
 use Rattle.frames.specs.Configuration.{running_at, is_stopped, fits_step, stepped, history, events_of, acted_on, acting, acting_unless, invoking, going, return_of, still_running, chosen_of, in_order}
 use Rattle.frames.specs.Parked.{IsConfiguration}

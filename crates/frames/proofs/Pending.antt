@@ -4,7 +4,7 @@ use Rattle.std.specs.Option.{option_map}
 use Rattle.std.proofs.lemmas.Bool.{cases_eq}
 use Rattle.std.proofs.lemmas.List.{get_or-set_same, get_or-set_other}
 use Rattle.safe_bit.specs.Memory.{Memory}
-use Rattle.steps.specs.declared.types.Op.{Op}
+use Rattle.schedule_steps.specs.declared.types.Op.{Op}
 use Rattle.frames.specs.declared.running.Running.{Running}
 use Rattle.frames.specs.Behaviour.{Behaviour, IsLawful}
 use Rattle.frames.specs.Configuration.{running_at}

@@ -9,20 +9,20 @@ use Rattle.safe_bit.specs.declared.Cell.{Cell}
 use Rattle.safe_bit.specs.Actions.{start_write, end_write, start_read, end_read, read_gives}
 use Rattle.safe_bit.specs.Memory.{Memory, cell_at, on_cell, no_cell}
 use Rattle.safe_bit.specs.Parts.{HasSize}
-use Rattle.steps.specs.declared.types.Op.{Op}
-use Rattle.steps.specs.declared.types.Op.TheVariants as op
+use Rattle.schedule_steps.specs.declared.types.Op.{Op}
+use Rattle.schedule_steps.specs.declared.types.Op.TheVariants as op
 use Rattle.frames.specs.declared.types.Outcome.TheVariants.{Value, Written}
 use Rattle.frames.specs.declared.types.Next.{Next}
 use Rattle.frames.specs.declared.types.Next.TheVariants.{Pending, Done}
 use Rattle.frames.specs.declared.running.Running.{Running}
 use Rattle.frames.specs.declared.types.Event.{Event}
 use Rattle.frames.specs.declared.types.Event.TheVariants.{Invoke, Got, Wrote}
-use Rattle.steps.specs.declared.types.Step.{Step}
-use Rattle.steps.specs.declared.types.Step.TheVariants as step
+use Rattle.schedule_steps.specs.declared.types.Step.{Step}
+use Rattle.schedule_steps.specs.declared.types.Step.TheVariants as step
 use Rattle.frames.specs.declared.safe.SafePoint.{SafePoint}
 use Rattle.frames.specs.declared.safe.SafePoint.TheVariants.{WriteStart, WriteEnd, ReadStart, ReadEnd}
 use Rattle.frames.specs.SafeBit.{safe_behaviour, SafeReaches, bit_of, value_of}
-use Rattle.steps.specs.Steps.{process_of}
+use Rattle.schedule_steps.specs.Steps.{process_of}
 use Rattle.frames.specs.OneWriter.{HasOneWriter, one_writer}
 use Rattle.frames.specs.Configuration.{running_at, is_stopped, stepped, events_of, fits_step, history, return_of, still_running, chosen_of, in_order}
 use Rattle.frames.specs.Recorded.{Alone, AllFit, first_configuration}

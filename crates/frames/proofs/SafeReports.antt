@@ -3,8 +3,8 @@ use Rattle.std.proofs.Common.{◌≡◌, ℕ, Bool, true, false, Option, Some, N
 use Rattle.std.specs.Prelude.{if◌then◌else◌}
 use Rattle.safe_bit.specs.Memory.{Memory, cell_at}
 use Rattle.safe_bit.specs.Parts.{HasSize}
-use Rattle.steps.specs.declared.types.Op.{Op}
-use Rattle.steps.specs.declared.types.Op.TheVariants as op
+use Rattle.schedule_steps.specs.declared.types.Op.{Op}
+use Rattle.schedule_steps.specs.declared.types.Op.TheVariants as op
 use Rattle.frames.specs.declared.safe.SafePoint.{SafePoint}
 use Rattle.frames.specs.declared.safe.SafePoint.TheVariants as at
 use Rattle.frames.specs.SafeBit.{safe_behaviour, safe_begins, SafeReaches}

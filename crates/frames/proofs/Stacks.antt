@@ -13,7 +13,7 @@ use Rattle.safe_bit.specs.Memory.{Memory}
 use Rattle.safe_bit.specs.Parts.{origin}
 use Rattle.frames.specs.declared.types.Action.{Action}
 use Rattle.frames.specs.Placed.{placed_action, placed_bit}
-use Rattle.steps.specs.declared.types.Op.{Op}
+use Rattle.schedule_steps.specs.declared.types.Op.{Op}
 use Rattle.frames.specs.declared.types.Frame.{Frame}
 use Rattle.frames.specs.declared.types.StepEvents.{StepEvents}
 use Rattle.frames.specs.declared.config.Parked.{Parked}

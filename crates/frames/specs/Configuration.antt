@@ -1,10 +1,10 @@
 -- Configurations, one step of a schedule, and replay, which makes the steps of a schedule in order.
 use Rattle.std.specs.Prelude.{◌≡◌, ℕ, Bool, true, false, not, ◌&&◌, ◌==◌, List, [], ◌∷◌, Option, Some, None, is_none, is_some, slice_index_or, slice_set, replicate}
 use Rattle.safe_bit.specs.Memory.{Memory}
-use Rattle.steps.specs.declared.types.Op.{Op}
-use Rattle.steps.specs.declared.types.Op.TheVariants as op
-use Rattle.steps.specs.declared.types.Step.{Step}
-use Rattle.steps.specs.declared.types.Step.TheVariants as step
+use Rattle.schedule_steps.specs.declared.types.Op.{Op}
+use Rattle.schedule_steps.specs.declared.types.Op.TheVariants as op
+use Rattle.schedule_steps.specs.declared.types.Step.{Step}
+use Rattle.schedule_steps.specs.declared.types.Step.TheVariants as step
 use Rattle.frames.specs.declared.types.Outcome.TheVariants.{Value, Written, Spent}
 use Rattle.frames.specs.declared.types.Next.{Next}
 use Rattle.frames.specs.declared.types.Next.TheVariants.{Pending, Done}
@@ -15,7 +15,7 @@ use Rattle.frames.specs.declared.types.StepEvents.{StepEvents}
 use Rattle.frames.specs.declared.running.Running.{Running}
 use Rattle.frames.specs.Behaviour.{Behaviour}
 use Rattle.frames.specs.Fitting.{roles_of, step_fits}
-use Rattle.steps.specs.Steps.{process_of}
+use Rattle.schedule_steps.specs.Steps.{process_of}
 
 -- a configuration: the register, its cells and words, each process's pending operation, if any, and
 -- which processes have stopped

@@ -1,10 +1,10 @@
 -- Which steps fit a register. This depends on the number of processes, and on the operations that
 -- fit each process.
 use Rattle.std.specs.Prelude.{ℕ, Bool, ◌&&◌, nat_lt}
-use Rattle.steps.specs.declared.types.Op.{Op}
-use Rattle.steps.specs.declared.types.Op.TheVariants as op
-use Rattle.steps.specs.declared.types.Step.{Step}
-use Rattle.steps.specs.declared.types.Step.TheVariants as step
+use Rattle.schedule_steps.specs.declared.types.Op.{Op}
+use Rattle.schedule_steps.specs.declared.types.Op.TheVariants as op
+use Rattle.schedule_steps.specs.declared.types.Step.{Step}
+use Rattle.schedule_steps.specs.declared.types.Step.TheVariants as step
 use Rattle.frames.specs.Behaviour.{Behaviour}
 
 -- what decides which steps fit: the number of processes, and which operations fit each process

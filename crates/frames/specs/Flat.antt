@@ -5,7 +5,7 @@ use Rattle.std.specs.Option.{option_map}
 use Rattle.safe_bit.specs.declared.Place.{Place}
 use Rattle.safe_bit.specs.Memory.{Memory}
 use Rattle.safe_bit.specs.Parts.{with_part}
-use Rattle.steps.specs.declared.types.Op.{Op}
+use Rattle.schedule_steps.specs.declared.types.Op.{Op}
 use Rattle.frames.specs.declared.types.Outcome.{Outcome}
 use Rattle.frames.specs.declared.types.Outcome.TheVariants.{Value, Written, Spent}
 use Rattle.frames.specs.declared.types.Next.{Next}

@@ -1,12 +1,12 @@
 -- Steps that change nothing, and processes that have stopped.
 use Rattle.std.specs.Prelude.{◌≡◌, ℕ, true, Some, None, if◌then◌else◌}
-use Rattle.steps.specs.declared.types.Step.{Step}
-use Rattle.steps.specs.declared.types.Step.TheVariants as step
+use Rattle.schedule_steps.specs.declared.types.Step.{Step}
+use Rattle.schedule_steps.specs.declared.types.Step.TheVariants as step
 use Rattle.frames.specs.declared.types.Reason.{Reason}
 use Rattle.frames.specs.declared.types.Reason.TheVariants.{Busy, Idle, Stopped}
 use Rattle.frames.specs.declared.types.Event.TheVariants.{Void}
 use Rattle.frames.specs.Behaviour.{Behaviour}
-use Rattle.steps.specs.Steps.{process_of}
+use Rattle.schedule_steps.specs.Steps.{process_of}
 use Rattle.frames.specs.Configuration.{Configuration, running_at, is_stopped, stepped, events_of, in_order}
 
 -- why a step isn't enabled though its process hasn't stopped: for an invocation the process is

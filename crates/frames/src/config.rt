@@ -5,7 +5,7 @@ ghost use Rattle.std.specs.Bool.{Decides};
 ghost use Rattle.std.specs.Option.{option_map};
 ghost use Rattle.safe_bit.specs.Memory.{Memory};
 ghost use Rattle.frames.specs.Configuration.{running_at, is_stopped, initial_configuration, fits_step, events_of, stepped, with_stop_mark, only_records, acting, invoking, going, Did};
-ghost use Rattle.steps.specs.Steps.{process_of};
+ghost use Rattle.schedule_steps.specs.Steps.{process_of};
 ghost use Rattle.frames.specs.Parked.{IsConfiguration, idle, stacks_of, marks_of};
 ghost use Rattle.frames.specs.Flat.{stack_of};
 

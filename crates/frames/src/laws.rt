@@ -4,9 +4,9 @@ ghost use Rattle.std.specs.Prelude.{◌≡◌, ℕ, ◌<◌, Bool, true, false, 
 ghost use Rattle.safe_bit.specs.declared.Place.{Place};
 ghost use Rattle.safe_bit.specs.Memory.{Memory};
 ghost use Rattle.safe_bit.specs.Parts.{LiesIn, part, with_part};
-ghost use Rattle.steps.specs.declared.types.Op.{Op};
+ghost use Rattle.schedule_steps.specs.declared.types.Op.{Op};
 ghost use Rattle.frames.specs.Others.{LeavesOthers};
-ghost use Rattle.steps.specs.declared.types.Step.{Step};
+ghost use Rattle.schedule_steps.specs.declared.types.Step.{Step};
 ghost use Rattle.frames.specs.Configuration.{Configuration, fits_step, is_enabled, is_stopped, stepped, replayed};
 ghost use Rattle.frames.specs.Parked.{IsConfiguration};
 ghost use Rattle.frames.specs.correctness.Regularity.{IsAtomic, IsRegular, IsSafe, NeverStray};

@@ -1,7 +1,7 @@
 //! Functions for a register that has a store to itself, and so lies at `ORIGIN`.
 
 ghost use Rattle.std.specs.Prelude.{◌≡◌, ◌==◌, ℕ, ◌<◌, [], true, Option, Some, None, IfOk};
-ghost use Rattle.steps.specs.declared.types.Op.{Op};
+ghost use Rattle.schedule_steps.specs.declared.types.Op.{Op};
 ghost use Rattle.frames.specs.declared.running.Running.{Running};
 ghost use Rattle.frames.specs.Configuration as spec;
 ghost use Rattle.frames.specs.Configuration.{invoking, going};

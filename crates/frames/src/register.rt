@@ -4,7 +4,7 @@ ghost use Rattle.std.specs.Prelude.{◌≡◌, ℕ, ◌<◌, ◌≤◌, ◌+◌,
 ghost use Rattle.std.specs.Bool.{Decides};
 ghost use Rattle.safe_bit.specs.Memory.{Memory};
 ghost use Rattle.safe_bit.specs.Parts.{LiesIn, IsPlaced, part, with_part};
-ghost use Rattle.steps.specs.declared.types.Op.{Op};
+ghost use Rattle.schedule_steps.specs.declared.types.Op.{Op};
 ghost use Rattle.frames.specs.Behaviour.{Behaviour, IsLawful};
 ghost use Rattle.frames.specs.declared.types.Frame.{Frame};
 ghost use Rattle.frames.specs.declared.types.Next.{Next};

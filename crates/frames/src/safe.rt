@@ -4,7 +4,7 @@ ghost use Rattle.std.specs.Prelude.{◌≡◌, ℕ, ◌<◌, ◌+◌, [], ◌∷
 ghost use Rattle.std.specs.Bool.{Decides};
 ghost use Rattle.safe_bit.specs.Memory.{Memory};
 ghost use Rattle.safe_bit.specs.Parts.{HasSize, LiesIn, IsPlaced, part, with_part};
-ghost use Rattle.steps.specs.declared.types.Op.{Op};
+ghost use Rattle.schedule_steps.specs.declared.types.Op.{Op};
 ghost use Rattle.frames.specs.Flat.{IsPointByFrames};
 ghost use Rattle.frames.specs.SafeBit.{safe_behaviour, SafeReaches, safe_frame, point_at, safe_point, bit_of, value_of};
 

@@ -1,11 +1,11 @@
 //! The vocabulary of schedules: steps, operations, events, actions and frames.
-//! Steps and operations are those of the crate `steps`.
+//! Steps and operations are those of the crate `schedule_steps`.
 
 ghost use Rattle.std.specs.Prelude.{◌≡◌};
 ghost use Rattle.std.specs.Bool.{Decides};
 
+pub use schedule_steps::types::{HasStep, Op, Step};
 use smallvec::SmallVec;
-pub use steps::types::{HasStep, Op, Step};
 
 /// The layers that can run out of stamps or tags.
 #[derive(Clone, Copy, Debug, PartialEq, Eq)]

@@ -1,8 +1,8 @@
 -- Worked examples of definitions that claim an existence: one that holds, and a near miss.
 use Rattle.std.proofs.Common.{ℕ, zero, suc, ◌≡◌, ◌+◌, ◌<◌, ◌≤◌, ◌⊎◌, Bool, true, false, ◌||◌, true≢false, nat_eq, List, [], ◌∷◌, ◌++◌, Option, Some, None, IsSome, IfSome, unwrap_or, length, codes, slice_index_or, ap, refl, sym, ◌∙◌, subst, inl, ⊎_elim, arith}
 use Rattle.std.proofs.lemmas.Bool.{eqb-true}
-use Rattle.steps.specs.declared.types.Step.{Step}
-use Rattle.steps.specs.declared.types.Step.TheVariants.{Write, Read}
+use Rattle.schedule_steps.specs.declared.types.Step.{Step}
+use Rattle.schedule_steps.specs.declared.types.Step.TheVariants.{Write, Read}
 use Rattle.schedule_trie.specs.Forest.{slot, step_of}
 use Rattle.schedule_trie.specs.Cut.{Cut, Piece, Strand, strand, piece, piece_at, slots_of, note_of, line, has, has_cell, keys_in, Linked, SharesAbove, IsSegment, IsSoundCut, LiesInPath, IsCut, AreGone, KeepsNotes, HoldsCellAt, HoldsCellBefore, KeepsAllNotes}
 

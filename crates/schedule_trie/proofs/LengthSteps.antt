@@ -7,7 +7,7 @@ use Rattle.std.proofs.lemmas.List.{length-map}
 use Rattle.indexmap.specs.IndexMap.{insert_entry, set_value_at}
 use Rattle.indexmap.proofs.MapLemmas.{Missing-position, insert_entry-absent}
 use Rattle.lineage.specs.Family.{path_in, last_of}
-use Rattle.steps.specs.declared.types.Step.{Step}
+use Rattle.schedule_steps.specs.declared.types.Step.{Step}
 use Rattle.schedule_trie.specs.declared.trie.Trie.TheInside.{Inside}
 use Rattle.schedule_trie.specs.Forest.{index_of, put_last, renumbered, replaced, slot, slots_in, with_step}
 use Rattle.schedule_trie.specs.Cut.{Cut, forest, piece_at, slots_of, line, keys_in, branch_on, IsStepSet, IsNoted, IsPushed}

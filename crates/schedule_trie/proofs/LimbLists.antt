@@ -1,7 +1,7 @@
 -- Lists of cells and branches, for limbs.
 use Rattle.std.proofs.Common.{◌≡◌, ℕ, zero, suc, ◌+◌, ◌<◌, ◌≤◌, Bool, true, false, not, ◌&&◌, ◌||◌, cond, nat_eq, List, [], ◌∷◌, ◌++◌, length, map, take, refl, sym, ap, subst, ◌∙◌, true≢false, arith}
 use Rattle.std.specs.List.{list_any, list_all, prefix_len, position_or_len}
-use Rattle.steps.specs.declared.types.Step.{Step}
+use Rattle.schedule_steps.specs.declared.types.Step.{Step}
 use Rattle.schedule_trie.specs.declared.slot.Slot.{Slot}
 use Rattle.std.proofs.lemmas.List.{map-append}
 use Rattle.schedule_trie.specs.Cut.{has}

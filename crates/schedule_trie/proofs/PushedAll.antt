@@ -1,7 +1,7 @@
 -- Adding steps at the end, one by one.
 use Rattle.std.proofs.Common.{◌≡◌, ℕ, zero, suc, ◌+◌, ◌<◌, List, [], ◌∷◌, ◌++◌, length, take, get_or, refl, sym, ap, ◌∙◌, arith, append_assoc, append-nil}
 use Rattle.std.proofs.lemmas.List.{length-append, take_more}
-use Rattle.steps.specs.declared.types.Step.{Step}
+use Rattle.schedule_steps.specs.declared.types.Step.{Step}
 use Rattle.schedule_trie.specs.declared.slot.Slot.{Slot}
 use Rattle.schedule_trie.specs.Forest.{Branch, branch, slot, numbered, only_in, put_last, put_all}
 use Rattle.schedule_trie.specs.Cut.{Cut, forest, IsPushed, ArePushed}

@@ -2,7 +2,7 @@
 use Rattle.std.proofs.Common.{◌≡◌, ℕ, suc, ◌+◌, ◌<◌, ◌≤◌, true, List, [], ◌∷◌, ◌++◌, length, map, take, drop, get_or, Option, Some, None, IsSome, refl, sym, ap, subst, ◌∙◌, true≢false, arith, add-one, append_assoc, append-nil}
 use Rattle.std.specs.Option.{IfSome}
 use Rattle.std.proofs.lemmas.List.{length-map, length-append, map-append, take_all, take_more, at_drop_more, at_drop_all}
-use Rattle.steps.specs.declared.types.Step.{Step}
+use Rattle.schedule_steps.specs.declared.types.Step.{Step}
 use Rattle.schedule_trie.specs.declared.slot.Slot.{Slot}
 use Rattle.schedule_trie.specs.declared.segment.Segment.{Segment}
 use Rattle.schedule_trie.specs.Forest.{slot, step_of, cell_of, numbered, renumbered}

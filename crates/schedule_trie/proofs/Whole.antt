@@ -3,7 +3,7 @@ use Rattle.std.proofs.Common.{◌≡◌, ℕ, ◌+◌, ◌<◌, ◌≤◌, Bool,
 use Rattle.std.specs.Option.{IfSome}
 use Rattle.std.proofs.lemmas.Bool.{eqb-true, eqb-false}
 use Rattle.std.proofs.lemmas.List.{map-append, length-append}
-use Rattle.steps.specs.declared.types.Step.{Step}
+use Rattle.schedule_steps.specs.declared.types.Step.{Step}
 use Rattle.schedule_trie.specs.Forest.{slot, cell_of, only_in, put_last}
 use Rattle.schedule_trie.specs.Cut.{Cut, Piece, piece_at, slots_of, line, forest, branches_on, keys_in, set_keys, has, has_cell, Once, SharesAbove, IsSegment, IsSoundCut, IsWhole, KeepsNotesBut, Nowhere, IsExtendedEnd, IsPushed, LackedByOthers}
 use Rattle.schedule_trie.proofs.NoRepeats.{has-append, has_not_from, has_cases, Once-append, has-in}

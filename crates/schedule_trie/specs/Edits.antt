@@ -1,6 +1,6 @@
 -- Edits of branches as data, and their effect on a cut.
 use Rattle.std.specs.Prelude.{ℕ, ◌≡◌, List, Option, Some, None, Result, Ok, Err}
-use Rattle.steps.specs.declared.types.Step.{Step}
+use Rattle.schedule_steps.specs.declared.types.Step.{Step}
 use Rattle.schedule_trie.specs.declared.edit.Edit.{Edit as Borrowed}
 use Rattle.schedule_trie.specs.declared.edit.Edit.TheVariants as borrowed
 use Rattle.schedule_trie.specs.declared.refusal.Refusal.{Refusal}

@@ -1,7 +1,7 @@
 -- Worked examples: a file's limbs and their forest, computed by the definitions.
 use Rattle.std.specs.Prelude.{ℕ, List, [], ◌∷◌, Result, Ok, Err, codes, ◌≡◌, refl, true, false}
-use Rattle.steps.specs.declared.types.Step.{Step}
-use Rattle.steps.specs.declared.types.Step.TheVariants.{Read, Write, Go}
+use Rattle.schedule_steps.specs.declared.types.Step.{Step}
+use Rattle.schedule_steps.specs.declared.types.Step.TheVariants.{Read, Write, Go}
 use Rattle.schedule_trie.specs.Rows.{and_then, plenty}
 use Rattle.schedule_trie.specs.declared.limb.Limb.{Limb}
 use Rattle.schedule_trie.specs.declared.refusal.Refusal.{Refusal}

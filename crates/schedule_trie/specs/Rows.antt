@@ -1,7 +1,7 @@
 -- Worked examples: commands on a forest, computed by the definitions.
 use Rattle.std.specs.Prelude.{ℕ, List, [], ◌∷◌, Result, Ok, Err, codes, ◌≡◌, refl}
-use Rattle.steps.specs.declared.types.Step.{Step}
-use Rattle.steps.specs.declared.types.Step.TheVariants.{Read, Write, Go}
+use Rattle.schedule_steps.specs.declared.types.Step.{Step}
+use Rattle.schedule_steps.specs.declared.types.Step.TheVariants.{Read, Write, Go}
 use Rattle.schedule_trie.specs.declared.limits.Limits.{Limits}
 use Rattle.schedule_trie.specs.declared.refusal.Refusal.{Refusal}
 use Rattle.schedule_trie.specs.declared.refusal.Refusal.TheVariants.{Full}

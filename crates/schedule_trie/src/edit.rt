@@ -1,7 +1,7 @@
 //! Edits of branches, as data.
 
 use crate::name::Name;
-use steps::types::Step;
+use schedule_steps::types::Step;
 
 /// An edit of the branch with the first name; a place is one of this branch.
 #[derive(Clone, Copy, Debug)]

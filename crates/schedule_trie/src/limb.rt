@@ -6,7 +6,7 @@ ghost use Rattle.schedule_trie.specs.Limbs as spec;
 
 use crate::listed::Listed;
 use crate::name::Name;
-use steps::types::Step;
+use schedule_steps::types::Step;
 
 /// The steps of a limb, in order.
 pub type Steps = Listed<Step>;

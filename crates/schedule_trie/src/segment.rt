@@ -6,8 +6,8 @@ ghost use Rattle.schedule_trie.specs.Slots.{set_step};
 ghost use Rattle.schedule_trie.specs.Forest.{renumbered};
 
 use crate::slot::Slot;
+use schedule_steps::types::Step;
 use std::alloc::{AllocError, Global};
-use steps::types::Step;
 
 /// The greatest number of cells in a segment.
 pub(crate) const MOST_SLOTS: usize = 128;

@@ -1,6 +1,6 @@
 //! Cells, each with its step.
 
-use steps::types::{HasStep, Step};
+use schedule_steps::types::{HasStep, Step};
 
 /// A cell: its number and its step.
 #[derive(Clone, Copy, Debug, PartialEq, Eq)]

@@ -29,9 +29,9 @@ use crate::segment::Segment;
 use crate::slot::Slot;
 use indexmap::IndexMap;
 use lineage::lineage::Lineage;
+use schedule_steps::types::Step;
 use std::alloc::{AllocError, Global};
 use std::marker::Model;
-use steps::types::Step;
 
 /// Branches of a schedule that share their steps. Each branch is cut into segments of 1 to 128
 /// cells, and branches share whole segments. Each segment has a key, and may have a note: a value

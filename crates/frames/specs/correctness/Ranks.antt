@@ -6,10 +6,10 @@
 -- ranks don't fall: each write has a rank of its own, and a read has the rank of the write whose
 -- value it gives, which it follows. A refused operation takes no effect.
 use Rattle.std.specs.Prelude.{◌≡◌, ℕ, ◌<◌, ◌≤◌, ◌==◌, max, ⊤, List, [], ◌∷◌, Option, Some, None, if◌then◌else◌}
-use Rattle.steps.specs.declared.types.Op.TheVariants.{Read, Write}
+use Rattle.schedule_steps.specs.declared.types.Op.TheVariants.{Read, Write}
 use Rattle.frames.specs.declared.types.Event.{Event}
 use Rattle.frames.specs.declared.types.Event.TheVariants.{Invoke, Got, Wrote, Refused}
-use Rattle.steps.specs.declared.types.Step.{Step}
+use Rattle.schedule_steps.specs.declared.types.Step.{Step}
 use Rattle.frames.specs.Behaviour.{Behaviour}
 use Rattle.frames.specs.Recorded.{AllFit, recorded}
 

@@ -4,7 +4,7 @@ use Rattle.std.specs.Prelude.{◌≡◌, ◌≢◌, ℕ, ◌<◌, ◌≤◌, ⊤
 use Rattle.std.specs.List.{list_any}
 use Rattle.frames.specs.declared.types.Event.{Event}
 use Rattle.frames.specs.declared.types.Event.TheVariants.{Got, Refused}
-use Rattle.steps.specs.declared.types.Step.{Step}
+use Rattle.schedule_steps.specs.declared.types.Step.{Step}
 use Rattle.frames.specs.declared.verdict.Verdict.TheVariants.{Fresh, Stray}
 use Rattle.frames.specs.Behaviour.{Behaviour}
 use Rattle.frames.specs.OneWriter.{HasOneWriter}

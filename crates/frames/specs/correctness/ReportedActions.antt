@@ -4,7 +4,7 @@ use Rattle.std.specs.Prelude.{ℕ, ◌≡◌, Bool, Option, Some, None, if◌the
 use Rattle.safe_bit.specs.declared.Cell.{Cell}
 use Rattle.safe_bit.specs.Memory.{Memory, cell_at, on_cell}
 use Rattle.safe_bit.specs.Actions.{start_write, end_write, start_read, end_read}
-use Rattle.steps.specs.declared.types.Op.{Op}
+use Rattle.schedule_steps.specs.declared.types.Op.{Op}
 use Rattle.frames.specs.declared.types.ActionKind.{ActionKind}
 use Rattle.frames.specs.declared.types.ActionKind.TheVariants.{WriteStart, WriteEnd, ReadStart, ReadEnd}
 use Rattle.frames.specs.Behaviour.{Behaviour}

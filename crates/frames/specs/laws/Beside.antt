@@ -4,7 +4,7 @@ use Rattle.safe_bit.specs.declared.Place.{Place}
 use Rattle.safe_bit.specs.Memory.{Memory}
 use Rattle.safe_bit.specs.Parts.{LiesIn, part, with_part}
 use Rattle.safe_bit.specs.laws.Parts.{part-with_part_beside}
-use Rattle.steps.specs.declared.types.Op.{Op}
+use Rattle.schedule_steps.specs.declared.types.Op.{Op}
 use Rattle.frames.specs.Behaviour.{Behaviour, IsLawful}
 use Rattle.frames.specs.Others.{LeavesOthers}
 

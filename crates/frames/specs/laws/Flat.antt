@@ -11,7 +11,7 @@ use Rattle.safe_bit.specs.laws.Equality.{per_from_decides}
 use Rattle.frames.specs.contracts.types.FramePartialEq.TheImpl as frames
 use Rattle.frames.specs.contracts.types.FrameLayerPartialEq.TheImpl as layers
 use Rattle.frames.specs.contracts.types.LayerNamePartialEq.TheImpl as names
-use Rattle.steps.specs.declared.types.Op.{Op}
+use Rattle.schedule_steps.specs.declared.types.Op.{Op}
 use Rattle.frames.specs.declared.types.Frame.{Frame}
 use Rattle.frames.specs.declared.types.FrameLayer.{FrameLayer}
 use Rattle.frames.specs.declared.types.FrameLayer.TheVariants as layer

@@ -1,8 +1,8 @@
 -- Which operations fit a register of one writer.
 use Rattle.std.proofs.Common.{◌≡◌, ℕ, ◌<◌, ◌≤◌, true, arith}
 use Rattle.std.proofs.lemmas.Bool.Decides.{nat_tests}
-use Rattle.steps.specs.declared.types.Op.{Op}
-use Rattle.steps.specs.declared.types.Op.TheVariants as op
+use Rattle.schedule_steps.specs.declared.types.Op.{Op}
+use Rattle.schedule_steps.specs.declared.types.Op.TheVariants as op
 use Rattle.frames.specs.OneWriter.{one_writer}
 
 pub zero_writes : (values processes v : ℕ) → 0 < processes → v < values → one_writer values processes 0 (op.Write v) ≡ true

@@ -14,8 +14,8 @@ use Rattle.safe_bit.specs.laws.Parts.{HasSize-on_cell, HasSize-part, on_cell-par
 use Rattle.safe_bit.specs.declared.Cell.{Cell}
 use Rattle.safe_bit.specs.declared.Place.{Place}
 use Rattle.std.proofs.lemmas.List.{nil_from_length}
-use Rattle.steps.specs.declared.types.Op.{Op}
-use Rattle.steps.specs.declared.types.Op.TheVariants as op
+use Rattle.schedule_steps.specs.declared.types.Op.{Op}
+use Rattle.schedule_steps.specs.declared.types.Op.TheVariants as op
 use Rattle.frames.specs.contracts.safe.SafePointPartialEq.TheImpl as points
 use Rattle.frames.specs.declared.safe.SafePoint.{SafePoint}
 use Rattle.frames.specs.declared.safe.SafePoint.TheVariants as at

@@ -12,8 +12,8 @@ use crate::name::Name;
 use crate::refusal::Refusal;
 use crate::segment::{MOST_SLOTS, SegKey, Segment};
 use crate::slot::Slot;
+use schedule_steps::types::Step;
 use std::alloc::{AllocError, Global};
-use steps::types::Step;
 
 /// When an insert cuts a full segment in two, the first part gets this many of the old cells.
 const UPPER_SLOTS: usize = 64;

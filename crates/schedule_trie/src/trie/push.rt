@@ -7,8 +7,8 @@ use super::Trie;
 use super::lengths::set_length;
 use crate::segment::{MOST_SLOTS, SegKey, Segment};
 use crate::slot::Slot;
+use schedule_steps::types::Step;
 use std::alloc::{AllocError, Global};
-use steps::types::Step;
 
 impl<T: Drop> Trie<T> {
     /// Adds a new cell at the end of the branch at an index, in that branch alone. The limit of

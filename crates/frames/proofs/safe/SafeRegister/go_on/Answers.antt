@@ -9,7 +9,7 @@ use Rattle.frames.specs.declared.types.Next.TheVariants.{Done}
 use Rattle.frames.specs.declared.safe.SafePoint.TheVariants as at
 use Rattle.frames.specs.SafeBit.{value_of, safe_behaviour, SafeReaches, safe_goes, point_at}
 use mir.Val.{bool_byte}
-use Rattle.steps.specs.declared.types.Op.{Op}
+use Rattle.schedule_steps.specs.declared.types.Op.{Op}
 use Rattle.frames.specs.declared.types.Frame.{Frame}
 use Rattle.frames.specs.declared.safe.SafePoint.{SafePoint}
 use Rattle.frames.specs.Flat.{HasFramesFrom, Lands}

@@ -1,7 +1,7 @@
 -- What a step says.
 use Rattle.std.specs.Prelude.{ℕ}
-use Rattle.steps.specs.declared.types.Step.{Step}
-use Rattle.steps.specs.declared.types.Step.TheVariants as step
+use Rattle.schedule_steps.specs.declared.types.Step.{Step}
+use Rattle.schedule_steps.specs.declared.types.Step.TheVariants as step
 
 -- the process that makes a step
 abbrev pub process_of : Step → ℕ

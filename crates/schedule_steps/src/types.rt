@@ -2,7 +2,7 @@
 
 ghost use Rattle.std.specs.Prelude.{◌≡◌};
 ghost use Rattle.std.specs.Bool.{Decides};
-ghost use Rattle.steps.specs.Steps.{process_of};
+ghost use Rattle.schedule_steps.specs.Steps.{process_of};
 
 /// An operation of a register.
 #[derive(Clone, Copy, Debug, PartialEq, Eq, Default)]
@@ -50,7 +50,7 @@ impl Step {
 
 /// A step, or a schedule's item that holds a step.
 pub trait HasStep: Copy {
-    ghost use Rattle.steps.specs.declared.types.Step.{Step};
+    ghost use Rattle.schedule_steps.specs.declared.types.Step.{Step};
 
     // The step that the item holds.
     ghost step_in: { Self → Step };
