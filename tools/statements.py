@@ -114,6 +114,11 @@ def steps_of(crates, name, jobs):
     ]
 
 
+def by_llvm(crates, name, built):
+    """Returns the command that proves a program's own crate and builds it by LLVM, in its folder."""
+    return [f"{kit()}/bin/rattle", "build", *words_of(crates, name), *toolchain(), "-o", built]
+
+
 def prove(crates, name, jobs, niceness):
     """Proves and builds one crate over those below it, and returns whether it is proved."""
     is_proved = is_current(crates, name) or build(crates, name, jobs, niceness)
