@@ -114,9 +114,10 @@ def steps_of(crates, name, jobs):
     ]
 
 
-def by_llvm(crates, name, built):
-    """Returns the command that proves a program's own crate and builds it by LLVM, in its folder."""
-    return [f"{kit()}/bin/rattle", "build", *words_of(crates, name), *toolchain(), "-o", built]
+def by_llvm(crates, name, unlinked, built):
+    """Returns the commands that prove a program's own crate, build it by LLVM and link it, in its folder."""
+    prover = [f"{kit()}/bin/rattle", "build", *words_of(crates, name), *toolchain()]
+    return [[*prover, "-o", unlinked], linking(unlinked, built)]
 
 
 def prove(crates, name, jobs, niceness):

@@ -9,7 +9,7 @@ use Rattle.std.specs.Ordering.{on, eq_of_both}
 use Rattle.std.proofs.lemmas.Bool.Decides.{Decides-and, Decides-eqb, Decides-like}
 use Rattle.std.proofs.lemmas.Slice.Eq.{slice_eq-Decides}
 use Rattle.safe_bit.specs.laws.Equality.{memory_eq, memory_decides, option_decides, per_from_decides}
-use Rattle.frames.specs.contracts.types.OpPartialEq.TheImpl as ops
+use Rattle.schedule_steps.specs.contracts.types.OpPartialEq.TheImpl as ops
 use Rattle.schedule_steps.specs.declared.types.Op.{Op}
 use Rattle.schedule_steps.specs.declared.types.Op.TheVariants as op
 use Rattle.frames.specs.declared.running.Running.{Running}
