@@ -7,6 +7,7 @@ import contextlib
 import importlib.machinery
 import importlib.util
 import io
+import itertools
 import os
 import shutil
 import subprocess
@@ -227,6 +228,45 @@ def built_once():
         )
         put(f"{top}/crates/over/specs/Over.antt", "another line\n")
         same("current", [it for it in crates if statements.is_current(crates, it)], ["low"])
+
+
+def sums_after_a_new_layer():
+    """Adds a layer to a copy of the crates: own_register under another name, in frames too."""
+    with tempfile.TemporaryDirectory() as top:
+        statements, _ = statements_at(top)
+        side = statements.side
+        shutil.copy(f"{TOP}/crates.txt", top)
+        for name, part in itertools.product(side.crates_of(), side.PARTS):
+            if os.path.isdir(f"{TOP}/crates/{name}/{part}"):
+                shutil.copytree(f"{TOP}/crates/{name}/{part}", f"{top}/crates/{name}/{part}")
+        before = sums_of(statements)
+        put(
+            f"{top}/crates.txt",
+            f"{side.text_of(f'{top}/crates.txt')}another: layers frames safe_bit\n",
+        )
+        for at, _, files in os.walk(f"{top}/crates/own_register"):
+            for path in [f"{at}/{file}" for file in files]:
+                text = side.text_of(path).replace("own_register", "another")
+                text = text.replace("LayerName(b't', b'w', b'o')", "LayerName(b'a', b'n', b'o')")
+                put(path.replace("/own_register/", "/another/"), text)
+        after = sums_of(statements)
+        same("to be proved", [it for it in after if before.get(it) != after[it]], ["another"])
+        same(
+            "its name",
+            "b'a', b'n', b'o'" in side.text_of(f"{top}/crates/another/src/task.rt"),
+            True,
+        )
+        put(f"{top}/crates/layers/specs/Added.antt", "-- a definition\n")
+        changed = [
+            statements.sum_of(side.crates_of(), it) != after[it] for it in ("another", "frames")
+        ]
+        same("proved again if layers changes: another, frames", changed, [True, False])
+
+
+def sums_of(statements):
+    """Returns the sum of each crate, by its name."""
+    crates = statements.side.crates_of()
+    return {it: statements.sum_of(crates, it) for it in crates}
 
 
 def words_of_first_run():
@@ -489,7 +529,7 @@ def quotes_of_files():
 
 ALL = {
     "side_by_side": (crates_and_lines, tree_of_a_crate, order_of_tasks, faults_of_failures),
-    "statements": (words_of_a_library, built_once),
+    "statements": (words_of_a_library, built_once, sums_after_a_new_layer),
     "first_run": (words_of_first_run, answers_twice, answers_and_saves),
     "shares": (table_of_shares, edits_of_copies, shares_of_commands),
     "wrong": (places_of_changes, selections_of_edits, refusals_of_checks),
