@@ -2,6 +2,7 @@
 use Rattle.std.proofs.Common.{◌≡◌, ℕ, ◌+◌, ◌<◌, ◌≤◌, arith, length, Bool, true, false, ◌||◌, nat_eq, List, [], ◌∷◌, ◌++◌, Option, Some, None, slice_get, inl, inr, refl, sym, ap, subst, ◌∙◌, true≢false, eq-eqb}
 use Rattle.std.specs.Prelude.{⊤}
 use Rattle.std.specs.Cmp.{IsPartialEquivalence}
+use Rattle.std.specs.Option.{IfSome}
 use Rattle.frames.specs.declared.types.Step.{Step}
 use Rattle.frames.specs.Behaviour.{Behaviour}
 use Rattle.frames.specs.Configuration.{Configuration, replayed}
@@ -14,8 +15,9 @@ use Rattle.schedule_trie.proofs.Climbs.{IsStepUp, step_up}
 use Rattle.schedule_trie.proofs.NoRepeats.{Once-from_linked, once_before}
 use Rattle.schedule_trie.proofs.KeyPositions.{parting}
 use Rattle.cutoff.specs.Fitting.{StoredRun, steps_at}
-use Rattle.cutoff.specs.Links.{without_register, number_at, run_number, IsExitOf, IsStored, IsLinked}
+use Rattle.cutoff.specs.Links.{without_register, run_number, IsExitOf, IsStored, IsLinked}
 use Rattle.cutoff.specs.Plans.{FitsDownTo, FitsDown}
+use Rattle.cutoff.specs.Prefixes.{note_named}
 use Rattle.cutoff.proofs.Fits.{alone_same, stored_at, register_kept, same_symm, same_trans, same_from_alone, exit_same, fits_from_note, no_note_no_fit}
 
 not_first : (key k : ℕ) (ks : List ℕ) → has key (k ∷ ks) ≡ false → key ≡ k → ⊥
@@ -176,16 +178,17 @@ down_steps E b cut key run c (k ∷ ks) (inr f) = down_steps E b cut key run (re
 
 -- the number of the run right above is that of a run whose exit is this run's entry
 pub number_came : {R P : Type 0} (E : R → R → Bool) (per : IsPartialEquivalence E) (is : R → Behaviour P) (alike : (x y : R) → E x y ≡ true → is x ≡ is y)
-    (cut : Cut (StoredRun R P)) (start entry : Configuration R P) (keys : List ℕ) (above : Option ℕ) (next : ℕ) → HasClimbedTo keys above
-    → ((k : ℕ) (s : StoredRun R P) → above ≡ Some k → note_of (piece_at cut.pieces k) ≡ Some s → IsRun (is s.run.entry.register) s.run)
+    (cut : Cut (StoredRun R P)) (start entry : Configuration R P) (keys : List ℕ) (above : Option ℕ) (next : ℕ) (o : Option (StoredRun R P)) → HasClimbedTo keys above
+    → note_named cut above ≡ o → IfSome o (λ s. IsRun (is s.run.entry.register) s.run)
     → FitsDownTo E (is start.register) cut start (keys_to keys above) entry → IsLinked E start.register next None (without_register start) cut
-    → IsLinked E start.register next (number_at cut above) (without_register entry) cut
-number_came E per is alike cut start entry keys None next h true_run d l = record { exits = l.exits; as_many = l.as_many; each = l.each; reached_exit = tt }
-number_came {R} {P} E per is alike cut start entry keys (Some k) next h true_run d l =
-    record { exits = l.exits; as_many = l.as_many; each = l.each; reached_exit = by (note_of (piece_at cut.pieces k)) refl }
-  where
-    by : (o : Option (StoredRun R P)) → note_of (piece_at cut.pieces k) ≡ o → IsExitOf l.exits (run_number o) (without_register entry)
-    by None e = tt
-    by (Some s) e =
-        let same = climb_ends E per is alike cut start entry keys k s e (true_run k s refl e) h d in
-        subst (IsExitOf l.exits s.id) (sym (alone_same E entry s.run.exit same)) (stored_at E start.register l.exits cut k s (l.each k) e).id
+    → IsLinked E start.register next (run_number o) (without_register entry) cut
+number_came E per is alike cut start entry keys above next None h e true_run d l = record { exits = l.exits; as_many = l.as_many; each = l.each; reached_exit = tt }
+number_came E per is alike cut start entry keys None next (Some s) h e true_run d l = cc
+number_came E per is alike cut start entry keys (Some k) next (Some s) h e true_run d l =
+    let same = climb_ends E per is alike cut start entry keys k s e true_run h d in
+    record {
+      exits = l.exits;
+      as_many = l.as_many;
+      each = l.each;
+      reached_exit = subst (IsExitOf l.exits s.id) (sym (alone_same E entry s.run.exit same)) (stored_at E start.register l.exits cut k s (l.each k) e).id;
+    }

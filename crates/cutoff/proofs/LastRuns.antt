@@ -2,12 +2,9 @@
 use Rattle.std.proofs.Common.{◌≡◌, ◌⊎◌, ℕ, zero, suc, ◌-◌, ◌+◌, ◌<◌, ◌≤◌, Bool, true, List, [], ◌∷◌, ◌++◌, length, map, Option, Some, None, inl, inr, refl, sym, ap, subst, ◌∙◌, arith, append_assoc}
 use Rattle.std.specs.Cmp.{IsEquivalence}
 use Rattle.std.specs.Option.{option_map}
-use Rattle.std.specs.Arc.{arc_value}
-use Rattle.std.specs.declared.sync.Arc.{Arc}
 use Rattle.frames.specs.Behaviour.{Behaviour}
 use Rattle.frames.specs.Configuration.{Configuration}
 use Rattle.frames.specs.Recorded.{AllFit}
-use Rattle.checkpoints.specs.Segment.{SegmentRun}
 use Rattle.schedule_trie.specs.Forest.{step_of, index_of}
 use Rattle.schedule_trie.specs.Cut.{Cut, piece_at, slots_of, line, has, keys_in, forest, LiesInPath}
 use Rattle.schedule_trie.specs.Climbs.{keys_up_to, keys_to}
@@ -15,9 +12,9 @@ use Rattle.schedule_trie.proofs.Climbs.{up_to-here}
 use Rattle.schedule_trie.proofs.Lines.{slots_in_on}
 use Rattle.schedule_trie.proofs.NoRepeats.{has-in}
 use Rattle.schedule_trie.proofs.KeyPositions.{parting}
-use Rattle.cutoff.specs.Fitting.{StoredRun, run_of, RunPart, reached, run_at, part_of, KeepsRuns}
+use Rattle.cutoff.specs.Fitting.{StoredRun, RunPart, counted_of, reached, KeepsRuns}
 use Rattle.cutoff.specs.Settles.{Settles, IsFilled, SettlesTo, IsSettledLast, last_part}
-use Rattle.cutoff.specs.Prefixes.{RunsTo, IsKnown, AreKeysAfter, IsMarked, IsPlaceIn, IsHung, IsLeft}
+use Rattle.cutoff.specs.Prefixes.{RunsTo, IsKnown, AreKeysAfter, IsMarked, IsPlaceIn, IsHung, IsLeft, note_named}
 use Rattle.cutoff.specs.Charts.{Charted, StepsFit, keys_or, keys_named, reached_by}
 use Rattle.cutoff.proofs.Walks.{reached_none}
 
@@ -102,20 +99,17 @@ none_settled {R} {P} E b c name place none = (
 )
 
 -- the result of a settle of the first `place` cells, which end in the segment `key`
-pub last_settled : {R P Z : Type 0} (E : R → R → Bool) (is : R → Behaviour P) (old new : Charted R P) (name : List ℕ) (place key count i n : ℕ) (run : Arc (SegmentRun R P) Z)
-    → index_of (forest old.cut).branches name ≡ Some i → SettlesTo E is old.cut new.cut old.start key count place i n → Some (arc_value run) ≡ run_at new.cut key
-    → IsSettledLast E (is old.start.register) old new name place (Some (part_of (run, count))) n
-last_settled {R} {P} {Z} E is old new name place key count i n run found s stored =
-    let named : keys_named old.cut name ≡ keys_in old.cut.strands i = ap (λ o. keys_or o old.cut.strands) found in
-    let noted : run_at new.cut key ≡ Some s.last.stored.run = ap (option_map run_of) s.last.noted in
-    let same : Some (arc_value run) ≡ Some s.last.stored.run = stored ∙ noted in
-    let one : arc_value run ≡ s.last.stored.run = cc in (
+pub last_settled : {R P : Type 0} (E : R → R → Bool) (is : R → Behaviour P) (old new : Charted R P) (name : List ℕ) (place key count i n : ℕ) (o : Option (StoredRun R P))
+    → index_of (forest old.cut).branches name ≡ Some i → SettlesTo E is old.cut new.cut old.start key count place i n → o ≡ note_named new.cut (Some key)
+    → IsSettledLast E (is old.start.register) old new name place (option_map (counted_of count) o) n
+last_settled E is old new name place key count i n o found s stored =
+    let named : keys_named old.cut name ≡ keys_in old.cut.strands i = ap (λ o. keys_or o old.cut.strands) found in (
       s.parts,
       record {
         settles = subst (λ ks. Settles E (is old.start.register) old.cut new.cut old.start place (reached old.cut place ks) s.parts n) (sym named) s.settles;
         sum = s.sum;
       },
-      ap last_part s.last.is ∙ last_of_parts s.last.before (record { run = s.last.stored.run; count = count }) ∙ ap (λ r. Some (record { run = r; count = count })) (sym one),
+      ap last_part s.last.is ∙ last_of_parts s.last.before (counted_of count s.last.stored) ∙ ap (option_map (counted_of count)) (sym (stored ∙ s.last.noted)),
     )
 
 -- a settle keeps or fills each stored run, by the name of the branch

@@ -1,7 +1,6 @@
 -- Stored runs down a branch, one more at a time.
 use Rattle.std.proofs.Common.{◌≡◌, ℕ, Bool, true, false, nat_eq, List, [], ◌∷◌, ◌++◌, Option, Some, None, refl, sym, ap, subst, ◌∙◌, true≢false, eq-eqb}
-use Rattle.std.specs.Prelude.{⊤}
-use Rattle.std.specs.Option.{option_eq, option_map}
+use Rattle.std.specs.Option.{option_eq, option_map, IfSome}
 use Rattle.std.specs.Cmp.{IsEquivalence, IsPartialEquivalence}
 use Rattle.frames.specs.Behaviour.{Behaviour}
 use Rattle.frames.specs.Configuration.{Configuration, replayed}
@@ -12,8 +11,8 @@ use Rattle.schedule_trie.specs.Climbs.{keys_to, keys_up_to}
 use Rattle.schedule_trie.proofs.Climbs.{IsStepUp}
 use Rattle.schedule_trie.proofs.NoRepeats.{has_cases, has-head, has-tail}
 use Rattle.cutoff.specs.Fitting.{StoredRun, run_of, RunFits, steps_at}
-use Rattle.cutoff.specs.Links.{without_register, IsLinked}
-use Rattle.cutoff.specs.Prefixes.{RunsDown, RunsTo, IsKnown, exit_or_start, exit_or}
+use Rattle.cutoff.specs.Links.{without_register, run_number, IsLinkedAt}
+use Rattle.cutoff.specs.Prefixes.{RunsDown, RunsTo, IsKnown, note_named, exit_or_start, exit_or}
 use Rattle.cutoff.specs.Plans.{FitsDownTo}
 use Rattle.cutoff.proofs.Fits.{register_kept, same_trans, exit_same, stored_at, fits_to_note}
 use Rattle.cutoff.proofs.Walks.{linked_home}
@@ -63,18 +62,31 @@ by_other f k [] h other = has_cases f k [] (has f [] ≡ true) h (λ e. absurd (
 by_other f k (j ∷ keys) h other =
     has_cases f j (keys ++ k ∷ []) (has f (j ∷ keys) ≡ true) h (λ e. subst (λ z. has f (z ∷ keys) ≡ true) e (has-head f keys)) (λ r. has-tail f j keys (by_other f k keys r other))
 
--- a stored run's exit is of the chart's register, and its number is that of a run with this exit
-module _ {R P : Type 0} (E : R → R → Bool) (per : IsPartialEquivalence E) (b : Behaviour P) (cut : Cut (StoredRun R P)) (h : R) (k : ℕ) (s : StoredRun R P)
-    (noted : note_of (piece_at cut.pieces k) ≡ Some s) (true_run : IsRun b s.run) (next : ℕ) (c : Configuration ⊤ P) (linked : IsLinked E h next None c cut) where
-  pub exit_own : E s.run.exit.register h ≡ true
-  exit_own =
-      let kept : s.run.exit.register ≡ s.run.entry.register = ap (λ d. d.register) true_run.exit ∙ register_kept b s.run.entry s.run.steps in
-      subst (λ r. E r h ≡ true) (sym kept) (stored_at E h linked.exits cut k s (linked.each k) noted).own
+-- the exit of the run stored above, or the start: it is of the chart's register, and the run's
+-- number is that of a run with this exit
+module _ {R P : Type 0} (E : R → R → Bool) (equal : IsEquivalence E) (per : IsPartialEquivalence E) (is : R → Behaviour P) (cut : Cut (StoredRun R P)) (start : Configuration R P) (next : ℕ)
+    (linked : IsLinkedAt E start next None cut) where
+  entry_own : (key : Option ℕ) (above : Option (StoredRun R P)) → note_named cut key ≡ above → IfSome above (λ s. IsRun (is s.run.entry.register) s.run)
+      → E (exit_or start (option_map run_of above)).register start.register ≡ true
+  entry_own key None noted kept = equal.refl start.register
+  entry_own None (Some s) noted kept = cc
+  entry_own (Some k) (Some s) noted kept =
+      let same : s.run.exit.register ≡ s.run.entry.register = ap (λ d. d.register) kept.exit ∙ register_kept (is s.run.entry.register) s.run.entry s.run.steps in
+      subst (λ r. E r start.register ≡ true) (sym same) (stored_at E start.register linked.exits cut k s (linked.each k) noted).own
 
-  pub exit_linked : IsLinked E s.run.exit.register next s.id (without_register s.run.exit) cut
-  exit_linked =
-      linked_home E per h s.run.exit.register next s.id (without_register s.run.exit) cut (per.symm h s.run.exit.register ∙ exit_own)
-      (record { exits = linked.exits; as_many = linked.as_many; each = linked.each; reached_exit = (stored_at E h linked.exits cut k s (linked.each k) noted).id })
+  entry_linked : (key : Option ℕ) (above : Option (StoredRun R P)) → note_named cut key ≡ above → IfSome above (λ s. IsRun (is s.run.entry.register) s.run)
+      → IsLinkedAt E (exit_or start (option_map run_of above)) next (run_number above) cut
+  entry_linked key None noted kept = linked
+  entry_linked None (Some s) noted kept = cc
+  entry_linked (Some k) (Some s) noted kept =
+      let own = entry_own (Some k) (Some s) noted kept in
+      linked_home E per start.register s.run.exit.register next s.id (without_register s.run.exit) cut (per.symm start.register s.run.exit.register ∙ own)
+      (record { exits = linked.exits; as_many = linked.as_many; each = linked.each; reached_exit = (stored_at E start.register linked.exits cut k s (linked.each k) noted).id })
+
+  pub entry_came : (key : Option ℕ) (above : Option (StoredRun R P)) → note_named cut key ≡ above → IfSome above (λ s. IsRun (is s.run.entry.register) s.run)
+      → (config : Configuration R P) (number : Option ℕ) → config ≡ exit_or start (option_map run_of above) → number ≡ run_number above
+      → IsLinkedAt E config next number cut × (E config.register start.register ≡ true)
+  entry_came key above noted kept config number came numbered = rw (came, numbered) (entry_linked key above noted kept, entry_own key above noted kept)
 
 -- if there is no key, no run has to be known
 pub none_known : {R P : Type 0} (E : R → R → Bool) (equal : IsEquivalence E) (is : R → Behaviour P) (cut : Cut (StoredRun R P)) (start : Configuration R P) (key : ℕ) → IsKnown E is cut start key None

@@ -19,7 +19,7 @@ use Rattle.schedule_trie.proofs.KeyPositions.{parting}
 use Rattle.schedule_trie.proofs.Pushes.{line-append}
 use Rattle.cutoff.specs.Fitting.{StoredRun, run_of, RunPart, RunFits, steps_at, run_at, reached}
 use Rattle.cutoff.specs.Settles.{IsWork, IsSegmentSettled, Settles, EndsWith, SettlesTo}
-use Rattle.cutoff.specs.Prefixes.{RunsDown, Hangs, EndsIn, IsRest, exit_or_start, exit_or}
+use Rattle.cutoff.specs.Prefixes.{RunsDown, Hangs, EndsIn, IsRest, note_named, exit_or_start, exit_or}
 use Rattle.cutoff.proofs.Climbs.{path_once}
 use Rattle.cutoff.proofs.Fits.{register_kept, same_symm, run_fits_alike, fits_to_note, exit_same}
 use Rattle.cutoff.proofs.HungRuns.{hang_kept, hang_down}
@@ -113,41 +113,36 @@ module _ {R P : Type 0} (E : R → R → Bool) (equal : IsEquivalence E) (per : 
   lacks_here : has k g.done ≡ false
   lacks_here = once_before g.done k (ks ++ back) (subst Once g.whole g.once)
 
-  module _ (new : Cut (StoredRun R P)) (run : SegmentRun R P) (work : ℕ) (settled : IsSegmentSettled E cut new (exit_or_start cut start above) k run work)
-      (true_run : IsRun (is run.entry.register) run) where
-    abbrev s : StoredRun R P
-    s = settled.noted.0
+  module _ (new : Cut (StoredRun R P)) (s : StoredRun R P) (work : ℕ) (settled : IsSegmentSettled E cut new (exit_or_start cut start above) k s work)
+      (true_run : IsRun (is s.run.entry.register) s.run) where
+    abbrev run : SegmentRun R P
+    run = s.run
 
-    noted : note_of (piece_at new.pieces k) ≡ Some s
-    noted =
+    pub noted_here : note_of (piece_at new.pieces k) ≡ Some s
+    noted_here =
         let there : IsSome (piece_at cut.pieces k) = subst IsSome (sym (g.walk.ahead k (has-head k (ks ++ back)))) (g.walk.there k (has-head k (ks ++ back))) in
-        noted_at s (piece_at cut.pieces k) (piece_at new.pieces k) settled.noted.1.here there
+        noted_at s (piece_at cut.pieces k) (piece_at new.pieces k) settled.noted.here there
 
     steps_still : steps_at new k ≡ steps_at cut k
-    steps_still = ap (map step_of) (noted_cells s (piece_at cut.pieces k) (piece_at new.pieces k) settled.noted.1.here)
-
-    same_run : s.run ≡ run
-    same_run = settled.noted.2
+    steps_still = ap (map step_of) (noted_cells s (piece_at cut.pieces k) (piece_at new.pieces k) settled.noted.here)
 
     come_here : exit_or_start new start (Some k) ≡ run.exit
-    come_here = ap (λ o. exit_or start (option_map run_of o)) noted ∙ ap (λ r. r.exit) same_run
+    come_here = ap (λ o. exit_or start (option_map run_of o)) noted_here
 
     down_here : RunsDown E is new (is start.register) start (g.done ++ k ∷ []) (exit_or_start new start (Some k))
     down_here =
         let kept = down_kept E is cut new (is start.register) start g.done (exit_or_start cut start above)
-        (λ j h. settled.noted.1.others j (λ e. true≢false (sym (subst (λ i. has i g.done ≡ true) e h) ∙ lacks_here))) g.down in
-        let entry = subst (λ r. SameConfiguration E r.entry (exit_or_start cut start above)) (sym same_run) settled.fits.entry in
-        subst (RunsDown E is new (is start.register) start (g.done ++ k ∷ [])) (ap (λ r. r.exit) same_run ∙ sym come_here)
-        (down_more E per is alike new k s noted (subst (λ r. IsRun (is r.entry.register) r) (sym same_run) true_run)
-        (ap (λ r. r.steps) same_run ∙ settled.fits.steps ∙ sym steps_still) (is start.register) start g.done refl
-        (down_same E per is alike new (is start.register) start g.done s.run.entry (exit_or_start cut start above) entry kept))
+        (λ j h. settled.noted.others j (λ e. true≢false (sym (subst (λ i. has i g.done ≡ true) e h) ∙ lacks_here))) g.down in
+        subst (RunsDown E is new (is start.register) start (g.done ++ k ∷ [])) (sym come_here)
+        (down_more E per is alike new k s noted_here true_run (settled.fits.steps ∙ sym steps_still) (is start.register) start g.done refl
+        (down_same E per is alike new (is start.register) start g.done run.entry (exit_or_start cut start above) settled.fits.entry kept))
 
     -- if nothing is replayed, the segment's run stays stored
     pub kept_here : IsCut old → work ≡ 0 → run_at new k ≡ run_at old k
     kept_here whole none = by settled.work
       where
         by : IsWork E cut (exit_or_start cut start above) k run work → run_at new k ≡ run_at old k
-        by (inl f) = ap (option_map run_of) noted ∙ ap Some same_run ∙ sym f.1 ∙ ap (λ o. option_map run_of (note_of o)) (g.walk.ahead k (has-head k (ks ++ back)))
+        by (inl f) = ap (option_map run_of) noted_here ∙ sym f.1 ∙ ap (λ o. option_map run_of (note_of o)) (g.walk.ahead k (has-head k (ks ++ back)))
         by (inr f) =
             let some = some_steps (piece_at old.pieces k) (g.walk.there k (has-head k (ks ++ back))) (whole.sizes k) in
             let same : length (steps_at cut k) ≡ length (steps_at old k) = ap (λ o. length (map step_of (slots_of o))) (g.walk.ahead k (has-head k (ks ++ back))) in
@@ -160,7 +155,7 @@ module _ {R P : Type 0} (E : R → R → Bool) (equal : IsEquivalence E) (per : 
     walk_here : IsWalking E (is start.register) old new start keys (ks ++ back) place (g.rest - counts) (n + work) (g.parts ++ record { run = run; count = counts } ∷ [])
     walk_here =
         walk_on E equal per is alike old cut start keys (ks ++ back) k place g.rest n g.parts g.walk wanted_here
-        new run work counts (g.rest - counts) (n + work) (subst (λ d. IsSegmentSettled E cut new d k run work) (sym g.from) settled) true_run refl refl refl
+        new s work counts (g.rest - counts) (n + work) (subst (λ d. IsSegmentSettled E cut new d k s work) (sym g.from) settled) true_run refl refl refl
 
     run_len : length run.steps ≡ length (steps_at old k)
     run_len = ap length settled.fits.steps ∙ ap (λ o. length (map step_of (slots_of o))) (g.walk.ahead k (has-head k (ks ++ back)))
@@ -188,8 +183,8 @@ module _ {R P : Type 0} (E : R → R → Bool) (equal : IsEquivalence E) (per : 
               record {
                 before = g.parts;
                 stored = s;
-                noted = subst (λ j. note_of (piece_at new.pieces j) ≡ Some s) one noted;
-                is = ap (λ r. g.parts ++ record { run = r; count = counts } ∷ []) (sym same_run) ∙ ap (λ m. g.parts ++ record { run = s.run; count = m } ∷ []) same;
+                noted = subst (λ j. note_of (piece_at new.pieces j) ≡ Some s) one noted_here;
+                is = ap (λ m. g.parts ++ record { run = run; count = m } ∷ []) same;
               },
             )
         by (j ∷ front) is_last sum =
@@ -229,12 +224,12 @@ module _ {R P : Type 0} (E : R → R → Bool) (equal : IsEquivalence E) (per : 
       let s = down.0.stored in
       let noted = down.0.noted in
       let fits = run_fits_alike E per c (exit_or_start cut start above) (steps_at cut k) s.run same down.0.fits in
-      let settled : IsSegmentSettled E cut cut (exit_or_start cut start above) k s.run 0 = record {
-        noted = (s, noted_still cut k s noted, refl);
+      let settled : IsSegmentSettled E cut cut (exit_or_start cut start above) k s 0 = record {
+        noted = noted_still cut k s noted;
         fits = fits;
         work = inl (fits_to_note E cut (exit_or_start cut start above) k s noted fits, ap (option_map run_of) noted, refl);
       } in
-      let on = going_step E equal per is alike old cut start key count keys (front ++ left) back k place n above g cut s.run 0 settled down.0.true_run in
+      let on = going_step E equal per is alike old cut start key count keys (front ++ left) back k place n above g cut s 0 settled down.0.true_run in
       let none : n + 0 ≡ n = omega arith in
       let here : s.run.exit ≡ exit_or_start cut start (Some k) = sym (ap (λ o. exit_or start (option_map run_of o)) noted) in
       going_down old cut start key count keys front left back place n (Some k) (replayed (is start.register) c (steps_at cut k)) end
@@ -292,6 +287,9 @@ module _ {R P : Type 0} (E : R → R → Bool) (is : R → Behaviour P) (old cut
   ended rest parts (inl e) = absurd (none_left e.front key e.is)
   ended rest parts (inr f) = (f.1, f.2, f.3)
 
+  pub ends_at : above ≡ Some key
+  ends_at = (ended g.rest g.parts g.ahead).1
+
   pub going_settles : SettlesTo E is old cut start key count place i n
   going_settles =
       let end = ended g.rest g.parts g.ahead in
@@ -329,16 +327,26 @@ module _ {R P : Type 0} (E : R → R → Bool) (equal : IsEquivalence E) (per : 
     pub fits_next : AllFit (is start.register) (steps_at cut (get_or all index 0))
     fits_next = fits_left E equal per is alike old cut start key count keys (drop (index + 1) all ++ more) back (get_or all index 0) place n above going_at
 
-    module _ {new : Cut (StoredRun R P)} {work : ℕ} (settled : (run : SegmentRun R P) × IsSegmentSettled E cut new (exit_or_start cut start above) (get_or all index 0) run work × IsRun (is run.entry.register) run) where
+    -- `o` is stored right above
+    module _ {new : Cut (StoredRun R P)} {o : Option (StoredRun R P)} {s : StoredRun R P} {work : ℕ} (above_is : note_named cut above ≡ o)
+        (settled : IsSegmentSettled E cut new (exit_or start (option_map run_of o)) (get_or all index 0) s work × IsRun (is s.run.entry.register) s.run) where
+      settled_here : IsSegmentSettled E cut new (exit_or_start cut start above) (get_or all index 0) s work
+      settled_here = subst (λ p. IsSegmentSettled E cut new (exit_or start (option_map run_of p)) (get_or all index 0) s work) (sym above_is) settled.0
+
+      pub noted_next : note_of (piece_at new.pieces (get_or all index 0)) ≡ Some s
+      noted_next =
+          noted_here E equal per is alike old cut start key count keys (drop (index + 1) all ++ more) back (get_or all index 0) place n above going_at
+          new s work settled_here settled.1
+
       pub going_next : IsGoing E is old new start key count keys (drop (index + 1) all ++ more) back place (n + work) (Some (get_or all index 0))
       going_next =
           going_step E equal per is alike old cut start key count keys (drop (index + 1) all ++ more) back (get_or all index 0) place n above going_at
-          new settled.0 work settled.1 settled.2
+          new s work settled_here settled.1
 
       pub kept_next : IsCut old → work ≡ 0 → run_at new (get_or all index 0) ≡ run_at old (get_or all index 0)
       kept_next =
           kept_here E equal per is alike old cut start key count keys (drop (index + 1) all ++ more) back (get_or all index 0) place n above going_at
-          new settled.0 work settled.1 settled.2
+          new s work settled_here settled.1
 
 -- what is left hangs from a run that stays stored
 module _ {R P : Type 0} (E : R → R → Bool) (equal : IsEquivalence E) (per : IsPartialEquivalence E) (is : R → Behaviour P) (alike : (x y : R) → E x y ≡ true → is x ≡ is y)

@@ -4,7 +4,6 @@ use Rattle.std.specs.Cmp.{IsEquivalence}
 use Rattle.std.specs.Option.{option_map}
 use Rattle.frames.specs.Configuration.{Configuration}
 use Rattle.frames.specs.Equality.{SameConfiguration}
-use Rattle.checkpoints.specs.Segment.{SegmentRun}
 use Rattle.schedule_trie.specs.Cut.{Cut, Piece, piece, piece_at, note_of, with_note, IsNoted}
 use Rattle.cutoff.specs.Fitting.{StoredRun, run_of, RunFits, Fits, steps_at}
 use Rattle.cutoff.specs.Settles.{IsSegmentSettled}
@@ -20,13 +19,12 @@ noted_still c k s e = record { here = by (piece_at c.pieces k) e; others = λ j 
     by None h = cc
     by (Some p) h = λ i. Some (piece p.slots (h i))
 
-module _ {R P : Type 0} (E : R → R → Bool) (old new : Cut (StoredRun R P)) (c : Configuration R P) (k : ℕ) (run : SegmentRun R P) (s : StoredRun R P)
-    (noted : IsNoted old new k (Some s)) (same : s.run ≡ run) where
+module _ {R P : Type 0} (E : R → R → Bool) (old new : Cut (StoredRun R P)) (c : Configuration R P) (k : ℕ) (s : StoredRun R P) (noted : IsNoted old new k (Some s)) where
   -- a new run, of the segment's steps
-  pub segment_replayed : IsEquivalence E → run.steps ≡ steps_at old k → run.entry ≡ c → (Fits E old c k → ⊥) → (n : ℕ) → n ≡ length (steps_at old k)
-      → IsSegmentSettled E old new c k run n
+  pub segment_replayed : IsEquivalence E → s.run.steps ≡ steps_at old k → s.run.entry ≡ c → (Fits E old c k → ⊥) → (n : ℕ) → n ≡ length (steps_at old k)
+      → IsSegmentSettled E old new c k s n
   segment_replayed e steps entry misses n all = record {
-    noted = (s, noted, same);
+    noted = noted;
     fits = record {
       steps = steps;
       entry = subst (λ d. SameConfiguration E d c) (sym entry) (record { register = e.refl c.register; memory = refl; running = refl; stopped = refl });
@@ -34,15 +32,12 @@ module _ {R P : Type 0} (E : R → R → Bool) (old new : Cut (StoredRun R P)) (
     work = inr (misses, all);
   }
 
-  pub replayed_linked : (next after : ℕ) (above id : Option ℕ) → IsEquivalence E → IsLinked E c.register next above (without_register c) old → run.steps ≡ steps_at old k → run.entry ≡ c
-      → s.link ≡ above → s.checked ≡ id → s.id ≡ id → ((id ≡ None) × (after ≡ next)) ⊎ ((id ≡ Some next) × (after ≡ next + 1)) → IsLinked E c.register after id (without_register run.exit) new
+  pub replayed_linked : (next after : ℕ) (above id : Option ℕ) → IsEquivalence E → IsLinked E c.register next above (without_register c) old → s.run.steps ≡ steps_at old k → s.run.entry ≡ c
+      → s.link ≡ above → s.checked ≡ id → s.id ≡ id → ((id ≡ None) × (after ≡ next)) ⊎ ((id ≡ Some next) × (after ≡ next + 1)) → IsLinked E c.register after s.id (without_register s.run.exit) new
   replayed_linked next after above id e l steps entry link checked number given =
-      let entry_is : s.run.entry ≡ c = ap (λ r. r.entry) same ∙ entry in
-      subst (λ r. IsLinked E c.register after id (without_register r.exit) new) same
-      (subst (λ n. IsLinked E c.register after n (without_register s.run.exit) new) number
-      (new_linked E c.register old new k next above c l s noted after (checked ∙ sym number)
-      (subst (λ d. E d.register c.register ≡ true) (sym entry_is) (e.refl c.register)) (ap (λ r. r.steps) same ∙ steps) link entry_is
-      (subst (λ n. ((n ≡ None) × (after ≡ next)) ⊎ ((n ≡ Some next) × (after ≡ next + 1))) (sym number) given)))
+      new_linked E c.register old new k next above c l s noted after (checked ∙ sym number)
+      (subst (λ d. E d.register c.register ≡ true) (sym entry) (e.refl c.register)) steps link entry
+      (subst (λ n. ((n ≡ None) × (after ≡ next)) ⊎ ((n ≡ Some next) × (after ≡ next + 1))) (sym number) given)
 
   -- the run that was stored there
   module _ (was : StoredRun R P) (at_first : note_of (piece_at old.pieces k) ≡ Some was) (d : Configuration R P) (there : d ≡ c) (fits_there : RunFits E d (steps_at old k) was.run)
@@ -50,26 +45,24 @@ module _ {R P : Type 0} (E : R → R → Bool) (old new : Cut (StoredRun R P)) (
     fits : RunFits E c (steps_at old k) was.run
     fits = subst (λ e. RunFits E e (steps_at old k) was.run) there fits_there
 
-    pub segment_taken : IsSegmentSettled E old new c k run 0
+    pub segment_taken : IsSegmentSettled E old new c k s 0
     segment_taken = record {
-      noted = (s, noted, same);
-      fits = subst (RunFits E c (steps_at old k)) (sym again ∙ same) fits;
-      work = inl (fits_to_note E old c k was at_first fits, ap (option_map run_of) at_first ∙ ap Some (sym again ∙ same), refl);
+      noted = noted;
+      fits = subst (RunFits E c (steps_at old k)) (sym again) fits;
+      work = inl (fits_to_note E old c k was at_first fits, ap (option_map run_of) at_first ∙ ap Some (sym again), refl);
     }
 
-    pub taken_again : (next : ℕ) (above id : Option ℕ) → IsLinked E c.register next above (without_register c) old → s.id ≡ was.id → was.id ≡ id → s.checked ≡ was.checked → (s.link ≡ above) ⊎ (s.link ≡ was.link)
-        → IsLinked E c.register next id (without_register run.exit) new
-    taken_again next above id l number same_number checked link =
+    pub taken_again : (next : ℕ) (above : Option ℕ) → IsLinked E c.register next above (without_register c) old → s.id ≡ was.id → s.checked ≡ was.checked → (s.link ≡ above) ⊎ (s.link ≡ was.link)
+        → IsLinked E c.register next s.id (without_register s.run.exit) new
+    taken_again next above l number checked link =
         let t : IsStored E c.register l.exits (steps_at old k) was = stored_at E c.register l.exits old k was (l.each k) at_first in
-        subst (λ r. IsLinked E c.register next id (without_register r.exit) new) same
-        (subst (λ n. IsLinked E c.register next n (without_register s.run.exit) new) (number ∙ same_number)
-        (taken_linked E c.register old new k next above c l s noted (record {
+        taken_linked E c.register old new k next above c l s noted (record {
           own = subst (λ r. E r.entry.register c.register ≡ true) (sym again) t.own;
           covers = ap (λ r. r.steps) again ∙ t.covers;
           id = subst (λ r. IsExitOf l.exits s.id (without_register r.exit)) (sym again) (subst (λ n. IsExitOf l.exits n (without_register was.run.exit)) (sym number) t.id);
           link = subst (λ r. IsExitOf l.exits s.link (without_register r.entry)) (sym again) (came link t.link);
           checked = subst (IsGiven (length l.exits)) (sym checked) t.checked;
-        })))
+        })
       where
         came : (s.link ≡ above) ⊎ (s.link ≡ was.link) → IsExitOf l.exits was.link (without_register was.run.entry) → IsExitOf l.exits s.link (without_register was.run.entry)
         came (inl e) t = subst (λ o. IsExitOf l.exits o (without_register was.run.entry)) (sym e) (subst (IsExitOf l.exits above) (sym (alone_same E was.run.entry c fits.entry)) l.reached_exit)

@@ -179,10 +179,13 @@ module _ {R P : Type 0} (E : R → R → Bool) (equal : IsEquivalence E) (per : 
       by true e = absurd (wanted (eqb-true rest 0 e))
       by false e = reached_here false e refl
 
-  module _ (new : Cut (StoredRun R P)) (run : SegmentRun R P) (work count rest_after n_after : ℕ) (settled : IsSegmentSettled E cut new (exit_of start parts) k run work)
-      (true_run : IsRun (is run.entry.register) run) (counts : count ≡ min rest (length run.steps)) (less : rest_after ≡ rest - count) (more_work : n_after ≡ n + work) where
-    noted : IsNoted cut new k (Some settled.noted.0)
-    noted = settled.noted.1
+  module _ (new : Cut (StoredRun R P)) (s : StoredRun R P) (work count rest_after n_after : ℕ) (settled : IsSegmentSettled E cut new (exit_of start parts) k s work)
+      (true_run : IsRun (is s.run.entry.register) s.run) (counts : count ≡ min rest (length s.run.steps)) (less : rest_after ≡ rest - count) (more_work : n_after ≡ n + work) where
+    abbrev run : SegmentRun R P
+    run = s.run
+
+    noted : IsNoted cut new k (Some s)
+    noted = settled.noted
 
     abbrev goes_to : Configuration R P
     goes_to = replayed (is start.register) w.at (steps_at old k)
@@ -196,8 +199,7 @@ module _ {R P : Type 0} (E : R → R → Bool) (equal : IsEquivalence E) (per : 
     stored_here : run_at new k ≡ Some run
     stored_here =
         ap (λ o. option_map run_of (note_of o)) noted.here
-        ∙ noted_run settled.noted.0 (piece_at cut.pieces k) (subst IsSome (sym here_same) (w.there k (has-head k ks)))
-        ∙ ap Some settled.noted.2
+        ∙ noted_run s (piece_at cut.pieces k) (subst IsSome (sym here_same) (w.there k (has-head k ks)))
 
     other_piece : (j : ℕ) → (j ≡ k → ⊥) → piece_at new.pieces j ≡ piece_at cut.pieces j
     other_piece j ne = noted.others j ne
@@ -251,7 +253,7 @@ module _ {R P : Type 0} (E : R → R → Bool) (equal : IsEquivalence E) (per : 
 
     slots_kept : (j : ℕ) → slots_at new j ≡ slots_at old j
     slots_kept j = by_key j k _
-        (λ e. ap (slots_at new) e ∙ ap (option_map (λ p. p.slots)) noted.here ∙ noted_slots settled.noted.0 (piece_at cut.pieces k) ∙ w.keeps.slots k ∙ ap (slots_at old) (sym e))
+        (λ e. ap (slots_at new) e ∙ ap (option_map (λ p. p.slots)) noted.here ∙ noted_slots s (piece_at cut.pieces k) ∙ w.keeps.slots k ∙ ap (slots_at old) (sym e))
         (λ ne. ap (option_map (λ p. p.slots)) (other_piece j ne) ∙ w.keeps.slots j)
 
     exit_is : exit_of start (parts ++ part run count ∷ []) ≡ run.exit

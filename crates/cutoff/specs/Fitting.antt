@@ -85,6 +85,10 @@ pub record KeepsRuns {R P : Type 0} (old new : Cut (StoredRun R P)) (Filled : �
 abbrev pub part_of : {R P Z : Type 0} → (Arc (SegmentRun R P) Z × ℕ) → RunPart R P
 part_of p = record { run = arc_value p.0; count = p.1 }
 
+-- a stored run, of which this many steps count, as a `RunPart`
+abbrev pub counted_of : {R P : Type 0} → ℕ → StoredRun R P → RunPart R P
+counted_of count s = record { run = s.run; count = count }
+
 -- the same cells and stored run, which was last found to fit at the install of the run `number`
 abbrev pub checked_piece : {R P : Type 0} → Option ℕ → Piece (StoredRun R P) → Piece (StoredRun R P)
 checked_piece number p = piece p.slots (option_map (λ s. record { run = s.run; id = s.id; link = s.link; checked = number }) p.note)

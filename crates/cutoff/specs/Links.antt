@@ -4,7 +4,7 @@ use Rattle.std.specs.Prelude.{ℕ, ◌≡◌, ◌<◌, ⊤, Bool, true, List, Op
 use Rattle.frames.specs.declared.types.Step.{Step}
 use Rattle.frames.specs.Configuration.{Configuration}
 use Rattle.schedule_trie.specs.Forest.{step_of}
-use Rattle.schedule_trie.specs.Cut.{Cut, Piece, piece_at, note_of}
+use Rattle.schedule_trie.specs.Cut.{Cut, Piece, piece_at}
 use Rattle.cutoff.specs.Fitting.{StoredRun}
 
 -- a configuration without its register
@@ -57,12 +57,6 @@ AreLinked E start cut = (next : ℕ) × IsLinkedAt E start next None cut
 abbrev pub run_number : {R P : Type 0} → Option (StoredRun R P) → Option ℕ
 run_number None = None
 run_number (Some s) = s.id
-
--- the number of the run stored at a key; `None` if there is no key or no run, or if the run has no
--- number
-abbrev pub number_at : {R P : Type 0} → Cut (StoredRun R P) → Option ℕ → Option ℕ
-number_at cut None = None
-number_at cut (Some k) = run_number (note_of (piece_at cut.pieces k))
 
 -- the number with which a stored run was last found to fit; `None` if there is no run or no number
 abbrev pub run_checked : {R P : Type 0} → Option (StoredRun R P) → Option ℕ

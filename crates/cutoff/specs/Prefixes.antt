@@ -1,6 +1,7 @@
 -- Stored runs that fit the segments of a branch, from its first one on. A run is true if its steps
 -- fit the register, and replay of them from its entry gives its exit and its events (`IsRun`).
 use Rattle.std.specs.Prelude.{ℕ, ◌≡◌, ◌⊎◌, ◌<◌, ◌≤◌, ◌+◌, Bool, true, List, [], ◌∷◌, ◌++◌, Option, Some, None, length, map}
+use Rattle.std.specs.Option.{option_map}
 use Rattle.frames.specs.Behaviour.{Behaviour}
 use Rattle.frames.specs.Configuration.{Configuration, replayed}
 use Rattle.frames.specs.Equality.{SameConfiguration}
@@ -9,13 +10,17 @@ use Rattle.checkpoints.specs.Segment.{SegmentRun, IsRun}
 use Rattle.schedule_trie.specs.Forest.{step_of}
 use Rattle.schedule_trie.specs.Cut.{Cut, piece_at, slots_of, note_of, keys_in, has, line}
 use Rattle.schedule_trie.specs.Climbs.{keys_to, keys_up_to, HasClimbedTo}
-use Rattle.cutoff.specs.Fitting.{StoredRun, RunFits, run_at, steps_at}
+use Rattle.cutoff.specs.Fitting.{StoredRun, run_of, RunFits, steps_at}
 use Rattle.cutoff.specs.Links.{run_checked}
+
+-- what is stored at a key; `None` if there is no key or no run
+abbrev pub note_named : {R P : Type 0} → Cut (StoredRun R P) → Option ℕ → Option (StoredRun R P)
+note_named cut None = None
+note_named cut (Some k) = note_of (piece_at cut.pieces k)
 
 -- the run stored at a key; `None` if there is no key or no run
 abbrev pub run_named : {R P : Type 0} → Cut (StoredRun R P) → Option ℕ → Option (SegmentRun R P)
-run_named cut None = None
-run_named cut (Some k) = run_at cut k
+run_named cut key = option_map run_of (note_named cut key)
 
 -- the exit of a run, or c if there is no run
 abbrev pub exit_or : {R P : Type 0} → Configuration R P → Option (SegmentRun R P) → Configuration R P

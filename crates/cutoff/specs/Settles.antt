@@ -43,12 +43,12 @@ module _ {R P : Type 0} (E : R → R → Bool) (b : Behaviour P) (old : Cut (Sto
   IsFilled new c (j ∷ js) k =
       ((k ≡ j) × (Fits E old c j → ⊥) × HasFitting new c j) ⊎ IsFilled new (replayed b c (steps_at old j)) js k
 
--- the segment k is settled at c, and n steps are replayed: `run`, which fits, is now stored there,
+-- the segment k is settled at c, and n steps are replayed: s, whose run fits, is now stored there,
 -- and nothing else changes
-pub record IsSegmentSettled {R P : Type 0} (E : R → R → Bool) (old new : Cut (StoredRun R P)) (c : Configuration R P) (k : ℕ) (run : SegmentRun R P) (n : ℕ) : Type 0 where
-  pub noted : (s : StoredRun R P) × IsNoted old new k (Some s) × (s.run ≡ run)
-  pub fits : RunFits E c (steps_at old k) run
-  pub work : IsWork E old c k run n
+pub record IsSegmentSettled {R P : Type 0} (E : R → R → Bool) (old new : Cut (StoredRun R P)) (c : Configuration R P) (k : ℕ) (s : StoredRun R P) (n : ℕ) : Type 0 where
+  pub noted : IsNoted old new k (Some s)
+  pub fits : RunFits E c (steps_at old k) s.run
+  pub work : IsWork E old c k s.run n
 
 -- the last of these parts is the run stored in the segment `key`, of which `count` steps count
 pub record EndsWith {R P : Type 0} (cut : Cut (StoredRun R P)) (key count : ℕ) (parts : List (RunPart R P)) : Type 0 where

@@ -3,17 +3,17 @@
 ghost use Rattle.std.specs.Prelude.{◌≡◌, ℕ, None, Some, IsSome, true, false, map};
 ghost use Rattle.std.specs.Bool.{Decides};
 ghost use Rattle.schedule_trie.specs.Forest.{step_of};
-ghost use Rattle.schedule_trie.specs.Cut.{has, keys_in, note_of, piece_at, IsCut};
+ghost use Rattle.schedule_trie.specs.Cut.{has, keys_in, piece_at, IsCut};
 ghost use Rattle.checkpoints.specs.Segment.{IsRun};
-ghost use Rattle.cutoff.specs.Fitting.{StoredRun, steps_at};
-ghost use Rattle.cutoff.specs.Links.{AreLinked, IsLinked, IsLinkedAt, number_at, without_register};
+ghost use Rattle.cutoff.specs.Fitting.{steps_at};
+ghost use Rattle.cutoff.specs.Links.{AreLinked, IsLinked, IsLinkedAt, without_register};
 ghost use Rattle.cutoff.specs.Plans.{FitsDown};
 ghost use Rattle.cutoff.specs.Prefixes.{RunGoesOn, AreFresh};
 
 use crate::climb::comes_down;
 use crate::number::Number;
 use crate::settle::segment_cells;
-use crate::stored::Stored;
+use crate::stored::{Stored, entry_below, stored_at};
 use checkpoints::run::Run;
 use frames::config::Config;
 use frames::register::Register;
@@ -66,7 +66,8 @@ pub(crate) fn fits_down<R: Register>(
     if !comes_down(trie, start, fresh, above, run.entry()) {
         return (false, Number::none());
     }
-    (true, number_at(trie, above))
+    let (_, number) = entry_below(start, stored_at(trie, above));
+    (true, number)
 }
 
 /// Whether there is a segment with this key.
@@ -75,26 +76,6 @@ pub(crate) fn has_segment<R: Register>(trie: &Trie<Stored<R>>, key: SegKey) -> b
     ensures no { result ≡ false → piece_at trie.now.pieces key ≡ None }
 {
     trie.cells_of(key).is_some()
-}
-
-/// The number of the run stored in a segment; `None` if there is no segment or no run, or if the
-/// run has no number.
-fn number_at<R: Register>(trie: &Trie<Stored<R>>, key: Option<SegKey>) -> Number
-    ensures number { result ≡ number_at trie.now key }
-    ensures kept { (k : ℕ) (s : StoredRun R R.Pending) → key ≡ Some k
-        → note_of (piece_at trie.now.pieces k) ≡ Some s
-        → IsRun (R.behaviour s.run.entry.register) s.run }
-{
-    let Some(key) = key else {
-        return Number::none();
-    };
-    match trie.note(key) {
-        Some(stored) => {
-            let _exit = stored.exit();
-            stored.id()
-        }
-        None => Number::none(),
-    }
 }
 
 /// Whether the segment `key` has these steps.

@@ -13,10 +13,9 @@ ghost use Rattle.cutoff.specs.Plans.{Descends, Planned, Plans, with_job, job_of,
 ghost use Rattle.cutoff.specs.Prefixes.{IsMarked, exit_or_start};
 ghost use Rattle.cutoff.specs.Sights.{AreSeen, HasDescendedAbove, HasDescended, IsUnseenPart, LooksBelow, sight_at, unseen};
 
-use crate::last::{exit_named, shared_exit};
 use crate::settle::{fitting, segment_cells};
 use crate::sight::{Sight, known, see};
-use crate::stored::Stored;
+use crate::stored::{Stored, entry_below, shared_entry, stored_at};
 use frames::config::Config;
 use frames::register::Register;
 use frames::types::Step;
@@ -217,12 +216,12 @@ fn look_below<R: Register>(
         (exit_or_start base.now.trie.now base.now.start.now above) key fits jobs.old.items
         jobs.new.items) }
 {
-    let (config, number) = exit_named(base.trie, base.start, above);
-    if let Some(stored) = fitting(base.trie, key, config, number) {
-        let _exit = stored.exit();
+    let above = stored_at(base.trie, above);
+    let (config, number) = entry_below(base.start, above);
+    if let Some(_) = fitting(base.trie, key, config, number) {
         return Ok(true);
     }
-    let entry = shared_exit(base.alloc, base.trie, base.start, above)?;
+    let entry = shared_entry(base.alloc, base.start, above)?;
     let job = job_at(base.alloc, base.trie, key, entry)?;
     jobs.push(job)?;
     Ok(false)

@@ -3,7 +3,7 @@
 
 ghost use Rattle.std.specs.Prelude.{◌≡◌, ◌≤◌, ℕ, None, Some, IfOk, OnOk, OnErr, MatchOption, length};
 ghost use Rattle.std.specs.Arc.{arc_value};
-ghost use Rattle.checkpoints.specs.Segment.{SegmentRun, IsRun};
+ghost use Rattle.checkpoints.specs.Segment.{IsRun};
 ghost use Rattle.frames.specs.Recorded.{AllFit};
 ghost use Rattle.schedule_trie.specs.Cut.{piece_at, slots_of, note_of};
 ghost use Rattle.cutoff.specs.Fitting.{RunFits, Fits, steps_at};
@@ -32,7 +32,8 @@ pub(crate) fn fitting<'a, R: Register>(
     requires linked { (next : ℕ) × IsLinkedAt R.PartialEq.eq config.now next above trie.now }
     ensures { MatchOption result (Fits R.PartialEq.eq trie.now config.now key → ⊥)
         (λ s. (note_of (piece_at trie.now.pieces key) ≡ Some s.now)
-        × RunFits R.PartialEq.eq config.now (steps_at trie.now key) s.now.run) }
+        × RunFits R.PartialEq.eq config.now (steps_at trie.now key) s.now.run
+        × IsRun (R.behaviour s.now.run.entry.register) s.now.run) }
 {
     let stored = trie.note(key)?;
     if stored.begins(config, above) {
@@ -53,8 +54,8 @@ pub(crate) fn segment_cells<R: Register>(trie: &Trie<Stored<R>>, key: SegKey) ->
 }
 
 /// Replays the segment `key`, which no stored run fits at `config`, from `config`, and stores the
-/// new run. `above` is `None`, or the number of a run with the exit `config`. Returns how many
-/// steps were replayed: all of the segment's. On an error nothing changes.
+/// new run. `above` is `None`, or the number of a run with the exit `config`. Returns what is now
+/// stored, and how many steps were replayed: all of the segment's. On an error nothing changes.
 // (inlined in its caller, it makes a replayed step dearer)
 #[inline(never)]
 pub(crate) fn replay_segment<R: Register>(
@@ -64,14 +65,14 @@ pub(crate) fn replay_segment<R: Register>(
     key: SegKey,
     config: Arc<Config<R>>,
     above: Number,
-) -> Result<u32, AllocError>
+) -> Result<(Stored<R>, u32), AllocError>
     requires linked { IsLinkedAt R.PartialEq.eq (arc_value config) next.old above trie.old }
     requires short { length (steps_at trie.old key) ≤ 128 }
     requires fits { AllFit (R.behaviour (arc_value config).register) (steps_at trie.old key) }
     requires misses { Fits R.PartialEq.eq trie.old (arc_value config) key → ⊥ }
-    ensures settled { IfOk result (λ n. (run : SegmentRun R R.Pending)
-        × IsSegmentSettled R.PartialEq.eq trie.old trie.new (arc_value config) key run n
-        × IsRun (R.behaviour run.entry.register) run) }
+    ensures settled { IfOk result (λ r.
+        IsSegmentSettled R.PartialEq.eq trie.old trie.new (arc_value config) key r.0 r.1
+        × IsRun (R.behaviour r.0.run.entry.register) r.0.run) }
     ensures linked { OnOk result
         (IsLinkedAt R.PartialEq.eq (arc_value config) next.new None trie.new) }
     ensures unchanged { OnErr result ((trie.new ≡ trie.old) × (next.new ≡ next.old)) }
@@ -81,7 +82,8 @@ pub(crate) fn replay_segment<R: Register>(
     let made = run_of(alloc, config, cells)?;
     let _steps = made.steps();
     let run = Arc::new(alloc, made)?;
+    let shared = Arc::try_clone(&run)?;
     let id = take_number(next);
-    trie.set_note(key, Some(Stored::new(run, id, above)));
-    Ok(replayed)
+    trie.set_note(key, Some(Stored::new(shared, id, above)));
+    Ok((Stored::new(run, id, above), replayed))
 }

@@ -1,17 +1,21 @@
-//! Stored runs, and the test whether one begins at a configuration.
+//! Stored runs, the test whether one begins at a configuration, and where a segment begins.
 
 ghost use Rattle.std.specs.Prelude.{◌≡◌, ◌⊎◌, ℕ, None, Some, true, IfOk};
 ghost use Rattle.std.specs.Bool.{Decides};
 ghost use Rattle.std.specs.Arc.{arc_value};
+ghost use Rattle.std.specs.Option.{option_copied, option_map, IfSome};
 ghost use Rattle.checkpoints.specs.Segment.{IsRun};
 ghost use Rattle.frames.specs.Equality.{SameConfiguration};
-ghost use Rattle.cutoff.specs.Links.{without_register};
+ghost use Rattle.cutoff.specs.Fitting.{run_of};
+ghost use Rattle.cutoff.specs.Links.{run_number, without_register};
+ghost use Rattle.cutoff.specs.Prefixes.{exit_or, note_named};
 
 use crate::number::Number;
 use checkpoints::run::Run;
 use frames::config::Config;
 use frames::register::Register;
-use std::alloc::AllocError;
+use schedule_trie::trie::{SegKey, Trie};
+use std::alloc::{AllocError, Global};
 use std::marker::Model;
 use std::sync::Arc;
 
@@ -89,6 +93,21 @@ impl<R: Register> Stored<R> {
         self.link
     }
 
+    /// The run, to be kept after the rest is dropped.
+    pub(crate) fn into_run(self) -> Arc<Run<R>>
+        ensures { arc_value result ≡ self.run }
+    {
+        let Stored { run, .. } = self;
+        run
+    }
+
+    /// The same run, number and link.
+    pub(crate) fn copy(&self) -> Result<Stored<R>, AllocError>
+        ensures { IfOk result (λ s. s ≡ self.now) }
+    {
+        self.noted_with(self.link, self.checked)
+    }
+
     /// The same run, linked to the run with the number `above`. If `above` is `None`, the run keeps
     /// its link.
     pub(crate) fn following(&self, above: Number) -> Result<Stored<R>, AllocError>
@@ -149,9 +168,12 @@ impl<R: Register> Stored<R> {
     pub(crate) fn begins(&self, config: &Config<R>, above: Number) -> bool
         requires linked { (a : ℕ) → self.now.link ≡ Some a → above ≡ Some a
             → SameConfiguration R.PartialEq.eq self.now.run.entry config.now }
-        ensures { Decides result (SameConfiguration R.PartialEq.eq self.now.run.entry config.now) }
+        ensures begins { Decides result
+            (SameConfiguration R.PartialEq.eq self.now.run.entry config.now) }
+        ensures kept { IsRun (R.behaviour self.now.run.entry.register) self.now.run }
     {
-        self.link.is_same(above) || *self.run.entry() == *config
+        let entry = self.run.entry();
+        self.link.is_same(above) || *entry == *config
     }
 
     /// Whether the link of `lower` is this run's number: `lower` then begins at this run's exit.
@@ -172,5 +194,49 @@ impl<R: Register> Stored<R> {
     {
         let exit = self.run.exit();
         link.is_same(self.id) || *config == *exit
+    }
+}
+
+/// What is stored in a segment; `None` if there is no segment or no run.
+pub(crate) fn stored_at<R: Register>(
+    trie: &Trie<Stored<R>>,
+    key: Option<SegKey>,
+) -> Option<&Stored<R>>
+    ensures { option_copied result ≡ note_named trie.now key }
+{
+    trie.note(key?)
+}
+
+/// The configuration at which a segment begins, if `above` is stored right above it; and the number
+/// of that run, if it has one.
+pub(crate) fn entry_below<'a, R: Register>(
+    start: &'a Config<R>,
+    above: Option<&'a Stored<R>>,
+) -> (&'a Config<R>, Number)
+    ensures entry { result.0.now
+        ≡ exit_or start.now (option_map run_of (option_copied above.entry)) }
+    ensures number { result.1 ≡ run_number (option_copied above.entry) }
+    ensures kept { IfSome (option_copied above.entry)
+        (λ s. IsRun (R.behaviour s.run.entry.register) s.run) }
+{
+    match above {
+        Some(stored) => (stored.exit(), stored.id()),
+        None => (start, Number::none()),
+    }
+}
+
+/// The configuration at which a segment begins, if `above` is stored right above it, to be shared;
+/// a copy of `start` if there is no run above.
+pub(crate) fn shared_entry<R: Register>(
+    alloc: Global,
+    start: &Config<R>,
+    above: Option<&Stored<R>>,
+) -> Result<Arc<Config<R>>, AllocError>
+    ensures { IfOk result
+        (λ c. arc_value c ≡ exit_or start.now (option_map run_of (option_copied above.entry))) }
+{
+    match above {
+        Some(stored) => Ok(Arc::try_clone(stored.run().shared_exit())?),
+        None => Ok(Arc::new(alloc, start.copy(alloc)?)?),
     }
 }

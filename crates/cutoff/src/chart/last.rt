@@ -10,7 +10,7 @@ ghost use Rattle.cutoff.specs.Charts.{look};
 ghost use Rattle.cutoff.specs.Settles.{IsSettledLast, KeepsOrFills};
 
 use super::{Chart, branch_to};
-use crate::last::{Last, settle_to};
+use crate::last::{Last, counted, settle_to};
 use crate::number::Number;
 use frames::register::Register;
 use schedule_trie::name::Name;
@@ -65,7 +65,7 @@ impl<R: Register> Chart<R> {
         let mark = self.mark;
         self.mark = None;
         self.fresh = Number::none();
-        let (run, replayed) = settle_to(
+        let (stored, replayed) = settle_to(
             alloc,
             &mut self.trie,
             &mut self.next,
@@ -74,7 +74,7 @@ impl<R: Register> Chart<R> {
             key,
         )?;
         self.mark = Some(key);
-        let part = Some((run, offset as u32 + 1));
+        let part = counted(stored, offset as u32 + 1);
         Ok(Last {
             len,
             part,

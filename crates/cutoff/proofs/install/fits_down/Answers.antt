@@ -69,9 +69,9 @@ returns-clause-moved g c = λ e next linked.
     let down = subst (FitsDownTo E (g.R.Behaves.behaviour c.args.start.now.register) trie c.args.start.now (keys_to (keys_in trie.strands live.0) c.above-above.result)) c.entry.ensures.entry
     (runs_come E g.met.R.PartialEq.laws g.R.Behaves.behaviour g.met.R.Register.alike trie (g.R.Behaves.behaviour c.args.start.now.register) c.args.start.now
     (keys_to (keys_in trie.strands live.0) c.above-above.result) c.entry.result.now ((c.comes_down.ensures live.0 step.reached).0 c.if-not-comes_down.false)) in
-    subst (λ n. IsLinked E c.args.start.now.register next n (without_register c.args.run.now.entry) trie) (sym c.number_at.ensures.number)
-    (number_came E g.met.R.PartialEq.laws g.R.Behaves.behaviour g.met.R.Register.alike trie c.args.start.now c.args.run.now.entry (keys_in trie.strands live.0) c.above-above.result next
-    step.reached c.number_at.ensures.kept down linked)
+    subst (λ n. IsLinked E c.args.start.now.register next n (without_register c.args.run.now.entry) trie) (sym c.entry_below-number.ensures.number)
+    (number_came E g.met.R.PartialEq.laws g.R.Behaves.behaviour g.met.R.Register.alike trie c.args.start.now c.args.run.now.entry (keys_in trie.strands live.0) c.above-above.result next _
+    step.reached (sym c.stored_at.ensures) c.entry_below-number.ensures.kept down linked)
 
 pub returns-clause-runs : goal.returns-clause-runs
 returns-clause-runs g c = λ e i h.

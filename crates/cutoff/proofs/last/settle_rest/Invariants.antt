@@ -1,8 +1,8 @@
-use Rattle.std.proofs.Common.{◌≡◌, ◌++◌, [], ℕ, List, None, drop}
+use Rattle.std.proofs.Common.{◌≡◌, ◌++◌, [], ℕ, List, Option, None, drop}
 use Rattle.schedule_trie.specs.Cut.{keys_in}
 use Rattle.frames.specs.Configuration.{Configuration}
 use Rattle.cutoff.specs.Links.{IsLinkedAt}
-use Rattle.cutoff.specs.Prefixes.{Hangs, IsLeft, run_named}
+use Rattle.cutoff.specs.Prefixes.{Hangs, IsLeft, note_named, run_named}
 use Rattle.cutoff.proofs.RestWalks.{IsGoing}
 use Rattle.cutoff.proofs.last.settle_rest.Given as goal
 
@@ -10,10 +10,11 @@ abbrev pub invariant-loop-segment : goal.invariant-loop-segment
 invariant-loop-segment g l =
     let E = g.R.PartialEq.eq in
     let is = g.R.Behaves.behaviour in
-    record {
+    (key : Option ℕ) × record {
+      noted : note_named l.trie key ≡ l.above;
       going : (i count place : ℕ) (left : IsLeft E is l.fn.trie l.start l.rest.front l.rest.keys.items l.rest.hung l.key count place i)
-          → (back : List ℕ) × IsGoing E is l.fn.trie l.trie l.start l.key count (keys_in l.fn.trie.strands i) (drop l.segment-index l.segment-items ++ left.hanging.below) back place l.replayed l.above;
-      kept : l.last ≡ 0 → run_named l.trie l.above ≡ run_named l.fn.trie l.above;
+          → (back : List ℕ) × IsGoing E is l.fn.trie l.trie l.start l.key count (keys_in l.fn.trie.strands i) (drop l.segment-index l.segment-items ++ left.hanging.below) back place l.replayed key;
+      kept : l.last ≡ 0 → run_named l.trie key ≡ run_named l.fn.trie key;
       linked : IsLinkedAt E l.start l.next None l.trie;
     }
 
@@ -21,9 +22,10 @@ abbrev pub invariant-loop-below : goal.invariant-loop-below
 invariant-loop-below g l =
     let E = g.R.PartialEq.eq in
     let is = g.R.Behaves.behaviour in
-    record {
+    (key : Option ℕ) × record {
+      noted : note_named l.trie key ≡ l.above;
       going : (i count place : ℕ) → IsLeft E is l.fn.trie l.start l.rest.front l.rest.keys.items l.rest.hung l.key count place i
-          → (back : List ℕ) × IsGoing E is l.fn.trie l.trie l.start l.key count (keys_in l.fn.trie.strands i) (drop l.below-index l.below-items ++ []) back place l.replayed l.above;
+          → (back : List ℕ) × IsGoing E is l.fn.trie l.trie l.start l.key count (keys_in l.fn.trie.strands i) (drop l.below-index l.below-items ++ []) back place l.replayed key;
       hangs : (i count place : ℕ) → IsLeft E is l.fn.trie l.start l.rest.front l.rest.keys.items l.rest.hung l.key count place i
           → (c : Configuration _ _) × Hangs E is l.fn.trie c (drop l.below-index l.below-items);
       linked : IsLinkedAt E l.start l.next None l.trie;

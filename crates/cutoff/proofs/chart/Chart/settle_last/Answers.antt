@@ -1,11 +1,12 @@
 use Rattle.std.proofs.Common.{◌≡◌, ◌+◌, Some, None, Ok, length, sym, ap, subst, ◌∙◌, arith}
+use Rattle.std.specs.Option.{option_map}
 use Rattle.schedule_trie.specs.Forest.{IsRefused, len_of}
 use Rattle.schedule_trie.specs.Cut.{line, piece_at, keys_in, forest}
 use Rattle.cutoff.specs.Fitting.{part_of}
 use Rattle.cutoff.specs.Charts.{look}
 use Rattle.cutoff.specs.Settles.{IsSettledLast}
 use Rattle.cutoff.proofs.SameBranches.{charted_kept, charted_marked, len_there, look_there, refused_still, out_of_memory, seen_begins, all_kept}
-use Rattle.cutoff.proofs.LastRuns.{place_found, found_fits, none_settled, last_settled, keeps_named}
+use Rattle.cutoff.proofs.LastRuns.{marked_now, place_found, found_fits, none_settled, last_settled, keeps_named}
 use Rattle.cutoff.proofs.chart.Chart.settle_last.Goals as goal
 
 pub returns-then-place-eq0-clause-ok : goal.returns-then-place-eq0-clause-ok
@@ -32,7 +33,9 @@ invariant_of-self-2 g c =
     let index = c.in_ok-index.index in
     let lies = place_found c.self.inside.trie index c.args.place c.in-Some.key c.in-Some.offset c.in-Some.ensures.lies c.if-place-eq0.false in
     let keeps = c.settle_to.ensures.keeps index (c.in-Some.offset + 1) c.args.place lies in
-    rw c.none-self-inside.ensures (charted_marked g.R.PartialEq.eq g.R.Behaves.behaviour c.settle_to.new.next None None None (Some c.in-Some.key) _ tt c.in_ok-run.ensures.marked
+    let marked = marked_now g.R.PartialEq.eq g.R.Behaves.behaviour c.self.inside.trie c.settle_to.new.trie c.self.inside.start c.in-Some.key (c.in-Some.offset + 1) c.in_ok-stored.replayed lies.some lies.few keeps.strands
+    c.in_ok-stored.ensures.settles in
+    rw c.none-self-inside.ensures (charted_marked g.R.PartialEq.eq g.R.Behaves.behaviour c.settle_to.new.next None None None (Some c.in-Some.key) _ tt marked
     (charted_kept g.R.PartialEq.eq g.R.Behaves.behaviour c.self.inside.next c.settle_to.new.next c.self.inside.fresh c.self.inside.mark _ c.settle_to.new.trie _ keeps c.settle_to.ensures.linked c.self.invariant))
 
 pub returns-clause-ok : goal.returns-clause-ok
@@ -40,9 +43,11 @@ returns-clause-ok g c =
     let index = c.in_ok-index.index in
     let lies = place_found c.self.inside.trie index c.args.place c.in-Some.key c.in-Some.offset c.in-Some.ensures.lies c.if-place-eq0.false in
     subst (λ v. IsSettledLast g.R.PartialEq.eq (g.R.Behaves.behaviour v.start.register) v (record { cut = c.settle_to.new.trie; start = c.self.inside.start; value = c.self.inside.value }) c.args.branch.now c.args.place
-    (Some (part_of (c.in_ok-run.run', c.in-Some.offset + 1))) c.in_ok-run.replayed) c.self.view_is
-    (last_settled g.R.PartialEq.eq g.R.Behaves.behaviour _ _ c.args.branch.now c.args.place c.in-Some.key (c.in-Some.offset + 1) index c.in_ok-run.replayed c.in_ok-run.run' c.in_ok-index.ensures.index
-    (c.in_ok-run.ensures.settles index (c.in-Some.offset + 1) c.args.place lies) c.in_ok-run.ensures.run)
+    (option_map part_of c.counted-part.result) c.in_ok-stored.replayed) c.self.view_is
+    (subst (λ o. IsSettledLast g.R.PartialEq.eq (g.R.Behaves.behaviour c.self.inside.start.register) (record { cut = c.self.inside.trie; start = c.self.inside.start; value = c.self.inside.value })
+    (record { cut = c.settle_to.new.trie; start = c.self.inside.start; value = c.self.inside.value }) c.args.branch.now c.args.place o c.in_ok-stored.replayed) (sym c.counted-part.ensures)
+    (last_settled g.R.PartialEq.eq g.R.Behaves.behaviour _ _ c.args.branch.now c.args.place c.in-Some.key (c.in-Some.offset + 1) index c.in_ok-stored.replayed c.in_ok-stored.stored c.in_ok-index.ensures.index
+    (c.in_ok-stored.ensures.settles index (c.in-Some.offset + 1) c.args.place lies) c.in_ok-stored.ensures.stored))
 
 pub returns-clause-found : goal.returns-clause-found
 returns-clause-found g c =
@@ -64,17 +69,17 @@ pub returns-in_err-index-clause-err : goal.returns-in_err-index-clause-err
 returns-in_err-index-clause-err g c =
     refused_still c.from_residual.result (subst (λ v. IsRefused (look (forest v.cut) c.args.branch.now c.args.place) c.in_err-index.field-0.0) c.self.view_is c.in_err-index.ensures.err) c.from_residual.ensures.1
 
-pub returns-in_err-run-clause-err : goal.returns-in_err-run-clause-err
-returns-in_err-run-clause-err g c =
+pub returns-in_err-stored-clause-err : goal.returns-in_err-stored-clause-err
+returns-in_err-stored-clause-err g c =
     let found = c.in_ok-index.ensures in
     let there = look_there (g.R.Behaves.behaviour c.self.inside.start.register) c.self.inside.trie c.args.branch.now c.in_ok-index.index c.in_ok-index.len found.index found.long c.args.place found.within in
-    out_of_memory c.from_residual-in_err-run.result (ap (λ v. look (forest v.cut) c.args.branch.now c.args.place) (sym c.self.view_is) ∙ there) c.from_residual-in_err-run.ensures.1
+    out_of_memory c.from_residual-in_err-stored.result (ap (λ v. look (forest v.cut) c.args.branch.now c.args.place) (sym c.self.view_is) ∙ there) c.from_residual-in_err-stored.ensures.1
 
 pub returns-clause-begins : goal.returns-clause-begins
 returns-clause-begins g c = seen_begins c.self.view_is g.R.PartialEq.eq g.R.Behaves.behaviour c.self.inside.next c.self.inside.fresh c.self.inside.mark c.self.invariant
 
-pub returns-in_err-run-clause-begins : goal.returns-in_err-run-clause-begins
-returns-in_err-run-clause-begins g c = seen_begins c.self.view_is g.R.PartialEq.eq g.R.Behaves.behaviour c.self.inside.next c.self.inside.fresh c.self.inside.mark c.self.invariant
+pub returns-in_err-stored-clause-begins : goal.returns-in_err-stored-clause-begins
+returns-in_err-stored-clause-begins g c = seen_begins c.self.view_is g.R.PartialEq.eq g.R.Behaves.behaviour c.self.inside.next c.self.inside.fresh c.self.inside.mark c.self.invariant
 
 pub returns-then-place-eq0-clause-keeps : goal.returns-then-place-eq0-clause-keeps
 returns-then-place-eq0-clause-keeps g c = all_kept c.args.self.now.cut _
@@ -82,13 +87,13 @@ returns-then-place-eq0-clause-keeps g c = all_kept c.args.self.now.cut _
 pub returns-clause-len : goal.returns-clause-len
 returns-clause-len g c = subst (λ v. len_of (forest v.cut) c.args.branch.now ≡ Some c.in_ok-index.len) c.self.view_is c.in_ok-index.ensures.len
 
-pub overflow_cast-part : goal.overflow_cast-part
-overflow_cast-part g c = record {
+pub overflow_cast-offset : goal.overflow_cast-offset
+overflow_cast-offset g c = record {
   fits = (found_fits c.self.inside.trie c.in_ok-index.index c.args.place c.in-Some.key c.in-Some.offset _ c.in-Some.ensures.lies c.if-place-eq0.false c.ranges.place.fits).0;
 }
 
-pub overflow_add-part : goal.overflow_add-part
-overflow_add-part g c = record {
+pub overflow_add-offset : goal.overflow_add-offset
+overflow_add-offset g c = record {
   fits = (found_fits c.self.inside.trie c.in_ok-index.index c.args.place c.in-Some.key c.in-Some.offset _ c.in-Some.ensures.lies c.if-place-eq0.false c.ranges.place.fits).1;
 }
 
@@ -98,8 +103,8 @@ returns-in_err-index-clause-begins g c = seen_begins c.self.view_is g.R.PartialE
 pub returns-then-place-eq0-clause-begins : goal.returns-then-place-eq0-clause-begins
 returns-then-place-eq0-clause-begins g c = seen_begins c.self.view_is g.R.PartialEq.eq g.R.Behaves.behaviour c.self.inside.next c.self.inside.fresh c.self.inside.mark c.self.invariant
 
-pub returns-in_err-run-clause-keeps : goal.returns-in_err-run-clause-keeps
-returns-in_err-run-clause-keeps g c =
+pub returns-in_err-stored-clause-keeps : goal.returns-in_err-stored-clause-keeps
+returns-in_err-stored-clause-keeps g c =
     let index = c.in_ok-index.index in
     let lies = place_found c.self.inside.trie index c.args.place c.in-Some.key c.in-Some.offset c.in-Some.ensures.lies c.if-place-eq0.false in
     let keeps = c.settle_to.ensures.keeps index (c.in-Some.offset + 1) c.args.place lies in
