@@ -1,6 +1,6 @@
 //! The search.
 
-ghost use Rattle.std.specs.Prelude.{◌≡◌, ℕ, ◌+◌, ◌<◌, ◌≤◌, false, ◌⊎◌, Some, Err, List, [], ◌∷◌, ◌++◌, length, slice_get, OnOk, IfOk};
+ghost use Rattle.std.specs.Prelude.{◌≡◌, ℕ, ◌+◌, ◌<◌, ◌≤◌, true, false, ◌⊎◌, Some, Err, List, [], ◌∷◌, ◌++◌, length, slice_get, OnOk, IfOk};
 ghost use Rattle.std.specs.List.{list_any};
 ghost use Rattle.breadth_first.specs.Paths.{AreTooMany};
 ghost use Rattle.breadth_first.specs.Searches.{IsOldNode, IsNewNode, IsSearching, IsSearch, IsSearchAt, IsStepped, IsWholeSearch};
@@ -137,7 +137,6 @@ fn meet<G: Graph>(
     let Ok(key) = graph.key(search.alloc, &node) else {
         return Err(Unreached::Memory);
     };
-    let goal = graph.is_goal(&node);
     if search.reached.keys.len() >= most as usize {
         if search.reached.keys.contains(&key) {
             return Ok(());
@@ -150,6 +149,7 @@ fn meet<G: Graph>(
     if !added {
         return Ok(());
     }
+    let goal = graph.is_goal(&node);
     search.add(node, goal, mark)
 }
 
@@ -174,6 +174,25 @@ impl<N: Drop, K: Eq + Hash + Drop> Search<N, K> {
             return Err(Unreached::Memory);
         };
         Ok(())
+    }
+}
+
+impl<N: Eq + Drop, K: Eq + Hash + Drop> Search<N, K> {
+    /// Whether the node is equal to the one that was met last, by the label before this one from the
+    /// same node. To compare them costs less than a key.
+    fn repeats_last(&self, at: u32, label: usize, node: &N) -> bool
+        ensures { result ≡ true → list_any (N.eq node.now) self.now.queue.items ≡ true }
+    {
+        let Some(mark) = self.reached.marks.last() else {
+            return false;
+        };
+        if mark.parent != at || mark.label >= label || label - mark.label != 1 {
+            return false;
+        }
+        match self.queue.back() {
+            Some(last) => node == last,
+            None => false,
+        }
     }
 }
 
@@ -210,6 +229,9 @@ fn follow<G: Graph>(
     let Some(next) = found else {
         return Ok(());
     };
+    if search.repeats_last(at, label, &next) {
+        return Ok(());
+    }
     let depth = search.reached.marks[at as usize].depth + 1;
     let mark = Mark {
         parent: at,
