@@ -7,7 +7,8 @@ from costs.runs import CALLGRIND, TOP, collected
 
 PROGRAM = f"{TOP}/crates/answers_program/out/answers_program"
 # Questions, with the instructions that a plain Rust program takes which searches the same states, breadth first with a set of
-# states as lists of numbers; it follows both choices only if a read is hit. Its figures were taken once.
+# states as lists of numbers; it follows both choices only if a read is hit, and makes no schedule easier to read. Its figures
+# were taken once.
 QUESTIONS = (
     ("safe 0; process 0 w 1 w 0; process 1 r r", 559_632),
     ("safe 0; process 0 w 1 w 0; process 1 r r; stop 0", 836_466),
@@ -48,15 +49,35 @@ def most_held(path, room):
     return int(said[2])
 
 
+def instructions_in(path, function):
+    """Returns the instructions that callgrind's output file reports of calls of a function, with all that it calls."""
+    names, total, callee = {}, 0, ""
+    with open(path, encoding="utf-8", errors="replace") as file:
+        lines = iter(file)
+        for line in lines:
+            key, _, value = line.partition("=")
+            if key in ("fn", "cfn"):
+                number, _, name = value.strip().partition(" ")
+                callee = names.setdefault(number, name)
+            elif key == "calls" and callee.startswith(function):
+                total += int(next(lines).split()[-1])
+    return total
+
+
 def questions(room):
     subprocess.run([f"{TOP}/tools/prove", "answers_program"], stdin=subprocess.DEVNULL, check=True)
-    print("states; instructions in thousands, their ratio to plain Rust's; bytes a state")
+    print("states; instructions in thousands, of which the search; its ratio to plain Rust's; bytes a state")
     for line, peer in QUESTIONS:
         path = f"{room}/question"
         with open(path, "w", encoding="ascii") as file:
             file.write(line.replace("; ", "\n") + "\n")
-        output, said = ran(path, room, CALLGRIND)
+        output, said = ran(path, room, (*CALLGRIND[:2], f"--callgrind-out-file={room}/calls"))
         states, cost = int(output.split()[1]), collected(said)
-        ratio = f"{cost / peer:8.2f}" if peer else "       -"
+        tidied = instructions_in(f"{room}/calls", "answers::tidy::tidy::")
+        if tidied == 0:
+            sys.exit("tests/cost: the program has no function that makes schedules easy to read")
+        search = cost - tidied
+        ratio = f"{search / peer:8.2f}" if peer else "       -"
         held = most_held(path, room) / states
-        print(f"  {line:72}{states:8}{cost / 1000:12.0f}{ratio}{held:8.0f}", flush=True)
+        costs = f"{cost / 1000:12.0f}{search / 1000:12.0f}"
+        print(f"  {line:72}{states:8}{costs}{ratio}{held:8.0f}", flush=True)

@@ -4,7 +4,7 @@ ghost use Rattle.std.specs.Prelude.{◌≡◌, ◌<◌, ◌++◌, [], true, IfOk
 ghost use Rattle.std.specs.List.{list_all};
 ghost use Rattle.frames.specs.Configuration.{is_enabled, fits_step};
 ghost use Rattle.answers.specs.Questions.{allows, next_of, operations_of, stops_in, outcomes_by, event_in, events_in};
-ghost use Rattle.answers.specs.States.{advanced, ended_counts, invoking_step, option_list, step_by};
+ghost use Rattle.answers.specs.States.{advanced, ended_counts, invoking_step, option_list, step_by, with_events};
 
 use crate::done::is_done;
 use crate::key::StateKey;
@@ -203,10 +203,8 @@ impl<R: Register> State<R> {
     {
         let mut config = self.config.copy(alloc)?;
         let events = config.step(step);
-        let p = step.process();
-        let own = with_events(alloc, &self.answers, p, events)?;
         let mut answers = copies(alloc, &self.answers)?;
-        put(&mut answers, p, own);
+        add_events(&mut answers, step.process(), events)?;
         Ok(State { config, answers })
     }
 }
@@ -235,39 +233,23 @@ fn outcomes_in(p: u32, event: Option<Event>) -> Option<Outcome>
     }
 }
 
-/// Replaces the outcomes of process `p`, if there is such a process.
-fn put(answers: &mut [Outcomes], p: u32, own: Outcomes)
-    ensures { answers.new ≡ slice_set answers.old p own }
+/// Adds to process `p`'s outcomes that of its operation that ends in these events, if one does.
+fn add_events(answers: &mut [Outcomes], p: u32, events: StepEvents) -> Result<(), AllocError>
+    ensures { OnOk result (answers.new ≡ with_events p events answers.old) }
 {
     if (p as usize) < answers.len() {
-        answers[p as usize] = own;
+        add_ended(&mut answers[p as usize], p, events)
+    } else {
+        Ok(())
     }
 }
 
-/// A copy of process `p`'s outcomes.
-fn own(alloc: Global, answers: &[Outcomes], p: u32) -> Result<Outcomes, AllocError>
-    ensures { IfOk result (λ o. o ≡ slice_index_or answers.now p []) }
+/// Adds the outcome of process `p`'s operation that ends in these events, if one does.
+fn add_ended(own: &mut Outcomes, p: u32, events: StepEvents) -> Result<(), AllocError>
+    ensures { OnOk result (own.new ≡ own.old ++ outcomes_by p (events_in events)) }
 {
-    match answers.get(p as usize) {
-        Some(outcomes) => outcomes.copy(alloc),
-        None => Ok(Outcomes::new(alloc)),
-    }
-}
-
-/// The outcomes of process `p`, with that of its operation that ends in these events, if one does.
-fn with_events(
-    alloc: Global,
-    answers: &[Outcomes],
-    p: u32,
-    events: StepEvents,
-) -> Result<Outcomes, AllocError>
-    ensures { IfOk result
-        (λ o. o ≡ slice_index_or answers.now p [] ++ outcomes_by p (events_in events)) }
-{
-    let mut own = own(alloc, answers, p)?;
-    add(&mut own, p, events.first)?;
-    add(&mut own, p, events.second)?;
-    Ok(own)
+    add(own, p, events.first)?;
+    add(own, p, events.second)
 }
 
 /// Adds the outcome of process `p`'s operation that ends in this event, if one does.

@@ -13,6 +13,7 @@ use frames::types::{Frame, FrameLayer, Layer, Op, Outcome};
 use safe_bit::{Cell, Store};
 use std::alloc::{AllocError, Global};
 
+#[inline]
 fn cell_code(cell: Cell) -> u64
     ensures { result ≡ spec.cell_code cell }
 {
@@ -72,172 +73,6 @@ fn spent_code(layer: Layer) -> u64
     }
 }
 
-/// Adds a number of a list that has `gap` zeros before it. Returns the number of zeros before the
-/// list's next number.
-fn add_after(numbers: &mut Vec<u64>, gap: u64, number: u64) -> Result<u64, AllocError>
-    requires { gap < 2 ^ 32 }
-    ensures added { IfOk result (λ next. (later : List ℕ)
-        → numbers.new.items ++ spec.by_gaps next later
-        ≡ numbers.old.items ++ spec.by_gaps gap (number ∷ later)) }
-    ensures low { IfOk result (λ next. next ≤ gap + 1) }
-{
-    if number == 0 {
-        return Ok(gap + 1);
-    }
-    if number == 1 {
-        numbers.push(2 * gap)?;
-        return Ok(0);
-    }
-    numbers.push(2 * gap + 1)?;
-    numbers.push(number)?;
-    Ok(0)
-}
-
-fn add_cells(numbers: &mut Vec<u64>, cells: &[Cell]) -> Result<(), AllocError>
-    requires { length cells.now < 2 ^ 32 }
-    ensures { OnOk result (numbers.new.items
-        ≡ numbers.old.items ++ spec.by_gaps 0 (map spec.cell_code cells.now)) }
-{
-    let mut gap = 0;
-    for cell in cells {
-        gap = add_after(numbers, gap, cell_code(*cell))?;
-    }
-    numbers.push(2 * gap)?;
-    Ok(())
-}
-
-fn add_words(numbers: &mut Vec<u64>, words: &[u32]) -> Result<(), AllocError>
-    requires { length words.now < 2 ^ 32 }
-    ensures { OnOk result (numbers.new.items
-        ≡ numbers.old.items ++ spec.by_gaps 0 words.now) }
-{
-    let mut gap = 0;
-    for word in words {
-        gap = add_after(numbers, gap, u64::from(*word))?;
-    }
-    numbers.push(2 * gap)?;
-    Ok(())
-}
-
-fn add_store(numbers: &mut Vec<u64>, store: &Store) -> Result<(), AllocError>
-    ensures { OnOk result (numbers.new.items
-        ≡ numbers.old.items ++ spec.memory_numbers store.now) }
-{
-    store.lemma_numbered();
-    add_cells(numbers, store.cells())?;
-    add_words(numbers, store.words())
-}
-
-fn add_name(numbers: &mut Vec<u64>, layer: FrameLayer) -> Result<(), AllocError>
-    ensures { OnOk result (numbers.new.items ≡ numbers.old.items ++ spec.name_numbers layer) }
-{
-    if let FrameLayer::Named(name) = layer {
-        numbers.push(u64::from(name.0))?;
-        numbers.push(u64::from(name.1))?;
-        numbers.push(u64::from(name.2))?;
-    }
-    Ok(())
-}
-
-fn add_frame(numbers: &mut Vec<u64>, frame: Frame) -> Result<(), AllocError>
-    ensures { OnOk result (numbers.new.items ≡ numbers.old.items ++ spec.frame_numbers frame) }
-{
-    numbers.push(layer_code(frame.layer) + 8 * op_code(frame.op))?;
-    numbers.push(u64::from(frame.i))?;
-    numbers.push(u64::from(frame.x))?;
-    add_name(numbers, frame.layer)
-}
-
-fn add_frames(numbers: &mut Vec<u64>, frames: &[Frame]) -> Result<(), AllocError>
-    ensures { OnOk result (numbers.new.items
-        ≡ numbers.old.items ++ spec.frames_numbers frames.now) }
-{
-    for frame in frames {
-        add_frame(numbers, *frame)?;
-    }
-    Ok(())
-}
-
-fn add_stack(numbers: &mut Vec<u64>, frames: &[Frame], stopped: bool) -> Result<(), AllocError>
-    requires { length frames.now ≤ 8 }
-    ensures { OnOk result (numbers.new.items
-        ≡ numbers.old.items ++ spec.stack_numbers frames.now stopped) }
-{
-    let stop = if stopped { 1 } else { 0 };
-    numbers.push(2 * frames.len() as u64 + stop)?;
-    add_frames(numbers, frames)
-}
-
-fn add_outcomes(numbers: &mut Vec<u64>, outcomes: &[Outcome]) -> Result<(), AllocError>
-    ensures { OnOk result (numbers.new.items
-        ≡ numbers.old.items ++ spec.outcomes_numbers outcomes.now) }
-{
-    numbers.push(outcomes.len() as u64)?;
-    for outcome in outcomes {
-        numbers.push(outcome_code(*outcome))?;
-    }
-    Ok(())
-}
-
-/// Adds process `p`'s frames and stop mark.
-fn add_pending<R: Register>(
-    numbers: &mut Vec<u64>,
-    config: &Config<R>,
-    p: u32,
-) -> Result<(), AllocError>
-    ensures { OnOk result (numbers.new.items ≡ numbers.old.items
-        ++ spec.stack_numbers (stack_of (R.behaviour config.now.register) (running_at p config.now))
-        (is_stopped p config.now)) }
-{
-    let stopped = config.stopped(p);
-    match config.stack(config.store().allocator(), p) {
-        Some(stack) => add_stack(numbers, stack.as_slice(), stopped),
-        None => add_stack(numbers, &[], stopped),
-    }
-}
-
-/// Adds the outcomes of process `p`'s operations.
-fn add_answers(numbers: &mut Vec<u64>, answers: &[Outcomes], p: u32) -> Result<(), AllocError>
-    ensures { OnOk result (numbers.new.items ≡ numbers.old.items
-        ++ spec.outcomes_numbers (slice_index_or answers.now p [])) }
-{
-    match answers.get(p as usize) {
-        Some(outcomes) => add_outcomes(numbers, outcomes.as_slice()),
-        None => add_outcomes(numbers, &[]),
-    }
-}
-
-fn add_process<R: Register>(
-    numbers: &mut Vec<u64>,
-    config: &Config<R>,
-    answers: &[Outcomes],
-    p: u32,
-) -> Result<(), AllocError>
-    ensures { OnOk result (numbers.new.items ≡ numbers.old.items
-        ++ spec.process_numbers (R.behaviour config.now.register) config.now.running
-        config.now.stopped answers.now p) }
-{
-    add_pending(numbers, config, p)?;
-    add_answers(numbers, answers, p)
-}
-
-/// Numbers for a configuration and answers.
-fn numbers_of<R: Register>(
-    alloc: Global,
-    config: &Config<R>,
-    answers: &[Outcomes],
-) -> Result<Vec<u64>, AllocError>
-    ensures { IfOk result (λ n. n.items ≡ spec.state_numbers (R.behaviour config.now.register)
-        config.now.memory config.now.running config.now.stopped answers.now) }
-{
-    let mut numbers = Vec::new(alloc);
-    add_store(&mut numbers, config.store())?;
-    for p in 0..config.register().processes() {
-        add_process(&mut numbers, config, answers, p)?;
-    }
-    Ok(numbers)
-}
-
 /// Adds the four bytes of a number below 2^32, the lowest first.
 fn add_half(bytes: &mut Vec<u8>, number: u64) -> Result<(), AllocError>
     requires { number < 4294967296 }
@@ -250,13 +85,13 @@ fn add_half(bytes: &mut Vec<u8>, number: u64) -> Result<(), AllocError>
     Ok(())
 }
 
-fn add_number(bytes: &mut Vec<u8>, number: u64) -> Result<(), AllocError>
+/// Adds the bytes of a number that isn't small.
+// (not inlined, so that what adds a small number stays short)
+#[inline(never)]
+fn add_large(bytes: &mut Vec<u8>, number: u64) -> Result<(), AllocError>
+    requires { 192 ≤ number }
     ensures { OnOk result (bytes.new.items ≡ bytes.old.items ++ spec.number_bytes number) }
 {
-    if number < 192 {
-        bytes.push(number as u8)?;
-        return Ok(());
-    }
     if number < 16128 {
         bytes.push((192 + number / 256) as u8)?;
         bytes.push((number % 256) as u8)?;
@@ -267,16 +102,169 @@ fn add_number(bytes: &mut Vec<u8>, number: u64) -> Result<(), AllocError>
     add_half(bytes, number / 4294967296)
 }
 
-/// The bytes of these numbers, with no room to spare.
-fn packed(alloc: Global, numbers: &[u64]) -> Result<Vec<u8>, AllocError>
-    ensures { IfOk result (λ bytes. bytes.items ≡ spec.packed numbers.now) }
+#[inline(always)]
+fn add_number(bytes: &mut Vec<u8>, number: u64) -> Result<(), AllocError>
+    ensures { OnOk result (bytes.new.items ≡ bytes.old.items ++ spec.number_bytes number) }
 {
-    let mut bytes = Vec::new(alloc);
-    for number in numbers {
-        add_number(&mut bytes, *number)?;
+    if number < 192 {
+        bytes.push(number as u8)?;
+        return Ok(());
     }
-    Vec::from_slice(alloc, &bytes)
+    add_large(bytes, number)
 }
+
+/// Adds a number of a list that has `gap` zeros before it. Returns the number of zeros before the
+/// list's next number.
+#[inline(always)]
+fn add_after(bytes: &mut Vec<u8>, gap: u64, number: u64) -> Result<u64, AllocError>
+    requires { gap < 2 ^ 32 }
+    ensures added { IfOk result (λ next. (later : List ℕ)
+        → bytes.new.items ++ spec.packed (spec.by_gaps next later)
+        ≡ bytes.old.items ++ spec.packed (spec.by_gaps gap (number ∷ later))) }
+    ensures low { IfOk result (λ next. next ≤ gap + 1) }
+{
+    if number == 0 {
+        return Ok(gap + 1);
+    }
+    if number == 1 {
+        add_number(bytes, 2 * gap)?;
+        return Ok(0);
+    }
+    add_number(bytes, 2 * gap + 1)?;
+    add_number(bytes, number)?;
+    Ok(0)
+}
+
+fn add_cells(bytes: &mut Vec<u8>, cells: &[Cell]) -> Result<(), AllocError>
+    requires { length cells.now < 2 ^ 32 }
+    ensures { OnOk result (bytes.new.items
+        ≡ bytes.old.items ++ spec.packed (spec.by_gaps 0 (map spec.cell_code cells.now))) }
+{
+    let mut gap = 0;
+    for cell in cells {
+        gap = add_after(bytes, gap, cell_code(*cell))?;
+    }
+    add_number(bytes, 2 * gap)
+}
+
+fn add_words(bytes: &mut Vec<u8>, words: &[u32]) -> Result<(), AllocError>
+    requires { length words.now < 2 ^ 32 }
+    ensures { OnOk result (bytes.new.items
+        ≡ bytes.old.items ++ spec.packed (spec.by_gaps 0 words.now)) }
+{
+    let mut gap = 0;
+    for word in words {
+        gap = add_after(bytes, gap, u64::from(*word))?;
+    }
+    add_number(bytes, 2 * gap)
+}
+
+fn add_store(bytes: &mut Vec<u8>, store: &Store) -> Result<(), AllocError>
+    ensures { OnOk result (bytes.new.items
+        ≡ bytes.old.items ++ spec.packed (spec.memory_numbers store.now)) }
+{
+    store.lemma_numbered();
+    add_cells(bytes, store.cells())?;
+    add_words(bytes, store.words())
+}
+
+fn add_name(bytes: &mut Vec<u8>, layer: FrameLayer) -> Result<(), AllocError>
+    ensures { OnOk result (bytes.new.items
+        ≡ bytes.old.items ++ spec.packed (spec.name_numbers layer)) }
+{
+    if let FrameLayer::Named(name) = layer {
+        add_number(bytes, u64::from(name.0))?;
+        add_number(bytes, u64::from(name.1))?;
+        add_number(bytes, u64::from(name.2))?;
+    }
+    Ok(())
+}
+
+fn add_frame(bytes: &mut Vec<u8>, frame: Frame) -> Result<(), AllocError>
+    ensures { OnOk result (bytes.new.items
+        ≡ bytes.old.items ++ spec.packed (spec.frame_numbers frame)) }
+{
+    add_number(bytes, layer_code(frame.layer) + 8 * op_code(frame.op))?;
+    add_number(bytes, u64::from(frame.i))?;
+    add_number(bytes, u64::from(frame.x))?;
+    add_name(bytes, frame.layer)
+}
+
+fn add_frames(bytes: &mut Vec<u8>, frames: &[Frame]) -> Result<(), AllocError>
+    ensures { OnOk result (bytes.new.items
+        ≡ bytes.old.items ++ spec.packed (spec.frames_numbers frames.now)) }
+{
+    for frame in frames {
+        add_frame(bytes, *frame)?;
+    }
+    Ok(())
+}
+
+fn add_stack(bytes: &mut Vec<u8>, frames: &[Frame], stopped: bool) -> Result<(), AllocError>
+    requires { length frames.now ≤ 8 }
+    ensures { OnOk result (bytes.new.items
+        ≡ bytes.old.items ++ spec.packed (spec.stack_numbers frames.now stopped)) }
+{
+    let stop = if stopped { 1 } else { 0 };
+    add_number(bytes, 2 * frames.len() as u64 + stop)?;
+    add_frames(bytes, frames)
+}
+
+fn add_outcomes(bytes: &mut Vec<u8>, outcomes: &[Outcome]) -> Result<(), AllocError>
+    ensures { OnOk result (bytes.new.items
+        ≡ bytes.old.items ++ spec.packed (spec.outcomes_numbers outcomes.now)) }
+{
+    add_number(bytes, outcomes.len() as u64)?;
+    for outcome in outcomes {
+        add_number(bytes, outcome_code(*outcome))?;
+    }
+    Ok(())
+}
+
+/// Adds process `p`'s frames and stop mark.
+fn add_pending<R: Register>(
+    bytes: &mut Vec<u8>,
+    config: &Config<R>,
+    p: u32,
+) -> Result<(), AllocError>
+    ensures { OnOk result (bytes.new.items ≡ bytes.old.items ++ spec.packed
+        (spec.stack_numbers (stack_of (R.behaviour config.now.register) (running_at p config.now))
+        (is_stopped p config.now))) }
+{
+    let stopped = config.stopped(p);
+    match config.stack(config.store().allocator(), p) {
+        Some(stack) => add_stack(bytes, stack.as_slice(), stopped),
+        None => add_stack(bytes, &[], stopped),
+    }
+}
+
+/// Adds the outcomes of process `p`'s operations.
+fn add_answers(bytes: &mut Vec<u8>, answers: &[Outcomes], p: u32) -> Result<(), AllocError>
+    ensures { OnOk result (bytes.new.items ≡ bytes.old.items
+        ++ spec.packed (spec.outcomes_numbers (slice_index_or answers.now p []))) }
+{
+    match answers.get(p as usize) {
+        Some(outcomes) => add_outcomes(bytes, outcomes.as_slice()),
+        None => add_outcomes(bytes, &[]),
+    }
+}
+
+fn add_process<R: Register>(
+    bytes: &mut Vec<u8>,
+    config: &Config<R>,
+    answers: &[Outcomes],
+    p: u32,
+) -> Result<(), AllocError>
+    ensures { OnOk result (bytes.new.items ≡ bytes.old.items ++ spec.packed
+        (spec.process_numbers (R.behaviour config.now.register) config.now.running
+        config.now.stopped answers.now p)) }
+{
+    add_pending(bytes, config, p)?;
+    add_answers(bytes, answers, p)
+}
+
+/// Room for the bytes of most states.
+const ROOM: usize = 256;
 
 /// The bytes of a configuration and answers: of all cells, words, frames, stops and answers.
 pub(crate) fn bytes_of<R: Register>(
@@ -288,6 +276,11 @@ pub(crate) fn bytes_of<R: Register>(
         ≡ spec.packed (spec.state_numbers (R.behaviour config.now.register)
         config.now.memory config.now.running config.now.stopped answers.now)) }
 {
-    let numbers = numbers_of(alloc, config, answers)?;
-    packed(alloc, &numbers)
+    let mut bytes = Vec::with_capacity(alloc, ROOM)?;
+    add_store(&mut bytes, config.store())?;
+    for p in 0..config.register().processes() {
+        add_process(&mut bytes, config, answers, p)?;
+    }
+    // a copy has no room to spare
+    Vec::from_slice(alloc, &bytes)
 }

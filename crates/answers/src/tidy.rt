@@ -234,6 +234,8 @@ fn tidy_one<'q, R: Register>(
 }
 
 /// Replaces the schedules that are listed by ones that are as easy to read, or easier.
+// (not inlined, so that what it costs can be measured)
+#[inline(never)]
 pub(crate) fn tidy<'q, R: Register>(
     alloc: Global,
     moves: &Moves<'q, R>,
