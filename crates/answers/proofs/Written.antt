@@ -15,11 +15,6 @@ pub packed_more : (xs ys old mid new : List ℕ) → mid ≡ old ++ packed xs �
 packed_more xs ys old mid new first second =
     second ∙ (ap (λ l. l ++ packed ys) first ∙ (append_assoc old (packed xs) (packed ys) ∙ ap (λ l. old ++ l) (sym (packed-append xs ys))))
 
--- the zeros at the end of a list are written
-pub gap_written : (gap : ℕ) (ys old new whole : List ℕ) → ys ≡ [] → old ++ packed (by_gaps gap ys) ≡ whole → new ≡ old ++ number_bytes (2 * gap) → new ≡ whole
-gap_written gap ys old new whole none was added =
-    added ∙ (ap (λ l. old ++ l) (sym (append-nil (number_bytes (2 * gap)))) ∙ (ap (λ l. old ++ packed (by_gaps gap l)) (sym none) ∙ was))
-
 -- what is written, with the bytes of the first numbers that are left, and the rest, is the whole
 pub front_written : (xs ys old new whole : List ℕ) → old ++ packed (xs ++ ys) ≡ whole → new ≡ old ++ packed xs → new ++ packed ys ≡ whole
 front_written xs ys old new whole was added =

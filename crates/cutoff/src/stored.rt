@@ -1,4 +1,4 @@
-//! Stored runs, the test whether one begins at a configuration, and where a segment begins.
+//! Stored runs, the test whether one begins at a configuration, and a segment's entry.
 
 ghost use Rattle.std.specs.Prelude.{◌≡◌, ◌⊎◌, ℕ, None, Some, true, IfOk};
 ghost use Rattle.std.specs.Bool.{Decides};
