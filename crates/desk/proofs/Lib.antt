@@ -1,4 +1,3 @@
-pub mod ThreadSafety
 pub mod Lists
 pub mod Logged
 pub mod Answering

@@ -9,9 +9,9 @@ use crate::item::Item;
 use frames::register::Register;
 use sessions::book::Book;
 use sessions::log::Log;
+use snapshots::Snapshot;
 use std::alloc::{AllocError, Global};
 use std::marker::Model;
-use std::snapshot::Snapshot;
 use turn::Counted;
 
 /// A desk's book, and for proofs the book that the desk opened with. In contracts a journal is a
