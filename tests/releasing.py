@@ -102,6 +102,19 @@ def sums_of_a_release():
         same("from changes", bool(tried.fault_of_data(folder)), True)
 
 
+def program_of_another_system():
+    tried = loaded("tools/handout")
+    with tempfile.TemporaryDirectory() as room:
+        tried.releases.FOLDER = f"{room}/release"
+        put(f"{room}/release/towerbench.html", page_of(b"module"))
+        put(f"{room}/release/towerbench", "of another system\n", 0o755)
+        os.makedirs(f"{room}/folder")
+        with contextlib.redirect_stderr(io.StringIO()) as said:
+            needs = tried.put_released(f"{room}/folder", room)["needs"]
+        same("left out", (needs, os.listdir(f"{room}/folder")), ("", ["towerbench.html"]))
+        same("said", "don't run here" in said.getvalue(), True)
+
+
 class Repository:
     """A scratch repository with what tools/release needs, and substitutes for the rest."""
 
@@ -166,5 +179,12 @@ def release_in_order():
 
 
 def tests():
-    its = (versions, other_order, two_builds, sums_of_a_release, release_in_order)
+    its = (
+        versions,
+        other_order,
+        two_builds,
+        sums_of_a_release,
+        program_of_another_system,
+        release_in_order,
+    )
     return [Test(f"release: {it.__name__.replace('_', ' ')}", it) for it in its]
