@@ -82,9 +82,9 @@ def files():
     return [it for it in found if os.path.isfile(it) and not it.startswith(RELEASE)]
 
 
-def is_to_be_released(path):
-    """Returns whether a path is one of the release, and there is none yet."""
-    return path.startswith(RELEASE) and not os.path.isdir(RELEASE)
+def is_of_the_release(path):
+    """Returns whether a path is one of the release, if there is one yet."""
+    return path.startswith(RELEASE) and (os.path.exists(path) or not os.path.isdir(RELEASE))
 
 
 @functools.lru_cache(None)
@@ -135,7 +135,7 @@ def is_code(text):
 
 def fault_of_span(text, crate):
     """Returns what is wrong with the text between backticks, in a section about the crate."""
-    if text.startswith(MADE_BY_A_READER) or is_to_be_released(text):
+    if text.startswith(MADE_BY_A_READER) or is_of_the_release(text):
         return None
     if PATH.fullmatch(text):
         return None if is_there(text) else f"there is no {text}"
@@ -230,7 +230,7 @@ def faults_of_text(line, document, crate):
     lost = [
         f"there is no {it}"
         for it in links
-        if not (os.path.exists(os.path.join(folder, it)) or is_to_be_released(it))
+        if not (os.path.exists(os.path.join(folder, it)) or is_of_the_release(it))
     ]
     return [it for it in found if it] + lost
 
