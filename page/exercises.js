@@ -5,6 +5,7 @@ import { EMPTY_TOWER } from "./document.js";
 import { remember, remembered } from "./kept.js";
 
 export const lessonsOf = () => packedContents.lessons;
+export const hashOfLesson = (lesson) => `#lesson-${lessonsOf().indexOf(lesson) + 1}`;
 export const partOf = (lesson, name) => lesson.parts.find((it) => it.name === name);
 // its tower, and its question and goals as comments
 export function exerciseDocument(lesson, { number, title, text, parts }, part) {

@@ -1,6 +1,7 @@
 // A document as what follows an address: deflated JSON in base64url. Deflate has a checksum, so a
 // link that lost or changed a letter is known.
 const MARK = "#z", MOST = 4000000;
+const LESSON = /^#lesson-(\d+)$/;
 export const DAMAGED = "This link is damaged: a part of it is missing or changed, so its " +
   "document can't be opened. Ask for it again, or copy all of it.";
 // (read part by part, as Firefox reports on its console if all of a damaged stream is asked for)
@@ -33,9 +34,11 @@ async function textIn(hash) {
   return new TextDecoder("utf-8", { fatal: true })
     .decode(await through(bytes, new DecompressionStream("deflate")));
 }
-// the document of a hash, nothing if there is no hash, or `fault`, a sentence
+// the number of the lesson that a hash names, as `#lesson-5`, or nothing
+export const lessonNumberIn = (hash) => Number(LESSON.exec(hash)?.[1] || 0);
+// the document of a hash; nothing if there is no hash, or it names a lesson; or `fault`, a sentence
 export async function documentInHash(hash) {
-  if (hash.length < 2) return null;
+  if (hash.length < 2 || LESSON.test(hash)) return null;
   try {
     const [tower, script] = JSON.parse(hash.length > MOST ? "" : await textIn(hash));
     if (typeof tower === "string" && typeof script === "string") return { tower, script };

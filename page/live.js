@@ -4,11 +4,13 @@ import { packedData } from "./engine.js";
 import { act, isSaying, say } from "./acting.js";
 import { closeMenu, openMenu } from "./deck.js";
 import { one } from "./elements.js";
+import { lessonsOf } from "./exercises.js";
 import { redrawFigures } from "./figures.js";
 import { documentInAddress, firstDocument, leaveAddress, watchDrops } from "./files.js";
 import { actAs, begin, change, clickRead, commands, does, draw, focusOn } from "./gestures.js";
 import { move, openFiles, putWelcome, redraw, show, study, views } from "./gestures.js";
 import { watchKeys } from "./keys.js";
+import { lessonNumberIn } from "./links.js";
 import { LABEL } from "./measures.js";
 import { areBitsMissing, isMissing } from "./picture.js";
 import { watchFolds } from "./room.js";
@@ -67,8 +69,14 @@ addEventListener("resize", () => {
   if (now.model) redraw(true);
   redrawFigures();
 });
+function openLesson(number) {
+  const lesson = lessonsOf()[number - 1];
+  return lesson ? study(lesson.folder) : say(`This page has no lesson ${number}.`, "refusal");
+}
 addEventListener("hashchange", async () => {
   leaveAddress();
+  const asked = lessonNumberIn(location.hash);
+  if (asked) return openLesson(asked);
   const given = await documentInAddress();
   if (given?.fault) return say(given.fault, "refusal");
   leaveStudy();
@@ -82,8 +90,9 @@ const madeOf = ({ version, commit, kit }) =>
   `Version ${version}, commit ${commit || "unknown"}, kit ${kit || "unknown"}`;
 showTab("here");
 one("#made").textContent = madeOf(packedData());
-const first = await firstDocument();
+const number = lessonNumberIn(location.hash), first = await firstDocument();
 putWelcome(!first.isFirst);
 await begin(first.tower, first.script, { who: first.who, lesson: first.lesson });
 if (first.fault) say(first.fault, "refusal");
+if (number) openLesson(number);
 document.documentElement.dataset.ready = "";

@@ -2,8 +2,9 @@
 // pictures that can be played, a prediction before them, and exercises with a button to begin each.
 import { hasSearch, packedContents } from "./engine.js";
 import { EMPTY_TOWER } from "./document.js";
-import { exerciseDocument, isSolved, lessonsOf, partOf } from "./exercises.js";
+import { exerciseDocument, hashOfLesson, isSolved, lessonsOf, partOf } from "./exercises.js";
 import { putFigure } from "./figures.js";
+import { setLessonHash } from "./files.js";
 import { remember, remembered } from "./kept.js";
 import { askForSecond } from "./second.js";
 import { withWords } from "./words.js";
@@ -106,6 +107,7 @@ export function putStudy(folder, begin, { isAnswered = false, ask } = {}) {
   const lessons = lessonsOf(), lesson = lessons.find((it) => it.folder === folder);
   if (!lesson) return;
   studied = folder;
+  setLessonHash(hashOfLesson(lesson));
   const article = textOf(lesson, begin), answers = answersOf(article);
   one("#study-list").replaceChildren(...listOf(lessons, folder));
   for (const it of hasSearch() ? article.querySelectorAll("code") : [])
@@ -133,6 +135,7 @@ export function putStudy(folder, begin, { isAnswered = false, ask } = {}) {
   answers.scrollIntoView({ block: "start" });
 }
 export function leaveStudy() {
+  if (isStudying()) setLessonHash("");
   studied = "";
   document.body.classList.remove("studying");
   one("#study").hidden = true;

@@ -38,6 +38,20 @@ def definitions(path):
     return found, imports_of(text)
 
 
+@functools.lru_cache(None)
+def file_of(module):
+    """Returns the file of a module of specs/, also if its crate only hands the module on, or None."""
+    path = f"{TOP}/crates/{module[0]}/specs/{'/'.join(module[1:])}.antt"
+    if os.path.isfile(path):
+        return path
+    handed = f"{TOP}/crates/{module[0]}/specs/Lib.antt"
+    if len(module) != 2 or not os.path.isfile(handed):
+        return None
+    with open(handed, encoding="utf-8") as file:
+        found = re.search(rf"^pub use Rattle\.(\w+)\.specs\.{module[1]}$", file.read(), re.MULTILINE)
+    return file_of((found.group(1), module[1])) if found else None
+
+
 def found_in(word, own, imports):
     """Returns the definition that a word of a file names, or None: none of this repository's."""
     names, modules = imports
@@ -46,8 +60,8 @@ def found_in(word, own, imports):
     module, name = (modules[front], last) if is_path else names.get(front, ((), ""))
     if not module:
         return own.get(front)
-    path = f"{TOP}/crates/{module[0]}/specs/{'/'.join(module[1:])}.antt"
-    return definitions(path)[0].get(name) if os.path.isfile(path) else None
+    path = file_of(module)
+    return definitions(path)[0].get(name) if path else None
 
 
 def named_in(text, own, imports):

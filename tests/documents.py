@@ -41,13 +41,7 @@ NAME_OF_CODE = re.compile(r"[A-Za-z_][A-Za-z0-9_]*(?:(?:::|\.)[A-Za-z_][A-Za-z0-
 WORD = re.compile(r"[A-Za-z_][A-Za-z0-9_]*")
 NAME_OF_A_FILE = re.compile(r"[a-z0-9]+(?:-[a-z0-9*]+)+")
 # What the prover calls things itself.
-OF_THE_PROVER = (
-    "f-requires",
-    "known-0",
-    "unsupported-recursive-bound",
-    "rattle-kit-13b",
-    "rattle-kit-13f",
-)
+OF_THE_PROVER = re.compile(r"f-requires|known-0|unsupported-recursive-bound|rattle-kit-13[bf]")
 LINK = re.compile(r"\]\(([^)#\s]+)(?:#[^)\s]*)?\)")
 # What tools/release makes
 RELEASE = "release/"
@@ -139,7 +133,7 @@ def fault_of_span(text, crate):
         return None
     if PATH.fullmatch(text):
         return None if is_there(text) else f"there is no {text}"
-    if NAME_OF_A_FILE.fullmatch(text) and text not in OF_THE_PROVER:
+    if NAME_OF_A_FILE.fullmatch(text) and not OF_THE_PROVER.fullmatch(text):
         is_known = fnmatch.filter(names_of_files(), text) or is_word_of_a_script(text)
         return None if is_known else f"nothing is called {text}"
     words = WORD.findall(text) if is_code(text) else []

@@ -37,12 +37,10 @@ INNER_BAR = re.compile(r"\|-*([^-|>][^|>]*?)-*([|>])")
 LAYERS = {"registers": "stamped", "number": "unary", "bits": "regular"}
 # an inner operation's words in the page, and what they are in short
 SHORT = (
-    (r"(R\S+) := .* wrote (\d+) .*", r"\1:=\2"),
+    (r"(R\S+|bit \d+) := (?:.* wrote )?(\d+).*", r"\1:=\2"),
     (r"read (R\S+?)(?::.*)?", r"\1"),
     (r".*?(code \d+).*", r"\1"),
-    (r"(bit \d+) := (\d).*", r"\1:=\2"),
-    (r"(bit \d+) is (\d)", r"\1=\2"),
-    (r"(bit \d+) hit, chosen (\d)", r"\1=\2"),
+    (r"(bit \d+) (?:is|hit, chosen) (\d)", r"\1=\2"),
 )
 
 # begun, ended: steps; ended: None while it is pending; ending: a value of ENDINGS, or "refused"

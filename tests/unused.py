@@ -3,10 +3,10 @@
 
 usage: tests/unused.py   prints each, and how many; status 1 if there is one
 
-Read are the files right in proofs/ whose names begin with a capital (those in its folders answer goals, whose names are given), and
-those of specs/. A use is a name in a source, definition, proof or wrong body, but not in a line that only brings in files (`use`), nor
-in the own lines of what has the name. Files of worked examples have no uses by others: their names are in EXAMPLES. What only unused
-names use is found once those are removed.
+It reads specs/, proofs/ and the folders of proofs/ by subject; the other folders answer goals, whose names are given. A use is
+a name in a source, definition, proof or wrong body, but not in a line that only brings in files (`use`), nor in the own lines of what
+has the name. Files of worked examples have no uses by others: their names are in EXAMPLES. What only unused names use is found once
+those are removed.
 """
 import collections
 import glob
@@ -28,7 +28,9 @@ READ = (
     "must-fail/*.edit",
     "must-fail-in-turn/**/*.edit",
 )
-LEMMAS = re.compile(r"crates/[^/]+/(?:proofs/|specs/(?:\w+/)*)([A-Z]\w*)\.antt")
+LEMMAS = re.compile(r"crates/[^/]+/(?:proofs/(?:[a-z]\w*/)?|specs/(?:\w+/)*)([A-Z]\w*)\.antt")
+# The names of files that answer goals, which a function right in lib.rt has in such a folder too.
+ANSWERS = ("Answers", "Invariants", "Proof")
 TOKEN = re.compile(r"[^\s(){}\[\],;:.⟦⟧@`\"]+")
 # Facts of specs/ that nothing names, but that nobody has seen proofs do without: a tactic may take them.
 UNSEEN = (
@@ -71,7 +73,7 @@ def code_of(path, text):
 def names_of(path, lines):
     """Returns the names that a file declares for others to use, local ones and fields too, but for operators."""
     named = LEMMAS.fullmatch(path)
-    if not named or named.group(1) in EXAMPLES:
+    if not named or named.group(1) in (*EXAMPLES, *ANSWERS):
         return []
     found = [antt.declared_by(it, 0) for it in lines]
     return [it for it in dict.fromkeys(it.name for it in found if it) if HOLE not in it]

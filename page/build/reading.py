@@ -18,6 +18,13 @@ FOLD, COMMENT = "<details>", "# "
 EXERCISE = re.compile(r"^(\d)\. \*\*(.*?)[.?]\*\* (.*?)(?=^\d\. \*\*|^$|\Z)", re.M | re.S)
 DATA = re.compile(r"^# (goal|ask|option) (\d+): (.*)$", re.M)
 GUIDE, TOWERS, GLOSSARY = "docs/guide/script.md", "docs/guide/towers.md", "docs/GLOSSARY.md"
+
+
+def explained_in(page, words):
+    """Returns for each of these words the page that explains it, and the word, with which its row begins."""
+    return {word: (page, word) for word in words.split()}
+
+
 # What a word on the screen means: in words of its own, if it is an abbreviation, or the page that says so, and how the row, item or
 # sentence begins there.
 WORDS = {
@@ -30,36 +37,22 @@ WORDS = {
     "rs": "a read of a bit starts",
     "re": "a read of a bit ends",
     "choice": "what a hit read of a bit gives, 0 or 1: the last digit of the step g that ends it. It matters nowhere else",
-    "chosen": (GLOSSARY, "chosen"),
-    "code": (GLOSSARY, "code"),
-    "hit": (GLOSSARY, "hit"),
-    "stamp": (GLOSSARY, "stamp"),
-    "tag": (GLOSSARY, "tag"),
-    "void": (GLOSSARY, "void"),
+    **explained_in(GLOSSARY, "chosen code hit stamp tag void"),
     "words": "numbers that one process each remembers between its actions",
     "inversion": (GLOSSARY, "new-old inversion"),
-    "atomic": (GLOSSARY, "atomic"),
-    "regular": (GLOSSARY, "regular"),
-    "safe": (GLOSSARY, "safe"),
-    "matrix": (GLOSSARY, "matrix"),
-    "fresh": (TOWERS, "fresh"),
-    "overlap": (TOWERS, "overlap"),
-    "stray": (TOWERS, "stray"),
+    **explained_in(GLOSSARY, "atomic regular safe matrix"),
+    **explained_in(TOWERS, "fresh overlap stray"),
     "pending": "an operation that hasn't returned",
     "refused": "the register has no stamp or tag left, so the operation ends without effect",
     "place": (GUIDE, "Place K is"),
     "session": (GUIDE, "A session is"),
     "break": (GUIDE, "break BREAK"),
-    "seek": (GUIDE, "seek"),
-    "back": (GUIDE, "back"),
+    **explained_in(GUIDE, "seek back"),
     "fork": (GUIDE, "fork B K NAME"),
     "detach": (GUIDE, "detach B"),
     "drop": (GUIDE, "drop B"),
     "cell": (GUIDE, "A cell's line"),
-    "state": (GUIDE, "state B K"),
-    "bits": (GUIDE, "bits B K"),
-    "history": (GUIDE, "history B K"),
-    "verdict": (GUIDE, "verdict B K"),
+    **{look: (GUIDE, f"{look} B K") for look in ("state", "bits", "history", "verdict")},
 }
 
 

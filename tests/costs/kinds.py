@@ -1,11 +1,6 @@
 """What the costs are on two kinds of schedule, at three sizes, against those of plain Rust."""
-import glob
-import os
-import re
-import subprocess
-
-from costs import runs
 from costs.mixed import mixed_operations, numbers
+from costs.pieces import costs_of
 from costs.runs import PAD, SHORT_WRITES, heap_at_reads
 
 WORDS = ["--cells", "2000000", "--branches", "1024"]
@@ -41,47 +36,11 @@ PLAIN = {
     ("random", "bytes of the heap a fork"): (112.0, 104.1, 100.2),
     ("random", "the same, without its log entry"): (112.0, 104.1, 100.2),
 }
-# The last line of a piece. No branch is so long, so that its answer is one line.
-LAST = "0 state main 99999999\n"
 
 
 def places(count, below):
     drawn = numbers(7)
     return [next(drawn) % below for _ in range(count)]
-
-
-def counted(out):
-    """Returns the instructions that callgrind has written into files named after `out`, and removes the files."""
-    total = 0
-    for path in glob.glob(f"{out}.*"):
-        with open(path) as file:
-            total += int(re.search(r"^totals: (\d+)", file.read(), re.M).group(1))
-        os.remove(path)
-    return total
-
-
-def pieces_cost(words, pieces, room):
-    """Returns what each of these pieces of a script costs, less an empty one; each is sent after the answers to the one before."""
-    out, taken = f"{room}/callgrind", []
-    tool = ["valgrind", "--tool=callgrind", f"--callgrind-out-file={out}", "--dump-before=write"]
-    how = {
-        "stdin": subprocess.PIPE,
-        "stdout": subprocess.PIPE,
-        "stderr": subprocess.DEVNULL,
-        "text": True,
-    }
-    with subprocess.Popen([*tool, runs.PROGRAM, *words], **how) as program:
-        # (the first one comes after the opening)
-        for piece in ["", "", *pieces]:
-            program.stdin.write(piece + LAST)
-            program.stdin.flush()
-            lines = piece.splitlines()
-            for _ in range(len(lines) + 1 + 4 * sum(" state " in it for it in lines)):
-                program.stdout.readline()
-            taken.append(counted(out))
-        program.stdin.close()
-    counted(out)
-    return [it - taken[1] for it in taken[2:]]
 
 
 class Kind:
@@ -97,7 +56,7 @@ class Kind:
         return path
 
     def costs(self, count, *pieces):
-        return pieces_cost([self.path(count), *WORDS], pieces, self.room)
+        return costs_of([self.path(count), *WORDS], pieces, self.room)[1:]
 
     def add(self, row, figure):
         self.rows.setdefault(row, []).append(figure)

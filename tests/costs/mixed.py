@@ -1,7 +1,8 @@
 """What looks cost on whole operations in a mixed order, and what a command costs that arrives alone."""
 import subprocess
 
-from costs.runs import CALLGRIND, PROGRAM, collected, instructions, tower
+from costs import runs
+from costs.runs import CALLGRIND, collected, instructions, tower
 
 LENGTHS = (10_000, 100_000, 1_000_000)
 COMMANDS = 200
@@ -63,7 +64,7 @@ def alone(room):
     lines = ["0 join\n", *["0 go main 0\n"] * COMMANDS]
     together = instructions([], "".join(lines), room)
     with subprocess.Popen(
-        [*CALLGRIND, PROGRAM],
+        [*CALLGRIND, runs.PROGRAM],
         stdin=subprocess.PIPE,
         stdout=subprocess.PIPE,
         stderr=subprocess.PIPE,

@@ -5,7 +5,8 @@ from costs.runs import SHORT_WRITES, TOWERS, instructions, tower
 from costs.steps import OPERATIONS, whole_operations
 
 # Instructions of the same program in plain Rust, which wrote the same bytes: each of its segments knows the one above, it stores
-# runs, has early cutoff and threads, and proves nothing. Of a replayed step; and of each row of `plain` but a fill's and a seek's.
+# runs, has early cutoff and threads, and proves nothing. Of a replayed step; and of each row of `plain` but a fill's and a seek's, on
+# random operations, and of `stamped 4 15` in place of `stamped 4 3`. (`random` has both programs on the same files.)
 PLAIN_STEPS = {
     "safe 0": 50,
     "copies 4 0": 53,

@@ -27,6 +27,19 @@ QUESTIONS = (
     ("matrix 2 2 1 3; process 0 w 1 r; process 1 w 0 r", 189_131_794),
     ("matrix 3 2 1 3; process 0 w 1; process 1 w 0; process 2 r", None),
 )
+# Only the resident memory is taken of these, as callgrind would take an hour
+LARGE = (
+    "regular 4 0; process 0 w 1 w 0; "
+    + "; ".join(f"process {reader} r r" for reader in range(1, 5)),
+    "matrix 3 2 2 3; process 0 w 1; process 1 w 0; process 2 r r",
+)
+# Runs a program, and prints how many KiB it had resident at most. Linux counts at least what the
+# starting process had, so a small process starts it.
+RESIDENT = """
+import resource, subprocess, sys
+subprocess.run(sys.argv[1:], check=True)
+print(resource.getrusage(resource.RUSAGE_CHILDREN).ru_maxrss)
+"""
 
 
 def ran(path, room, prefix=(), env=None):
@@ -49,6 +62,12 @@ def most_held(path, room):
     return int(said[2])
 
 
+def resident_at_most(path, room):
+    """Returns how many states a run finds, and the most bytes that it has resident."""
+    lines = ran(path, room, (sys.executable, "-c", RESIDENT))[0].splitlines()
+    return int(lines[0].split()[1]), int(lines[-1]) * 1024
+
+
 def instructions_in(path, function):
     """Returns the instructions that callgrind's output file reports of calls of a function, with all that it calls."""
     names, total, callee = {}, 0, ""
@@ -64,13 +83,18 @@ def instructions_in(path, function):
     return total
 
 
+def question_file(line, room):
+    path = f"{room}/question"
+    with open(path, "w", encoding="ascii") as file:
+        file.write(line.replace("; ", "\n") + "\n")
+    return path
+
+
 def questions(room):
     subprocess.run([f"{TOP}/tools/prove", "answers_program"], stdin=subprocess.DEVNULL, check=True)
     print("states; instructions in thousands, of which the search; its ratio to plain Rust's; bytes a state")
     for line, peer in QUESTIONS:
-        path = f"{room}/question"
-        with open(path, "w", encoding="ascii") as file:
-            file.write(line.replace("; ", "\n") + "\n")
+        path = question_file(line, room)
         output, said = ran(path, room, (*CALLGRIND[:2], f"--callgrind-out-file={room}/calls"))
         states, cost = int(output.split()[1]), collected(said)
         tidied = instructions_in(f"{room}/calls", "answers::tidy::tidy::")
@@ -81,3 +105,7 @@ def questions(room):
         held = most_held(path, room) / states
         costs = f"{cost / 1000:12.0f}{search / 1000:12.0f}"
         print(f"  {line:72}{states:8}{costs}{ratio}{held:8.0f}", flush=True)
+    print("states; megabytes that are resident at most")
+    for line in LARGE:
+        states, most = resident_at_most(question_file(line, room), room)
+        print(f"  {line:84}{states:8}{most / 1e6:8.0f}", flush=True)

@@ -1,7 +1,8 @@
 """What a step costs, replayed and stored, and replayed alone."""
 import subprocess
 
-from costs.runs import PROGRAM, TOWERS, instructions, tower, varied
+from costs import runs
+from costs.runs import TOWERS, instructions, tower, varied
 
 # How many pairs of operations, and the most actions that one of them has.
 OPERATIONS = {
@@ -75,7 +76,7 @@ def whole_operations(line, room):
         file.write(f"0 history main {len(given)}\n")
     with open(f"{room}/script") as script_file:
         page = subprocess.run(
-            [PROGRAM, path], stdin=script_file, capture_output=True, text=True, check=True
+            [runs.PROGRAM, path], stdin=script_file, capture_output=True, text=True, check=True
         ).stdout
     void = {int(it.split()[0]) for it in page.splitlines() if " void " in it}
     kept = [step for i, step in enumerate(given) if i not in void]

@@ -221,16 +221,17 @@ def steps_page(name, count, first, last):
 
 def long_branch(counts, room):
     """A branch of all cells that there may be, forked, edited at both ends and shown."""
-    own = FILE_STEPS + 1
-    main, a = own + 1, own + 2
+    # (after the file's steps and one insert at 0)
+    tail = FILE_STEPS + 1
+    main, a = tail + 1, tail + 2
     edited = stage(
         "a fork, and edits at both ends",
         *edits(
             "0 insert main 0 w 0 1",
-            f"0 fork main {own} a",
-            f"0 insert a {own} g 1 0",
-            f"0 insert a {own + 1} g 1 0",
-            f"0 insert main {own} g 0 0",
+            f"0 fork main {tail} a",
+            f"0 insert a {tail} g 1 0",
+            f"0 insert a {tail + 1} g 1 0",
+            f"0 insert main {tail} g 0 0",
         ),
         *refused(FULL, f"0 insert main {main} r 1", "0 detach a"),
         branches(5, MOST_CELLS, ("main", main), ("a", a)),
@@ -260,15 +261,15 @@ def long_branch(counts, room):
     drive(counts, "a long branch", [file_of(room, FILE_STEPS), *CELLS], stages)
 
 
-def breaks_on(own):
+def breaks_on(tail):
     """Returns breaks, and the place at which each is met: from the beginning forth, from the end back."""
     return (
-        ("returns 1", own + 2, None),
-        ("void", 3, own),
+        ("returns 1", tail + 2, None),
+        ("void", 3, tail),
         ("chosen", None, None),
         ("refused", None, None),
         ("bit 0 1", None, None),
-        ("bit 0 0", 1, own + 1),
+        ("bit 0 0", 1, tail + 1),
         ("returns 0", None, None),
         ("bit 7 0", None, None),
     )
@@ -295,11 +296,12 @@ def cursor(session, place, sought):
 
 def sixteen_sessions(counts, room):
     """Sixteen sessions with breaks, which seek forth and back over a branch of nearly all cells."""
-    own = FILE_STEPS + 1
-    end = own + 2
-    sessions = [(session, *breaks_on(own)[session % 8]) for session in range(16)]
+    # (after the file's steps and one insert at 0)
+    tail = FILE_STEPS + 1
+    end = tail + 2
+    sessions = [(session, *breaks_on(tail)[session % 8]) for session in range(16)]
     ends = edits(
-        "0 insert main 0 w 0 1", f"0 insert main {own} g 1 0", f"0 insert main {own + 1} g 1 0"
+        "0 insert main 0 w 0 1", f"0 insert main {tail} g 1 0", f"0 insert main {tail + 1} g 1 0"
     )
     first, *others = [(f"{it} seek", moved(it, forth)) for it, _, forth, _ in sessions]
     back, at, again = [], [], []

@@ -172,9 +172,10 @@ def goals_in_words(page):
         "it.exercises.flatMap((each) => each.parts.flatMap((part) => part.lines)))"
     )
     goals = [it for it in texts if it.startswith("# goal")]
-    holds(len(goals) >= 23, f"there are only {len(goals)} goals")
-    page.open("tower 2\nsafe 0\n", "\n".join([*goals[:30], "0 join"]) + "\n")
-    same(page.count("#task .goals li"), len(goals[:30]))
+    # (a document shows at most 40 goals: MOST of page/tasks.js)
+    holds(29 <= len(goals) <= 40, f"there are {len(goals)} goals")
+    page.open("tower 2\nsafe 0\n", "\n".join([*goals, "0 join"]) + "\n")
+    same(page.count("#task .goals li"), len(goals))
     same(
         [it for it in page.texts("#task .goals li") if "the page " in it or "can't be read" in it],
         [],

@@ -13,17 +13,9 @@ from pages.websocket import PATIENCE, Socket
 NAMES = ("firefox-esr", "firefox")
 LISTENS = re.compile(r"WebDriver BiDi listening on ws://127\.0\.0\.1:(\d+)")
 # how the protocol writes keys that have no character
-KEYS = {
-    "Enter": "\ue007",
-    "Escape": "\ue00c",
-    "End": "\ue010",
-    "Home": "\ue011",
-    "ArrowLeft": "\ue012",
-    "ArrowUp": "\ue013",
-    "ArrowRight": "\ue014",
-    "ArrowDown": "\ue015",
-    "Delete": "\ue017",
-}
+KEYS = {"Enter": "\ue007", "Escape": "\ue00c", "Delete": "\ue017"}
+MOVES = ("End", "Home", "ArrowLeft", "ArrowUp", "ArrowRight", "ArrowDown")
+KEYS.update((key, chr(0xE010 + place)) for place, key in enumerate(MOVES))
 MODIFIERS = {2: "\ue009", 8: "\ue008"}
 
 

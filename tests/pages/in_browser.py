@@ -42,7 +42,14 @@ ALL = {
     "depths": ("layers", "reasons", "square", "scale", "refusals", "two_towers", "counted_pages"),
     "drawn": ("documents", "walks"),
     "exercises": ("solved_by_clicks", "wrong_choice", "goals_in_words"),
-    "lessons": ("lessons", "exercises", "a_lesson_line_by_line", "lesson_on_paper", "policy"),
+    "lessons": (
+        "lessons",
+        "lesson_links",
+        "exercises",
+        "a_lesson_line_by_line",
+        "lesson_on_paper",
+        "policy",
+    ),
     "sharing": (
         "links",
         "short_links",

@@ -172,40 +172,26 @@ class Part:
     """Bit actions in a row that belong together, from the place `begin` to the place `end`, whose step ends them if it `is_over`."""
 
     def __init__(self, parts, layer):
-        self.parts, self.layer, self.begin, self.end, self.is_over = (
-            parts,
-            layer,
-            parts[0].begin,
-            parts[-1].end,
-            parts[-1].is_over,
-        )
+        self.parts, self.layer, self.begin = parts, layer, parts[0].begin
+        self.end, self.is_over = parts[-1].end, parts[-1].is_over
         self.is_write, self.cell = parts[0].is_write, parts[0].cell
 
 
 class Bit:
     """A write or a read of one safe bit."""
 
+    is_over, parts = False, ()
+
     def __init__(self, begin, is_write, cell):
-        self.begin, self.end, self.is_over, self.is_write, self.cell, self.parts = (
-            begin,
-            begin,
-            False,
-            is_write,
-            cell,
-            [],
-        )
+        self.begin = self.end = begin
+        self.is_write, self.cell = is_write, cell
 
 
 class Operation:
+    ended, value, parts = None, None, ()
+
     def __init__(self, process, words, begun):
-        self.process, self.words, self.begun, self.ended, self.value, self.parts = (
-            process,
-            words,
-            begun,
-            None,
-            None,
-            [],
-        )
+        self.process, self.words, self.begun = process, words, begun
 
 
 class Inside:

@@ -54,6 +54,29 @@ def lessons(page, names):
     holds(len(found) >= 9, f"there are only {len(found)} lessons")
 
 
+def lesson_links(page):
+    """An address that ends in #lesson-5 opens lesson 5, before and after the page has begun, and again once it is loaded again."""
+    current = "document.querySelector('#study-list [aria-current]')?.dataset.study"
+    page.chrome.open(f"{page.address}#lesson-5")
+    page.wait()
+    page.until(f"{current} === '05-new-old-inversion'", "lesson 5 isn't open")
+    page.value("void (location.hash = '#lesson-6')")
+    page.until(f"{current} === '06-two-readers'", "lesson 6 isn't open")
+    page.until("location.hash === '#lesson-6'")
+    shown = "[...document.querySelectorAll('header [data-do], #save')].filter((it) => it.offsetParent)"
+    named = f"{shown}.map((it) => it.dataset.do || it.id)"
+    same(page.value(named), ["chooseTower", "study", "chooseOpen", "theme", "help"])
+    again = page.value("location.href")
+    page.chrome.open(again)
+    page.wait()
+    page.until(f"{current} === '06-two-readers'", "lesson 6 isn't open again")
+    page.do("studyClose")
+    page.until("location.hash.startsWith('#%5B')", "the address still ends in the lesson's number")
+    page.chrome.open(f"{page.address}#lesson-77")
+    page.wait()
+    same(page.said(), "This page has no lesson 77.")
+
+
 def exercises(page, names):
     """A lesson's own exercise opens as its tower with an empty script: its solution isn't in the page."""
     for name in [it for it in names if it.endswith(SOLUTION)]:

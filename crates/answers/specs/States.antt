@@ -1,9 +1,11 @@
 -- The states of a search for answers, and their moves.
-use Rattle.std.specs.Prelude.{◌≡◌, ℕ, ◌<◌, ◌==◌, ◌&&◌, ◌/◌, ◌%◌, ◌||◌, Bool, true, List, [], ◌∷◌, ◌++◌, Option, None, Some, length, slice_set, slice_index_or, is_none, replicate, if◌then◌else◌}
+use Rattle.std.specs.Prelude.{◌≡◌, ℕ, ◌<◌, ◌==◌, ◌&&◌, ◌/◌, ◌%◌, ◌||◌, Bool, true, false, List, [], ◌∷◌, ◌++◌, Option, None, Some, length, slice_set, slice_index_or, is_none, replicate, if◌then◌else◌}
 use Rattle.std.specs.Option.{option_map}
 use Rattle.frames.specs.declared.types.Op.{Op}
 use Rattle.frames.specs.declared.types.Op.TheVariants as op
 use Rattle.frames.specs.declared.types.Outcome.{Outcome}
+use Rattle.frames.specs.declared.types.Event.{Event}
+use Rattle.frames.specs.declared.types.Event.TheVariants.{Chosen}
 use Rattle.frames.specs.declared.types.StepEvents.{StepEvents}
 use Rattle.frames.specs.declared.types.Step.{Step}
 use Rattle.frames.specs.declared.types.Step.TheVariants as step
@@ -52,6 +54,15 @@ step_by q answers p kind =
     if kind == 1 then Some (step.Go p 1) else
     if kind == 2 then option_map (invoking_step p) (next_of q (ended_counts answers) p) else
     if stops_in q p then Some (step.Stop p) else None
+
+-- whether the event is the choice of a hit read
+abbrev pub records_choice : Option Event → Bool
+records_choice (Some (Chosen p bit value)) = true
+records_choice _ = false
+
+-- whether a step with these events reports a choice, which is then its first event
+abbrev pub has_choice : StepEvents → Bool
+has_choice events = records_choice events.first
 
 -- the state after the step, if there is one that fits and is enabled
 abbrev pub moved_if : {R P : Type 0} → Behaviour P → StateOf R P → Option Step → Option (StateOf R P)

@@ -2,16 +2,16 @@
 
 ghost use Rattle.std.specs.Prelude.{◌≡◌, ◌<◌, ◌++◌, [], true, IfOk, OnOk, slice_get, slice_index_or, slice_set};
 ghost use Rattle.std.specs.List.{list_all};
-ghost use Rattle.frames.specs.Configuration.{is_enabled, fits_step};
+ghost use Rattle.frames.specs.Configuration.{events_of, is_enabled, fits_step};
 ghost use Rattle.answers.specs.Questions.{allows, next_of, operations_of, stops_in, outcomes_by, event_in, events_in};
-ghost use Rattle.answers.specs.States.{advanced, ended_counts, invoking_step, option_list, step_by, with_events};
+ghost use Rattle.answers.specs.States.{advanced, ended_counts, has_choice, invoking_step, option_list, step_by, with_events};
 
 use crate::done::is_done;
 use crate::key::StateKey;
 use crate::outcomes::Outcomes;
 use crate::question::{After, Question};
 use crate::state::State;
-use breadth_first::graph::Graph;
+use breadth_first::graph::{Arrival, Graph};
 use frames::config::Config;
 use frames::register::Register;
 use frames::types::{Event, Op, Outcome, Step, StepEvents};
@@ -47,7 +47,8 @@ impl<'q, R: Register> Graph for Moves<'q, R> {
         alloc: Global,
         node: &State<R>,
         label: usize,
-    ) -> Result<Option<State<R>>, AllocError> {
+    ) -> Result<Option<Arrival<State<R>>>, AllocError> {
+        // for the proof: reading a field opens the model, so what its invariant says is known
         let _count = self.register.processes();
         let process = (label / 4) as u32;
         let Some(step) = step_by(self.question, &node.answers, process, label % 4) else {
@@ -56,8 +57,12 @@ impl<'q, R: Register> Graph for Moves<'q, R> {
         if !node.config.fits(step) || !is_enabled(&node.config, step) {
             return Ok(None);
         }
-        let next = node.advanced(alloc, step)?;
-        Ok(Some(next))
+        let Ok((state, events)) = node.made(alloc, step) else {
+            return Err(AllocError);
+        };
+        // the next label is the same action with choice 1, which then has the same effect
+        let again = label % 4 == 0 && !has_choice(events);
+        Ok(Some(Arrival { node: state, again }))
     }
 
     fn key(&self, alloc: Global, node: &State<R>) -> Result<StateKey, AllocError> {
@@ -201,11 +206,34 @@ impl<R: Register> State<R> {
         ensures { IfOk result
             (λ s. s ≡ advanced (R.behaviour self.now.configuration.register) self.now step) }
     {
+        let (state, _) = self.made(alloc, step)?;
+        Ok(state)
+    }
+
+    /// The state after a step that fits, and the step's events. `AllocError` if memory runs out.
+    #[inline(always)]
+    fn made(&self, alloc: Global, step: Step) -> Result<(State<R>, StepEvents), AllocError>
+        requires { fits_step (R.behaviour self.now.configuration.register) step ≡ true }
+        ensures state { IfOk result
+            (λ m. m.0 ≡ advanced (R.behaviour self.now.configuration.register) self.now step) }
+        ensures events { IfOk result (λ m. m.1
+            ≡ events_of (R.behaviour self.now.configuration.register) self.now.configuration step) }
+    {
         let mut config = self.config.copy(alloc)?;
         let events = config.step(step);
         let mut answers = copies(alloc, &self.answers)?;
         add_events(&mut answers, step.process(), events)?;
-        Ok(State { config, answers })
+        Ok((State { config, answers }, events))
+    }
+}
+
+/// Whether a step reports a choice, which is then its first event.
+fn has_choice(events: StepEvents) -> bool
+    ensures { result ≡ has_choice events }
+{
+    match events.first {
+        Some(Event::Chosen(..)) => true,
+        _ => false,
     }
 }
 

@@ -2,8 +2,8 @@
 //! Edits are data, so that only one function holds a trie.
 
 ghost use Rattle.std.specs.Prelude.{◌<◌, ◌≤◌};
-ghost use Rattle.schedule_trie.specs.Cut.{AreLimits};
-ghost use Rattle.schedule_trie.specs.declared.limits.TheConstants.{MOST_CELLS_MADE};
+ghost use Rattle.schedule_trie.specs.Trie.{AreLimits};
+ghost use Rattle.branch_terms.specs.declared.limits.TheConstants.{MOST_CELLS_MADE};
 
 mod limbs;
 

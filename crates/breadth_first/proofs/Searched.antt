@@ -24,16 +24,6 @@ none_in : {X : Type 0} (xs : List X) → xs ≡ drop 1 xs → length xs ≡ 0
 none_in [] h = refl
 none_in (x ∷ xs) h = let e : length (x ∷ xs) ≡ length xs = ap length h in absurd (omega (arith, e))
 
-or_right : (b c : Bool) → c ≡ true → (b || c) ≡ true
-or_right true c h = refl
-or_right false c h = h
-
--- what is there from index n on is there
-any_of_drop : {X : Type 0} (p : X → Bool) (n : ℕ) (xs : List X) → list_any p (drop n xs) ≡ true → list_any p xs ≡ true
-any_of_drop p zero xs h = h
-any_of_drop p (suc n) [] h = h
-any_of_drop p (suc n) (x ∷ xs) h = or_right (p x) (list_any p xs) (any_of_drop p n xs h)
-
 module _ {N K : Type 0} (g : Shape N K) (eq : N → N → Bool) (eq_key : K → K → Bool) (Holds : N → Type 0) where
   -- nodes equal y are there exactly if their keys are
   pub any_key : (same : (x y : N) → Holds x → Holds y → eq_key (g.key x) (g.key y) ≡ eq x y) (y : N) (nodes : List N) → Holds y
@@ -80,19 +70,6 @@ module _ {N K : Type 0} (g : Shape N K) (eq : N → N → Bool) (eq_key : K → 
       )
 
   module _ (nodes : List N) (keys : List K) (goals : List Bool) (marks : List Mark) (queue : List N) (at : ℕ) (s : IsSearching g eq Holds nodes keys goals marks queue (at + 1) at) where
-    -- a node that waits in the queue has been met
-    pub waits_old : (same : (x y : N) → Holds x → Holds y → eq_key (g.key x) (g.key y) ≡ eq x y) (y : N) → Holds y → list_any (eq y) queue ≡ true
-        → IsOldNode g eq_key y keys keys goals goals marks marks queue queue
-    waits_old same y h waits =
-        let there : list_any (eq y) nodes ≡ true = any_of_drop (eq y) (at + 1) nodes (ap (list_any (eq y)) (sym s.waiting) ∙ waits) in
-        record {
-          old = ap (list_any (eq_key (g.key y))) s.kept.by_key ∙ (any_key same y nodes h s.kept.hold ∙ there);
-          keys_stay = refl;
-          goals_stay = refl;
-          marks_stay = refl;
-          queue_stays = refl;
-        }
-
     pub stepped : (same : (x y : N) → Holds x → Holds y → eq_key (g.key x) (g.key y) ≡ eq x y) (laws : IsEquivalence eq)
         (alike : (x y : N) → eq x y ≡ true → (l : ℕ) (z : N) → g.move x l ≡ Some z → (w : N) × ((g.move y l ≡ Some w) × (eq z w ≡ true)))
         (x y : N) (l d most : ℕ) → Holds y → slice_get nodes at ≡ Some x → l < g.labels → g.move x l ≡ Some y → d ≡ depth_at marks at + 1

@@ -41,6 +41,18 @@ module _ {N K : Type 0} (g : Shape N K) (eq : N → N → Bool) (Holds : N → T
             met = λ y i lt mv. met_more g.labels g.move eq s.nodes t.new_nodes marks new_marks at l f (slice_get_within s.nodes at x s.here) old x y i lt there mv;
           }
 
+      -- a label that leads from x as one before it does need not be followed
+      pub labels_again : (j : ℕ) → j < l → g.move x l ≡ g.move x j → IsServingLabels keys goals marks queue (l + 1)
+      labels_again j lt same = record {
+        nodes = s.nodes;
+        here = s.here;
+        searching = s.searching;
+        met = λ y i low mv. elim (cases_lt i l) [
+          | inl below ↦ s.met y i below mv
+          | inr high ↦ let e : i ≡ l = omega (arith, low, high) in s.met y j lt (sym same ∙ (ap (g.move x) (sym e) ∙ mv))
+        ];
+      }
+
       -- all labels are followed
       pub labels_all : g.labels ≤ l → IsSearch g eq Holds keys goals marks queue (at + 1) (at + 1)
       labels_all all = record {

@@ -1,10 +1,18 @@
 //! Graphs whose moves have labels.
 
-ghost use Rattle.std.specs.Prelude.{◌≡◌, ℕ, ◌<◌, Some, true, IfOk};
+ghost use Rattle.std.specs.Prelude.{◌≡◌, ℕ, ◌<◌, ◌+◌, Some, true, IfOk, IfSome};
+ghost use Rattle.std.specs.Option.{option_map};
 ghost use Rattle.breadth_first.specs.Shape.{Shape};
 
 use std::alloc::{AllocError, Global};
 use std::hash::Hash;
+
+/// The node to which a label leads, and whether the next label is known to lead there too.
+#[derive(Drop)]
+pub struct Arrival<N: Drop> {
+    pub node: N,
+    pub again: bool,
+}
 
 /// A graph. From a node, each label leads to at most one node.
 pub trait Graph {
@@ -24,15 +32,20 @@ pub trait Graph {
     fn count(&self) -> usize
         ensures { result ≡ (shape self.now).labels };
 
-    /// The node to which the label leads from this node, if any. `AllocError` if memory runs out.
+    /// The node to which the label leads from this node, if any; says also whether the next label
+    /// is known to lead there. `AllocError` if memory runs out.
     fn next(
         &self,
         alloc: Global,
         node: &Self::Node,
         label: usize,
-    ) -> Result<Option<Self::Node>, AllocError>
-        requires { label < (shape self.now).labels }
-        ensures { IfOk result (λ r. r ≡ (shape self.now).move node.now label) };
+    ) -> Result<Option<Arrival<Self::Node>>, AllocError>
+        requires labelled { label < (shape self.now).labels }
+        requires holds { Holds self.now node.now }
+        ensures node { IfOk result
+            (λ r. option_map (λ a. a.node) r ≡ (shape self.now).move node.now label) }
+        ensures again { IfOk result (λ r. IfSome r (λ a. a.again ≡ true
+            → (shape self.now).move node.now (label + 1) ≡ Some a.node)) };
 
     /// The node's key. `AllocError` if memory runs out.
     fn key(&self, alloc: Global, node: &Self::Node) -> Result<Self::Key, AllocError>

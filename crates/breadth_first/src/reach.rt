@@ -6,7 +6,7 @@ ghost use Rattle.breadth_first.specs.Paths.{AreTooMany};
 ghost use Rattle.breadth_first.specs.Searches.{IsOldNode, IsNewNode, IsSearching, IsSearch, IsSearchAt, IsStepped, IsWholeSearch};
 ghost use Rattle.breadth_first.specs.declared.mark.Unreached.TheVariants.{TooMany};
 
-use crate::graph::Graph;
+use crate::graph::{Arrival, Graph};
 use crate::mark::{Mark, Unreached};
 use indexmap::IndexSet;
 use std::alloc::Global;
@@ -177,26 +177,8 @@ impl<N: Drop, K: Eq + Hash + Drop> Search<N, K> {
     }
 }
 
-impl<N: Eq + Drop, K: Eq + Hash + Drop> Search<N, K> {
-    /// Whether the node is equal to the one that was met last, by the label before this one from the
-    /// same node. To compare them costs less than a key.
-    fn repeats_last(&self, at: u32, label: usize, node: &N) -> bool
-        ensures { result ≡ true → list_any (N.eq node.now) self.now.queue.items ≡ true }
-    {
-        let Some(mark) = self.reached.marks.last() else {
-            return false;
-        };
-        if mark.parent != at || mark.label >= label || label - mark.label != 1 {
-            return false;
-        }
-        match self.queue.back() {
-            Some(last) => node == last,
-            None => false,
-        }
-    }
-}
-
-/// Follows the move by one label from `node`, which is the one at index `at`.
+/// Follows the move by one label from `node`, which is the one at index `at`. Returns whether the
+/// next label leads to the same node.
 fn follow<G: Graph>(
     graph: &G,
     search: &mut Search<G::Node, G::Key>,
@@ -204,7 +186,7 @@ fn follow<G: Graph>(
     at: u32,
     label: usize,
     most: u32,
-) -> Result<(), Unreached>
+) -> Result<bool, Unreached>
     requires searching { IsSearchAt (G.shape graph.now) G.Node.eq (G.Holds graph.now) node.now
         search.old.reached.keys.keys search.old.reached.goals.items
         search.old.reached.marks.items search.old.queue.items at }
@@ -219,6 +201,8 @@ fn follow<G: Graph>(
         search.old.reached.marks.items
         search.new.reached.keys.keys search.new.reached.goals.items
         search.new.reached.marks.items search.new.queue.items at label) }
+    ensures again { IfOk result (λ again. again ≡ true
+        → (G.shape graph.now).move node.now (label + 1) ≡ (G.shape graph.now).move node.now label) }
     ensures fits { OnOk result (length search.new.reached.keys.keys ≤ most) }
     ensures too_many { result ≡ Err TooMany → AreTooMany (G.shape graph.now).labels
         (G.shape graph.now).move G.Node.eq (G.shape graph.now).origin most }
@@ -226,19 +210,20 @@ fn follow<G: Graph>(
     let Ok(found) = graph.next(search.alloc, node, label) else {
         return Err(Unreached::Memory);
     };
-    let Some(next) = found else {
-        return Ok(());
+    let Some(arrival) = found else {
+        return Ok(false);
     };
-    if search.repeats_last(at, label, &next) {
-        return Ok(());
-    }
+    let Arrival { node: next, again } = arrival;
     let depth = search.reached.marks[at as usize].depth + 1;
     let mark = Mark {
         parent: at,
         label,
         depth,
     };
-    meet(graph, search, next, mark, most)
+    match meet(graph, search, next, mark, most) {
+        Ok(()) => Ok(again),
+        Err(why) => Err(why),
+    }
 }
 
 /// Follows all moves from `node`, which is the one at index `at`.
@@ -261,9 +246,15 @@ fn serve<G: Graph>(
     ensures too_many { result ≡ Err TooMany → AreTooMany (G.shape graph.now).labels
         (G.shape graph.now).move G.Node.eq (G.shape graph.now).origin most }
 {
+    let mut again = false;
     for label in 0..graph.count() {
-        if let Err(why) = follow(graph, search, node, at, label, most) {
-            return Err(why);
+        if again {
+            again = false;
+            continue;
+        }
+        match follow(graph, search, node, at, label, most) {
+            Ok(same) => again = same,
+            Err(why) => return Err(why),
         }
     }
     Ok(())

@@ -39,9 +39,9 @@ module _ (steps : List Step) (marks : List Mark) (events : List Event) (s : Step
   pub told_one : IsToldOf (steps ++ s ∷ []) (marks ++ mark ∷ []) (events ++ kept) (so_far ++ one ∷ [])
   told_one = record { reports = more_told; kept = more_kept }
 
-pub told_more : (steps made : List Step) (marks more : List Mark) (events later : List Event) (s : Step) (one : StepEvents) → IsTold steps marks events → made ≡ steps ++ s ∷ []
+pub reported_more : (steps made : List Step) (marks more : List Mark) (events later : List Event) (s : Step) (one : StepEvents) → IsTold steps marks events → made ≡ steps ++ s ∷ []
     → IsStepAdded s one marks more events later → IsToldOf made more later (reported_events steps marks events ++ one ∷ [])
-told_more steps made marks more events later s one is is_made added =
+reported_more steps made marks more events later s one is is_made added =
     let all : List StepEvents = reported_events steps marks events ++ one ∷ [] in
     subst (λ l. IsToldOf l more later all) (sym is_made) (subst (λ l. IsToldOf (steps ++ s ∷ []) l later all) (sym added.marked)
     (subst (λ l. IsToldOf (steps ++ s ∷ []) (marks ++ added.mark ∷ []) l all) (sym added.added) (told_one steps marks events s added.mark added.kept one is added.reports)))

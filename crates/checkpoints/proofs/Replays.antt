@@ -1,6 +1,7 @@
 -- One step of a replay.
-use Rattle.std.proofs.Common.{◌≡◌, ◌∙◌, ℕ, suc, ◌+◌, ◌<◌, ◌≤◌, true, List, [], ◌∷◌, ◌++◌, map, length, drop, get_or, drop-cons, sym, ap, subst, arith, append_assoc}
+use Rattle.std.proofs.Common.{◌≡◌, ◌∙◌, ℕ, suc, ◌+◌, ◌<◌, ◌≤◌, true, List, [], ◌∷◌, ◌++◌, map, length, drop, take, get_or, drop-cons, sym, ap, subst, arith, append_assoc}
 use Rattle.std.proofs.Math.ListN.{drop_of_length-le}
+use Rattle.std.proofs.Math.Seq.{take-suc}
 use Rattle.std.proofs.lemmas.List.{map-id}
 use Rattle.std.proofs.lemmas.List.Elements.{All-head, All-tail}
 use Rattle.frames.specs.declared.types.Step.{Step}
@@ -17,6 +18,18 @@ left_at step_in items i item within is =
     ap (map step_in) (drop-cons items i item within)
     ∙ ap (λ s. step_in s ∷ map step_in (drop (suc i) items)) (sym is)
     ∙ ap (λ n. step_in item ∷ map step_in (drop n items)) next
+
+-- the steps from index i on begin with the one at i
+pub next_left : (steps : List Step) (i : ℕ) (step other : Step) → i < length steps → step ≡ get_or steps i other → drop i steps ≡ step ∷ drop (i + 1) steps
+next_left steps i step other within is =
+    let next : suc i ≡ i + 1 = omega arith in
+    drop-cons steps i other within ∙ ap (λ s. s ∷ drop (suc i) steps) (sym is) ∙ ap (λ n. step ∷ drop n steps) next
+
+-- the first i + 1 steps are the first i, and the one at i
+pub next_made : (steps : List Step) (i : ℕ) (step other : Step) → i < length steps → step ≡ get_or steps i other → take (i + 1) steps ≡ take i steps ++ step ∷ []
+next_made steps i step other within is =
+    let next : i + 1 ≡ suc i = omega arith in
+    ap (λ n. take n steps) next ∙ take-suc steps i other within ∙ ap (λ s. take i steps ++ s ∷ []) (sym is)
 
 -- after the last item no steps are left
 pub none_left : {S : Type 0} (step_in : S → Step) (items : List S) (i : ℕ) → length items ≤ i → map step_in (drop i items) ≡ []
@@ -38,9 +51,9 @@ module _ {R P : Type 0} (b : Behaviour P) (c d : Configuration R P) (step : Step
   pub step_replayed : d ≡ stepped b c step → replayed b d rest ≡ replayed b c left
   step_replayed after = ap (λ e. replayed b e rest) after ∙ sym (ap (replayed b c) first)
 
-  pub step_told : d ≡ stepped b c step → (told more : List StepEvents) (one : StepEvents) → one ≡ events_of b c step → more ≡ told ++ one ∷ []
+  pub step_reported : d ≡ stepped b c step → (told more : List StepEvents) (one : StepEvents) → one ≡ events_of b c step → more ≡ told ++ one ∷ []
       → more ++ history b d rest ≡ told ++ history b c left
-  step_told after told more one is is_more =
+  step_reported after told more one is is_more =
       ap (λ l. l ++ history b d rest) is_more ∙ append_assoc told (one ∷ []) (history b d rest)
       ∙ ap (λ e. told ++ e ∷ history b d rest) is ∙ ap (λ e. told ++ events_of b c step ∷ history b e rest) after
       ∙ sym (ap (λ l. told ++ history b c l) first)

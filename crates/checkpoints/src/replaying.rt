@@ -88,3 +88,31 @@ pub(crate) fn replay_from<R: Register, S: HasStep>(
     let reported = Reported::new(steps, marks, events);
     Ok(Made { reported, config })
 }
+
+/// Makes `steps`, in order, from `entry`, whose register they must fit. Returns the steps, which
+/// aren't copied, what each recorded, and the configuration after them.
+pub(crate) fn replay_all<R: Register>(
+    alloc: Global,
+    entry: Config<R>,
+    steps: Vec<Step>,
+) -> Result<Made<R>, AllocError>
+    requires { AllFit (R.behaviour entry.register) steps.items }
+    ensures steps { IfOk result (λ r. r.reported.steps.items ≡ steps.items) }
+    ensures config { IfOk result
+        (λ r. r.config ≡ replayed (R.behaviour entry.register) entry steps.items) }
+    ensures events { IfOk result
+        (λ r. reported_in r.reported ≡ history (R.behaviour entry.register) entry steps.items) }
+{
+    let mut marks = Vec::with_capacity(alloc, steps.len())?;
+    let mut events = Vec::new(alloc);
+    let mut config = entry;
+    for item in steps.as_slice() {
+        let step = item.step();
+        let recorded = config.step(step);
+        push_reported(&mut marks, &mut events, step, recorded)?;
+    }
+    Ok(Made {
+        reported: Reported::new(steps, marks, events),
+        config,
+    })
+}

@@ -6,7 +6,7 @@ ghost use Rattle.checkpoints.specs.Segment.{IsRun};
 ghost use Rattle.frames.specs.Recorded.{AllFit};
 
 use crate::events::{EventWalk, Reported};
-use crate::replaying::replay_from;
+use crate::replaying::{Made, replay_all, replay_from};
 use frames::config::Config;
 use frames::register::Register;
 use frames::types::{HasStep, Step};
@@ -102,6 +102,26 @@ pub fn run_of<R: Register, S: HasStep>(
     Ok(Run {
         entry,
         reported: made.reported,
+        exit,
+    })
+}
+
+/// Replays `steps`, in order, from `entry`, whose register they must fit. Returns the run of these
+/// steps, with `entry` as its entry. The steps aren't copied. Fails only if memory runs out.
+pub fn run_of_all<R: Register>(
+    alloc: Global,
+    entry: Arc<Config<R>>,
+    steps: Vec<Step>,
+) -> Result<Run<R>, AllocError>
+    requires { AllFit (R.behaviour (arc_value entry).register) steps.items }
+    ensures entry { IfOk result (λ run. run.entry ≡ arc_value entry) }
+    ensures steps { IfOk result (λ run. run.steps ≡ steps.items) }
+{
+    let Made { reported, config } = replay_all(alloc, entry.copy(alloc)?, steps)?;
+    let exit = Arc::new(alloc, config)?;
+    Ok(Run {
+        entry,
+        reported,
         exit,
     })
 }

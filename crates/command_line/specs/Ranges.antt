@@ -1,7 +1,7 @@
 -- The ranges of the program's options.
 use Rattle.std.specs.Prelude.{◌≤◌}
-use Rattle.schedule_trie.specs.declared.limits.TheConstants.{MOST_CELLS_MADE}
-use Rattle.schedule_trie.specs.declared.limits.Limits.{Limits}
+use Rattle.branch_terms.specs.declared.limits.TheConstants.{MOST_CELLS_MADE}
+use Rattle.branch_terms.specs.declared.limits.Limits.{Limits}
 use Rattle.command_line.specs.declared.options.Options.{Options}
 
 -- Each option is in its range: 0 to 4 workers, 1 to 2^28 cells, 1 to 1,024 branches.

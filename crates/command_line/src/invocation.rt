@@ -12,7 +12,7 @@ use clap::{Arg, ArgAction, Command, Error, value_parser};
 use std::alloc::{AllocError, Global};
 
 /// The program's name and version, the first line of its help.
-const VERSION: &str = "towerbench 1.0.0";
+const VERSION: &str = "towerbench 1.1.0";
 
 /// The id of the word that names a tower or bench file.
 const FILE: &str = "FILE";

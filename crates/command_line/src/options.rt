@@ -3,7 +3,7 @@
 ghost use Rattle.std.specs.Prelude.{◌≡◌};
 ghost use Rattle.command_line.specs.Ranges.{limits_of};
 
-use schedule_trie::limits::Limits;
+use branch_terms::limits::Limits;
 
 /// The most commands that are logged.
 const MOST_LOGGED: u32 = 1 << 20;

@@ -165,3 +165,8 @@ module _ {W : Type 0} (define : Definition W) (start : W) where
     pub finished : (r : Result ⊤ StreamFault) → Finished define start before after left r → IsEnd r
     finished (Ok done) h = record { done = h; fault = tt }
     finished (Err e) h = record { done = tt; fault = h }
+
+  -- the same, after a last read of no bytes
+  pub finished_after : (before after : Streams) (count : ℕ) (world : W) (lines : ℕ) (line : List ℕ) → Reached define start before after count world lines line → (next : Option (List ℕ)) → Consumes after.unread next []
+      → (end : Streams) (left : W) (r : Result ⊤ StreamFault) → (Reached define start before (streams next after.written) count world lines line → Finished define start before end left r) → IsEnd before end left r
+  finished_after before after count world lines line h next k end left r f = finished before end left r (f (reached_kept before after count world lines line h next k))

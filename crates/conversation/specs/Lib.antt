@@ -4,3 +4,4 @@ pub mod Conversations
 pub mod Answering
 pub mod Amounts
 pub mod Faults
+pub mod Sources

@@ -67,7 +67,7 @@ impl Conversation {
     {
         let mut rest = piece;
         'lines: while let Some((end, following)) = first_line(rest) {
-            self.answer_line(answers, answer, end)?;
+            self.answer_line(end, answers, answer)?;
             rest = following;
         }
         self.keep(rest)
@@ -77,9 +77,9 @@ impl Conversation {
     /// the line was kept before, the line isn't copied.
     fn answer_line<A: Answers, F: Fn(&mut A, u32, &[u8], &mut Vec<u8>) -> Result<(), AllocError>>(
         &mut self,
+        end: &[u8],
         answers: &mut A,
         answer: &F,
-        end: &[u8],
     ) -> Result<(), AllocError>
         requires few { self.old.lines + 1 < 2 ^ 32 }
         requires callable { F.IsAlwaysCallable answer.now }
@@ -108,9 +108,9 @@ impl Conversation {
         answers: &mut A,
         answer: &F,
     ) -> Result<(), AllocError>
-        requires few { self.old.lines + 1 < 2 ^ 32 }
         requires callable { F.IsAlwaysCallable answer.now }
         requires answers { AnswersBy A.alone A.define A.world (F.post answer.now) }
+        requires few { self.old.lines + 1 < 2 ^ 32 }
         ensures lines { self.new.lines ≡ self.old.lines + 1 }
         ensures line { OnOk result (self.new.line.items ≡ []) }
         ensures answer { A.alone answers.old

@@ -1,5 +1,6 @@
 //! Why a conversation fails.
 
+ghost use Rattle.std.specs.Prelude.{Some};
 ghost use Rattle.conversation.specs.Faults as spec;
 
 use std::fmt;
@@ -19,8 +20,6 @@ pub enum StreamFault {
 }
 
 impl fmt::Display for StreamFault {
-    ghost use Rattle.std.specs.Prelude.{Some};
-
     ghost output = { λ e. Some (spec.stream_fault_display e) };
 
     fn fmt<W: fmt::Write>(&self, f: &mut fmt::Formatter<W>) -> fmt::Result {

@@ -5,13 +5,13 @@ use Rattle.std.specs.Option.{option_map}
 use Rattle.frames.specs.Behaviour.{Behaviour}
 use Rattle.frames.specs.Configuration.{Configuration, replayed}
 use Rattle.schedule_trie.specs.Forest.{step_of}
-use Rattle.schedule_trie.specs.Cut.{Cut, Piece, piece, piece_at, slots_of, note_of, with_note, keys_in, has, Linked, IsNoted, IsCut}
+use Rattle.schedule_trie.specs.Trie.{TrieOf, SegmentOf, segment, segment_at, slots_of, note_of, with_note, keys_in, has, Linked, IsNoted, IsCut}
 use Rattle.schedule_trie.specs.Climbs.{keys_up_to}
-use Rattle.schedule_trie.proofs.KeyPositions.{parting}
-use Rattle.schedule_trie.proofs.NoRepeats.{has-in}
-use Rattle.schedule_trie.proofs.Shared.{same_front}
-use Rattle.cutoff.specs.Fitting.{StoredRun, RunFits, KeepsRuns, IsChecked, IsOnWayTo, checked_piece, run_of, run_at, slots_at, steps_at}
-use Rattle.cutoff.specs.Links.{IsGiven, IsStored, IsTruePiece, IsLinked, run_checked}
+use Rattle.schedule_trie.proofs.lists.KeyPositions.{parting}
+use Rattle.schedule_trie.proofs.lists.NoRepeats.{has-in}
+use Rattle.schedule_trie.proofs.branches.Shared.{same_front}
+use Rattle.cutoff.specs.Fitting.{StoredRun, RunFits, KeepsRuns, IsChecked, IsOnWayTo, checked_segment, run_of, run_at, slots_at, steps_at}
+use Rattle.cutoff.specs.Links.{IsGiven, IsStored, IsTrueSegment, IsLinked, run_checked}
 use Rattle.cutoff.specs.Prefixes.{HasTrueRun, RunsDown, RunsTo, IsMarked, AreFresh, exit_or_start, exit_or}
 use Rattle.cutoff.specs.Charts.{Charted, IsCharted, StepsFit}
 use Rattle.cutoff.proofs.Fits.{register_kept, exit_same, stored_at}
@@ -20,15 +20,15 @@ use Rattle.cutoff.proofs.Walks.{by_key}
 
 -- the cells and the run of one segment
 module _ {R P : Type 0} (number : Option ℕ) where
-  slots_checked : (o : Option (Piece (StoredRun R P))) → option_map (λ p. p.slots) (option_map (checked_piece number) o) ≡ option_map (λ p. p.slots) o
+  slots_checked : (o : Option (SegmentOf (StoredRun R P))) → option_map (λ p. p.slots) (option_map (checked_segment number) o) ≡ option_map (λ p. p.slots) o
   slots_checked None = refl
   slots_checked (Some p) = refl
 
-  cells_checked : (o : Option (Piece (StoredRun R P))) → slots_of (option_map (checked_piece number) o) ≡ slots_of o
+  cells_checked : (o : Option (SegmentOf (StoredRun R P))) → slots_of (option_map (checked_segment number) o) ≡ slots_of o
   cells_checked None = refl
   cells_checked (Some p) = refl
 
-  run_checked_same : (o : Option (Piece (StoredRun R P))) → option_map run_of (note_of (option_map (checked_piece number) o)) ≡ option_map run_of (note_of o)
+  run_checked_same : (o : Option (SegmentOf (StoredRun R P))) → option_map run_of (note_of (option_map (checked_segment number) o)) ≡ option_map run_of (note_of o)
   run_checked_same None = refl
   run_checked_same (Some p) = by p.note
     where
@@ -36,13 +36,13 @@ module _ {R P : Type 0} (number : Option ℕ) where
       by None = refl
       by (Some s) = refl
 
-  note_checked : (o : Option (Piece (StoredRun R P))) (s : StoredRun R P) → note_of o ≡ Some s
-      → note_of (option_map (checked_piece number) o) ≡ Some (record { run = s.run; id = s.id; link = s.link; checked = number })
+  note_checked : (o : Option (SegmentOf (StoredRun R P))) (s : StoredRun R P) → note_of o ≡ Some s
+      → note_of (option_map (checked_segment number) o) ≡ Some (record { run = s.run; id = s.id; link = s.link; checked = number })
   note_checked None s e = cc
   note_checked (Some p) s e = ap (option_map (λ s. record { run = s.run; id = s.id; link = s.link; checked = number })) e
 
-  told_checked : (E : R → R → Bool) (h : R) (exits : List (Configuration ⊤ P)) → IsGiven (length exits) number → (o : Option (Piece (StoredRun R P)))
-      → IsTruePiece E h exits o → IsTruePiece E h exits (option_map (checked_piece number) o)
+  told_checked : (E : R → R → Bool) (h : R) (exits : List (Configuration ⊤ P)) → IsGiven (length exits) number → (o : Option (SegmentOf (StoredRun R P)))
+      → IsTrueSegment E h exits o → IsTrueSegment E h exits (option_map (checked_segment number) o)
   told_checked E h exits given None t = tt
   told_checked E h exits given (Some p) t = by p.note t
     where
@@ -52,47 +52,47 @@ module _ {R P : Type 0} (number : Option ℕ) where
       by (Some s) t = record { own = t.own; covers = t.covers; id = t.id; link = t.link; checked = given }
 
 -- the runs and the branches are the same
-module _ {R P : Type 0} (old new : Cut (StoredRun R P)) (number : Option ℕ) (key : ℕ) (checked : IsChecked old new number key) where
+module _ {R P : Type 0} (old new : TrieOf (StoredRun R P)) (number : Option ℕ) (key : ℕ) (checked : IsChecked old new number key) where
   steps_same : (k : ℕ) → steps_at old k ≡ steps_at new k
   steps_same k = ap (map step_of) (sym (by (checked.each k)))
     where
-      by : (piece_at new.pieces k ≡ piece_at old.pieces k) ⊎ (IsOnWayTo old key k × (piece_at new.pieces k ≡ option_map (checked_piece number) (piece_at old.pieces k)))
-          → slots_of (piece_at new.pieces k) ≡ slots_of (piece_at old.pieces k)
+      by : (segment_at new.segments k ≡ segment_at old.segments k) ⊎ (IsOnWayTo old key k × (segment_at new.segments k ≡ option_map (checked_segment number) (segment_at old.segments k)))
+          → slots_of (segment_at new.segments k) ≡ slots_of (segment_at old.segments k)
       by (inl e) = ap slots_of e
-      by (inr e) = ap slots_of e.1 ∙ cells_checked number (piece_at old.pieces k)
+      by (inr e) = ap slots_of e.1 ∙ cells_checked number (segment_at old.segments k)
 
   slots_same : (k : ℕ) → slots_at new k ≡ slots_at old k
   slots_same k = by (checked.each k)
     where
-      by : (piece_at new.pieces k ≡ piece_at old.pieces k) ⊎ (IsOnWayTo old key k × (piece_at new.pieces k ≡ option_map (checked_piece number) (piece_at old.pieces k)))
+      by : (segment_at new.segments k ≡ segment_at old.segments k) ⊎ (IsOnWayTo old key k × (segment_at new.segments k ≡ option_map (checked_segment number) (segment_at old.segments k)))
           → slots_at new k ≡ slots_at old k
       by (inl e) = ap (option_map (λ p. p.slots)) e
-      by (inr e) = ap (option_map (λ p. p.slots)) e.1 ∙ slots_checked number (piece_at old.pieces k)
+      by (inr e) = ap (option_map (λ p. p.slots)) e.1 ∙ slots_checked number (segment_at old.segments k)
 
   run_same : (k : ℕ) → run_at new k ≡ run_at old k
   run_same k = by (checked.each k)
     where
-      by : (piece_at new.pieces k ≡ piece_at old.pieces k) ⊎ (IsOnWayTo old key k × (piece_at new.pieces k ≡ option_map (checked_piece number) (piece_at old.pieces k)))
+      by : (segment_at new.segments k ≡ segment_at old.segments k) ⊎ (IsOnWayTo old key k × (segment_at new.segments k ≡ option_map (checked_segment number) (segment_at old.segments k)))
           → run_at new k ≡ run_at old k
       by (inl e) = ap (λ o. option_map run_of (note_of o)) e
-      by (inr e) = ap (λ o. option_map run_of (note_of o)) e.1 ∙ run_checked_same number (piece_at old.pieces k)
+      by (inr e) = ap (λ o. option_map run_of (note_of o)) e.1 ∙ run_checked_same number (segment_at old.segments k)
 
   checked_keeps : KeepsRuns old new (λ k. ⊥)
-  checked_keeps = record { strands = checked.strands; limits = checked.limits; forest_kept = checked.unchanged; slots = slots_same; runs = λ k. inl (run_same k) }
+  checked_keeps = record { branches = checked.branches; limits = checked.limits; forest_kept = checked.unchanged; slots = slots_same; runs = λ k. inl (run_same k) }
 
   linked_checked : (E : R → R → Bool) (h : R) (next : ℕ) (c : Configuration ⊤ P) (l : IsLinked E h next None c old) → IsGiven (length l.exits) number → IsLinked E h next None c new
   linked_checked E h next c l given = record { exits = l.exits; as_many = l.as_many; each = λ k. by k (checked.each k); reached_exit = l.reached_exit }
     where
-      by : (k : ℕ) → (piece_at new.pieces k ≡ piece_at old.pieces k) ⊎ (IsOnWayTo old key k × (piece_at new.pieces k ≡ option_map (checked_piece number) (piece_at old.pieces k)))
-          → IsTruePiece E h l.exits (piece_at new.pieces k)
-      by k (inl e) = subst (IsTruePiece E h l.exits) (sym e) (l.each k)
-      by k (inr e) = subst (IsTruePiece E h l.exits) (sym e.1) (told_checked number E h l.exits given (piece_at old.pieces k) (l.each k))
+      by : (k : ℕ) → (segment_at new.segments k ≡ segment_at old.segments k) ⊎ (IsOnWayTo old key k × (segment_at new.segments k ≡ option_map (checked_segment number) (segment_at old.segments k)))
+          → IsTrueSegment E h l.exits (segment_at new.segments k)
+      by k (inl e) = subst (IsTrueSegment E h l.exits) (sym e) (l.each k)
+      by k (inr e) = subst (IsTrueSegment E h l.exits) (sym e.1) (told_checked number E h l.exits given (segment_at old.segments k) (l.each k))
 
   module _ (E : R → R → Bool) (is : R → Behaviour P) where
     true_same : (c : Configuration R P) (k : ℕ) → HasTrueRun E is old c k → HasTrueRun E is new c k
     true_same c k h = by (checked.each k)
       where
-        by : (piece_at new.pieces k ≡ piece_at old.pieces k) ⊎ (IsOnWayTo old key k × (piece_at new.pieces k ≡ option_map (checked_piece number) (piece_at old.pieces k)))
+        by : (segment_at new.segments k ≡ segment_at old.segments k) ⊎ (IsOnWayTo old key k × (segment_at new.segments k ≡ option_map (checked_segment number) (segment_at old.segments k)))
             → HasTrueRun E is new c k
         by (inl e) = record {
           stored = h.stored;
@@ -102,7 +102,7 @@ module _ {R P : Type 0} (old new : Cut (StoredRun R P)) (number : Option ℕ) (k
         }
         by (inr e) = record {
           stored = record { run = h.stored.run; id = h.stored.id; link = h.stored.link; checked = number };
-          noted = ap note_of e.1 ∙ note_checked number (piece_at old.pieces k) h.stored h.noted;
+          noted = ap note_of e.1 ∙ note_checked number (segment_at old.segments k) h.stored h.noted;
           true_run = h.true_run;
           fits = subst (λ s. RunFits E c s h.stored.run) (steps_same k) h.fits;
         }
@@ -114,112 +114,112 @@ module _ {R P : Type 0} (old new : Cut (StoredRun R P)) (number : Option ℕ) (k
 
     marked_still : (start : Configuration R P) (k : ℕ) → IsMarked E is old start (Some k) → IsMarked E is new start (Some k)
     marked_still start k marked = λ i h.
-        let there : has k (keys_in old.strands i) ≡ true = subst (λ ss. has k (keys_in ss i) ≡ true) checked.strands h in
-        let down = down_still (is start.register) start (keys_up_to k (keys_in old.strands i)) (exit_or_start old start (Some k)) (marked i there) in
-        subst (λ ss. RunsTo E is new start (Some k) (keys_in ss i)) (sym checked.strands)
-        (subst (RunsDown E is new (is start.register) start (keys_up_to k (keys_in old.strands i))) (ap (exit_or start) (sym (run_same k))) down)
+        let there : has k (keys_in old.branches i) ≡ true = subst (λ ss. has k (keys_in ss i) ≡ true) checked.branches h in
+        let down = down_still (is start.register) start (keys_up_to k (keys_in old.branches i)) (exit_or_start old start (Some k)) (marked i there) in
+        subst (λ ss. RunsTo E is new start (Some k) (keys_in ss i)) (sym checked.branches)
+        (subst (RunsDown E is new (is start.register) start (keys_up_to k (keys_in old.branches i))) (ap (exit_or start) (sym (run_same k))) down)
 
 -- stored runs fit down to each segment on the way to a marked one
-module _ {R P : Type 0} (E : R → R → Bool) (is : R → Behaviour P) (alike : (x y : R) → E x y ≡ true → is x ≡ is y) (cut : Cut (StoredRun R P)) (start : Configuration R P) where
+module _ {R P : Type 0} (E : R → R → Bool) (is : R → Behaviour P) (alike : (x y : R) → E x y ≡ true → is x ≡ is y) (trie : TrieOf (StoredRun R P)) (start : Configuration R P) where
   down_part : (c : Configuration R P) (front : List ℕ) (k : ℕ) (back : List ℕ) (end : Configuration R P) → is c.register ≡ is start.register
-      → RunsDown E is cut (is start.register) c (front ++ k ∷ back) end → RunsDown E is cut (is start.register) c (front ++ k ∷ []) (exit_or_start cut start (Some k))
+      → RunsDown E is trie (is start.register) c (front ++ k ∷ back) end → RunsDown E is trie (is start.register) c (front ++ k ∷ []) (exit_or_start trie start (Some k))
   down_part c [] k back end home d =
-      let come : exit_or_start cut start (Some k) ≡ d.0.stored.run.exit = ap (λ n. exit_or start (option_map run_of n)) d.0.noted in
-      subst (RunsDown E is cut (is start.register) c (k ∷ [])) (sym come)
-      (d.0, exit_same E is alike (is start.register) c (steps_at cut k) d.0.stored.run home d.0.true_run d.0.fits)
+      let come : exit_or_start trie start (Some k) ≡ d.0.stored.run.exit = ap (λ n. exit_or start (option_map run_of n)) d.0.noted in
+      subst (RunsDown E is trie (is start.register) c (k ∷ [])) (sym come)
+      (d.0, exit_same E is alike (is start.register) c (steps_at trie k) d.0.stored.run home d.0.true_run d.0.fits)
   down_part c (j ∷ front) k back end home d =
-      (d.0, down_part (replayed (is start.register) c (steps_at cut j)) front k back end (ap is (register_kept (is start.register) c (steps_at cut j)) ∙ home) d.1)
+      (d.0, down_part (replayed (is start.register) c (steps_at trie j)) front k back end (ap is (register_kept (is start.register) c (steps_at trie j)) ∙ home) d.1)
 
-  on_way : IsCut cut → (key k : ℕ) → IsSome (piece_at cut.pieces key) → IsMarked E is cut start (Some key) → IsOnWayTo cut key k → IsMarked E is cut start (Some k)
+  on_way : IsCut trie → (key k : ℕ) → IsSome (segment_at trie.segments key) → IsMarked E is trie start (Some key) → IsOnWayTo trie key k → IsMarked E is trie start (Some k)
   on_way whole key k there marked way = λ i h.
       let live = whole.live key there in
-      let keys = keys_in cut.strands live.0 in
+      let keys = keys_in trie.branches live.0 in
       let p = parting keys key live.1 in
       let q = parting (keys_up_to key keys) k (way live.0 live.1) in
       let path : keys ≡ q.front ++ k ∷ (q.back ++ p.back) =
       p.is ∙ sym (append_assoc p.front (key ∷ []) p.back) ∙ ap (λ l. l ++ p.back) (sym p.to ∙ q.is) ∙ append_assoc q.front (k ∷ q.back) p.back in
-      let here = parting (keys_in cut.strands i) k h in
+      let here = parting (keys_in trie.branches i) k h in
       let same : q.front ≡ here.front =
       same_front whole.shares.above q.front (q.back ++ p.back) here.front here.back k (subst (Linked whole.shares.above None) path (whole.shares.linked live.0))
       (subst (Linked whole.shares.above None) here.is (whole.shares.linked i)) in
-      let down = down_part start q.front k q.back (exit_or_start cut start (Some key)) refl
-      (subst (λ l. RunsDown E is cut (is start.register) start l (exit_or_start cut start (Some key))) q.is (marked live.0 live.1)) in
-      subst (λ l. RunsDown E is cut (is start.register) start l (exit_or_start cut start (Some k))) (ap (λ f. f ++ k ∷ []) same ∙ sym here.to) down
+      let down = down_part start q.front k q.back (exit_or_start trie start (Some key)) refl
+      (subst (λ l. RunsDown E is trie (is start.register) start l (exit_or_start trie start (Some key))) q.is (marked live.0 live.1)) in
+      subst (λ l. RunsDown E is trie (is start.register) start l (exit_or_start trie start (Some k))) (ap (λ f. f ++ k ∷ []) same ∙ sym here.to) down
 
 -- a chart in which runs on the way to the marked segment were found to fit when its run was
 -- installed
-module _ {R P : Type 0} (E : R → R → Bool) (is : R → Behaviour P) (alike : (x y : R) → E x y ≡ true → is x ≡ is y) (next : ℕ) (key : ℕ) (c : Charted R P) (new : Cut (StoredRun R P)) (s : StoredRun R P)
-    (noted : note_of (piece_at c.cut.pieces key) ≡ Some s) (checked : IsChecked c.cut new s.checked key) where
-  there : (o : Option (Piece (StoredRun R P))) → note_of o ≡ Some s → IsSome o
+module _ {R P : Type 0} (E : R → R → Bool) (is : R → Behaviour P) (alike : (x y : R) → E x y ≡ true → is x ≡ is y) (next : ℕ) (key : ℕ) (c : Charted R P) (new : TrieOf (StoredRun R P)) (s : StoredRun R P)
+    (noted : note_of (segment_at c.trie.segments key) ≡ Some s) (checked : IsChecked c.trie new s.checked key) where
+  there : (o : Option (SegmentOf (StoredRun R P))) → note_of o ≡ Some s → IsSome o
   there None e = cc
   there (Some p) e = refl
 
-  fresh_still : IsCut c.cut → IsMarked E is c.cut c.start (Some key) → (fresh : Option ℕ) → AreFresh E is c.cut c.start fresh → AreFresh E is new c.start fresh
+  fresh_still : IsCut c.trie → IsMarked E is c.trie c.start (Some key) → (fresh : Option ℕ) → AreFresh E is c.trie c.start fresh → AreFresh E is new c.start fresh
   fresh_still whole marked None f = tt
   fresh_still whole marked (Some first) f = λ k a number late. by k a number late (checked.each k)
     where
-      by : (k a : ℕ) → run_checked (note_of (piece_at new.pieces k)) ≡ Some a → first ≤ a
-          → (piece_at new.pieces k ≡ piece_at c.cut.pieces k) ⊎ (IsOnWayTo c.cut key k × (piece_at new.pieces k ≡ option_map (checked_piece s.checked) (piece_at c.cut.pieces k)))
+      by : (k a : ℕ) → run_checked (note_of (segment_at new.segments k)) ≡ Some a → first ≤ a
+          → (segment_at new.segments k ≡ segment_at c.trie.segments k) ⊎ (IsOnWayTo c.trie key k × (segment_at new.segments k ≡ option_map (checked_segment s.checked) (segment_at c.trie.segments k)))
           → IsMarked E is new c.start (Some k)
-      by k a number late (inl e) = marked_still c.cut new s.checked key checked E is c.start k (f k a (ap (λ o. run_checked (note_of o)) (sym e) ∙ number) late)
+      by k a number late (inl e) = marked_still c.trie new s.checked key checked E is c.start k (f k a (ap (λ o. run_checked (note_of o)) (sym e) ∙ number) late)
       by k a number late (inr e) =
-          marked_still c.cut new s.checked key checked E is c.start k (on_way E is alike c.cut c.start whole key k (there (piece_at c.cut.pieces key) noted) marked e.0)
+          marked_still c.trie new s.checked key checked E is c.start k (on_way E is alike c.trie c.start whole key k (there (segment_at c.trie.segments key) noted) marked e.0)
 
-  pub charted_checked : (fresh : Option ℕ) → IsCharted E is next fresh (Some key) c → IsCharted E is next fresh (Some key) (record { cut = new; start = c.start; value = c.value })
+  pub charted_checked : (fresh : Option ℕ) → IsCharted E is next fresh (Some key) c → IsCharted E is next fresh (Some key) (record { trie = new; start = c.start; value = c.value })
   charted_checked fresh was = record {
     within = was.within;
     begins = was.begins;
     fits = subst (StepsFit (is c.start.register)) (sym checked.unchanged) was.fits;
-    whole = cut_kept c.cut new (λ k. ⊥) (checked_keeps c.cut new s.checked key checked) was.whole;
-    linked = linked_checked c.cut new s.checked key checked E c.start.register next _ was.linked
-        (stored_at E c.start.register was.linked.exits c.cut key s (was.linked.each key) noted).checked;
-    marked = marked_still c.cut new s.checked key checked E is c.start key was.marked;
+    whole = cut_kept c.trie new (λ k. ⊥) (checked_keeps c.trie new s.checked key checked) was.whole;
+    linked = linked_checked c.trie new s.checked key checked E c.start.register next _ was.linked
+        (stored_at E c.start.register was.linked.exits c.trie key s (was.linked.each key) noted).checked;
+    marked = marked_still c.trie new s.checked key checked E is c.start key was.marked;
     fresh_marked = fresh_still was.whole was.marked fresh was.fresh_marked;
   }
 
 -- one more run was found to fit
 module _ {R P : Type 0} where
-  pub none_checked : (cut : Cut (StoredRun R P)) (number : Option ℕ) (key : ℕ) → IsChecked cut cut number key
-  none_checked cut number key = record { strands = refl; limits = refl; unchanged = refl; each = λ k. inl refl }
+  pub none_checked : (trie : TrieOf (StoredRun R P)) (number : Option ℕ) (key : ℕ) → IsChecked trie trie number key
+  none_checked trie number key = record { branches = refl; limits = refl; unchanged = refl; each = λ k. inl refl }
 
-  twice : (number : Option ℕ) (o : Option (Piece (StoredRun R P))) → option_map (checked_piece number) (option_map (checked_piece number) o) ≡ option_map (checked_piece number) o
+  twice : (number : Option ℕ) (o : Option (SegmentOf (StoredRun R P))) → option_map (checked_segment number) (option_map (checked_segment number) o) ≡ option_map (checked_segment number) o
   twice number None = refl
   twice number (Some p) = by p.note
     where
-      by : (n : Option (StoredRun R P)) → option_map (checked_piece number) (option_map (checked_piece number) (Some (piece p.slots n))) ≡ option_map (checked_piece number) (Some (piece p.slots n))
+      by : (n : Option (StoredRun R P)) → option_map (checked_segment number) (option_map (checked_segment number) (Some (segment p.slots n))) ≡ option_map (checked_segment number) (Some (segment p.slots n))
       by None = refl
       by (Some s) = refl
 
-  renoted : (number : Option ℕ) (s again : StoredRun R P) → again.run ≡ s.run → again.id ≡ s.id → again.link ≡ s.link → again.checked ≡ number → (o : Option (Piece (StoredRun R P))) → note_of o ≡ Some s
-      → option_map (with_note (Some again)) o ≡ option_map (checked_piece number) o
+  renoted : (number : Option ℕ) (s again : StoredRun R P) → again.run ≡ s.run → again.id ≡ s.id → again.link ≡ s.link → again.checked ≡ number → (o : Option (SegmentOf (StoredRun R P))) → note_of o ≡ Some s
+      → option_map (with_note (Some again)) o ≡ option_map (checked_segment number) o
   renoted number s again run id link checked None e = refl
   renoted number s again run id link checked (Some p) e =
-      ap (λ n. Some (piece p.slots n))
+      ap (λ n. Some (segment p.slots n))
       ((λ i. Some (record { run = run i; id = id i; link = link i; checked = checked i })) ∙ sym (ap (option_map (λ s. record { run = s.run; id = s.id; link = s.link; checked = number })) e))
 
-  module _ (old cut new : Cut (StoredRun R P)) (number : Option ℕ) (key k : ℕ) (s again : StoredRun R P) (was : IsChecked old cut number key) (there : note_of (piece_at cut.pieces k) ≡ Some s)
-      (run : again.run ≡ s.run) (id : again.id ≡ s.id) (link : again.link ≡ s.link) (checked : again.checked ≡ number) (noted : IsNoted cut new k (Some again)) (way : IsOnWayTo old key k) where
-    here : piece_at new.pieces k ≡ option_map (checked_piece number) (piece_at old.pieces k)
-    here = noted.here ∙ renoted number s again run id link checked (piece_at cut.pieces k) there ∙ by (was.each k)
+  module _ (old trie new : TrieOf (StoredRun R P)) (number : Option ℕ) (key k : ℕ) (s again : StoredRun R P) (was : IsChecked old trie number key) (there : note_of (segment_at trie.segments k) ≡ Some s)
+      (run : again.run ≡ s.run) (id : again.id ≡ s.id) (link : again.link ≡ s.link) (checked : again.checked ≡ number) (noted : IsNoted trie new k (Some again)) (way : IsOnWayTo old key k) where
+    here : segment_at new.segments k ≡ option_map (checked_segment number) (segment_at old.segments k)
+    here = noted.here ∙ renoted number s again run id link checked (segment_at trie.segments k) there ∙ by (was.each k)
       where
-        by : (piece_at cut.pieces k ≡ piece_at old.pieces k) ⊎ (IsOnWayTo old key k × (piece_at cut.pieces k ≡ option_map (checked_piece number) (piece_at old.pieces k)))
-            → option_map (checked_piece number) (piece_at cut.pieces k) ≡ option_map (checked_piece number) (piece_at old.pieces k)
-        by (inl e) = ap (option_map (checked_piece number)) e
-        by (inr e) = ap (option_map (checked_piece number)) e.1 ∙ twice number (piece_at old.pieces k)
+        by : (segment_at trie.segments k ≡ segment_at old.segments k) ⊎ (IsOnWayTo old key k × (segment_at trie.segments k ≡ option_map (checked_segment number) (segment_at old.segments k)))
+            → option_map (checked_segment number) (segment_at trie.segments k) ≡ option_map (checked_segment number) (segment_at old.segments k)
+        by (inl e) = ap (option_map (checked_segment number)) e
+        by (inr e) = ap (option_map (checked_segment number)) e.1 ∙ twice number (segment_at old.segments k)
 
     pub more_checked : IsChecked old new number key
     more_checked = record {
-      strands = noted.strands ∙ was.strands;
+      branches = noted.branches ∙ was.branches;
       limits = noted.limits ∙ was.limits;
       unchanged = noted.unchanged ∙ was.unchanged;
       each = λ j. by_key j k _
-          (λ e. inr (subst (IsOnWayTo old key) (sym e) way, ap (piece_at new.pieces) e ∙ here ∙ ap (λ z. option_map (checked_piece number) (piece_at old.pieces z)) (sym e)))
+          (λ e. inr (subst (IsOnWayTo old key) (sym e) way, ap (segment_at new.segments) e ∙ here ∙ ap (λ z. option_map (checked_segment number) (segment_at old.segments z)) (sym e)))
           (λ ne. still j (noted.others j ne) (was.each j));
     }
       where
-        still : (j : ℕ) → piece_at new.pieces j ≡ piece_at cut.pieces j
-            → (piece_at cut.pieces j ≡ piece_at old.pieces j) ⊎ (IsOnWayTo old key j × (piece_at cut.pieces j ≡ option_map (checked_piece number) (piece_at old.pieces j)))
-            → (piece_at new.pieces j ≡ piece_at old.pieces j) ⊎ (IsOnWayTo old key j × (piece_at new.pieces j ≡ option_map (checked_piece number) (piece_at old.pieces j)))
+        still : (j : ℕ) → segment_at new.segments j ≡ segment_at trie.segments j
+            → (segment_at trie.segments j ≡ segment_at old.segments j) ⊎ (IsOnWayTo old key j × (segment_at trie.segments j ≡ option_map (checked_segment number) (segment_at old.segments j)))
+            → (segment_at new.segments j ≡ segment_at old.segments j) ⊎ (IsOnWayTo old key j × (segment_at new.segments j ≡ option_map (checked_segment number) (segment_at old.segments j)))
         still j same (inl e) = inl (same ∙ e)
         still j same (inr e) = inr (e.0, same ∙ e.1)
 

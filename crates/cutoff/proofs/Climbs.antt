@@ -9,11 +9,11 @@ use Rattle.frames.specs.Configuration.{Configuration, replayed}
 use Rattle.frames.specs.Equality.{SameConfiguration}
 use Rattle.checkpoints.specs.Segment.{SegmentRun, IsRun}
 use Rattle.std.proofs.lemmas.List.{length-append}
-use Rattle.schedule_trie.specs.Cut.{Cut, piece_at, note_of, keys_in, has, Once, IsCut}
+use Rattle.schedule_trie.specs.Trie.{TrieOf, segment_at, note_of, keys_in, has, Once, IsCut}
 use Rattle.schedule_trie.specs.Climbs.{keys_up_to, keys_to, last_of, HasClimbedTo}
-use Rattle.schedule_trie.proofs.Climbs.{IsStepUp, step_up}
-use Rattle.schedule_trie.proofs.NoRepeats.{Once-from_linked, once_before}
-use Rattle.schedule_trie.proofs.KeyPositions.{parting}
+use Rattle.schedule_trie.proofs.climbs.Climbs.{IsStepUp, step_up}
+use Rattle.schedule_trie.proofs.lists.NoRepeats.{Once-from_linked, once_before}
+use Rattle.schedule_trie.proofs.lists.KeyPositions.{parting}
 use Rattle.cutoff.specs.Fitting.{StoredRun, steps_at}
 use Rattle.cutoff.specs.Links.{without_register, run_number, IsExitOf, IsStored, IsLinked}
 use Rattle.cutoff.specs.Plans.{FitsDownTo, FitsDown}
@@ -31,47 +31,47 @@ not_below key k ks h = by (nat_eq key k) refl
     by false e = sym (ap (λ x. x || has key ks) e) ∙ h
 
 -- a run at a key fits if the runs above lead to its entry
-module _ {R P : Type 0} (E : R → R → Bool) (b : Behaviour P) (cut : Cut (StoredRun R P)) (key : ℕ) (run : SegmentRun R P) where
-  pub down_parts : (c : Configuration R P) (front back : List ℕ) → has key front ≡ false → FitsDown E b cut key run c (front ++ key ∷ back)
-      → (run.steps ≡ steps_at cut key) × FitsDownTo E b cut c front run.entry
+module _ {R P : Type 0} (E : R → R → Bool) (b : Behaviour P) (trie : TrieOf (StoredRun R P)) (key : ℕ) (run : SegmentRun R P) where
+  pub down_parts : (c : Configuration R P) (front back : List ℕ) → has key front ≡ false → FitsDown E b trie key run c (front ++ key ∷ back)
+      → (run.steps ≡ steps_at trie key) × FitsDownTo E b trie c front run.entry
   down_parts c [] back lacks (inl f) = (f.1.steps, f.1.entry)
   down_parts c [] back lacks (inr f) = absurd (f.0 refl)
   down_parts c (k ∷ front) back lacks (inl f) = absurd (not_first key k front lacks f.0)
   down_parts c (k ∷ front) back lacks (inr f) =
-      let rest = down_parts (replayed b c (steps_at cut k)) front back (not_below key k front lacks) f.2 in
+      let rest = down_parts (replayed b c (steps_at trie k)) front back (not_below key k front lacks) f.2 in
       (rest.0, (f.1, rest.1))
 
-  pub down_whole : (c : Configuration R P) (front back : List ℕ) → has key front ≡ false → run.steps ≡ steps_at cut key → FitsDownTo E b cut c front run.entry
-      → FitsDown E b cut key run c (front ++ key ∷ back)
+  pub down_whole : (c : Configuration R P) (front back : List ℕ) → has key front ≡ false → run.steps ≡ steps_at trie key → FitsDownTo E b trie c front run.entry
+      → FitsDown E b trie key run c (front ++ key ∷ back)
   down_whole c [] back lacks steps down = inl (refl, record { steps = steps; entry = down })
   down_whole c (k ∷ front) back lacks steps down =
-      inr (not_first key k front lacks, down.0, down_whole (replayed b c (steps_at cut k)) front back (not_below key k front lacks) steps down.1)
+      inr (not_first key k front lacks, down.0, down_whole (replayed b c (steps_at trie k)) front back (not_below key k front lacks) steps down.1)
 
 -- if no run is stored, none leads on
-down_noted : {R P : Type 0} (E : R → R → Bool) (b : Behaviour P) (cut : Cut (StoredRun R P)) (k : ℕ) (entry c : Configuration R P) (front : List ℕ)
-    → note_of (piece_at cut.pieces k) ≡ None → FitsDownTo E b cut c (front ++ k ∷ []) entry → ⊥
-down_noted E b cut k entry c [] none d = no_note_no_fit E cut c k none d.0
-down_noted E b cut k entry c (j ∷ front) none d = down_noted E b cut k entry (replayed b c (steps_at cut j)) front none d.1
+down_noted : {R P : Type 0} (E : R → R → Bool) (b : Behaviour P) (trie : TrieOf (StoredRun R P)) (k : ℕ) (entry c : Configuration R P) (front : List ℕ)
+    → note_of (segment_at trie.segments k) ≡ None → FitsDownTo E b trie c (front ++ k ∷ []) entry → ⊥
+down_noted E b trie k entry c [] none d = no_note_no_fit E trie c k none d.0
+down_noted E b trie k entry c (j ∷ front) none d = down_noted E b trie k entry (replayed b c (steps_at trie j)) front none d.1
 
-pub climb_noted : {R P : Type 0} (E : R → R → Bool) (b : Behaviour P) (cut : Cut (StoredRun R P)) (k : ℕ) (entry c : Configuration R P) (keys : List ℕ) (at : Option ℕ)
-    → at ≡ Some k → HasClimbedTo keys at → note_of (piece_at cut.pieces k) ≡ None → FitsDownTo E b cut c (keys_to keys at) entry → ⊥
-climb_noted E b cut k entry c keys at here there none d =
+pub climb_noted : {R P : Type 0} (E : R → R → Bool) (b : Behaviour P) (trie : TrieOf (StoredRun R P)) (k : ℕ) (entry c : Configuration R P) (keys : List ℕ) (at : Option ℕ)
+    → at ≡ Some k → HasClimbedTo keys at → note_of (segment_at trie.segments k) ≡ None → FitsDownTo E b trie c (keys_to keys at) entry → ⊥
+climb_noted E b trie k entry c keys at here there none d =
     let p = parting keys k (subst (HasClimbedTo keys) here there) in
-    down_noted E b cut k entry c p.front none
-    (subst (λ l. FitsDownTo E b cut c l entry) p.to (subst (λ o. FitsDownTo E b cut c (keys_to keys o) entry) here d))
+    down_noted E b trie k entry c p.front none
+    (subst (λ l. FitsDownTo E b trie c l entry) p.to (subst (λ o. FitsDownTo E b trie c (keys_to keys o) entry) here d))
 
 -- one more segment, with the run stored there
 module _ {R P : Type 0} (E : R → R → Bool) (per : IsPartialEquivalence E) (is : R → Behaviour P) (alike : (x y : R) → E x y ≡ true → is x ≡ is y) (b : Behaviour P)
-    (cut : Cut (StoredRun R P)) (k : ℕ) (s : StoredRun R P) (noted : note_of (piece_at cut.pieces k) ≡ Some s) (true_run : IsRun (is s.run.entry.register) s.run)
+    (trie : TrieOf (StoredRun R P)) (k : ℕ) (s : StoredRun R P) (noted : note_of (segment_at trie.segments k) ≡ Some s) (true_run : IsRun (is s.run.entry.register) s.run)
     (entry : Configuration R P) where
-  pub down_before : (c : Configuration R P) (front : List ℕ) → is c.register ≡ b → FitsDownTo E b cut c (front ++ k ∷ []) entry
-      → SameConfiguration E entry s.run.exit × FitsDownTo E b cut c front s.run.entry
+  pub down_before : (c : Configuration R P) (front : List ℕ) → is c.register ≡ b → FitsDownTo E b trie c (front ++ k ∷ []) entry
+      → SameConfiguration E entry s.run.exit × FitsDownTo E b trie c front s.run.entry
   down_before c [] home d =
-      let fits = fits_from_note E cut c k s noted d.0 in
-      let exit = exit_same E is alike b c (steps_at cut k) s.run home true_run fits in
-      (same_trans E per entry (replayed b c (steps_at cut k)) s.run.exit d.1 (same_symm E per s.run.exit (replayed b c (steps_at cut k)) exit), fits.entry)
+      let fits = fits_from_note E trie c k s noted d.0 in
+      let exit = exit_same E is alike b c (steps_at trie k) s.run home true_run fits in
+      (same_trans E per entry (replayed b c (steps_at trie k)) s.run.exit d.1 (same_symm E per s.run.exit (replayed b c (steps_at trie k)) exit), fits.entry)
   down_before c (j ∷ front) home d =
-      let rest = down_before (replayed b c (steps_at cut j)) front (ap is (register_kept b c (steps_at cut j)) ∙ home) d.1 in
+      let rest = down_before (replayed b c (steps_at trie j)) front (ap is (register_kept b c (steps_at trie j)) ∙ home) d.1 in
       (rest.0, (d.0, rest.1))
 
 -- a run's exit is the entry of one that was linked to it
@@ -95,24 +95,24 @@ link_came E h exits segment s told a linked = (subst (λ o. IsExitOf exits o (wi
 
 -- one step of the climb: a claim about the segments down to one becomes one about those above it
 module _ {R P : Type 0} (E : R → R → Bool) (per : IsPartialEquivalence E) (is : R → Behaviour P) (alike : (x y : R) → E x y ≡ true → is x ≡ is y)
-    (cut : Cut (StoredRun R P)) (start entry : Configuration R P) (keys : List ℕ) (k : ℕ) (s : StoredRun R P) (noted : note_of (piece_at cut.pieces k) ≡ Some s)
+    (trie : TrieOf (StoredRun R P)) (start entry : Configuration R P) (keys : List ℕ) (k : ℕ) (s : StoredRun R P) (noted : note_of (segment_at trie.segments k) ≡ Some s)
     (true_run : IsRun (is s.run.entry.register) s.run) where
   abbrev b : Behaviour P
   b = is start.register
 
-  pub climb_ends : has k keys ≡ true → FitsDownTo E b cut start (keys_up_to k keys) entry → SameConfiguration E entry s.run.exit
+  pub climb_ends : has k keys ≡ true → FitsDownTo E b trie start (keys_up_to k keys) entry → SameConfiguration E entry s.run.exit
   climb_ends h d =
       let p = parting keys k h in
-      (down_before E per is alike b cut k s noted true_run entry start p.front refl (subst (λ l. FitsDownTo E b cut start l entry) p.to d)).0
+      (down_before E per is alike b trie k s noted true_run entry start p.front refl (subst (λ l. FitsDownTo E b trie start l entry) p.to d)).0
 
   module _ (above : Option ℕ) (step : IsStepUp keys k above) where
-    pub climb_down : FitsDownTo E b cut start (keys_up_to k keys) entry → FitsDownTo E b cut start (keys_to keys above) s.run.entry
+    pub climb_down : FitsDownTo E b trie start (keys_up_to k keys) entry → FitsDownTo E b trie start (keys_to keys above) s.run.entry
     climb_down d =
-        (down_before E per is alike b cut k s noted true_run entry start (keys_to keys above) refl (subst (λ l. FitsDownTo E b cut start l entry) step.is d)).1
+        (down_before E per is alike b trie k s noted true_run entry start (keys_to keys above) refl (subst (λ l. FitsDownTo E b trie start l entry) step.is d)).1
 
 -- no key is twice on a branch
-pub path_once : {T : Type 0} (cut : Cut T) → IsCut cut → (i : ℕ) → Once (keys_in cut.strands i)
-path_once cut whole i = Once-from_linked whole.shares.above (keys_in cut.strands i) (whole.shares.linked i)
+pub path_once : {T : Type 0} (trie : TrieOf T) → IsCut trie → (i : ℕ) → Once (keys_in trie.branches i)
+path_once trie whole i = Once-from_linked whole.shares.above (keys_in trie.branches i) (whole.shares.linked i)
 
 -- at most as many keys as the branch has
 few_to : (keys : List ℕ) (last : Option ℕ) → HasClimbedTo keys last → length (keys_to keys last) ≤ length keys
@@ -146,49 +146,49 @@ shorter keys k above step = ap length step.is ∙ length-append (keys_to keys ab
 
 -- a run at a key, and the segment above it
 module _ {R P : Type 0} (E : R → R → Bool) (per : IsPartialEquivalence E) (is : R → Behaviour P) (alike : (x y : R) → E x y ≡ true → is x ≡ is y)
-    (cut : Cut (StoredRun R P)) (whole : IsCut cut) (start : Configuration R P) (key : ℕ) (above : Option ℕ)
-    (each : (i : ℕ) (front back : List ℕ) → keys_in cut.strands i ≡ front ++ key ∷ back → above ≡ last_of front) where
-  pub above_step : (i : ℕ) → has key (keys_in cut.strands i) ≡ true → IsStepUp (keys_in cut.strands i) key above
-  above_step i h = step_up (keys_in cut.strands i) key above (path_once cut whole i) h (λ front back e. each i front back e)
+    (trie : TrieOf (StoredRun R P)) (whole : IsCut trie) (start : Configuration R P) (key : ℕ) (above : Option ℕ)
+    (each : (i : ℕ) (front back : List ℕ) → keys_in trie.branches i ≡ front ++ key ∷ back → above ≡ last_of front) where
+  pub above_step : (i : ℕ) → has key (keys_in trie.branches i) ≡ true → IsStepUp (keys_in trie.branches i) key above
+  above_step i h = step_up (keys_in trie.branches i) key above (path_once trie whole i) h (λ front back e. each i front back e)
 
-  lacks_above : (i : ℕ) (step : IsStepUp (keys_in cut.strands i) key above) → has key (keys_to (keys_in cut.strands i) above) ≡ false
-  lacks_above i step = once_before (keys_to (keys_in cut.strands i) above) key step.back (subst Once step.parts (path_once cut whole i))
+  lacks_above : (i : ℕ) (step : IsStepUp (keys_in trie.branches i) key above) → has key (keys_to (keys_in trie.branches i) above) ≡ false
+  lacks_above i step = once_before (keys_to (keys_in trie.branches i) above) key step.back (subst Once step.parts (path_once trie whole i))
 
-  pub fits_whole : (run : SegmentRun R P) (i : ℕ) → has key (keys_in cut.strands i) ≡ true → run.steps ≡ steps_at cut key
-      → FitsDownTo E (is start.register) cut start (keys_to (keys_in cut.strands i) above) run.entry
-      → FitsDown E (is start.register) cut key run start (keys_in cut.strands i)
+  pub fits_whole : (run : SegmentRun R P) (i : ℕ) → has key (keys_in trie.branches i) ≡ true → run.steps ≡ steps_at trie key
+      → FitsDownTo E (is start.register) trie start (keys_to (keys_in trie.branches i) above) run.entry
+      → FitsDown E (is start.register) trie key run start (keys_in trie.branches i)
   fits_whole run i h steps down =
       let step = above_step i h in
-      subst (FitsDown E (is start.register) cut key run start) (sym step.parts)
-      (down_whole E (is start.register) cut key run start (keys_to (keys_in cut.strands i) above) step.back (lacks_above i step) steps down)
+      subst (FitsDown E (is start.register) trie key run start) (sym step.parts)
+      (down_whole E (is start.register) trie key run start (keys_to (keys_in trie.branches i) above) step.back (lacks_above i step) steps down)
 
-  pub fits_parts : (run : SegmentRun R P) (i : ℕ) → has key (keys_in cut.strands i) ≡ true → FitsDown E (is start.register) cut key run start (keys_in cut.strands i)
-      → (run.steps ≡ steps_at cut key) × FitsDownTo E (is start.register) cut start (keys_to (keys_in cut.strands i) above) run.entry
+  pub fits_parts : (run : SegmentRun R P) (i : ℕ) → has key (keys_in trie.branches i) ≡ true → FitsDown E (is start.register) trie key run start (keys_in trie.branches i)
+      → (run.steps ≡ steps_at trie key) × FitsDownTo E (is start.register) trie start (keys_to (keys_in trie.branches i) above) run.entry
   fits_parts run i h fits =
       let step = above_step i h in
-      down_parts E (is start.register) cut key run start (keys_to (keys_in cut.strands i) above) step.back (lacks_above i step)
-      (subst (FitsDown E (is start.register) cut key run start) step.parts fits)
+      down_parts E (is start.register) trie key run start (keys_to (keys_in trie.branches i) above) step.back (lacks_above i step)
+      (subst (FitsDown E (is start.register) trie key run start) step.parts fits)
 
 -- a run of other steps fits nowhere
-pub down_steps : {R P : Type 0} (E : R → R → Bool) (b : Behaviour P) (cut : Cut (StoredRun R P)) (key : ℕ) (run : SegmentRun R P) (c : Configuration R P) (keys : List ℕ)
-    → FitsDown E b cut key run c keys → run.steps ≡ steps_at cut key
-down_steps E b cut key run c [] f = absurd f
-down_steps E b cut key run c (k ∷ ks) (inl f) = f.1.steps ∙ ap (steps_at cut) (sym f.0)
-down_steps E b cut key run c (k ∷ ks) (inr f) = down_steps E b cut key run (replayed b c (steps_at cut k)) ks f.2
+pub down_steps : {R P : Type 0} (E : R → R → Bool) (b : Behaviour P) (trie : TrieOf (StoredRun R P)) (key : ℕ) (run : SegmentRun R P) (c : Configuration R P) (keys : List ℕ)
+    → FitsDown E b trie key run c keys → run.steps ≡ steps_at trie key
+down_steps E b trie key run c [] f = absurd f
+down_steps E b trie key run c (k ∷ ks) (inl f) = f.1.steps ∙ ap (steps_at trie) (sym f.0)
+down_steps E b trie key run c (k ∷ ks) (inr f) = down_steps E b trie key run (replayed b c (steps_at trie k)) ks f.2
 
 -- the number of the run right above is that of a run whose exit is this run's entry
 pub number_came : {R P : Type 0} (E : R → R → Bool) (per : IsPartialEquivalence E) (is : R → Behaviour P) (alike : (x y : R) → E x y ≡ true → is x ≡ is y)
-    (cut : Cut (StoredRun R P)) (start entry : Configuration R P) (keys : List ℕ) (above : Option ℕ) (next : ℕ) (o : Option (StoredRun R P)) → HasClimbedTo keys above
-    → note_named cut above ≡ o → IfSome o (λ s. IsRun (is s.run.entry.register) s.run)
-    → FitsDownTo E (is start.register) cut start (keys_to keys above) entry → IsLinked E start.register next None (without_register start) cut
-    → IsLinked E start.register next (run_number o) (without_register entry) cut
-number_came E per is alike cut start entry keys above next None h e true_run d l = record { exits = l.exits; as_many = l.as_many; each = l.each; reached_exit = tt }
-number_came E per is alike cut start entry keys None next (Some s) h e true_run d l = cc
-number_came E per is alike cut start entry keys (Some k) next (Some s) h e true_run d l =
-    let same = climb_ends E per is alike cut start entry keys k s e true_run h d in
+    (trie : TrieOf (StoredRun R P)) (start entry : Configuration R P) (keys : List ℕ) (above : Option ℕ) (next : ℕ) (o : Option (StoredRun R P)) → HasClimbedTo keys above
+    → note_named trie above ≡ o → IfSome o (λ s. IsRun (is s.run.entry.register) s.run)
+    → FitsDownTo E (is start.register) trie start (keys_to keys above) entry → IsLinked E start.register next None (without_register start) trie
+    → IsLinked E start.register next (run_number o) (without_register entry) trie
+number_came E per is alike trie start entry keys above next None h e true_run d l = record { exits = l.exits; as_many = l.as_many; each = l.each; reached_exit = tt }
+number_came E per is alike trie start entry keys None next (Some s) h e true_run d l = cc
+number_came E per is alike trie start entry keys (Some k) next (Some s) h e true_run d l =
+    let same = climb_ends E per is alike trie start entry keys k s e true_run h d in
     record {
       exits = l.exits;
       as_many = l.as_many;
       each = l.each;
-      reached_exit = subst (IsExitOf l.exits s.id) (sym (alone_same E entry s.run.exit same)) (stored_at E start.register l.exits cut k s (l.each k) e).id;
+      reached_exit = subst (IsExitOf l.exits s.id) (sym (alone_same E entry s.run.exit same)) (stored_at E start.register l.exits trie k s (l.each k) e).id;
     }

@@ -16,7 +16,7 @@ use Rattle.schedule_trie.specs.Forest.{Forest, Branch, branch, slot, name_of, st
 use Rattle.schedule_trie.specs.Names.{is_well_formed}
 use Rattle.cutoff.specs.Charts.{StepsFit}
 use Rattle.cutoff.proofs.Edits.{FitAll, fits_everywhere, at_cell_fits}
-use Rattle.schedule_trie.proofs.LimbLists.{steps-numbered}
+use Rattle.branch_terms.proofs.LimbLists.{steps-numbered}
 
 -- the result of a command that wasn't refused
 pub passed : (refused : Bool) (e : Refusal) (r : Result Forest Refusal) (g : Forest) → cond refused (Err e) r ≡ Ok g → r ≡ Ok g

@@ -5,8 +5,8 @@ use Rattle.std.specs.Option.{option_map}
 use Rattle.frames.specs.Behaviour.{Behaviour}
 use Rattle.frames.specs.Configuration.{Configuration, replayed}
 use Rattle.schedule_trie.specs.Forest.{step_of}
-use Rattle.schedule_trie.specs.Cut.{Cut, piece_at, slots_of, note_of}
-use Rattle.schedule_trie.proofs.NoRepeats.{has-head, has-tail}
+use Rattle.schedule_trie.specs.Trie.{TrieOf, segment_at, slots_of, note_of}
+use Rattle.schedule_trie.proofs.lists.NoRepeats.{has-head, has-tail}
 use Rattle.checkpoints.specs.Segment.{SegmentRun}
 use Rattle.cutoff.specs.Fitting.{StoredRun, RunPart, RunFits, Fits, run_of, steps_at}
 use Rattle.cutoff.specs.Settles.{IsWork, Settles}
@@ -14,17 +14,17 @@ use Rattle.cutoff.specs.EarlyCutoff.{AreKept, AreFitted, replayed_through, Stops
 
 module _ {R P : Type 0} (E : R → R → Bool) (b : Behaviour P) where
   -- runs that fitted still fit if cells and runs are unchanged
-  fitted_still : (was old : Cut (StoredRun R P)) (c : Configuration R P) (ks : List ℕ) → AreKept was old ks → AreFitted b was E c ks → AreFitted b old E c ks
+  fitted_still : (was old : TrieOf (StoredRun R P)) (c : Configuration R P) (ks : List ℕ) → AreKept was old ks → AreFitted b was E c ks → AreFitted b old E c ks
   fitted_still was old c [] kept f = tt
   fitted_still was old c (k ∷ ks) kept f =
-      let here : piece_at old.pieces k ≡ piece_at was.pieces k = kept k (has-head k ks) in
+      let here : segment_at old.segments k ≡ segment_at was.segments k = kept k (has-head k ks) in
       let steps : steps_at was k ≡ steps_at old k = ap (λ o. map step_of (slots_of o)) (sym here) in (
         subst (λ o. MatchOption (option_map run_of (note_of o)) ⊥ (RunFits E c (map step_of (slots_of o)))) (sym here) f.0,
         fitted_still was old (replayed b c (steps_at old k)) ks (λ j h. kept j (has-tail j k ks h))
             (subst (λ l. AreFitted b was E (replayed b c l) ks) steps f.1),
       )
 
-  module _ (old new : Cut (StoredRun R P)) where
+  module _ (old new : TrieOf (StoredRun R P)) where
     no_work : (c : Configuration R P) (k : ℕ) (run : SegmentRun R P) (n : ℕ) → Fits E old c k → IsWork E old c k run n → n ≡ 0
     no_work c k run n fits (inl w) = w.2
     no_work c k run n fits (inr w) = absurd (w.0 fits)

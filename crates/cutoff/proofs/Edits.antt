@@ -12,11 +12,11 @@ use Rattle.schedule_trie.specs.declared.limits.Limits.{Limits}
 use Rattle.schedule_trie.specs.declared.refusal.Refusal.{Refusal}
 use Rattle.schedule_trie.specs.declared.refusal.Refusal.TheVariants.{NoPlace, Full}
 use Rattle.schedule_trie.specs.Forest.{Forest, Branch, step_of, slots_in, opened, opening_forest, everywhere, with_step, replaced, replaced_by, index_of, cell_in, at_cell, on_found, replace_step}
-use Rattle.schedule_trie.specs.Cut.{Cut, Piece, piece_at, note_of, forest, KeepsNotes, IsBlank, IsCut}
-use Rattle.schedule_trie.proofs.LimbLists.{steps-numbered}
-use Rattle.schedule_trie.proofs.Notes.{notes_kept}
+use Rattle.schedule_trie.specs.Trie.{TrieOf, SegmentOf, segment_at, note_of, forest, KeepsNotes, IsBlank, IsCut}
+use Rattle.branch_terms.proofs.LimbLists.{steps-numbered}
+use Rattle.schedule_trie.proofs.segments.Notes.{notes_kept}
 use Rattle.cutoff.specs.Fitting.{StoredRun}
-use Rattle.cutoff.specs.Links.{IsStored, IsTruePiece, IsLinked}
+use Rattle.cutoff.specs.Links.{IsStored, IsTrueSegment, IsLinked}
 use Rattle.cutoff.specs.Charts.{IsCharted, StepsFit}
 
 -- a property of each item of two lists
@@ -77,27 +77,27 @@ module _ {P : Type 0} (b : Behaviour P) where
 
 -- stored runs that are true
 module _ {R P : Type 0} (E : R → R → Bool) (h : R) (exits : List (Configuration ⊤ P)) where
-  pub unnoted_told : (o : Option (Piece (StoredRun R P))) → note_of o ≡ None → IsTruePiece E h exits o
+  pub unnoted_told : (o : Option (SegmentOf (StoredRun R P))) → note_of o ≡ None → IsTrueSegment E h exits o
   unnoted_told None e = tt
   unnoted_told (Some p) e = subst (λ n. MatchOption n ⊤ (IsStored E h exits (map step_of p.slots))) (sym e) tt
 
-pub linked_kept : {R P : Type 0} (E : R → R → Bool) (h : R) (next : ℕ) (above : Option ℕ) (c : Configuration ⊤ P) (old new : Cut (StoredRun R P)) → KeepsNotes old new
+pub linked_kept : {R P : Type 0} (E : R → R → Bool) (h : R) (next : ℕ) (above : Option ℕ) (c : Configuration ⊤ P) (old new : TrieOf (StoredRun R P)) → KeepsNotes old new
     → IsLinked E h next above c old → IsLinked E h next above c new
 linked_kept E h next above c old new notes l =
-    record { exits = l.exits; as_many = l.as_many; each = notes_kept (IsTruePiece E h l.exits) (unnoted_told E h l.exits) old new notes l.each; reached_exit = l.reached_exit }
+    record { exits = l.exits; as_many = l.as_many; each = notes_kept (IsTrueSegment E h l.exits) (unnoted_told E h l.exits) old new notes l.each; reached_exit = l.reached_exit }
 
 -- a new chart has the invariant
-pub started : {R P : Type 0} (E : R → R → Bool) (is : R → Behaviour P) (register : R) (value : ℕ) (cut : Cut (StoredRun R P)) (start : Configuration R P)
-    → value < (is register).values → StepsFit (is register) (forest cut) → IsCut cut → IsBlank cut → start ≡ initial_configuration (is register) register value
-    → IsCharted E is 0 None None (record { cut = cut; start = start; value = value })
-started {R} {P} E is register value cut start within fits whole blank e =
+pub started : {R P : Type 0} (E : R → R → Bool) (is : R → Behaviour P) (register : R) (value : ℕ) (trie : TrieOf (StoredRun R P)) (start : Configuration R P)
+    → value < (is register).values → StepsFit (is register) (forest trie) → IsCut trie → IsBlank trie → start ≡ initial_configuration (is register) register value
+    → IsCharted E is 0 None None (record { trie = trie; start = start; value = value })
+started {R} {P} E is register value trie start within fits whole blank e =
     let r : register ≡ start.register = sym (ap (λ c. c.register) e) in
     record {
       within = subst (λ x. value < (is x).values) r within;
       begins = subst (λ x. start ≡ initial_configuration (is x) x value) r e;
-      fits = subst (λ x. StepsFit (is x) (forest cut)) r fits;
+      fits = subst (λ x. StepsFit (is x) (forest trie)) r fits;
       whole = whole;
-      linked = record { exits = []; as_many = refl; each = λ k. unnoted_told E start.register [] (piece_at cut.pieces k) (blank k); reached_exit = tt };
+      linked = record { exits = []; as_many = refl; each = λ k. unnoted_told E start.register [] (segment_at trie.segments k) (blank k); reached_exit = tt };
       marked = tt;
       fresh_marked = tt;
     }

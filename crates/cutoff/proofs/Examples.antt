@@ -9,8 +9,8 @@ use Rattle.frames.specs.Configuration.{Configuration, initial_configuration, rep
 use Rattle.frames.specs.Equality.{SameConfiguration}
 use Rattle.checkpoints.specs.Segment.{SegmentRun}
 use Rattle.schedule_trie.specs.Forest.{slot}
-use Rattle.schedule_trie.specs.Cut.{Cut, Piece, strand, piece, piece_at, note_of, with_note}
-use Rattle.cutoff.specs.Fitting.{StoredRun, RunPart, IsOnWayTo, checked_piece}
+use Rattle.schedule_trie.specs.Trie.{TrieOf, SegmentOf, keyed_branch, segment, segment_at, note_of, with_note}
+use Rattle.cutoff.specs.Fitting.{StoredRun, RunPart, IsOnWayTo, checked_segment}
 use Rattle.cutoff.specs.Settles.{Settles, HasFitting, IsSettledLast, last_part}
 use Rattle.cutoff.specs.Charts.{Charted}
 use Rattle.cutoff.specs.Plans.{job_of, with_job, Plans, IsInstalled}
@@ -51,16 +51,16 @@ stored run = record { run = run; id = None; link = None; checked = None }
 
 -- `main` alone: one segment, at key 0, with the one step in which process 0 invokes a write of 1;
 -- with or without a stored run
-abbrev with_run : Option Run → Cut (StoredRun ⊤ SafePoint)
+abbrev with_run : Option Run → TrieOf (StoredRun ⊤ SafePoint)
 with_run run = record {
-  strands = strand (codes "main") (0 ∷ []) ∷ [];
-  pieces = Some (piece (slot 0 (Write 0 1) ∷ []) (option_map stored run)) ∷ [];
+  branches = keyed_branch (codes "main") (0 ∷ []) ∷ [];
+  segments = Some (segment (slot 0 (Write 0 1) ∷ []) (option_map stored run)) ∷ [];
   made = 1;
   limits = record { cells = 9; branches = 9; log = 9 };
 }
 
 abbrev chart_with : Option Run → Charted ⊤ SafePoint
-chart_with run = record { cut = with_run run; start = start; value = 0 }
+chart_with run = record { trie = with_run run; start = start; value = 0 }
 
 abbrev part : RunPart ⊤ SafePoint
 part = record { run = writing; count = 1 }
@@ -135,22 +135,22 @@ IsInstalled-holds = record {
     stored writing,
     with_run (Some writing),
     refl,
-    record { here = refl; others = others; strands = refl; limits = refl; unchanged = refl },
-    record { strands = refl; limits = refl; unchanged = refl; each = λ k. inl refl },
+    record { here = refl; others = others; branches = refl; limits = refl; unchanged = refl },
+    record { branches = refl; limits = refl; unchanged = refl; each = λ k. inl refl },
   );
   start = refl;
   value = refl;
 }
   where
-    others : (j : ℕ) → (j ≡ 0 → ⊥) → piece_at (with_run (Some writing)).pieces j ≡ piece_at (with_run None).pieces j
+    others : (j : ℕ) → (j ≡ 0 → ⊥) → segment_at (with_run (Some writing)).segments j ≡ segment_at (with_run None).segments j
     others zero other = absurd (other refl)
     others (suc j) other = refl
 
 -- nothing is stored
 IsInstalled-fails : IsInstalled (chart_with None) (chart_with None) 0 writing → ⊥
-IsInstalled-fails h = by (piece_at h.noted.1.pieces 0) h.noted.3.here (h.noted.4.each 0)
+IsInstalled-fails h = by (segment_at h.noted.1.segments 0) h.noted.3.here (h.noted.4.each 0)
   where
-    by : (o : Option (Piece (StoredRun ⊤ SafePoint))) → o ≡ option_map (with_note (Some h.noted.0)) (piece_at (with_run None).pieces 0)
-        → (piece_at (with_run None).pieces 0 ≡ o) ⊎ (IsOnWayTo h.noted.1 0 0 × (piece_at (with_run None).pieces 0 ≡ option_map (checked_piece h.noted.0.checked) o)) → ⊥
+    by : (o : Option (SegmentOf (StoredRun ⊤ SafePoint))) → o ≡ option_map (with_note (Some h.noted.0)) (segment_at (with_run None).segments 0)
+        → (segment_at (with_run None).segments 0 ≡ o) ⊎ (IsOnWayTo h.noted.1 0 0 × (segment_at (with_run None).segments 0 ≡ option_map (checked_segment h.noted.0.checked) o)) → ⊥
     by o e (inl same) = no_note h.noted.0 (ap note_of (same ∙ e))
-    by o e (inr again) = no_note _ (ap note_of (again.1 ∙ ap (option_map (checked_piece h.noted.0.checked)) e))
+    by o e (inr again) = no_note _ (ap note_of (again.1 ∙ ap (option_map (checked_segment h.noted.0.checked)) e))

@@ -9,9 +9,9 @@ use Rattle.frames.specs.Configuration.{Configuration, stepped, replayed}
 use Rattle.frames.specs.Equality.{SameConfiguration}
 use Rattle.checkpoints.specs.Segment.{SegmentRun, IsRun}
 use Rattle.schedule_trie.specs.Forest.{step_of}
-use Rattle.schedule_trie.specs.Cut.{Cut, Piece, piece_at, slots_of, note_of}
+use Rattle.schedule_trie.specs.Trie.{TrieOf, SegmentOf, segment_at, slots_of, note_of}
 use Rattle.cutoff.specs.Fitting.{StoredRun, run_of, RunFits, Fits, steps_at, run_at}
-use Rattle.cutoff.specs.Links.{without_register, IsStored, IsTruePiece}
+use Rattle.cutoff.specs.Links.{without_register, IsStored, IsTrueSegment}
 
 -- a replay keeps the register, and makes the same of an equal register
 pub register_kept : {R P : Type 0} (b : Behaviour P) (c : Configuration R P) (steps : List Step) → (replayed b c steps).register ≡ c.register
@@ -50,12 +50,12 @@ module _ {R P : Type 0} (E : R → R → Bool) where
     pub run_fits_alike : (c d : Configuration R P) (segment : List Step) (run : SegmentRun R P) → SameConfiguration E c d → RunFits E c segment run → RunFits E d segment run
     run_fits_alike c d segment run e f = record { steps = f.steps; entry = same_trans run.entry c d f.entry e }
 
-    pub fits_alike : (cut : Cut (StoredRun R P)) (c d : Configuration R P) (k : ℕ) → SameConfiguration E c d → Fits E cut c k → Fits E cut d k
-    fits_alike cut c d k e = by (run_at cut k)
+    pub fits_alike : (trie : TrieOf (StoredRun R P)) (c d : Configuration R P) (k : ℕ) → SameConfiguration E c d → Fits E trie c k → Fits E trie d k
+    fits_alike trie c d k e = by (run_at trie k)
       where
-        by : (o : Option (SegmentRun R P)) → MatchOption o ⊥ (RunFits E c (steps_at cut k)) → MatchOption o ⊥ (RunFits E d (steps_at cut k))
+        by : (o : Option (SegmentRun R P)) → MatchOption o ⊥ (RunFits E c (steps_at trie k)) → MatchOption o ⊥ (RunFits E d (steps_at trie k))
         by None h = h
-        by (Some run) h = run_fits_alike c d (steps_at cut k) run e h
+        by (Some run) h = run_fits_alike c d (steps_at trie k) run e h
 
   -- the exit of a run that fits is the configuration that replay of the segment reaches
   pub exit_same : (is : R → Behaviour P) → ((x y : R) → E x y ≡ true → is x ≡ is y) → (b : Behaviour P) (c : Configuration R P) (segment : List Step) (run : SegmentRun R P)
@@ -66,22 +66,22 @@ module _ {R P : Type 0} (E : R → R → Bool) where
       subst (λ d. SameConfiguration E d (replayed b c segment)) (sym exit) (replayed_same b run.entry c segment f.entry)
 
   -- the stored run at a key is true
-  module _ (h : R) (exits : List (Configuration ⊤ P)) (cut : Cut (StoredRun R P)) (k : ℕ) (s : StoredRun R P) where
-    pub stored_at : IsTruePiece E h exits (piece_at cut.pieces k) → note_of (piece_at cut.pieces k) ≡ Some s → IsStored E h exits (steps_at cut k) s
-    stored_at = by (piece_at cut.pieces k)
+  module _ (h : R) (exits : List (Configuration ⊤ P)) (trie : TrieOf (StoredRun R P)) (k : ℕ) (s : StoredRun R P) where
+    pub stored_at : IsTrueSegment E h exits (segment_at trie.segments k) → note_of (segment_at trie.segments k) ≡ Some s → IsStored E h exits (steps_at trie k) s
+    stored_at = by (segment_at trie.segments k)
       where
-        by : (o : Option (Piece (StoredRun R P))) → IsTruePiece E h exits o → note_of o ≡ Some s → IsStored E h exits (map step_of (slots_of o)) s
+        by : (o : Option (SegmentOf (StoredRun R P))) → IsTrueSegment E h exits o → note_of o ≡ Some s → IsStored E h exits (map step_of (slots_of o)) s
         by None t e = cc
         by (Some p) t e = subst (λ n. MatchOption n ⊤ (IsStored E h exits (map step_of p.slots))) e t
 
   -- if a stored run fits at a key, it is the one noted there
-  pub fits_from_note : (cut : Cut (StoredRun R P)) (c : Configuration R P) (k : ℕ) (s : StoredRun R P) → note_of (piece_at cut.pieces k) ≡ Some s
-      → Fits E cut c k → RunFits E c (steps_at cut k) s.run
-  fits_from_note cut c k s e f = subst (λ n. MatchOption (option_map run_of n) ⊥ (RunFits E c (steps_at cut k))) e f
+  pub fits_from_note : (trie : TrieOf (StoredRun R P)) (c : Configuration R P) (k : ℕ) (s : StoredRun R P) → note_of (segment_at trie.segments k) ≡ Some s
+      → Fits E trie c k → RunFits E c (steps_at trie k) s.run
+  fits_from_note trie c k s e f = subst (λ n. MatchOption (option_map run_of n) ⊥ (RunFits E c (steps_at trie k))) e f
 
-  pub fits_to_note : (cut : Cut (StoredRun R P)) (c : Configuration R P) (k : ℕ) (s : StoredRun R P) → note_of (piece_at cut.pieces k) ≡ Some s
-      → RunFits E c (steps_at cut k) s.run → Fits E cut c k
-  fits_to_note cut c k s e f = subst (λ n. MatchOption (option_map run_of n) ⊥ (RunFits E c (steps_at cut k))) (sym e) f
+  pub fits_to_note : (trie : TrieOf (StoredRun R P)) (c : Configuration R P) (k : ℕ) (s : StoredRun R P) → note_of (segment_at trie.segments k) ≡ Some s
+      → RunFits E c (steps_at trie k) s.run → Fits E trie c k
+  fits_to_note trie c k s e f = subst (λ n. MatchOption (option_map run_of n) ⊥ (RunFits E c (steps_at trie k))) (sym e) f
 
-  pub no_note_no_fit : (cut : Cut (StoredRun R P)) (c : Configuration R P) (k : ℕ) → note_of (piece_at cut.pieces k) ≡ None → Fits E cut c k → ⊥
-  no_note_no_fit cut c k e f = subst (λ n. MatchOption (option_map run_of n) ⊥ (RunFits E c (steps_at cut k))) e f
+  pub no_note_no_fit : (trie : TrieOf (StoredRun R P)) (c : Configuration R P) (k : ℕ) → note_of (segment_at trie.segments k) ≡ None → Fits E trie c k → ⊥
+  no_note_no_fit trie c k e f = subst (λ n. MatchOption (option_map run_of n) ⊥ (RunFits E c (steps_at trie k))) e f

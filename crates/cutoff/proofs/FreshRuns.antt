@@ -5,11 +5,11 @@ use Rattle.std.specs.Option.{option_map, option_or}
 use Rattle.frames.specs.Behaviour.{Behaviour}
 use Rattle.frames.specs.Configuration.{Configuration, replayed}
 use Rattle.schedule_trie.specs.Forest.{step_of}
-use Rattle.schedule_trie.specs.Cut.{Cut, piece_at, note_of, slots_of, keys_in, has, Once, IsCut, IsNoted}
+use Rattle.schedule_trie.specs.Trie.{TrieOf, segment_at, note_of, slots_of, keys_in, has, Once, IsCut, IsNoted}
 use Rattle.schedule_trie.specs.Climbs.{keys_up_to}
-use Rattle.schedule_trie.proofs.Climbs.{up_to-here}
-use Rattle.schedule_trie.proofs.NoRepeats.{has-append, has_not_from, has-in}
-use Rattle.schedule_trie.proofs.KeyPositions.{parting, IsParting}
+use Rattle.schedule_trie.proofs.climbs.Climbs.{up_to-here}
+use Rattle.schedule_trie.proofs.lists.NoRepeats.{has-append, has_not_from, has-in}
+use Rattle.schedule_trie.proofs.lists.KeyPositions.{parting, IsParting}
 use Rattle.cutoff.specs.Fitting.{StoredRun, run_of, steps_at}
 use Rattle.cutoff.specs.Links.{IsGiven, IsLinked, run_checked}
 use Rattle.cutoff.specs.Prefixes.{RunsDown, RunsTo, IsMarked, AreFresh, exit_or_start, exit_or}
@@ -26,13 +26,13 @@ lacks_front : (key : ℕ) (front back : List ℕ) → has key (front ++ back) �
 lacks_front key front back h =
     has_not_from key front (λ e. true≢false (sym (has-append key front back ∙ ap (λ b. b || has key back) e) ∙ h))
 
-module _ {R P : Type 0} (E : R → R → Bool) (is : R → Behaviour P) (old new : Cut (StoredRun R P)) (start : Configuration R P) (key : ℕ) (s : StoredRun R P) (whole : IsCut old) (noted : IsNoted old new key (Some s)) where
+module _ {R P : Type 0} (E : R → R → Bool) (is : R → Behaviour P) (old new : TrieOf (StoredRun R P)) (start : Configuration R P) (key : ℕ) (s : StoredRun R P) (whole : IsCut old) (noted : IsNoted old new key (Some s)) where
   abbrev b : Behaviour P
   b = is start.register
 
   steps_kept : (j : ℕ) → steps_at old j ≡ steps_at new j
   steps_kept j = by_key j key _
-      (λ e. subst (λ z. steps_at old z ≡ steps_at new z) (sym e) (ap (map step_of) (sym (noted_cells s (piece_at old.pieces key) (piece_at new.pieces key) noted.here))))
+      (λ e. subst (λ z. steps_at old z ≡ steps_at new z) (sym e) (ap (map step_of) (sym (noted_cells s (segment_at old.segments key) (segment_at new.segments key) noted.here))))
       (λ ne. ap (λ o. map step_of (slots_of o)) (sym (noted.others j ne)))
 
   still_down : (c : Configuration R P) (keys : List ℕ) (end : Configuration R P) → has key keys ≡ false → RunsDown E is old b c keys end → RunsDown E is new b c keys end
@@ -49,24 +49,24 @@ module _ {R P : Type 0} (E : R → R → Bool) (is : R → Behaviour P) (old new
         (subst (λ l. RunsDown E is old b (replayed b c l) (front ++ key ∷ back) end) (steps_kept k) was.1) to.1,
   )
 
-  down_again : (i k : ℕ) → IsMarked E is new start (Some key) → IsParting (keys_in old.strands i) k → (end : Configuration R P)
-      → RunsDown E is old b start (keys_up_to k (keys_in old.strands i)) end → RunsDown E is new b start (keys_up_to k (keys_in old.strands i)) end
+  down_again : (i k : ℕ) → IsMarked E is new start (Some key) → IsParting (keys_in old.branches i) k → (end : Configuration R P)
+      → RunsDown E is old b start (keys_up_to k (keys_in old.branches i)) end → RunsDown E is new b start (keys_up_to k (keys_in old.branches i)) end
   down_again i k at_key p end down = by (has key path) refl
     where
       path : List ℕ
-      path = keys_up_to k (keys_in old.strands i)
+      path = keys_up_to k (keys_in old.branches i)
 
       by : (t : Bool) → has key path ≡ t → RunsDown E is new b start path end
       by false e = still_down start path end e down
       by true e =
           let q = parting path key e in
-          let keys : keys_in old.strands i ≡ q.front ++ key ∷ (q.back ++ p.back) =
+          let keys : keys_in old.branches i ≡ q.front ++ key ∷ (q.back ++ p.back) =
           p.is ∙ sym (append_assoc p.front (k ∷ []) p.back) ∙ ap (λ l. l ++ p.back) (sym p.to ∙ q.is) ∙ append_assoc q.front (key ∷ q.back) p.back in
-          let there : has key (keys_in old.strands i) ≡ true = ap (has key) keys ∙ has-in key q.front (q.back ++ p.back) in
-          let up : keys_up_to key (keys_in old.strands i) ≡ q.front ++ key ∷ [] = ap (keys_up_to key) keys ∙ up_to-here key q.front (q.back ++ p.back) q.lacks in
+          let there : has key (keys_in old.branches i) ≡ true = ap (has key) keys ∙ has-in key q.front (q.back ++ p.back) in
+          let up : keys_up_to key (keys_in old.branches i) ≡ q.front ++ key ∷ [] = ap (keys_up_to key) keys ∙ up_to-here key q.front (q.back ++ p.back) q.lacks in
           let lacks : has key q.back ≡ false = lacks_front key q.back p.back (once_after q.front key (q.back ++ p.back) (subst Once keys (path_once old whole i))) in
-          let to = subst (λ ss. RunsTo E is new start (Some key) (keys_in ss i)) noted.strands
-          (at_key i (subst (λ ss. has key (keys_in ss i) ≡ true) (sym noted.strands) there)) in
+          let to = subst (λ ss. RunsTo E is new start (Some key) (keys_in ss i)) noted.branches
+          (at_key i (subst (λ ss. has key (keys_in ss i) ≡ true) (sym noted.branches) there)) in
           subst (λ l. RunsDown E is new b start l end) (sym q.is)
           (glued start q.front q.back end (exit_or_start new start (Some key)) lacks (subst (λ l. RunsDown E is old b start l end) q.is down)
           (subst (λ l. RunsDown E is new b start l (exit_or_start new start (Some key))) up to))
@@ -74,27 +74,27 @@ module _ {R P : Type 0} (E : R → R → Bool) (is : R → Behaviour P) (old new
   -- a segment stays marked, if the one whose run is new is marked
   mark_kept : (k : ℕ) → (k ≡ key → ⊥) → IsMarked E is new start (Some key) → IsMarked E is old start (Some k) → IsMarked E is new start (Some k)
   mark_kept k other at_key marked = λ i h.
-      let there : has k (keys_in old.strands i) ≡ true = subst (λ ss. has k (keys_in ss i) ≡ true) noted.strands h in
+      let there : has k (keys_in old.branches i) ≡ true = subst (λ ss. has k (keys_in ss i) ≡ true) noted.branches h in
       let end : exit_or_start old start (Some k) ≡ exit_or_start new start (Some k) =
       ap (λ o. exit_or start (option_map run_of (note_of o))) (sym (noted.others k other)) in
-      subst (λ ss. RunsTo E is new start (Some k) (keys_in ss i)) (sym noted.strands)
-      (subst (RunsDown E is new b start (keys_up_to k (keys_in old.strands i))) end
-      (down_again i k at_key (parting (keys_in old.strands i) k there) (exit_or_start old start (Some k)) (marked i there)))
+      subst (λ ss. RunsTo E is new start (Some k) (keys_in ss i)) (sym noted.branches)
+      (subst (RunsDown E is new b start (keys_up_to k (keys_in old.branches i))) end
+      (down_again i k at_key (parting (keys_in old.branches i) k there) (exit_or_start old start (Some k)) (marked i there)))
 
-  number_kept : (k : ℕ) → (k ≡ key → ⊥) → run_checked (note_of (piece_at new.pieces k)) ≡ run_checked (note_of (piece_at old.pieces k))
+  number_kept : (k : ℕ) → (k ≡ key → ⊥) → run_checked (note_of (segment_at new.segments k)) ≡ run_checked (note_of (segment_at old.segments k))
   number_kept k other = ap (λ o. run_checked (note_of o)) (noted.others k other)
 
-  fresh_from : (first : ℕ) → IsMarked E is new start (Some key) → ((k a : ℕ) → run_checked (note_of (piece_at old.pieces k)) ≡ Some a → first ≤ a → IsMarked E is old start (Some k))
+  fresh_from : (first : ℕ) → IsMarked E is new start (Some key) → ((k a : ℕ) → run_checked (note_of (segment_at old.segments k)) ≡ Some a → first ≤ a → IsMarked E is old start (Some k))
       → AreFresh E is new start (Some first)
   fresh_from first at_key was = λ k a number late.
       by_key k key _ (λ e. subst (λ z. IsMarked E is new start (Some z)) (sym e) at_key)
       (λ ne. mark_kept k ne at_key (was k a (sym (number_kept k ne) ∙ number) late))
 
   -- no stored run was found to fit with a number that wasn't given
-  not_given : (h : R) (next : ℕ) (c : Configuration ⊤ P) → IsLinked E h next None c old → (k a : ℕ) → run_checked (note_of (piece_at old.pieces k)) ≡ Some a → next ≤ a → ⊥
-  not_given h next c linked k a number late = by (note_of (piece_at old.pieces k)) refl number
+  not_given : (h : R) (next : ℕ) (c : Configuration ⊤ P) → IsLinked E h next None c old → (k a : ℕ) → run_checked (note_of (segment_at old.segments k)) ≡ Some a → next ≤ a → ⊥
+  not_given h next c linked k a number late = by (note_of (segment_at old.segments k)) refl number
     where
-      by : (o : Option (StoredRun R P)) → note_of (piece_at old.pieces k) ≡ o → run_checked o ≡ Some a → ⊥
+      by : (o : Option (StoredRun R P)) → note_of (segment_at old.segments k) ≡ o → run_checked o ≡ Some a → ⊥
       by None at e = cc
       by (Some t) at e =
           let given : a < length linked.exits = subst (IsGiven (length linked.exits)) e (stored_at E h linked.exits old k t (linked.each k) at).checked in

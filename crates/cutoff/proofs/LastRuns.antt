@@ -6,12 +6,12 @@ use Rattle.frames.specs.Behaviour.{Behaviour}
 use Rattle.frames.specs.Configuration.{Configuration}
 use Rattle.frames.specs.Recorded.{AllFit}
 use Rattle.schedule_trie.specs.Forest.{step_of, index_of}
-use Rattle.schedule_trie.specs.Cut.{Cut, piece_at, slots_of, line, has, keys_in, forest, LiesInPath}
+use Rattle.schedule_trie.specs.Trie.{TrieOf, segment_at, slots_of, line, has, keys_in, forest, LiesInPath}
 use Rattle.schedule_trie.specs.Climbs.{keys_up_to, keys_to}
-use Rattle.schedule_trie.proofs.Climbs.{up_to-here}
-use Rattle.schedule_trie.proofs.Lines.{slots_in_on}
-use Rattle.schedule_trie.proofs.NoRepeats.{has-in}
-use Rattle.schedule_trie.proofs.KeyPositions.{parting}
+use Rattle.schedule_trie.proofs.climbs.Climbs.{up_to-here}
+use Rattle.schedule_trie.proofs.branches.Lines.{slots_in_on}
+use Rattle.schedule_trie.proofs.lists.NoRepeats.{has-in}
+use Rattle.schedule_trie.proofs.lists.KeyPositions.{parting}
 use Rattle.cutoff.specs.Fitting.{StoredRun, RunPart, counted_of, reached, KeepsRuns}
 use Rattle.cutoff.specs.Settles.{Settles, IsFilled, SettlesTo, IsSettledLast, last_part}
 use Rattle.cutoff.specs.Prefixes.{RunsTo, IsKnown, AreKeysAfter, IsMarked, IsPlaceIn, IsHung, IsLeft, note_named}
@@ -24,10 +24,10 @@ last_of_parts (q ∷ []) p = refl
 last_of_parts (q ∷ r ∷ before) p = last_of_parts (r ∷ before) p
 
 -- what is left of each branch with `key`, if runs hang from `hung` down to `key`
-module _ {R P : Type 0} (E : R → R → Bool) (equal : IsEquivalence E) (is : R → Behaviour P) (cut : Cut (StoredRun R P)) (start : Configuration R P) (hung key : ℕ) (known front : Option ℕ) (left : List ℕ)
-    (hangs : (i : ℕ) → has key (keys_in cut.strands i) ≡ true → IsHung E is cut hung key i) (down : IsKnown E is cut start hung known) (behind : AreKeysAfter cut hung known front left)
-    (fits : StepsFit (is start.register) (forest cut)) where
-  pub left_in : (i count place : ℕ) → IsPlaceIn cut key count place i → IsLeft E is cut start front left hung key count place i
+module _ {R P : Type 0} (E : R → R → Bool) (equal : IsEquivalence E) (is : R → Behaviour P) (trie : TrieOf (StoredRun R P)) (start : Configuration R P) (hung key : ℕ) (known front : Option ℕ) (left : List ℕ)
+    (hangs : (i : ℕ) → has key (keys_in trie.branches i) ≡ true → IsHung E is trie hung key i) (down : IsKnown E is trie start hung known) (behind : AreKeysAfter trie hung known front left)
+    (fits : StepsFit (is start.register) (forest trie)) where
+  pub left_in : (i count place : ℕ) → IsPlaceIn trie key count place i → IsLeft E is trie start front left hung key count place i
   left_in i count place lies =
       let on = hangs i lies.there in
       let path = behind.1 i on.there in
@@ -37,36 +37,36 @@ module _ {R P : Type 0} (E : R → R → Bool) (equal : IsEquivalence E) (is : R
           lies = lies;
           reached = path.0;
           down = by behind.0 on.there;
-          path = on.path ∙ ap (λ l. l ++ on.below) path.1 ∙ append_assoc (keys_to (keys_in cut.strands i) front) left on.below;
-          fits = subst (λ l. AllFit (is start.register) (map step_of l)) (slots_in_on (piece_at cut.pieces) cut.strands i) (fits i);
+          path = on.path ∙ ap (λ l. l ++ on.below) path.1 ∙ append_assoc (keys_to (keys_in trie.branches i) front) left on.below;
+          fits = subst (λ l. AllFit (is start.register) (map step_of l)) (slots_in_on (segment_at trie.segments) trie.branches i) (fits i);
         };
       }
     where
-      by : (front ≡ known) ⊎ (front ≡ None) → has hung (keys_in cut.strands i) ≡ true → RunsTo E is cut start front (keys_in cut.strands i)
-      by (inl e) there = subst (λ o. RunsTo E is cut start o (keys_in cut.strands i)) (sym e) (down i there).1
+      by : (front ≡ known) ⊎ (front ≡ None) → has hung (keys_in trie.branches i) ≡ true → RunsTo E is trie start front (keys_in trie.branches i)
+      by (inl e) there = subst (λ o. RunsTo E is trie start o (keys_in trie.branches i)) (sym e) (down i there).1
       by (inr e) there =
-          subst (λ o. RunsTo E is cut start o (keys_in cut.strands i)) (sym e)
+          subst (λ o. RunsTo E is trie start o (keys_in trie.branches i)) (sym e)
           (record { register = equal.refl start.register; memory = refl; running = refl; stopped = refl })
 
 -- a settled key can be marked
-pub marked_now : {R P : Type 0} (E : R → R → Bool) (is : R → Behaviour P) (cut new : Cut (StoredRun R P)) (start : Configuration R P) (key count n : ℕ) → 0 < count → count ≤ length (slots_of (piece_at cut.pieces key))
-    → new.strands ≡ cut.strands → ((i m place : ℕ) → IsPlaceIn cut key m place i → SettlesTo E is cut new start key m place i n) → IsMarked E is new start (Some key)
-marked_now E is cut new start key count n some few same settles i h =
+pub marked_now : {R P : Type 0} (E : R → R → Bool) (is : R → Behaviour P) (trie new : TrieOf (StoredRun R P)) (start : Configuration R P) (key count n : ℕ) → 0 < count → count ≤ length (slots_of (segment_at trie.segments key))
+    → new.branches ≡ trie.branches → ((i m place : ℕ) → IsPlaceIn trie key m place i → SettlesTo E is trie new start key m place i n) → IsMarked E is new start (Some key)
+marked_now E is trie new start key count n some few same settles i h =
     let there = subst (λ s. has key (keys_in s i) ≡ true) same h in
-    let p = parting (keys_in cut.strands i) key there in
-    let lies : IsPlaceIn cut key count (length (line (piece_at cut.pieces) p.front) + count) i = record {
+    let p = parting (keys_in trie.branches i) key there in
+    let lies : IsPlaceIn trie key count (length (line (segment_at trie.segments) p.front) + count) i = record {
       there = there;
       ends = record { front = p.front; is = p.to; sum = refl };
       some = some;
       few = few;
     } in
-    subst (λ s. RunsTo E is new start (Some key) (keys_in s i)) (sym same) (settles i count (length (line (piece_at cut.pieces) p.front) + count) lies).down
+    subst (λ s. RunsTo E is new start (Some key) (keys_in s i)) (sym same) (settles i count (length (line (segment_at trie.segments) p.front) + count) lies).down
 
 -- if the last of the first `place` cells is at `offset` in the segment `key`, the first `place`
 -- cells end with the first offset + 1 cells of that segment
-pub place_found : {T : Type 0} (cut : Cut T) (i place key offset : ℕ) → LiesInPath (piece_at cut.pieces) (keys_in cut.strands i) (place - 1) (key, offset) → (place ≡ 0 → ⊥)
-    → IsPlaceIn cut key (offset + 1) place i
-place_found cut i place key offset lies positive = record {
+pub place_found : {T : Type 0} (trie : TrieOf T) (i place key offset : ℕ) → LiesInPath (segment_at trie.segments) (keys_in trie.branches i) (place - 1) (key, offset) → (place ≡ 0 → ⊥)
+    → IsPlaceIn trie key (offset + 1) place i
+place_found trie i place key offset lies positive = record {
   there = ap (has key) lies.is ∙ has-in key lies.front lies.back;
   ends = record {
     front = lies.front;
@@ -77,22 +77,22 @@ place_found cut i place key offset lies positive = record {
   few = let w = lies.within in omega (arith, w);
 }
   where
-    some_more : (place : ℕ) → (place ≡ 0 → ⊥) → length (line (piece_at cut.pieces) lies.front) + offset ≡ place - 1 → length (line (piece_at cut.pieces) lies.front) + (offset + 1) ≡ place
+    some_more : (place : ℕ) → (place ≡ 0 → ⊥) → length (line (segment_at trie.segments) lies.front) + offset ≡ place - 1 → length (line (segment_at trie.segments) lies.front) + (offset + 1) ≡ place
     some_more zero positive b = absurd (positive refl)
     some_more (suc n) positive b = omega (arith, b)
 
 -- the offset of that cell is below each number that the place is below
-pub found_fits : {T : Type 0} (cut : Cut T) (i place key offset n : ℕ) → LiesInPath (piece_at cut.pieces) (keys_in cut.strands i) (place - 1) (key, offset) → (place ≡ 0 → ⊥)
+pub found_fits : {T : Type 0} (trie : TrieOf T) (i place key offset n : ℕ) → LiesInPath (segment_at trie.segments) (keys_in trie.branches i) (place - 1) (key, offset) → (place ≡ 0 → ⊥)
     → place < n → (offset < n) × (offset + 1 < n)
-found_fits cut i place key offset n lies positive small = let sum = (place_found cut i place key offset lies positive).ends.sum in (omega arith, omega arith)
+found_fits trie i place key offset n lies positive small = let sum = (place_found trie i place key offset lies positive).ends.sum in (omega arith, omega arith)
 
 -- a settle of no cells returns no run, and replays nothing
 pub none_settled : {R P : Type 0} (E : R → R → Bool) (b : Behaviour P) (c : Charted R P) (name : List ℕ) (place : ℕ) → place ≡ 0 → IsSettledLast E b c c name place None 0
 none_settled {R} {P} E b c name place none = (
   [],
   record {
-    settles = subst (λ p. Settles E b c.cut c.cut c.start p (reached c.cut p (keys_named c.cut name)) [] 0) (sym none)
-        (subst (λ ks. Settles E b c.cut c.cut c.start 0 ks [] 0) (sym (reached_none c.cut (keys_named c.cut name))) (refl, refl));
+    settles = subst (λ p. Settles E b c.trie c.trie c.start p (reached c.trie p (keys_named c.trie name)) [] 0) (sym none)
+        (subst (λ ks. Settles E b c.trie c.trie c.start 0 ks [] 0) (sym (reached_none c.trie (keys_named c.trie name))) (refl, refl));
     sum = sym none;
   },
   refl,
@@ -100,24 +100,24 @@ none_settled {R} {P} E b c name place none = (
 
 -- the result of a settle of the first `place` cells, which end in the segment `key`
 pub last_settled : {R P : Type 0} (E : R → R → Bool) (is : R → Behaviour P) (old new : Charted R P) (name : List ℕ) (place key count i n : ℕ) (o : Option (StoredRun R P))
-    → index_of (forest old.cut).branches name ≡ Some i → SettlesTo E is old.cut new.cut old.start key count place i n → o ≡ note_named new.cut (Some key)
+    → index_of (forest old.trie).branches name ≡ Some i → SettlesTo E is old.trie new.trie old.start key count place i n → o ≡ note_named new.trie (Some key)
     → IsSettledLast E (is old.start.register) old new name place (option_map (counted_of count) o) n
 last_settled E is old new name place key count i n o found s stored =
-    let named : keys_named old.cut name ≡ keys_in old.cut.strands i = ap (λ o. keys_or o old.cut.strands) found in (
+    let named : keys_named old.trie name ≡ keys_in old.trie.branches i = ap (λ o. keys_or o old.trie.branches) found in (
       s.parts,
       record {
-        settles = subst (λ ks. Settles E (is old.start.register) old.cut new.cut old.start place (reached old.cut place ks) s.parts n) (sym named) s.settles;
+        settles = subst (λ ks. Settles E (is old.start.register) old.trie new.trie old.start place (reached old.trie place ks) s.parts n) (sym named) s.settles;
         sum = s.sum;
       },
       ap last_part s.last.is ∙ last_of_parts s.last.before (counted_of count s.last.stored) ∙ ap (option_map (counted_of count)) (sym (stored ∙ s.last.noted)),
     )
 
 -- a settle keeps or fills each stored run, by the name of the branch
-pub keeps_named : {R P : Type 0} (E : R → R → Bool) (is : R → Behaviour P) (v : Charted R P) (old new : Cut (StoredRun R P)) (start : Configuration R P) (value : ℕ)
-    → ◌≡◌ {A = Charted R P} (record { cut = old; start = start; value = value }) v → (name : List ℕ) (place i : ℕ) → index_of (forest old).branches name ≡ Some i
-    → KeepsRuns old new (IsFilled E (is start.register) old new start (reached old place (keys_in old.strands i)))
-    → KeepsRuns v.cut new (IsFilled E (is v.start.register) v.cut new v.start (reached_by v.cut name place))
+pub keeps_named : {R P : Type 0} (E : R → R → Bool) (is : R → Behaviour P) (v : Charted R P) (old new : TrieOf (StoredRun R P)) (start : Configuration R P) (value : ℕ)
+    → ◌≡◌ {A = Charted R P} (record { trie = old; start = start; value = value }) v → (name : List ℕ) (place i : ℕ) → index_of (forest old).branches name ≡ Some i
+    → KeepsRuns old new (IsFilled E (is start.register) old new start (reached old place (keys_in old.branches i)))
+    → KeepsRuns v.trie new (IsFilled E (is v.start.register) v.trie new v.start (reached_by v.trie name place))
 keeps_named {R} {P} E is v old new start value same name place i found keeps =
-    let named : keys_named old name ≡ keys_in old.strands i = ap (λ o. keys_or o old.strands) found in
-    subst (λ (w : Charted R P). KeepsRuns w.cut new (IsFilled E (is w.start.register) w.cut new w.start (reached_by w.cut name place))) same
+    let named : keys_named old name ≡ keys_in old.branches i = ap (λ o. keys_or o old.branches) found in
+    subst (λ (w : Charted R P). KeepsRuns w.trie new (IsFilled E (is w.start.register) w.trie new w.start (reached_by w.trie name place))) same
     (subst (λ ks. KeepsRuns old new (IsFilled E (is start.register) old new start (reached old place ks))) (sym named) keeps)

@@ -7,11 +7,11 @@ use Rattle.std.proofs.Math.Seq.{drop-cons}
 use Rattle.std.proofs.lemmas.List.{append_cancel_left, append_cancel_right}
 use Rattle.frames.specs.Behaviour.{Behaviour}
 use Rattle.frames.specs.Configuration.{Configuration}
-use Rattle.schedule_trie.specs.Cut.{Cut, keys_in, has}
+use Rattle.schedule_trie.specs.Trie.{TrieOf, keys_in, has}
 use Rattle.schedule_trie.specs.Climbs.{keys_up_to, keys_to, last_from}
-use Rattle.schedule_trie.proofs.NoRepeats.{has-in, has-left}
-use Rattle.schedule_trie.proofs.OwnParts.{last_reached}
-use Rattle.schedule_trie.proofs.KeyPositions.{parting}
+use Rattle.schedule_trie.proofs.lists.NoRepeats.{has-in, has-left}
+use Rattle.schedule_trie.proofs.limbs.OwnParts.{last_reached}
+use Rattle.schedule_trie.proofs.lists.KeyPositions.{parting}
 use Rattle.cutoff.specs.Fitting.{StoredRun, run_of, run_at}
 use Rattle.cutoff.specs.Prefixes.{HasTrueRun, RunsDown, RunsTo, Hangs, IsMarked, AreKeysAfter, IsHung, exit_or_start, exit_or, run_named}
 use Rattle.cutoff.specs.Settles.{SettlesTo}
@@ -19,16 +19,16 @@ use Rattle.cutoff.proofs.Prefixes.{down_same, down_more}
 use Rattle.cutoff.proofs.RestWalks.{IsGoing, hanging_settles}
 
 -- the keys after the one that others hang from, listed again
-module _ {R P : Type 0} (E : R → R → Bool) (is : R → Behaviour P) (old cut : Cut (StoredRun R P)) (hung key i : ℕ) (last : Option ℕ) (keys : List ℕ) (same : cut.strands ≡ old.strands)
-    (h : IsHung E is old hung key i) (there : has key (keys_in old.strands i) ≡ true) (behind : AreKeysAfter cut key (Some hung) last keys)
-    (stops : (i f : ℕ) → has key (keys_in cut.strands i) ≡ true → Some hung ≡ Some f → has f (keys_up_to key (keys_in cut.strands i)) ≡ true → last ≡ Some hung) where
+module _ {R P : Type 0} (E : R → R → Bool) (is : R → Behaviour P) (old trie : TrieOf (StoredRun R P)) (hung key i : ℕ) (last : Option ℕ) (keys : List ℕ) (same : trie.branches ≡ old.branches)
+    (h : IsHung E is old hung key i) (there : has key (keys_in old.branches i) ≡ true) (behind : AreKeysAfter trie key (Some hung) last keys)
+    (stops : (i f : ℕ) → has key (keys_in trie.branches i) ≡ true → Some hung ≡ Some f → has f (keys_up_to key (keys_in trie.branches i)) ≡ true → last ≡ Some hung) where
   abbrev path : List ℕ
-  path = keys_in old.strands i
+  path = keys_in old.branches i
 
-  path_same : keys_in cut.strands i ≡ path
+  path_same : keys_in trie.branches i ≡ path
   path_same = ap (λ s. keys_in s i) same
 
-  there_now : has key (keys_in cut.strands i) ≡ true
+  there_now : has key (keys_in trie.branches i) ≡ true
   there_now = subst (λ l. has key l ≡ true) (sym path_same) there
 
   on_path : has hung (keys_up_to key path) ≡ true
@@ -42,7 +42,7 @@ module _ {R P : Type 0} (E : R → R → Bool) (is : R → Behaviour P) (old cut
       let now : keys_up_to key path ≡ keys_to path last ++ keys = subst (λ l. keys_up_to key l ≡ keys_to l last ++ keys) path_same (behind.1 i there_now).1 in
       append_cancel_left (keys_up_to hung path) h.below keys (sym h.path ∙ now ∙ ap (λ o. keys_to path o ++ keys) ends)
 
-module _ {R P : Type 0} (E : R → R → Bool) (is : R → Behaviour P) (old : Cut (StoredRun R P)) where
+module _ {R P : Type 0} (E : R → R → Bool) (is : R → Behaviour P) (old : TrieOf (StoredRun R P)) where
   -- the next of the runs that hang, and those after it
   pub hangs_next : (c : Configuration R P) (all : List ℕ) (index : ℕ) → index < length all → Hangs E is old c (drop index all)
       → (here : HasTrueRun E is old c (get_or all index 0)) × Hangs E is old here.stored.run.exit (drop (index + 1) all)
@@ -52,53 +52,53 @@ module _ {R P : Type 0} (E : R → R → Bool) (is : R → Behaviour P) (old : C
 
 -- if the run that others hang from stays stored, they are settled
 module _ {R P : Type 0} (E : R → R → Bool) (equal : IsEquivalence E) (per : IsPartialEquivalence E) (is : R → Behaviour P) (alike : (x y : R) → E x y ≡ true → is x ≡ is y)
-    (old cut : Cut (StoredRun R P)) (start : Configuration R P) (key count i place n : ℕ) (back : List ℕ) where
-  pub kept_settles : (hung : ℕ) (above : Option ℕ) (h : IsHung E is old hung key i) → IsGoing E is old cut start key count (keys_in old.strands i) h.below back place n above
-      → run_named cut above ≡ run_named old above → SettlesTo E is old cut start key count place i n
+    (old trie : TrieOf (StoredRun R P)) (start : Configuration R P) (key count i place n : ℕ) (back : List ℕ) where
+  pub kept_settles : (hung : ℕ) (above : Option ℕ) (h : IsHung E is old hung key i) → IsGoing E is old trie start key count (keys_in old.branches i) h.below back place n above
+      → run_named trie above ≡ run_named old above → SettlesTo E is old trie start key count place i n
   kept_settles hung above h g kept =
-      let keys = keys_in old.strands i in
+      let keys = keys_in old.branches i in
       let named : above ≡ Some hung = sym g.last ∙ ap (last_from None) (append_cancel_right g.done (keys_up_to hung keys) h.below (sym g.path ∙ h.path)) ∙ last_reached keys (Some hung) h.there in
-      let came : exit_or_start old start (Some hung) ≡ exit_or_start cut start above = ap (exit_or_start old start) (sym named) ∙ ap (exit_or start) (sym kept) in
-      hanging_settles E equal per is alike old cut start key count i place n h.below back above g (subst (λ c. Hangs E is old c h.below) came (h.hangs start))
+      let came : exit_or_start old start (Some hung) ≡ exit_or_start trie start above = ap (exit_or_start old start) (sym named) ∙ ap (exit_or start) (sym kept) in
+      hanging_settles E equal per is alike old trie start key count i place n h.below back above g (subst (λ c. Hangs E is old c h.below) came (h.hangs start))
 
   pub early_settles : (k : ℕ) (c : Configuration R P) (left : List ℕ) (here : HasTrueRun E is old c k) → Hangs E is old here.stored.run.exit left
-      → IsGoing E is old cut start key count (keys_in old.strands i) (left ++ []) back place n (Some k) → run_at cut k ≡ run_at old k
-      → SettlesTo E is old cut start key count place i n
+      → IsGoing E is old trie start key count (keys_in old.branches i) (left ++ []) back place n (Some k) → run_at trie k ≡ run_at old k
+      → SettlesTo E is old trie start key count place i n
   early_settles k c left here hangs g kept =
-      let came : here.stored.run.exit ≡ exit_or_start cut start (Some k) = sym (ap (exit_or start) (kept ∙ ap (option_map run_of) here.noted)) in
-      hanging_settles E equal per is alike old cut start key count i place n (left ++ []) back (Some k) g
+      let came : here.stored.run.exit ≡ exit_or_start trie start (Some k) = sym (ap (exit_or start) (kept ∙ ap (option_map run_of) here.noted)) in
+      hanging_settles E equal per is alike old trie start key count i place n (left ++ []) back (Some k) g
       (subst (λ d. Hangs E is old d (left ++ [])) came (subst (Hangs E is old here.stored.run.exit) (sym (append-nil left)) hangs))
 
 -- down a part that fits, and on from its last run to those that hang from it
-module _ {R P : Type 0} (E : R → R → Bool) (per : IsPartialEquivalence E) (is : R → Behaviour P) (alike : (x y : R) → E x y ≡ true → is x ≡ is y) (cut : Cut (StoredRun R P)) (start : Configuration R P) where
-  hung_down : (keys below : List ℕ) (above : Option ℕ) → RunsDown E is cut (is start.register) start keys (exit_or_start cut start above) → Hangs E is cut (exit_or_start cut start above) below
-      → RunsDown E is cut (is start.register) start (keys ++ below) (exit_or_start cut start (last_from above below))
-  hung_down keys [] above d h = subst (λ l. RunsDown E is cut (is start.register) start l (exit_or_start cut start above)) (sym (append-nil keys)) d
+module _ {R P : Type 0} (E : R → R → Bool) (per : IsPartialEquivalence E) (is : R → Behaviour P) (alike : (x y : R) → E x y ≡ true → is x ≡ is y) (trie : TrieOf (StoredRun R P)) (start : Configuration R P) where
+  hung_down : (keys below : List ℕ) (above : Option ℕ) → RunsDown E is trie (is start.register) start keys (exit_or_start trie start above) → Hangs E is trie (exit_or_start trie start above) below
+      → RunsDown E is trie (is start.register) start (keys ++ below) (exit_or_start trie start (last_from above below))
+  hung_down keys [] above d h = subst (λ l. RunsDown E is trie (is start.register) start l (exit_or_start trie start above)) (sym (append-nil keys)) d
   hung_down keys (k ∷ below) above d h =
       let s = h.0.stored in
-      let came : exit_or_start cut start (Some k) ≡ s.run.exit = ap (λ n. exit_or start (option_map run_of n)) h.0.noted in
-      let entry = down_same E per is alike cut (is start.register) start keys s.run.entry (exit_or_start cut start above) h.0.fits.entry d in
-      let more = down_more E per is alike cut k s h.0.noted h.0.true_run h.0.fits.steps (is start.register) start keys refl entry in
-      subst (λ l. RunsDown E is cut (is start.register) start l (exit_or_start cut start (last_from (Some k) below))) (append_assoc keys (k ∷ []) below)
-      (hung_down (keys ++ k ∷ []) below (Some k) (subst (RunsDown E is cut (is start.register) start (keys ++ k ∷ [])) (sym came) more) (subst (λ c. Hangs E is cut c below) (sym came) h.1))
+      let came : exit_or_start trie start (Some k) ≡ s.run.exit = ap (λ n. exit_or start (option_map run_of n)) h.0.noted in
+      let entry = down_same E per is alike trie (is start.register) start keys s.run.entry (exit_or_start trie start above) h.0.fits.entry d in
+      let more = down_more E per is alike trie k s h.0.noted h.0.true_run h.0.fits.steps (is start.register) start keys refl entry in
+      subst (λ l. RunsDown E is trie (is start.register) start l (exit_or_start trie start (last_from (Some k) below))) (append_assoc keys (k ∷ []) below)
+      (hung_down (keys ++ k ∷ []) below (Some k) (subst (RunsDown E is trie (is start.register) start (keys ++ k ∷ [])) (sym came) more) (subst (λ c. Hangs E is trie c below) (sym came) h.1))
 
   last_from-append : (above : Option ℕ) (keys below : List ℕ) → last_from above (keys ++ below) ≡ last_from (last_from above keys) below
   last_from-append above [] below = refl
   last_from-append above (k ∷ keys) below = last_from-append (Some k) keys below
 
-  pub hung_runs : (top front i : ℕ) → IsHung E is cut top front i → has front (keys_in cut.strands i) ≡ true → RunsTo E is cut start (Some top) (keys_in cut.strands i)
-      → RunsTo E is cut start (Some front) (keys_in cut.strands i)
+  pub hung_runs : (top front i : ℕ) → IsHung E is trie top front i → has front (keys_in trie.branches i) ≡ true → RunsTo E is trie start (Some top) (keys_in trie.branches i)
+      → RunsTo E is trie start (Some front) (keys_in trie.branches i)
   hung_runs top front i h there d =
-      let keys = keys_in cut.strands i in
+      let keys = keys_in trie.branches i in
       let named : last_from (Some top) h.below ≡ Some front =
       ap (λ o. last_from o h.below) (sym (last_reached keys (Some top) h.there)) ∙ sym (last_from-append None (keys_up_to top keys) h.below) ∙ ap (last_from None) (sym h.path) ∙ last_reached keys (Some front) there in
-      subst (λ o. RunsDown E is cut (is start.register) start (keys_up_to front keys) (exit_or_start cut start o)) named
-      (subst (λ l. RunsDown E is cut (is start.register) start l (exit_or_start cut start (last_from (Some top) h.below))) (sym h.path)
+      subst (λ o. RunsDown E is trie (is start.register) start (keys_up_to front keys) (exit_or_start trie start o)) named
+      (subst (λ l. RunsDown E is trie (is start.register) start l (exit_or_start trie start (last_from (Some top) h.below))) (sym h.path)
       (hung_down (keys_up_to top keys) h.below (Some top) d (h.hangs start)))
 
   -- if runs hang from the marked key down to `front`, stored runs fit down to `front`
-  pub hung_marked : (mark : Option ℕ) (top front i : ℕ) → IsMarked E is cut start mark → mark ≡ Some top → IsHung E is cut top front i → has front (keys_in cut.strands i) ≡ true
-      → RunsTo E is cut start (Some front) (keys_in cut.strands i)
+  pub hung_marked : (mark : Option ℕ) (top front i : ℕ) → IsMarked E is trie start mark → mark ≡ Some top → IsHung E is trie top front i → has front (keys_in trie.branches i) ≡ true
+      → RunsTo E is trie start (Some front) (keys_in trie.branches i)
   hung_marked mark top front i marked here h there =
-      let down = subst (IsMarked E is cut start) here marked in
+      let down = subst (IsMarked E is trie start) here marked in
       hung_runs top front i h there (down i h.there)

@@ -12,7 +12,7 @@ use Rattle.schedule_trie.specs.Limbs.{cells_of, forest_of, grow, grown, limb_of,
 use Rattle.cutoff.specs.Charts.{LimbsFit, StepsFit}
 use Rattle.cutoff.proofs.Commands.{fits_both, fits_one_more, fits_tail, fits_take, none_fit, passed}
 use Rattle.cutoff.proofs.Edits.{FitAll}
-use Rattle.schedule_trie.proofs.LimbLists.{steps-numbered}
+use Rattle.branch_terms.proofs.LimbLists.{steps-numbered}
 
 module _ {P : Type 0} (b : Behaviour P) where
   grown_fits : (f : Forest) (l : Limb) → StepsFit b f → AllFit b l.steps → StepsFit b (grown f l)

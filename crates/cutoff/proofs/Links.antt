@@ -7,10 +7,10 @@ use Rattle.std.proofs.lemmas.List.{length-append}
 use Rattle.frames.specs.declared.types.Step.{Step}
 use Rattle.frames.specs.Configuration.{Configuration}
 use Rattle.schedule_trie.specs.Forest.{step_of}
-use Rattle.schedule_trie.specs.Cut.{Cut, Piece, piece_at, slots_of, with_note, IsNoted}
+use Rattle.schedule_trie.specs.Trie.{TrieOf, SegmentOf, segment_at, slots_of, with_note, IsNoted}
 use Rattle.cutoff.specs.Fitting.{StoredRun, steps_at}
-use Rattle.cutoff.specs.Links.{without_register, IsExitOf, IsGiven, IsStored, IsTruePiece, IsLinked}
-use Rattle.schedule_trie.proofs.Lists.{slice_get-last}
+use Rattle.cutoff.specs.Links.{without_register, IsExitOf, IsGiven, IsStored, IsTrueSegment, IsLinked}
+use Rattle.branch_terms.proofs.Lists.{slice_get-last}
 
 -- one more exit
 slice_get_more : {X : Type 0} (xs ys : List X) (i : ℕ) (x : X) → slice_get xs i ≡ Some x → slice_get (xs ++ ys) i ≡ Some x
@@ -40,7 +40,7 @@ module _ {R P : Type 0} (E : R → R → Bool) (h : R) where
         checked = given_more exits more s.checked t.checked;
       }
 
-  pub told_more : (exits more : List (Configuration ⊤ P)) (o : Option (Piece (StoredRun R P))) → IsTruePiece E h exits o → IsTruePiece E h (exits ++ more) o
+  pub told_more : (exits more : List (Configuration ⊤ P)) (o : Option (SegmentOf (StoredRun R P))) → IsTrueSegment E h exits o → IsTrueSegment E h (exits ++ more) o
   told_more exits more None t = tt
   told_more exits more (Some p) t = by p.note t
     where
@@ -48,25 +48,25 @@ module _ {R P : Type 0} (E : R → R → Bool) (h : R) where
       by None t = tt
       by (Some s) t = stored_more exits more (map step_of p.slots) s t
 
-  told_here : (exits : List (Configuration ⊤ P)) (s : StoredRun R P) (o : Option (Piece (StoredRun R P))) → IsStored E h exits (map step_of (slots_of o)) s
-      → IsTruePiece E h exits (option_map (with_note (Some s)) o)
+  told_here : (exits : List (Configuration ⊤ P)) (s : StoredRun R P) (o : Option (SegmentOf (StoredRun R P))) → IsStored E h exits (map step_of (slots_of o)) s
+      → IsTrueSegment E h exits (option_map (with_note (Some s)) o)
   told_here exits s None t = tt
   told_here exits s (Some p) t = t
 
   -- a true run is stored at a segment
-  pub noted_told : (exits : List (Configuration ⊤ P)) (old new : Cut (StoredRun R P)) (k : ℕ) (s : StoredRun R P) → ((j : ℕ) → IsTruePiece E h exits (piece_at old.pieces j))
-      → IsNoted old new k (Some s) → IsStored E h exits (steps_at old k) s → (j : ℕ) → IsTruePiece E h exits (piece_at new.pieces j)
+  pub noted_told : (exits : List (Configuration ⊤ P)) (old new : TrieOf (StoredRun R P)) (k : ℕ) (s : StoredRun R P) → ((j : ℕ) → IsTrueSegment E h exits (segment_at old.segments j))
+      → IsNoted old new k (Some s) → IsStored E h exits (steps_at old k) s → (j : ℕ) → IsTrueSegment E h exits (segment_at new.segments j)
   noted_told exits old new k s each noted t j = by (nat_eq j k) refl
     where
-      by : (b : Bool) → nat_eq j k ≡ b → IsTruePiece E h exits (piece_at new.pieces j)
+      by : (b : Bool) → nat_eq j k ≡ b → IsTrueSegment E h exits (segment_at new.segments j)
       by true e =
           let same : j ≡ k = eqb-true j k e in
-          subst (λ i. IsTruePiece E h exits (piece_at new.pieces i)) (sym same) (subst (IsTruePiece E h exits) (sym noted.here) (told_here exits s (piece_at old.pieces k) t))
+          subst (λ i. IsTrueSegment E h exits (segment_at new.segments i)) (sym same) (subst (IsTrueSegment E h exits) (sym noted.here) (told_here exits s (segment_at old.segments k) t))
       by false e =
           let other : j ≡ k → ⊥ = λ same. true≢false (sym (eq-eqb j k same) ∙ e) in
-          subst (IsTruePiece E h exits) (sym (noted.others j other)) (each j)
+          subst (IsTrueSegment E h exits) (sym (noted.others j other)) (each j)
 
-  module _ (old new : Cut (StoredRun R P)) (k next : ℕ) (above : Option ℕ) (c : Configuration R P) (l : IsLinked E h next above (without_register c) old) (s : StoredRun R P)
+  module _ (old new : TrieOf (StoredRun R P)) (k next : ℕ) (above : Option ℕ) (c : Configuration R P) (l : IsLinked E h next above (without_register c) old) (s : StoredRun R P)
       (noted : IsNoted old new k (Some s)) where
     -- a stored run is stored again, linked to the run reached
     pub taken_linked : IsStored E h l.exits (steps_at old k) s → IsLinked E h next s.id (without_register s.run.exit) new
@@ -95,7 +95,7 @@ module _ {R P : Type 0} (E : R → R → Bool) (h : R) where
           exits = l.exits ++ without_register s.run.exit ∷ [];
           as_many = length-append l.exits (without_register s.run.exit ∷ []) ∙ ap (λ n. n + 1) l.as_many ∙ sym given.1;
           each =
-              noted_told (l.exits ++ without_register s.run.exit ∷ []) old new k s (λ j. told_more l.exits (without_register s.run.exit ∷ []) (piece_at old.pieces j) (l.each j)) noted
+              noted_told (l.exits ++ without_register s.run.exit ∷ []) old new k s (λ j. told_more l.exits (without_register s.run.exit ∷ []) (segment_at old.segments j) (l.each j)) noted
               (record {
                 own = own;
                 covers = covers;
@@ -107,6 +107,6 @@ module _ {R P : Type 0} (E : R → R → Bool) (h : R) where
         }
 
 -- numbers and links are true whatever the run reached, and for an equal register
-pub linked_none : {R P : Type 0} (E : R → R → Bool) (h : R) (next : ℕ) (above : Option ℕ) (c d : Configuration ⊤ P) (cut : Cut (StoredRun R P))
-    → IsLinked E h next above c cut → IsLinked E h next None d cut
-linked_none E h next above c d cut l = record { exits = l.exits; as_many = l.as_many; each = l.each; reached_exit = tt }
+pub linked_none : {R P : Type 0} (E : R → R → Bool) (h : R) (next : ℕ) (above : Option ℕ) (c d : Configuration ⊤ P) (trie : TrieOf (StoredRun R P))
+    → IsLinked E h next above c trie → IsLinked E h next None d trie
+linked_none E h next above c d trie l = record { exits = l.exits; as_many = l.as_many; each = l.each; reached_exit = tt }

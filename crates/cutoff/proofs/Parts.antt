@@ -10,7 +10,7 @@ use Rattle.frames.specs.Behaviour.{Behaviour}
 use Rattle.frames.specs.Configuration.{Configuration, replayed}
 use Rattle.checkpoints.specs.Segment.{SegmentRun}
 use Rattle.schedule_trie.specs.Forest.{index_of}
-use Rattle.schedule_trie.specs.Cut.{Cut, forest, keys_in}
+use Rattle.schedule_trie.specs.Trie.{TrieOf, forest, keys_in}
 use Rattle.cutoff.specs.Fitting.{StoredRun, RunPart, KeepsRuns, steps_at, run_at, reached, part_of, parts_of}
 use Rattle.cutoff.specs.Settles.{Settles, IsSettled, IsSettledLast}
 use Rattle.cutoff.specs.Charts.{Charted, keys_or, keys_named}
@@ -27,10 +27,10 @@ module _ {R P : Type 0} where
   parts_next place run runs some = ap (λ t. cond t [] (part run (min place (length run.steps)) ∷ parts_of (place - min place (length run.steps)) runs)) some
 
   -- if `parts` are those that a settle returns, they are the runs that it leaves stored
-  abbrev ReadsAs : (R → R → Bool) → Behaviour P → Cut (StoredRun R P) → Cut (StoredRun R P) → Configuration R P → ℕ → List ℕ → List (RunPart R P) → ℕ → Type 0
+  abbrev ReadsAs : (R → R → Bool) → Behaviour P → TrieOf (StoredRun R P) → TrieOf (StoredRun R P) → Configuration R P → ℕ → List ℕ → List (RunPart R P) → ℕ → Type 0
   ReadsAs E b old new c place keys parts n = Settles E b old new c place (reached old place keys) parts n → parts ≡ parts_of place (map (run_at new) keys)
 
-  pub settled_parts : (E : R → R → Bool) (b : Behaviour P) (old new : Cut (StoredRun R P)) (c : Configuration R P) (place : ℕ) (keys : List ℕ) (parts : List (RunPart R P)) (n : ℕ)
+  pub settled_parts : (E : R → R → Bool) (b : Behaviour P) (old new : TrieOf (StoredRun R P)) (c : Configuration R P) (place : ℕ) (keys : List ℕ) (parts : List (RunPart R P)) (n : ℕ)
       → ReadsAs E b old new c place keys parts n
   settled_parts E b old new c place [] parts n s = s.0
   settled_parts E b old new c place (k ∷ ks) parts n s =
@@ -57,18 +57,18 @@ module _ {R P : Type 0} where
       by on false e = some on e parts (subst (λ l. Settles E b old new c place l parts n) (ap (λ t. cond t [] (k ∷ reached old (place - length (steps_at old k)) ks)) e) s)
 
 -- reading: `runs` are read, of the keys before `index`; the others begin with `rest` cells
-module _ {R P Z : Type 0} (cut : Cut (StoredRun R P)) (keys : List ℕ) (index rest : ℕ) (runs : List (Arc (SegmentRun R P) Z × ℕ)) (all : List (RunPart R P))
-    (was : all ≡ map part_of runs ++ parts_of rest (map (run_at cut) (drop index keys))) where
+module _ {R P Z : Type 0} (trie : TrieOf (StoredRun R P)) (keys : List ℕ) (index rest : ℕ) (runs : List (Arc (SegmentRun R P) Z × ℕ)) (all : List (RunPart R P))
+    (was : all ≡ map part_of runs ++ parts_of rest (map (run_at trie) (drop index keys))) where
   opened : index < length keys → drop index keys ≡ get_or keys index 0 ∷ drop (index + 1) keys
   opened h = let step : suc index ≡ index + 1 = omega arith in drop-cons keys index 0 h ∙ ap (λ j. get_or keys index 0 ∷ drop j keys) step
 
-  pub read_next : (items : List (Arc (SegmentRun R P) Z × ℕ)) (x : Arc (SegmentRun R P) Z × ℕ) → index < length keys → (rest ≡ 0 → ⊥) → run_at cut (get_or keys index 0) ≡ Some (arc_value x.0)
-      → x.1 ≡ min rest (length (arc_value x.0).steps) → items ≡ runs ++ x ∷ [] → all ≡ map part_of items ++ parts_of (rest - x.1) (map (run_at cut) (drop (index + 1) keys))
+  pub read_next : (items : List (Arc (SegmentRun R P) Z × ℕ)) (x : Arc (SegmentRun R P) Z × ℕ) → index < length keys → (rest ≡ 0 → ⊥) → run_at trie (get_or keys index 0) ≡ Some (arc_value x.0)
+      → x.1 ≡ min rest (length (arc_value x.0).steps) → items ≡ runs ++ x ∷ [] → all ≡ map part_of items ++ parts_of (rest - x.1) (map (run_at trie) (drop (index + 1) keys))
   read_next items x h wanted stored count pushed =
       let run = arc_value x.0 in
-      let left = map (run_at cut) (drop (index + 1) keys) in
-      let here : parts_of rest (map (run_at cut) (drop index keys)) ≡ part run x.1 ∷ parts_of (rest - x.1) left =
-      ap (λ l. parts_of rest (map (run_at cut) l)) (opened h) ∙ ap (λ o. parts_of rest (o ∷ left)) stored ∙ parts_next rest run left (some (nat_eq rest 0) refl) ∙ ap (λ m. part run m ∷ parts_of (rest - m) left) (sym count) in
+      let left = map (run_at trie) (drop (index + 1) keys) in
+      let here : parts_of rest (map (run_at trie) (drop index keys)) ≡ part run x.1 ∷ parts_of (rest - x.1) left =
+      ap (λ l. parts_of rest (map (run_at trie) l)) (opened h) ∙ ap (λ o. parts_of rest (o ∷ left)) stored ∙ parts_next rest run left (some (nat_eq rest 0) refl) ∙ ap (λ m. part run m ∷ parts_of (rest - m) left) (sym count) in
       was ∙ ap (λ l. map part_of runs ++ l) here ∙ sym (append_assoc (map part_of runs) (part run x.1 ∷ []) (parts_of (rest - x.1) left))
       ∙ ap (λ l. l ++ parts_of (rest - x.1) left) (sym (ap (map part_of) pushed ∙ part_last runs x))
     where
@@ -76,26 +76,26 @@ module _ {R P Z : Type 0} (cut : Cut (StoredRun R P)) (keys : List ℕ) (index r
       some true e = absurd (wanted (eqb-true rest 0 e))
       some false e = e
 
-  read_ends : parts_of rest (map (run_at cut) (drop index keys)) ≡ [] → map part_of runs ≡ all
+  read_ends : parts_of rest (map (run_at trie) (drop index keys)) ≡ [] → map part_of runs ≡ all
   read_ends none = sym (was ∙ ap (λ l. map part_of runs ++ l) none ∙ append-nil (map part_of runs))
 
   pub read_past : (length keys ≤ index) ⊎ (rest ≡ 0) → map part_of runs ≡ all
-  read_past (inl past) = read_ends (ap (λ l. parts_of rest (map (run_at cut) l)) (drop_all index keys past))
-  read_past (inr none) = read_ends (ap (λ m. parts_of m (map (run_at cut) (drop index keys))) none ∙ parts_none (map (run_at cut) (drop index keys)))
+  read_past (inl past) = read_ends (ap (λ l. parts_of rest (map (run_at trie) l)) (drop_all index keys past))
+  read_past (inr none) = read_ends (ap (λ m. parts_of m (map (run_at trie) (drop index keys))) none ∙ parts_none (map (run_at trie) (drop index keys)))
 
-  pub read_missing : index < length keys → run_at cut (get_or keys index 0) ≡ None → map part_of runs ≡ all
-  read_missing h missing = read_ends (ap (λ l. parts_of rest (map (run_at cut) l)) (opened h) ∙ ap (λ o. parts_of rest (o ∷ map (run_at cut) (drop (index + 1) keys))) missing)
+  pub read_missing : index < length keys → run_at trie (get_or keys index 0) ≡ None → map part_of runs ≡ all
+  read_missing h missing = read_ends (ap (λ l. parts_of rest (map (run_at trie) l)) (opened h) ∙ ap (λ o. parts_of rest (o ∷ map (run_at trie) (drop (index + 1) keys))) missing)
 
 -- the runs read after a settle of the named branch's first `place` cells
-pub read_settled : {R P : Type 0} (E : R → R → Bool) (b : Behaviour P) (old new : Charted R P) (Missed : ℕ → Type 0) (cut : Cut (StoredRun R P)) (start : Configuration R P) (value : ℕ)
-    → ◌≡◌ {A = Charted R P} (record { cut = cut; start = start; value = value }) new → KeepsRuns old.cut new.cut Missed → (name : List ℕ) (place index : ℕ) (keys : List ℕ) (runs : List (RunPart R P)) (last : Option (RunPart R P)) (n : ℕ)
-    → index_of (forest cut).branches name ≡ Some index → keys ≡ keys_in cut.strands index → runs ≡ parts_of place (map (run_at cut) keys) → IsSettledLast E b old new name place last n
+pub read_settled : {R P : Type 0} (E : R → R → Bool) (b : Behaviour P) (old new : Charted R P) (Missed : ℕ → Type 0) (trie : TrieOf (StoredRun R P)) (start : Configuration R P) (value : ℕ)
+    → ◌≡◌ {A = Charted R P} (record { trie = trie; start = start; value = value }) new → KeepsRuns old.trie new.trie Missed → (name : List ℕ) (place index : ℕ) (keys : List ℕ) (runs : List (RunPart R P)) (last : Option (RunPart R P)) (n : ℕ)
+    → index_of (forest trie).branches name ≡ Some index → keys ≡ keys_in trie.branches index → runs ≡ parts_of place (map (run_at trie) keys) → IsSettledLast E b old new name place last n
     → IsSettled E b old new name place runs n
-read_settled {R} {P} E b old new Missed cut start value seen keeps name place index keys runs last n found along read s =
-    let named : keys_named old.cut name ≡ keys =
-    ap (λ f. keys_or (index_of f.branches name) old.cut.strands) (sym keeps.forest_kept) ∙ ap (λ l. keys_or (index_of (forest new.cut).branches name) l) (sym keeps.strands)
-    ∙ ap (λ (c : Charted R P). keys_named c.cut name) (sym seen) ∙ ap (λ o. keys_or o cut.strands) found ∙ sym along in
+read_settled {R} {P} E b old new Missed trie start value seen keeps name place index keys runs last n found along read s =
+    let named : keys_named old.trie name ≡ keys =
+    ap (λ f. keys_or (index_of f.branches name) old.trie.branches) (sym keeps.forest_kept) ∙ ap (λ l. keys_or (index_of (forest new.trie).branches name) l) (sym keeps.branches)
+    ∙ ap (λ (c : Charted R P). keys_named c.trie name) (sym seen) ∙ ap (λ o. keys_or o trie.branches) found ∙ sym along in
     let same : s.0 ≡ runs =
-    settled_parts E b old.cut new.cut old.start place (keys_named old.cut name) s.0 n s.1.settles ∙ ap (λ ks. parts_of place (map (run_at new.cut) ks)) named
-    ∙ ap (λ (c : Charted R P). parts_of place (map (run_at c.cut) keys)) (sym seen) ∙ sym read in
+    settled_parts E b old.trie new.trie old.start place (keys_named old.trie name) s.0 n s.1.settles ∙ ap (λ ks. parts_of place (map (run_at new.trie) ks)) named
+    ∙ ap (λ (c : Charted R P). parts_of place (map (run_at c.trie) keys)) (sym seen) ∙ sym read in
     subst (λ p. IsSettled E b old new name place p n) same s.1

@@ -6,10 +6,10 @@ use Rattle.frames.specs.Behaviour.{Behaviour}
 use Rattle.frames.specs.Configuration.{Configuration, replayed}
 use Rattle.frames.specs.Equality.{SameConfiguration}
 use Rattle.checkpoints.specs.Segment.{IsRun}
-use Rattle.schedule_trie.specs.Cut.{Cut, piece_at, note_of, has}
+use Rattle.schedule_trie.specs.Trie.{TrieOf, segment_at, note_of, has}
 use Rattle.schedule_trie.specs.Climbs.{keys_to, keys_up_to}
-use Rattle.schedule_trie.proofs.Climbs.{IsStepUp}
-use Rattle.schedule_trie.proofs.NoRepeats.{has_cases, has-head, has-tail}
+use Rattle.schedule_trie.proofs.climbs.Climbs.{IsStepUp}
+use Rattle.schedule_trie.proofs.lists.NoRepeats.{has_cases, has-head, has-tail}
 use Rattle.cutoff.specs.Fitting.{StoredRun, run_of, RunFits, steps_at}
 use Rattle.cutoff.specs.Links.{without_register, run_number, IsLinkedAt}
 use Rattle.cutoff.specs.Prefixes.{RunsDown, RunsTo, IsKnown, note_named, exit_or_start, exit_or}
@@ -17,40 +17,40 @@ use Rattle.cutoff.specs.Plans.{FitsDownTo}
 use Rattle.cutoff.proofs.Fits.{register_kept, same_trans, exit_same, stored_at, fits_to_note}
 use Rattle.cutoff.proofs.Walks.{linked_home}
 
-module _ {R P : Type 0} (E : R → R → Bool) (per : IsPartialEquivalence E) (is : R → Behaviour P) (alike : (x y : R) → E x y ≡ true → is x ≡ is y) (cut : Cut (StoredRun R P)) where
+module _ {R P : Type 0} (E : R → R → Bool) (per : IsPartialEquivalence E) (is : R → Behaviour P) (alike : (x y : R) → E x y ≡ true → is x ≡ is y) (trie : TrieOf (StoredRun R P)) where
   -- stored runs that lead to a configuration lead to each equal one
-  pub down_same : (b : Behaviour P) (c : Configuration R P) (keys : List ℕ) (a e : Configuration R P) → SameConfiguration E a e → RunsDown E is cut b c keys e → RunsDown E is cut b c keys a
+  pub down_same : (b : Behaviour P) (c : Configuration R P) (keys : List ℕ) (a e : Configuration R P) → SameConfiguration E a e → RunsDown E is trie b c keys e → RunsDown E is trie b c keys a
   down_same b c [] a e s d = same_trans E per a e c s d
-  down_same b c (k ∷ ks) a e s d = (d.0, down_same b (replayed b c (steps_at cut k)) ks a e s d.1)
+  down_same b c (k ∷ ks) a e s d = (d.0, down_same b (replayed b c (steps_at trie k)) ks a e s d.1)
 
   -- stored runs fit all keys at which true runs that fit are stored
-  pub runs_come : (b : Behaviour P) (c : Configuration R P) (keys : List ℕ) (end : Configuration R P) → RunsDown E is cut b c keys end → FitsDownTo E b cut c keys end
+  pub runs_come : (b : Behaviour P) (c : Configuration R P) (keys : List ℕ) (end : Configuration R P) → RunsDown E is trie b c keys end → FitsDownTo E b trie c keys end
   runs_come b c [] end d = d
-  runs_come b c (k ∷ ks) end d = (fits_to_note E cut c k d.0.stored d.0.noted d.0.fits, runs_come b (replayed b c (steps_at cut k)) ks end d.1)
+  runs_come b c (k ∷ ks) end d = (fits_to_note E trie c k d.0.stored d.0.noted d.0.fits, runs_come b (replayed b c (steps_at trie k)) ks end d.1)
 
-  module _ (k : ℕ) (s : StoredRun R P) (noted : note_of (piece_at cut.pieces k) ≡ Some s) (true_run : IsRun (is s.run.entry.register) s.run) (covers : s.run.steps ≡ steps_at cut k) where
-    pub down_more : (b : Behaviour P) (c : Configuration R P) (keys : List ℕ) → is c.register ≡ b → RunsDown E is cut b c keys s.run.entry → RunsDown E is cut b c (keys ++ k ∷ []) s.run.exit
+  module _ (k : ℕ) (s : StoredRun R P) (noted : note_of (segment_at trie.segments k) ≡ Some s) (true_run : IsRun (is s.run.entry.register) s.run) (covers : s.run.steps ≡ steps_at trie k) where
+    pub down_more : (b : Behaviour P) (c : Configuration R P) (keys : List ℕ) → is c.register ≡ b → RunsDown E is trie b c keys s.run.entry → RunsDown E is trie b c (keys ++ k ∷ []) s.run.exit
     down_more b c [] home d =
-        let fits : RunFits E c (steps_at cut k) s.run = record { steps = covers; entry = d } in
-        (record { stored = s; noted = noted; true_run = true_run; fits = fits }, exit_same E is alike b c (steps_at cut k) s.run home true_run fits)
+        let fits : RunFits E c (steps_at trie k) s.run = record { steps = covers; entry = d } in
+        (record { stored = s; noted = noted; true_run = true_run; fits = fits }, exit_same E is alike b c (steps_at trie k) s.run home true_run fits)
     down_more b c (j ∷ ks) home d =
-        (d.0, down_more b (replayed b c (steps_at cut j)) ks (ap is (register_kept b c (steps_at cut j)) ∙ home) d.1)
+        (d.0, down_more b (replayed b c (steps_at trie j)) ks (ap is (register_kept b c (steps_at trie j)) ∙ home) d.1)
 
     -- one step up a branch: the runs down to this one, and those after it
     module _ (start : Configuration R P) (keys : List ℕ) (above : Option ℕ) (step : IsStepUp keys k above) where
-      come_here : exit_or_start cut start (Some k) ≡ s.run.exit
+      come_here : exit_or_start trie start (Some k) ≡ s.run.exit
       come_here = ap (λ n. exit_or start (option_map run_of n)) noted
 
-      pub up_new : RunsDown E is cut (is start.register) start (keys_to keys above) s.run.entry → RunsTo E is cut start (Some k) keys
+      pub up_new : RunsDown E is trie (is start.register) start (keys_to keys above) s.run.entry → RunsTo E is trie start (Some k) keys
       up_new d =
-          subst (λ l. RunsDown E is cut (is start.register) start l (exit_or_start cut start (Some k))) (sym step.is)
-          (subst (RunsDown E is cut (is start.register) start (keys_to keys above ++ k ∷ [])) (sym come_here) (down_more (is start.register) start (keys_to keys above) refl d))
+          subst (λ l. RunsDown E is trie (is start.register) start l (exit_or_start trie start (Some k))) (sym step.is)
+          (subst (RunsDown E is trie (is start.register) start (keys_to keys above ++ k ∷ [])) (sym come_here) (down_more (is start.register) start (keys_to keys above) refl d))
 
       -- if runs fit down to the key k, they lead to each configuration equal to the exit of its run
-      pub up_same : (entry : Configuration R P) → SameConfiguration E entry s.run.exit → RunsTo E is cut start (Some k) keys
-          → RunsDown E is cut (is start.register) start (keys_up_to k keys) entry
+      pub up_same : (entry : Configuration R P) → SameConfiguration E entry s.run.exit → RunsTo E is trie start (Some k) keys
+          → RunsDown E is trie (is start.register) start (keys_up_to k keys) entry
       up_same entry same d =
-          down_same (is start.register) start (keys_up_to k keys) entry (exit_or_start cut start (Some k)) (subst (SameConfiguration E entry) (sym come_here) same) d
+          down_same (is start.register) start (keys_up_to k keys) entry (exit_or_start trie start (Some k)) (subst (SameConfiguration E entry) (sym come_here) same) d
 
 -- if a climb is at the key k and not at the key f, the two differ
 pub other_key : (f k : ℕ) (at front : Option ℕ) → front ≡ Some f → at ≡ Some k → option_eq nat_eq at front ≡ false → f ≡ k → ⊥
@@ -64,30 +64,30 @@ by_other f k (j ∷ keys) h other =
 
 -- the exit of the run stored above, or the start: it is of the chart's register, and the run's
 -- number is that of a run with this exit
-module _ {R P : Type 0} (E : R → R → Bool) (equal : IsEquivalence E) (per : IsPartialEquivalence E) (is : R → Behaviour P) (cut : Cut (StoredRun R P)) (start : Configuration R P) (next : ℕ)
-    (linked : IsLinkedAt E start next None cut) where
-  entry_own : (key : Option ℕ) (above : Option (StoredRun R P)) → note_named cut key ≡ above → IfSome above (λ s. IsRun (is s.run.entry.register) s.run)
+module _ {R P : Type 0} (E : R → R → Bool) (equal : IsEquivalence E) (per : IsPartialEquivalence E) (is : R → Behaviour P) (trie : TrieOf (StoredRun R P)) (start : Configuration R P) (next : ℕ)
+    (linked : IsLinkedAt E start next None trie) where
+  entry_own : (key : Option ℕ) (above : Option (StoredRun R P)) → note_named trie key ≡ above → IfSome above (λ s. IsRun (is s.run.entry.register) s.run)
       → E (exit_or start (option_map run_of above)).register start.register ≡ true
   entry_own key None noted kept = equal.refl start.register
   entry_own None (Some s) noted kept = cc
   entry_own (Some k) (Some s) noted kept =
       let same : s.run.exit.register ≡ s.run.entry.register = ap (λ d. d.register) kept.exit ∙ register_kept (is s.run.entry.register) s.run.entry s.run.steps in
-      subst (λ r. E r start.register ≡ true) (sym same) (stored_at E start.register linked.exits cut k s (linked.each k) noted).own
+      subst (λ r. E r start.register ≡ true) (sym same) (stored_at E start.register linked.exits trie k s (linked.each k) noted).own
 
-  entry_linked : (key : Option ℕ) (above : Option (StoredRun R P)) → note_named cut key ≡ above → IfSome above (λ s. IsRun (is s.run.entry.register) s.run)
-      → IsLinkedAt E (exit_or start (option_map run_of above)) next (run_number above) cut
+  entry_linked : (key : Option ℕ) (above : Option (StoredRun R P)) → note_named trie key ≡ above → IfSome above (λ s. IsRun (is s.run.entry.register) s.run)
+      → IsLinkedAt E (exit_or start (option_map run_of above)) next (run_number above) trie
   entry_linked key None noted kept = linked
   entry_linked None (Some s) noted kept = cc
   entry_linked (Some k) (Some s) noted kept =
       let own = entry_own (Some k) (Some s) noted kept in
-      linked_home E per start.register s.run.exit.register next s.id (without_register s.run.exit) cut (per.symm start.register s.run.exit.register ∙ own)
-      (record { exits = linked.exits; as_many = linked.as_many; each = linked.each; reached_exit = (stored_at E start.register linked.exits cut k s (linked.each k) noted).id })
+      linked_home E per start.register s.run.exit.register next s.id (without_register s.run.exit) trie (per.symm start.register s.run.exit.register ∙ own)
+      (record { exits = linked.exits; as_many = linked.as_many; each = linked.each; reached_exit = (stored_at E start.register linked.exits trie k s (linked.each k) noted).id })
 
-  pub entry_came : (key : Option ℕ) (above : Option (StoredRun R P)) → note_named cut key ≡ above → IfSome above (λ s. IsRun (is s.run.entry.register) s.run)
+  pub entry_came : (key : Option ℕ) (above : Option (StoredRun R P)) → note_named trie key ≡ above → IfSome above (λ s. IsRun (is s.run.entry.register) s.run)
       → (config : Configuration R P) (number : Option ℕ) → config ≡ exit_or start (option_map run_of above) → number ≡ run_number above
-      → IsLinkedAt E config next number cut × (E config.register start.register ≡ true)
+      → IsLinkedAt E config next number trie × (E config.register start.register ≡ true)
   entry_came key above noted kept config number came numbered = rw (came, numbered) (entry_linked key above noted kept, entry_own key above noted kept)
 
 -- if there is no key, no run has to be known
-pub none_known : {R P : Type 0} (E : R → R → Bool) (equal : IsEquivalence E) (is : R → Behaviour P) (cut : Cut (StoredRun R P)) (start : Configuration R P) (key : ℕ) → IsKnown E is cut start key None
-none_known E equal is cut start key = λ i h. (tt, record { register = equal.refl start.register; memory = refl; running = refl; stopped = refl })
+pub none_known : {R P : Type 0} (E : R → R → Bool) (equal : IsEquivalence E) (is : R → Behaviour P) (trie : TrieOf (StoredRun R P)) (start : Configuration R P) (key : ℕ) → IsKnown E is trie start key None
+none_known E equal is trie start key = λ i h. (tt, record { register = equal.refl start.register; memory = refl; running = refl; stopped = refl })

@@ -11,12 +11,12 @@ use Rattle.frames.specs.Equality.{SameConfiguration}
 use Rattle.frames.specs.Recorded.{AllFit}
 use Rattle.checkpoints.specs.Segment.{SegmentRun, IsRun}
 use Rattle.schedule_trie.specs.Forest.{step_of}
-use Rattle.schedule_trie.specs.Cut.{Cut, Piece, piece_at, slots_of, note_of, with_note, line, has, Once, keys_in, IsCut}
+use Rattle.schedule_trie.specs.Trie.{TrieOf, SegmentOf, segment_at, slots_of, note_of, with_note, line, has, Once, keys_in, IsCut}
 use Rattle.schedule_trie.specs.Climbs.{keys_up_to, keys_to, last_from}
-use Rattle.schedule_trie.proofs.NoRepeats.{has-head, has-tail, once_before, has-left, last_from-push}
-use Rattle.schedule_trie.proofs.OwnParts.{last_reached}
-use Rattle.schedule_trie.proofs.KeyPositions.{parting}
-use Rattle.schedule_trie.proofs.Pushes.{line-append}
+use Rattle.schedule_trie.proofs.lists.NoRepeats.{has-head, has-tail, once_before, has-left, last_from-push}
+use Rattle.schedule_trie.proofs.limbs.OwnParts.{last_reached}
+use Rattle.schedule_trie.proofs.lists.KeyPositions.{parting}
+use Rattle.schedule_trie.proofs.edits.Pushes.{line-append}
 use Rattle.cutoff.specs.Fitting.{StoredRun, run_of, RunPart, RunFits, steps_at, run_at, reached}
 use Rattle.cutoff.specs.Settles.{IsWork, IsSegmentSettled, Settles, EndsWith, SettlesTo}
 use Rattle.cutoff.specs.Prefixes.{RunsDown, Hangs, EndsIn, IsRest, note_named, exit_or_start, exit_or}
@@ -28,50 +28,50 @@ use Rattle.cutoff.proofs.Segments.{noted_still}
 use Rattle.cutoff.proofs.Walks.{reached_none, IsWalking, walk_starts, walk_on, fits_here, exit_of, exit_of-last}
 
 -- once a run is stored at a key, it is the run noted there
-pub noted_at : {T : Type 0} (s : T) (o p : Option (Piece T)) → p ≡ option_map (with_note (Some s)) o → IsSome o → note_of p ≡ Some s
+pub noted_at : {T : Type 0} (s : T) (o p : Option (SegmentOf T)) → p ≡ option_map (with_note (Some s)) o → IsSome o → note_of p ≡ Some s
 noted_at s None p e h = absurd (true≢false (sym h))
 noted_at s (Some q) p e h = ap note_of e
 
-pub noted_cells : {T : Type 0} (s : T) (o p : Option (Piece T)) → p ≡ option_map (with_note (Some s)) o → slots_of p ≡ slots_of o
+pub noted_cells : {T : Type 0} (s : T) (o p : Option (SegmentOf T)) → p ≡ option_map (with_note (Some s)) o → slots_of p ≡ slots_of o
 noted_cells s None p e = ap slots_of e
 noted_cells s (Some q) p e = ap slots_of e
 
 -- runs stay stored if nothing is stored at their keys
-pub down_kept : {R P : Type 0} (E : R → R → Bool) (is : R → Behaviour P) (cut new : Cut (StoredRun R P)) (b : Behaviour P) (c : Configuration R P) (keys : List ℕ) (end : Configuration R P)
-    → ((j : ℕ) → has j keys ≡ true → piece_at new.pieces j ≡ piece_at cut.pieces j) → RunsDown E is cut b c keys end → RunsDown E is new b c keys end
-down_kept E is cut new b c [] end same d = d
-down_kept E is cut new b c (k ∷ ks) end same d =
+pub down_kept : {R P : Type 0} (E : R → R → Bool) (is : R → Behaviour P) (trie new : TrieOf (StoredRun R P)) (b : Behaviour P) (c : Configuration R P) (keys : List ℕ) (end : Configuration R P)
+    → ((j : ℕ) → has j keys ≡ true → segment_at new.segments j ≡ segment_at trie.segments j) → RunsDown E is trie b c keys end → RunsDown E is new b c keys end
+down_kept E is trie new b c [] end same d = d
+down_kept E is trie new b c (k ∷ ks) end same d =
     let p = same k (has-head k ks) in
-    let steps : steps_at cut k ≡ steps_at new k = ap (λ o. map step_of (slots_of o)) (sym p) in (
+    let steps : steps_at trie k ≡ steps_at new k = ap (λ o. map step_of (slots_of o)) (sym p) in (
       record {
         stored = d.0.stored;
         noted = ap note_of p ∙ d.0.noted;
         true_run = d.0.true_run;
         fits = subst (λ l. RunFits E c l d.0.stored.run) steps d.0.fits;
       },
-      subst (λ l. RunsDown E is new b (replayed b c l) ks end) steps (down_kept E is cut new b (replayed b c (steps_at cut k)) ks end (λ j h. same j (has-tail j k ks h)) d.1),
+      subst (λ l. RunsDown E is new b (replayed b c l) ks end) steps (down_kept E is trie new b (replayed b c (steps_at trie k)) ks end (λ j h. same j (has-tail j k ks h)) d.1),
     )
 
 -- the walk has passed the key `above`, or is above the first key; the segments `left` are still to
 -- go
-pub record IsGoing {R P : Type 0} (E : R → R → Bool) (is : R → Behaviour P) (old cut : Cut (StoredRun R P)) (start : Configuration R P) (key count : ℕ)
+pub record IsGoing {R P : Type 0} (E : R → R → Bool) (is : R → Behaviour P) (old trie : TrieOf (StoredRun R P)) (start : Configuration R P) (key count : ℕ)
     (keys left back : List ℕ) (place n : ℕ) (above : Option ℕ) : Type 0 where
   pub done : List ℕ
   pub last : last_from None done ≡ above
   pub path : keys_up_to key keys ≡ done ++ left
   pub whole : keys ≡ done ++ (left ++ back)
-  pub down : RunsDown E is cut (is start.register) start done (exit_or_start cut start above)
+  pub down : RunsDown E is trie (is start.register) start done (exit_or_start trie start above)
   pub rest : ℕ
   pub parts : List (RunPart R P)
-  pub walk : IsWalking E (is start.register) old cut start keys (left ++ back) place rest n parts
-  pub from : exit_of start parts ≡ exit_or_start cut start above
-  pub ahead : EndsIn old key count rest left ⊎ ((left ≡ []) × (rest ≡ 0) × (above ≡ Some key) × EndsWith cut key count parts)
+  pub walk : IsWalking E (is start.register) old trie start keys (left ++ back) place rest n parts
+  pub from : exit_of start parts ≡ exit_or_start trie start above
+  pub ahead : EndsIn old key count rest left ⊎ ((left ≡ []) × (rest ≡ 0) × (above ≡ Some key) × EndsWith trie key count parts)
   pub once : Once keys
   pub some : 0 < count
-  pub few : count ≤ length (slots_of (piece_at old.pieces key))
+  pub few : count ≤ length (slots_of (segment_at old.segments key))
 
 -- `rest` cells are still wanted
-more : {R P : Type 0} (old : Cut (StoredRun R P)) (key count rest : ℕ) (left : List ℕ) → 0 < count → EndsIn old key count rest left → 0 < rest
+more : {R P : Type 0} (old : TrieOf (StoredRun R P)) (key count rest : ℕ) (left : List ℕ) → 0 < count → EndsIn old key count rest left → 0 < rest
 more old key count rest left some ends = let s = ends.sum in omega arith
 
 none_left : (front : List ℕ) (key : ℕ) → [] ≡ front ++ key ∷ [] → ⊥
@@ -79,74 +79,74 @@ none_left [] key e = cc
 none_left (k ∷ front) key e = cc
 
 -- each segment has a step
-some_steps : {T : Type 0} (o : Option (Piece T)) → IsSome o → IfSome o (λ p. (0 < length p.slots) × (length p.slots ≤ 128)) → 0 < length (map step_of (slots_of o))
+some_steps : {T : Type 0} (o : Option (SegmentOf T)) → IsSome o → IfSome o (λ p. (0 < length p.slots) × (length p.slots ≤ 128)) → 0 < length (map step_of (slots_of o))
 some_steps None h s = absurd (true≢false (sym h))
 some_steps (Some p) h s = let some = s.0 in let e : length (map step_of p.slots) ≡ length p.slots = length-map p.slots step_of in omega arith
 
 -- the walk goes on after one more settled segment
 module _ {R P : Type 0} (E : R → R → Bool) (equal : IsEquivalence E) (per : IsPartialEquivalence E) (is : R → Behaviour P) (alike : (x y : R) → E x y ≡ true → is x ≡ is y)
-    (old cut : Cut (StoredRun R P)) (start : Configuration R P) (key count : ℕ) (keys ks back : List ℕ) (k place n : ℕ) (above : Option ℕ)
-    (g : IsGoing E is old cut start key count keys (k ∷ ks) back place n above) where
+    (old trie : TrieOf (StoredRun R P)) (start : Configuration R P) (key count : ℕ) (keys ks back : List ℕ) (k place n : ℕ) (above : Option ℕ)
+    (g : IsGoing E is old trie start key count keys (k ∷ ks) back place n above) where
   ends_here : EndsIn old key count g.rest (k ∷ ks)
   ends_here = by g.ahead
     where
-      by : EndsIn old key count g.rest (k ∷ ks) ⊎ ((k ∷ ks ≡ []) × (g.rest ≡ 0) × (above ≡ Some key) × EndsWith cut key count g.parts) → EndsIn old key count g.rest (k ∷ ks)
+      by : EndsIn old key count g.rest (k ∷ ks) ⊎ ((k ∷ ks ≡ []) × (g.rest ≡ 0) × (above ≡ Some key) × EndsWith trie key count g.parts) → EndsIn old key count g.rest (k ∷ ks)
       by (inl e) = e
       by (inr f) = let none = f.0 in cc
 
   pub wanted_here : g.rest ≡ 0 → ⊥
   wanted_here e = let m = more old key count g.rest (k ∷ ks) g.some ends_here in omega arith
 
-  pub small_left : length (steps_at cut k) ≤ 128
+  pub small_left : length (steps_at trie k) ≤ 128
   small_left =
-      let same : length (steps_at cut k) ≡ length (steps_at old k) = ap (λ o. length (map step_of (slots_of o))) (g.walk.ahead k (has-head k (ks ++ back))) in
+      let same : length (steps_at trie k) ≡ length (steps_at old k) = ap (λ o. length (map step_of (slots_of o))) (g.walk.ahead k (has-head k (ks ++ back))) in
       let s = g.walk.small k in omega (arith, same, s)
 
-  home : E (exit_or_start cut start above).register start.register ≡ true
+  home : E (exit_or_start trie start above).register start.register ≡ true
   home = subst (λ (d : Configuration R P). E d.register start.register ≡ true) g.from (subst (λ r. E (exit_of start g.parts).register r ≡ true) g.walk.home g.walk.same.register)
 
-  pub fits_left : AllFit (is start.register) (steps_at cut k)
+  pub fits_left : AllFit (is start.register) (steps_at trie k)
   fits_left =
-      subst (λ b. AllFit b (steps_at cut k)) (alike (exit_of start g.parts).register start.register (subst (λ r. E (exit_of start g.parts).register r ≡ true) g.walk.home g.walk.same.register))
-      (fits_here E equal per is alike old cut start keys (ks ++ back) k place g.rest n g.parts g.walk wanted_here)
+      subst (λ b. AllFit b (steps_at trie k)) (alike (exit_of start g.parts).register start.register (subst (λ r. E (exit_of start g.parts).register r ≡ true) g.walk.home g.walk.same.register))
+      (fits_here E equal per is alike old trie start keys (ks ++ back) k place g.rest n g.parts g.walk wanted_here)
 
   lacks_here : has k g.done ≡ false
   lacks_here = once_before g.done k (ks ++ back) (subst Once g.whole g.once)
 
-  module _ (new : Cut (StoredRun R P)) (s : StoredRun R P) (work : ℕ) (settled : IsSegmentSettled E cut new (exit_or_start cut start above) k s work)
+  module _ (new : TrieOf (StoredRun R P)) (s : StoredRun R P) (work : ℕ) (settled : IsSegmentSettled E trie new (exit_or_start trie start above) k s work)
       (true_run : IsRun (is s.run.entry.register) s.run) where
     abbrev run : SegmentRun R P
     run = s.run
 
-    pub noted_here : note_of (piece_at new.pieces k) ≡ Some s
+    pub noted_here : note_of (segment_at new.segments k) ≡ Some s
     noted_here =
-        let there : IsSome (piece_at cut.pieces k) = subst IsSome (sym (g.walk.ahead k (has-head k (ks ++ back)))) (g.walk.there k (has-head k (ks ++ back))) in
-        noted_at s (piece_at cut.pieces k) (piece_at new.pieces k) settled.noted.here there
+        let there : IsSome (segment_at trie.segments k) = subst IsSome (sym (g.walk.ahead k (has-head k (ks ++ back)))) (g.walk.there k (has-head k (ks ++ back))) in
+        noted_at s (segment_at trie.segments k) (segment_at new.segments k) settled.noted.here there
 
-    steps_still : steps_at new k ≡ steps_at cut k
-    steps_still = ap (map step_of) (noted_cells s (piece_at cut.pieces k) (piece_at new.pieces k) settled.noted.here)
+    steps_still : steps_at new k ≡ steps_at trie k
+    steps_still = ap (map step_of) (noted_cells s (segment_at trie.segments k) (segment_at new.segments k) settled.noted.here)
 
     come_here : exit_or_start new start (Some k) ≡ run.exit
     come_here = ap (λ o. exit_or start (option_map run_of o)) noted_here
 
     down_here : RunsDown E is new (is start.register) start (g.done ++ k ∷ []) (exit_or_start new start (Some k))
     down_here =
-        let kept = down_kept E is cut new (is start.register) start g.done (exit_or_start cut start above)
+        let kept = down_kept E is trie new (is start.register) start g.done (exit_or_start trie start above)
         (λ j h. settled.noted.others j (λ e. true≢false (sym (subst (λ i. has i g.done ≡ true) e h) ∙ lacks_here))) g.down in
         subst (RunsDown E is new (is start.register) start (g.done ++ k ∷ [])) (sym come_here)
         (down_more E per is alike new k s noted_here true_run (settled.fits.steps ∙ sym steps_still) (is start.register) start g.done refl
-        (down_same E per is alike new (is start.register) start g.done run.entry (exit_or_start cut start above) settled.fits.entry kept))
+        (down_same E per is alike new (is start.register) start g.done run.entry (exit_or_start trie start above) settled.fits.entry kept))
 
     -- if nothing is replayed, the segment's run stays stored
     pub kept_here : IsCut old → work ≡ 0 → run_at new k ≡ run_at old k
     kept_here whole none = by settled.work
       where
-        by : IsWork E cut (exit_or_start cut start above) k run work → run_at new k ≡ run_at old k
+        by : IsWork E trie (exit_or_start trie start above) k run work → run_at new k ≡ run_at old k
         by (inl f) = ap (option_map run_of) noted_here ∙ sym f.1 ∙ ap (λ o. option_map run_of (note_of o)) (g.walk.ahead k (has-head k (ks ++ back)))
         by (inr f) =
-            let some = some_steps (piece_at old.pieces k) (g.walk.there k (has-head k (ks ++ back))) (whole.sizes k) in
-            let same : length (steps_at cut k) ≡ length (steps_at old k) = ap (λ o. length (map step_of (slots_of o))) (g.walk.ahead k (has-head k (ks ++ back))) in
-            let all : work ≡ length (steps_at cut k) = f.1 in
+            let some = some_steps (segment_at old.segments k) (g.walk.there k (has-head k (ks ++ back))) (whole.sizes k) in
+            let same : length (steps_at trie k) ≡ length (steps_at old k) = ap (λ o. length (map step_of (slots_of o))) (g.walk.ahead k (has-head k (ks ++ back))) in
+            let all : work ≡ length (steps_at trie k) = f.1 in
             absurd (omega arith)
 
     abbrev counts : ℕ
@@ -154,8 +154,8 @@ module _ {R P : Type 0} (E : R → R → Bool) (equal : IsEquivalence E) (per : 
 
     walk_here : IsWalking E (is start.register) old new start keys (ks ++ back) place (g.rest - counts) (n + work) (g.parts ++ record { run = run; count = counts } ∷ [])
     walk_here =
-        walk_on E equal per is alike old cut start keys (ks ++ back) k place g.rest n g.parts g.walk wanted_here
-        new s work counts (g.rest - counts) (n + work) (subst (λ d. IsSegmentSettled E cut new d k s work) (sym g.from) settled) true_run refl refl refl
+        walk_on E equal per is alike old trie start keys (ks ++ back) k place g.rest n g.parts g.walk wanted_here
+        new s work counts (g.rest - counts) (n + work) (subst (λ d. IsSegmentSettled E trie new d k s work) (sym g.from) settled) true_run refl refl refl
 
     run_len : length run.steps ≡ length (steps_at old k)
     run_len = ap length settled.fits.steps ∙ ap (λ o. length (map step_of (slots_of o))) (g.walk.ahead k (has-head k (ks ++ back)))
@@ -165,14 +165,14 @@ module _ {R P : Type 0} (E : R → R → Bool) (equal : IsEquivalence E) (per : 
         ⊎ ((ks ≡ []) × (g.rest - counts ≡ 0) × (Some k ≡ Some key) × EndsWith new key count (g.parts ++ record { run = run; count = counts } ∷ []))
     ahead_here e = by e.front e.is e.sum
       where
-        by : (front : List ℕ) → k ∷ ks ≡ front ++ key ∷ [] → length (line (piece_at old.pieces) front) + count ≡ g.rest
+        by : (front : List ℕ) → k ∷ ks ≡ front ++ key ∷ [] → length (line (segment_at old.segments) front) + count ≡ g.rest
             → EndsIn old key count (g.rest - counts) ks
             ⊎ ((ks ≡ []) × (g.rest - counts ≡ 0) × (Some k ≡ Some key) × EndsWith new key count (g.parts ++ record { run = run; count = counts } ∷ []))
         by [] is_last sum =
             let one : k ≡ key = cc in
             let none : ks ≡ [] = cc in
-            let named : length (steps_at old k) ≡ length (slots_of (piece_at old.pieces key)) =
-            length-map (slots_of (piece_at old.pieces k)) step_of ∙ ap (λ j. length (slots_of (piece_at old.pieces j))) one in
+            let named : length (steps_at old k) ≡ length (slots_of (segment_at old.segments key)) =
+            length-map (slots_of (segment_at old.segments k)) step_of ∙ ap (λ j. length (slots_of (segment_at old.segments j))) one in
             let all = g.few in
             let len = run_len in
             let same : counts ≡ count = omega (arith, named, all, len, sum) in
@@ -183,16 +183,16 @@ module _ {R P : Type 0} (E : R → R → Bool) (equal : IsEquivalence E) (per : 
               record {
                 before = g.parts;
                 stored = s;
-                noted = subst (λ j. note_of (piece_at new.pieces j) ≡ Some s) one noted_here;
+                noted = subst (λ j. note_of (segment_at new.segments j) ≡ Some s) one noted_here;
                 is = ap (λ m. g.parts ++ record { run = run; count = m } ∷ []) same;
               },
             )
         by (j ∷ front) is_last sum =
             let one : k ≡ j = cc in
             let rest : ks ≡ front ++ key ∷ [] = cc in
-            let own : length (line (piece_at old.pieces) (j ∷ front)) ≡ length (slots_of (piece_at old.pieces j)) + length (line (piece_at old.pieces) front) =
-            length-append (slots_of (piece_at old.pieces j)) (line (piece_at old.pieces) front) in
-            let cells : length (steps_at old k) ≡ length (slots_of (piece_at old.pieces j)) = length-map (slots_of (piece_at old.pieces k)) step_of ∙ ap (λ i. length (slots_of (piece_at old.pieces i))) one in
+            let own : length (line (segment_at old.segments) (j ∷ front)) ≡ length (slots_of (segment_at old.segments j)) + length (line (segment_at old.segments) front) =
+            length-append (slots_of (segment_at old.segments j)) (line (segment_at old.segments) front) in
+            let cells : length (steps_at old k) ≡ length (slots_of (segment_at old.segments j)) = length-map (slots_of (segment_at old.segments k)) step_of ∙ ap (λ i. length (slots_of (segment_at old.segments i))) one in
             let len = run_len in
             inl (record { front = front; is = rest; sum = omega (arith, own, cells, len, sum) })
 
@@ -215,46 +215,46 @@ module _ {R P : Type 0} (E : R → R → Bool) (equal : IsEquivalence E) (per : 
 
 module _ {R P : Type 0} (E : R → R → Bool) (equal : IsEquivalence E) (per : IsPartialEquivalence E) (is : R → Behaviour P) (alike : (x y : R) → E x y ≡ true → is x ≡ is y) where
   -- the walk goes down a part that stored runs fit, and replays nothing
-  going_down : (old cut : Cut (StoredRun R P)) (start : Configuration R P) (key count : ℕ) (keys front left back : List ℕ) (place n : ℕ) (above : Option ℕ) (c end : Configuration R P)
-      → SameConfiguration E c (exit_or_start cut start above) → is c.register ≡ is start.register
-      → RunsDown E is cut (is start.register) c front end → IsGoing E is old cut start key count keys (front ++ left) back place n above
-      → IsGoing E is old cut start key count keys left back place n (last_from above front)
-  going_down old cut start key count keys [] left back place n above c end same own down g = g
-  going_down old cut start key count keys (k ∷ front) left back place n above c end same own down g =
+  going_down : (old trie : TrieOf (StoredRun R P)) (start : Configuration R P) (key count : ℕ) (keys front left back : List ℕ) (place n : ℕ) (above : Option ℕ) (c end : Configuration R P)
+      → SameConfiguration E c (exit_or_start trie start above) → is c.register ≡ is start.register
+      → RunsDown E is trie (is start.register) c front end → IsGoing E is old trie start key count keys (front ++ left) back place n above
+      → IsGoing E is old trie start key count keys left back place n (last_from above front)
+  going_down old trie start key count keys [] left back place n above c end same own down g = g
+  going_down old trie start key count keys (k ∷ front) left back place n above c end same own down g =
       let s = down.0.stored in
       let noted = down.0.noted in
-      let fits = run_fits_alike E per c (exit_or_start cut start above) (steps_at cut k) s.run same down.0.fits in
-      let settled : IsSegmentSettled E cut cut (exit_or_start cut start above) k s 0 = record {
-        noted = noted_still cut k s noted;
+      let fits = run_fits_alike E per c (exit_or_start trie start above) (steps_at trie k) s.run same down.0.fits in
+      let settled : IsSegmentSettled E trie trie (exit_or_start trie start above) k s 0 = record {
+        noted = noted_still trie k s noted;
         fits = fits;
-        work = inl (fits_to_note E cut (exit_or_start cut start above) k s noted fits, ap (option_map run_of) noted, refl);
+        work = inl (fits_to_note E trie (exit_or_start trie start above) k s noted fits, ap (option_map run_of) noted, refl);
       } in
-      let on = going_step E equal per is alike old cut start key count keys (front ++ left) back k place n above g cut s 0 settled down.0.true_run in
+      let on = going_step E equal per is alike old trie start key count keys (front ++ left) back k place n above g trie s 0 settled down.0.true_run in
       let none : n + 0 ≡ n = omega arith in
-      let here : s.run.exit ≡ exit_or_start cut start (Some k) = sym (ap (λ o. exit_or start (option_map run_of o)) noted) in
-      going_down old cut start key count keys front left back place n (Some k) (replayed (is start.register) c (steps_at cut k)) end
-      (subst (SameConfiguration E (replayed (is start.register) c (steps_at cut k))) here
-      (same_symm E per s.run.exit (replayed (is start.register) c (steps_at cut k)) (exit_same E is alike (is start.register) c (steps_at cut k) s.run own down.0.true_run down.0.fits)))
-      (ap is (register_kept (is start.register) c (steps_at cut k)) ∙ own) down.1
-      (subst (λ m. IsGoing E is old cut start key count keys (front ++ left) back place m (Some k)) none on)
+      let here : s.run.exit ≡ exit_or_start trie start (Some k) = sym (ap (λ o. exit_or start (option_map run_of o)) noted) in
+      going_down old trie start key count keys front left back place n (Some k) (replayed (is start.register) c (steps_at trie k)) end
+      (subst (SameConfiguration E (replayed (is start.register) c (steps_at trie k))) here
+      (same_symm E per s.run.exit (replayed (is start.register) c (steps_at trie k)) (exit_same E is alike (is start.register) c (steps_at trie k) s.run own down.0.true_run down.0.fits)))
+      (ap is (register_kept (is start.register) c (steps_at trie k)) ∙ own) down.1
+      (subst (λ m. IsGoing E is old trie start key count keys (front ++ left) back place m (Some k)) none on)
 
-  pub going_starts : (old : Cut (StoredRun R P)) (start : Configuration R P) (front : Option ℕ) (left : List ℕ) (key count place i : ℕ) → IsCut old
+  pub going_starts : (old : TrieOf (StoredRun R P)) (start : Configuration R P) (front : Option ℕ) (left : List ℕ) (key count place i : ℕ) → IsCut old
       → IsRest E is old start front left key count place i
-      → (back : List ℕ) × IsGoing E is old old start key count (keys_in old.strands i) left back place 0 front
+      → (back : List ℕ) × IsGoing E is old old start key count (keys_in old.branches i) left back place 0 front
   going_starts old start front left key count place i whole r =
-      let keys = keys_in old.strands i in
+      let keys = keys_in old.branches i in
       let p = parting keys key r.lies.there in
       let all : keys ≡ keys_up_to key keys ++ p.back = p.is ∙ sym (append_assoc p.front (key ∷ []) p.back) ∙ ap (λ l. l ++ p.back) (sym p.to) in
       let parts : keys ≡ (keys_to keys front ++ left) ++ p.back = all ∙ ap (λ l. l ++ p.back) r.path in
       let same : SameConfiguration E start start = record { register = equal.refl start.register; memory = refl; running = refl; stopped = refl } in
       let few = r.lies.few in
       let sum = r.lies.ends.sum in
-      let cells : length (line (piece_at old.pieces) keys) ≡ length (line (piece_at old.pieces) r.lies.ends.front) + (length (slots_of (piece_at old.pieces key)) + length (line (piece_at old.pieces) p.back)) =
-      ap (λ l. length (line (piece_at old.pieces) l)) (all ∙ ap (λ l. l ++ p.back) r.lies.ends.is ∙ append_assoc r.lies.ends.front (key ∷ []) p.back)
-      ∙ ap length (line-append (piece_at old.pieces) r.lies.ends.front (key ∷ p.back))
-      ∙ length-append (line (piece_at old.pieces) r.lies.ends.front) (slots_of (piece_at old.pieces key) ++ line (piece_at old.pieces) p.back)
-      ∙ ap (λ n. length (line (piece_at old.pieces) r.lies.ends.front) + n) (length-append (slots_of (piece_at old.pieces key)) (line (piece_at old.pieces) p.back)) in
-      let within : place ≤ length (line (piece_at old.pieces) keys) = omega (arith, few, sum, cells) in
+      let cells : length (line (segment_at old.segments) keys) ≡ length (line (segment_at old.segments) r.lies.ends.front) + (length (slots_of (segment_at old.segments key)) + length (line (segment_at old.segments) p.back)) =
+      ap (λ l. length (line (segment_at old.segments) l)) (all ∙ ap (λ l. l ++ p.back) r.lies.ends.is ∙ append_assoc r.lies.ends.front (key ∷ []) p.back)
+      ∙ ap length (line-append (segment_at old.segments) r.lies.ends.front (key ∷ p.back))
+      ∙ length-append (line (segment_at old.segments) r.lies.ends.front) (slots_of (segment_at old.segments key) ++ line (segment_at old.segments) p.back)
+      ∙ ap (λ n. length (line (segment_at old.segments) r.lies.ends.front) + n) (length-append (slots_of (segment_at old.segments key)) (line (segment_at old.segments) p.back)) in
+      let within : place ≤ length (line (segment_at old.segments) keys) = omega (arith, few, sum, cells) in
       let begun : IsGoing E is old old start key count keys (keys_to keys front ++ left) p.back place 0 None = record {
         done = [];
         last = refl;
@@ -277,20 +277,20 @@ module _ {R P : Type 0} (E : R → R → Bool) (equal : IsEquivalence E) (per : 
       )
 
 -- the walk ends
-module _ {R P : Type 0} (E : R → R → Bool) (is : R → Behaviour P) (old cut : Cut (StoredRun R P)) (start : Configuration R P) (key count i place n : ℕ) (back : List ℕ) (above : Option ℕ)
-    (g : IsGoing E is old cut start key count (keys_in old.strands i) [] back place n above) where
+module _ {R P : Type 0} (E : R → R → Bool) (is : R → Behaviour P) (old trie : TrieOf (StoredRun R P)) (start : Configuration R P) (key count i place n : ℕ) (back : List ℕ) (above : Option ℕ)
+    (g : IsGoing E is old trie start key count (keys_in old.branches i) [] back place n above) where
   abbrev keys : List ℕ
-  keys = keys_in old.strands i
+  keys = keys_in old.branches i
 
-  ended : (rest : ℕ) (parts : List (RunPart R P)) → EndsIn old key count rest [] ⊎ ((◌≡◌ {A = List ℕ} [] []) × (rest ≡ 0) × (above ≡ Some key) × EndsWith cut key count parts)
-      → (rest ≡ 0) × (above ≡ Some key) × EndsWith cut key count parts
+  ended : (rest : ℕ) (parts : List (RunPart R P)) → EndsIn old key count rest [] ⊎ ((◌≡◌ {A = List ℕ} [] []) × (rest ≡ 0) × (above ≡ Some key) × EndsWith trie key count parts)
+      → (rest ≡ 0) × (above ≡ Some key) × EndsWith trie key count parts
   ended rest parts (inl e) = absurd (none_left e.front key e.is)
   ended rest parts (inr f) = (f.1, f.2, f.3)
 
   pub ends_at : above ≡ Some key
   ends_at = (ended g.rest g.parts g.ahead).1
 
-  pub going_settles : SettlesTo E is old cut start key count place i n
+  pub going_settles : SettlesTo E is old trie start key count place i n
   going_settles =
       let end = ended g.rest g.parts g.ahead in
       let none : n + 0 ≡ n = omega arith in
@@ -299,68 +299,68 @@ module _ {R P : Type 0} (E : R → R → Bool) (is : R → Behaviour P) (old cut
       let past : reached old g.rest ([] ++ back) ≡ [] = ap (λ r. reached old r back) end.0 ∙ reached_none old back in
       record {
         parts = g.parts;
-        settles = subst (Settles E (is start.register) old cut start place (reached old place keys) g.parts) none
-            (subst (λ l. Settles E (is start.register) old cut start place (reached old place keys) l (n + 0)) (append-nil g.parts)
-            (g.walk.settles cut [] 0 (λ k h. refl) (subst (λ l. Settles E (is start.register) old cut g.walk.at g.rest l [] 0) (sym past) (refl, refl))));
+        settles = subst (Settles E (is start.register) old trie start place (reached old place keys) g.parts) none
+            (subst (λ l. Settles E (is start.register) old trie start place (reached old place keys) l (n + 0)) (append-nil g.parts)
+            (g.walk.settles trie [] 0 (λ k h. refl) (subst (λ l. Settles E (is start.register) old trie g.walk.at g.rest l [] 0) (sym past) (refl, refl))));
         sum = omega (arith, sum, last);
         last = end.2;
-        down = subst (λ o. RunsDown E is cut (is start.register) start (keys_up_to key keys) (exit_or_start cut start o)) end.1
-            (subst (λ l. RunsDown E is cut (is start.register) start l (exit_or_start cut start above)) (sym (g.path ∙ append-nil g.done)) g.down);
+        down = subst (λ o. RunsDown E is trie (is start.register) start (keys_up_to key keys) (exit_or_start trie start o)) end.1
+            (subst (λ l. RunsDown E is trie (is start.register) start l (exit_or_start trie start above)) (sym (g.path ∙ append-nil g.done)) g.down);
       }
 
 -- the walk by the index of the next key, with the keys `more` after those of a list
 module _ {R P : Type 0} (E : R → R → Bool) (equal : IsEquivalence E) (per : IsPartialEquivalence E) (is : R → Behaviour P) (alike : (x y : R) → E x y ≡ true → is x ≡ is y)
-    {old cut : Cut (StoredRun R P)} {start : Configuration R P} {key count : ℕ} {keys back : List ℕ} {place n : ℕ} {above : Option ℕ} (all : List ℕ) (index : ℕ) (more : List ℕ)
-    (g : IsGoing E is old cut start key count keys (drop index all ++ more) back place n above) where
-  pub going_past : length all ≤ index → IsGoing E is old cut start key count keys more back place n above
-  going_past past = subst (λ l. IsGoing E is old cut start key count keys (l ++ more) back place n above) (drop_all index all past) g
+    {old trie : TrieOf (StoredRun R P)} {start : Configuration R P} {key count : ℕ} {keys back : List ℕ} {place n : ℕ} {above : Option ℕ} (all : List ℕ) (index : ℕ) (more : List ℕ)
+    (g : IsGoing E is old trie start key count keys (drop index all ++ more) back place n above) where
+  pub going_past : length all ≤ index → IsGoing E is old trie start key count keys more back place n above
+  going_past past = subst (λ l. IsGoing E is old trie start key count keys (l ++ more) back place n above) (drop_all index all past) g
 
   module _ (h : index < length all) where
-    going_at : IsGoing E is old cut start key count keys (get_or all index 0 ∷ (drop (index + 1) all ++ more)) back place n above
+    going_at : IsGoing E is old trie start key count keys (get_or all index 0 ∷ (drop (index + 1) all ++ more)) back place n above
     going_at =
         let step : suc index ≡ index + 1 = omega arith in
-        subst (λ l. IsGoing E is old cut start key count keys (l ++ more) back place n above) (drop-cons all index 0 h ∙ ap (λ j. get_or all index 0 ∷ drop j all) step) g
+        subst (λ l. IsGoing E is old trie start key count keys (l ++ more) back place n above) (drop-cons all index 0 h ∙ ap (λ j. get_or all index 0 ∷ drop j all) step) g
 
-    pub small_next : length (steps_at cut (get_or all index 0)) ≤ 128
-    small_next = small_left E equal per is alike old cut start key count keys (drop (index + 1) all ++ more) back (get_or all index 0) place n above going_at
+    pub small_next : length (steps_at trie (get_or all index 0)) ≤ 128
+    small_next = small_left E equal per is alike old trie start key count keys (drop (index + 1) all ++ more) back (get_or all index 0) place n above going_at
 
-    pub fits_next : AllFit (is start.register) (steps_at cut (get_or all index 0))
-    fits_next = fits_left E equal per is alike old cut start key count keys (drop (index + 1) all ++ more) back (get_or all index 0) place n above going_at
+    pub fits_next : AllFit (is start.register) (steps_at trie (get_or all index 0))
+    fits_next = fits_left E equal per is alike old trie start key count keys (drop (index + 1) all ++ more) back (get_or all index 0) place n above going_at
 
     -- `o` is stored right above
-    module _ {new : Cut (StoredRun R P)} {o : Option (StoredRun R P)} {s : StoredRun R P} {work : ℕ} (above_is : note_named cut above ≡ o)
-        (settled : IsSegmentSettled E cut new (exit_or start (option_map run_of o)) (get_or all index 0) s work × IsRun (is s.run.entry.register) s.run) where
-      settled_here : IsSegmentSettled E cut new (exit_or_start cut start above) (get_or all index 0) s work
-      settled_here = subst (λ p. IsSegmentSettled E cut new (exit_or start (option_map run_of p)) (get_or all index 0) s work) (sym above_is) settled.0
+    module _ {new : TrieOf (StoredRun R P)} {o : Option (StoredRun R P)} {s : StoredRun R P} {work : ℕ} (above_is : note_named trie above ≡ o)
+        (settled : IsSegmentSettled E trie new (exit_or start (option_map run_of o)) (get_or all index 0) s work × IsRun (is s.run.entry.register) s.run) where
+      settled_here : IsSegmentSettled E trie new (exit_or_start trie start above) (get_or all index 0) s work
+      settled_here = subst (λ p. IsSegmentSettled E trie new (exit_or start (option_map run_of p)) (get_or all index 0) s work) (sym above_is) settled.0
 
-      pub noted_next : note_of (piece_at new.pieces (get_or all index 0)) ≡ Some s
+      pub noted_next : note_of (segment_at new.segments (get_or all index 0)) ≡ Some s
       noted_next =
-          noted_here E equal per is alike old cut start key count keys (drop (index + 1) all ++ more) back (get_or all index 0) place n above going_at
+          noted_here E equal per is alike old trie start key count keys (drop (index + 1) all ++ more) back (get_or all index 0) place n above going_at
           new s work settled_here settled.1
 
       pub going_next : IsGoing E is old new start key count keys (drop (index + 1) all ++ more) back place (n + work) (Some (get_or all index 0))
       going_next =
-          going_step E equal per is alike old cut start key count keys (drop (index + 1) all ++ more) back (get_or all index 0) place n above going_at
+          going_step E equal per is alike old trie start key count keys (drop (index + 1) all ++ more) back (get_or all index 0) place n above going_at
           new s work settled_here settled.1
 
       pub kept_next : IsCut old → work ≡ 0 → run_at new (get_or all index 0) ≡ run_at old (get_or all index 0)
       kept_next =
-          kept_here E equal per is alike old cut start key count keys (drop (index + 1) all ++ more) back (get_or all index 0) place n above going_at
+          kept_here E equal per is alike old trie start key count keys (drop (index + 1) all ++ more) back (get_or all index 0) place n above going_at
           new s work settled_here settled.1
 
 -- what is left hangs from a run that stays stored
 module _ {R P : Type 0} (E : R → R → Bool) (equal : IsEquivalence E) (per : IsPartialEquivalence E) (is : R → Behaviour P) (alike : (x y : R) → E x y ≡ true → is x ≡ is y)
-    (old cut : Cut (StoredRun R P)) (start : Configuration R P) (key count i place n : ℕ) (left back : List ℕ) (above : Option ℕ)
-    (g : IsGoing E is old cut start key count (keys_in old.strands i) left back place n above) where
-  home_here : E (exit_or_start cut start above).register start.register ≡ true
+    (old trie : TrieOf (StoredRun R P)) (start : Configuration R P) (key count i place n : ℕ) (left back : List ℕ) (above : Option ℕ)
+    (g : IsGoing E is old trie start key count (keys_in old.branches i) left back place n above) where
+  home_here : E (exit_or_start trie start above).register start.register ≡ true
   home_here = subst (λ (d : Configuration R P). E d.register start.register ≡ true) g.from (subst (λ r. E (exit_of start g.parts).register r ≡ true) g.walk.home g.walk.same.register)
 
-  pub hanging_settles : Hangs E is old (exit_or_start cut start above) left → SettlesTo E is old cut start key count place i n
+  pub hanging_settles : Hangs E is old (exit_or_start trie start above) left → SettlesTo E is old trie start key count place i n
   hanging_settles hangs =
-      let c : Configuration R P = exit_or_start cut start above in
+      let c : Configuration R P = exit_or_start trie start above in
       let here : SameConfiguration E c c = record { register = equal.refl c.register; memory = refl; running = refl; stopped = refl } in
       let own : is c.register ≡ is start.register = alike c.register start.register home_here in
-      let down = hang_down E is per alike cut (is start.register) c c left here own (hang_kept E is old cut c left (λ j h. g.walk.ahead j (has-left j left back h)) hangs) in
-      going_settles E is old cut start key count i place n back (last_from above left)
-      (going_down E equal per is alike old cut start key count (keys_in old.strands i) left [] back place n above c down.0 here own down.1
-      (subst (λ l. IsGoing E is old cut start key count (keys_in old.strands i) l back place n above) (sym (append-nil left)) g))
+      let down = hang_down E is per alike trie (is start.register) c c left here own (hang_kept E is old trie c left (λ j h. g.walk.ahead j (has-left j left back h)) hangs) in
+      going_settles E is old trie start key count i place n back (last_from above left)
+      (going_down E equal per is alike old trie start key count (keys_in old.branches i) left [] back place n above c down.0 here own down.1
+      (subst (λ l. IsGoing E is old trie start key count (keys_in old.branches i) l back place n above) (sym (append-nil left)) g))

@@ -10,8 +10,8 @@ use Rattle.schedule_trie.specs.declared.slot.Slot.{Slot}
 use Rattle.schedule_trie.specs.declared.refusal.Refusal.{Refusal}
 use Rattle.schedule_trie.specs.declared.refusal.Refusal.TheVariants.{NoPlace, Memory}
 use Rattle.schedule_trie.specs.Forest.{Forest, IsRefused, slots_in, step_of, index_of, on_found}
-use Rattle.schedule_trie.specs.Cut.{Cut, Piece, piece_at, line, forest, has, keys_in, SharesAbove, IsCut}
-use Rattle.schedule_trie.proofs.Lines.{slots_in_on}
+use Rattle.schedule_trie.specs.Trie.{TrieOf, SegmentOf, segment_at, line, forest, has, keys_in, SharesAbove, IsCut}
+use Rattle.schedule_trie.proofs.branches.Lines.{slots_in_on}
 use Rattle.cutoff.specs.Fitting.{StoredRun, KeepsRuns}
 use Rattle.cutoff.specs.Settles.{IsFilled}
 use Rattle.cutoff.specs.Links.{without_register, IsLinked}
@@ -20,44 +20,44 @@ use Rattle.cutoff.specs.Charts.{Charted, IsCharted, StepsFit, keys_or, keys_name
 
 -- the same cells at each key
 module _ {T : Type 0} (Q : List Slot → Type 0) where
-  there_too : (o p : Option (Piece T)) → option_map (λ x. x.slots) p ≡ option_map (λ x. x.slots) o → IsSome o → IsSome p
+  there_too : (o p : Option (SegmentOf T)) → option_map (λ x. x.slots) p ≡ option_map (λ x. x.slots) o → IsSome o → IsSome p
   there_too o None e h = cc_there o e h
     where
-      cc_there : (o : Option (Piece T)) → ◌≡◌ {A = Option (List Slot)} None (option_map (λ x. x.slots) o) → IsSome o → IsSome {T = Piece T} None
+      cc_there : (o : Option (SegmentOf T)) → ◌≡◌ {A = Option (List Slot)} None (option_map (λ x. x.slots) o) → IsSome o → IsSome {T = SegmentOf T} None
       cc_there None e h = h
       cc_there (Some q) e h = cc
   there_too o (Some q) e h = refl
 
-  slots_too : (o p : Option (Piece T)) → option_map (λ x. x.slots) p ≡ option_map (λ x. x.slots) o → IfSome o (λ x. Q x.slots) → IfSome p (λ x. Q x.slots)
+  slots_too : (o p : Option (SegmentOf T)) → option_map (λ x. x.slots) p ≡ option_map (λ x. x.slots) o → IfSome o (λ x. Q x.slots) → IfSome p (λ x. Q x.slots)
   slots_too o None e h = tt
   slots_too None (Some q) e h = cc
   slots_too (Some r) (Some q) e h = let same : q.slots ≡ r.slots = cc in subst Q (sym same) h
 
-pub cut_kept : {R P : Type 0} (old new : Cut (StoredRun R P)) (Missed : ℕ → Type 0) → KeepsRuns old new Missed → IsCut old → IsCut new
-cut_kept old new Missed kept cut = record {
-  held = λ i k h. there_too (λ s. Unit {0}) (piece_at old.pieces k) (piece_at new.pieces k) (kept.slots k) (cut.held i k (subst (λ s. has k (keys_in s i) ≡ true) kept.strands h));
-  sizes = λ k. slots_too (λ s. (0 < length s) × (length s ≤ 128)) (piece_at old.pieces k) (piece_at new.pieces k) (kept.slots k) (cut.sizes k);
-  live = λ k h. let was = cut.live k (there_too (λ s. Unit {0}) (piece_at new.pieces k) (piece_at old.pieces k) (sym (kept.slots k)) h) in
-      (was.0, subst (λ s. has k (keys_in s was.0) ≡ true) (sym kept.strands) was.1);
-  shares = subst SharesAbove (sym kept.strands) cut.shares;
+pub cut_kept : {R P : Type 0} (old new : TrieOf (StoredRun R P)) (Missed : ℕ → Type 0) → KeepsRuns old new Missed → IsCut old → IsCut new
+cut_kept old new Missed kept trie = record {
+  held = λ i k h. there_too (λ s. Unit {0}) (segment_at old.segments k) (segment_at new.segments k) (kept.slots k) (trie.held i k (subst (λ s. has k (keys_in s i) ≡ true) kept.branches h));
+  sizes = λ k. slots_too (λ s. (0 < length s) × (length s ≤ 128)) (segment_at old.segments k) (segment_at new.segments k) (kept.slots k) (trie.sizes k);
+  live = λ k h. let was = trie.live k (there_too (λ s. Unit {0}) (segment_at new.segments k) (segment_at old.segments k) (sym (kept.slots k)) h) in
+      (was.0, subst (λ s. has k (keys_in s was.0) ≡ true) (sym kept.branches) was.1);
+  shares = subst SharesAbove (sym kept.branches) trie.shares;
 }
 
-pub charted_kept : {R P : Type 0} (E : R → R → Bool) (is : R → Behaviour P) (next after : ℕ) (fresh mark : Option ℕ) (c : Charted R P) (new : Cut (StoredRun R P)) (Missed : ℕ → Type 0)
-    → KeepsRuns c.cut new Missed → IsLinked E c.start.register after None (without_register c.start) new → IsCharted E is next fresh mark c
-    → IsCharted E is after None None (record { cut = new; start = c.start; value = c.value })
+pub charted_kept : {R P : Type 0} (E : R → R → Bool) (is : R → Behaviour P) (next after : ℕ) (fresh mark : Option ℕ) (c : Charted R P) (new : TrieOf (StoredRun R P)) (Missed : ℕ → Type 0)
+    → KeepsRuns c.trie new Missed → IsLinked E c.start.register after None (without_register c.start) new → IsCharted E is next fresh mark c
+    → IsCharted E is after None None (record { trie = new; start = c.start; value = c.value })
 charted_kept E is next after fresh mark c new Missed kept linked was = record {
   within = was.within;
   begins = was.begins;
   fits = subst (StepsFit (is c.start.register)) (sym kept.forest_kept) was.fits;
-  whole = cut_kept c.cut new Missed kept was.whole;
+  whole = cut_kept c.trie new Missed kept was.whole;
   linked = linked;
   marked = tt;
   fresh_marked = tt;
 }
 
 -- the invariant holds with another mark and other fresh runs, if stored runs fit down to these
-pub charted_marked : {R P : Type 0} (E : R → R → Bool) (is : R → Behaviour P) (next : ℕ) (fresh mark first other : Option ℕ) (c : Charted R P) → AreFresh E is c.cut c.start first
-    → IsMarked E is c.cut c.start other → IsCharted E is next fresh mark c → IsCharted E is next first other c
+pub charted_marked : {R P : Type 0} (E : R → R → Bool) (is : R → Behaviour P) (next : ℕ) (fresh mark first other : Option ℕ) (c : Charted R P) → AreFresh E is c.trie c.start first
+    → IsMarked E is c.trie c.start other → IsCharted E is next fresh mark c → IsCharted E is next first other c
 charted_marked E is next fresh mark first other c all_marked marked was = record {
   within = was.within;
   begins = was.begins;
@@ -69,24 +69,24 @@ charted_marked E is next fresh mark first other c all_marked marked was = record
 }
 
 -- the named branch, by its index in the order the branches were made
-module _ {R P : Type 0} (b : Behaviour P) (cut : Cut (StoredRun R P)) (name : List ℕ) (index len : ℕ) (at : index_of (forest cut).branches name ≡ Some index)
-    (long : len ≡ length (slots_in (forest cut).branches index)) where
-  line_there : slots_in (forest cut).branches index ≡ line (piece_at cut.pieces) (keys_in cut.strands index)
-  line_there = slots_in_on (piece_at cut.pieces) cut.strands index
+module _ {R P : Type 0} (b : Behaviour P) (trie : TrieOf (StoredRun R P)) (name : List ℕ) (index len : ℕ) (at : index_of (forest trie).branches name ≡ Some index)
+    (long : len ≡ length (slots_in (forest trie).branches index)) where
+  line_there : slots_in (forest trie).branches index ≡ line (segment_at trie.segments) (keys_in trie.branches index)
+  line_there = slots_in_on (segment_at trie.segments) trie.branches index
 
-  pub len_there : length (line (piece_at cut.pieces) (keys_in cut.strands index)) ≡ len
+  pub len_there : length (line (segment_at trie.segments) (keys_in trie.branches index)) ≡ len
   len_there = ap length (sym line_there) ∙ sym long
 
-  pub fits_there : StepsFit b (forest cut) → AllFit b (map step_of (line (piece_at cut.pieces) (keys_in cut.strands index)))
+  pub fits_there : StepsFit b (forest trie) → AllFit b (map step_of (line (segment_at trie.segments) (keys_in trie.branches index)))
   fits_there fits = subst (λ l. AllFit b (map step_of l)) line_there (fits index)
 
-  pub keys_there : keys_named cut name ≡ keys_in cut.strands index
-  keys_there = ap (λ o. keys_or o cut.strands) at
+  pub keys_there : keys_named trie name ≡ keys_in trie.branches index
+  keys_there = ap (λ o. keys_or o trie.branches) at
 
-  pub look_there : (place : ℕ) → place ≤ len → look (forest cut) name place ≡ Ok (forest cut)
+  pub look_there : (place : ℕ) → place ≤ len → look (forest trie) name place ≡ Ok (forest trie)
   look_there place within =
-      ap (λ o. on_found o (looked_at (forest cut) place)) at
-      ∙ ap (λ t. cond t (Err NoPlace) (Ok (forest cut))) (not_behind (length (slots_in (forest cut).branches index)) (sym long))
+      ap (λ o. on_found o (looked_at (forest trie) place)) at
+      ∙ ap (λ t. cond t (Err NoPlace) (Ok (forest trie))) (not_behind (length (slots_in (forest trie).branches index)) (sym long))
     where
       not_behind : (n : ℕ) → n ≡ len → nat_lt n place ≡ false
       not_behind n e = grind (arith, nat_tests)
@@ -96,8 +96,8 @@ pub look_found : (f g : Forest) (name : List ℕ) (place : ℕ) → look f name 
 look_found f g name place ok none = let e : on_found None (looked_at f place) ≡ Ok g = ap (λ o. on_found o (looked_at f place)) none ∙ ok in cc
 
 -- if nothing more changes, the same is kept or filled
-pub keeps_still : {R P : Type 0} (E : R → R → Bool) (b : Behaviour P) (old : Cut (StoredRun R P)) (start : Configuration R P) (ks : List ℕ) {cut new : Cut (StoredRun R P)} → new ≡ cut
-    → KeepsRuns old cut (IsFilled E b old cut start ks) → KeepsRuns old new (IsFilled E b old new start ks)
+pub keeps_still : {R P : Type 0} (E : R → R → Bool) (b : Behaviour P) (old : TrieOf (StoredRun R P)) (start : Configuration R P) (ks : List ℕ) {trie new : TrieOf (StoredRun R P)} → new ≡ trie
+    → KeepsRuns old trie (IsFilled E b old trie start ks) → KeepsRuns old new (IsFilled E b old new start ks)
 keeps_still E b old start ks same = subst (λ t. KeepsRuns old t (IsFilled E b old t start ks)) (sym same)
 
 -- what holds for an error that is passed up
@@ -117,6 +117,6 @@ module _ {R P : Type 0} {v w : Charted R P} (seen : v ≡ w) where
       → w.start ≡ initial_configuration (is w.start.register) w.start.register w.value
   seen_begins E is next fresh mark was = subst (λ (c : Charted R P). c.start ≡ initial_configuration (is c.start.register) c.start.register c.value) seen was.begins
 
--- a cut that doesn't change keeps its runs
-pub all_kept : {R P : Type 0} (cut : Cut (StoredRun R P)) (Filled : ℕ → Type 0) → KeepsRuns cut cut Filled
-all_kept cut Filled = record { strands = refl; limits = refl; forest_kept = refl; slots = λ k. refl; runs = λ k. inl refl }
+-- a trie that doesn't change keeps its runs
+pub all_kept : {R P : Type 0} (trie : TrieOf (StoredRun R P)) (Filled : ℕ → Type 0) → KeepsRuns trie trie Filled
+all_kept trie Filled = record { branches = refl; limits = refl; forest_kept = refl; slots = λ k. refl; runs = λ k. inl refl }

@@ -4,7 +4,7 @@ use Rattle.std.specs.Cmp.{IsEquivalence}
 use Rattle.std.specs.Option.{option_map}
 use Rattle.frames.specs.Configuration.{Configuration}
 use Rattle.frames.specs.Equality.{SameConfiguration}
-use Rattle.schedule_trie.specs.Cut.{Cut, Piece, piece, piece_at, note_of, with_note, IsNoted}
+use Rattle.schedule_trie.specs.Trie.{TrieOf, SegmentOf, segment, segment_at, note_of, with_note, IsNoted}
 use Rattle.cutoff.specs.Fitting.{StoredRun, run_of, RunFits, Fits, steps_at}
 use Rattle.cutoff.specs.Settles.{IsSegmentSettled}
 use Rattle.cutoff.specs.Links.{without_register, IsExitOf, IsGiven, IsStored, IsLinked}
@@ -12,14 +12,14 @@ use Rattle.cutoff.proofs.Fits.{alone_same, stored_at, fits_to_note}
 use Rattle.cutoff.proofs.Links.{taken_linked, new_linked}
 
 -- setting a note that is there already changes nothing
-pub noted_still : {T : Type 0} (c : Cut T) (k : ℕ) (s : T) → note_of (piece_at c.pieces k) ≡ Some s → IsNoted c c k (Some s)
-noted_still c k s e = record { here = by (piece_at c.pieces k) e; others = λ j ne. refl; strands = refl; limits = refl; unchanged = refl }
+pub noted_still : {T : Type 0} (c : TrieOf T) (k : ℕ) (s : T) → note_of (segment_at c.segments k) ≡ Some s → IsNoted c c k (Some s)
+noted_still c k s e = record { here = by (segment_at c.segments k) e; others = λ j ne. refl; branches = refl; limits = refl; unchanged = refl }
   where
-    by : (o : Option (Piece _)) → note_of o ≡ Some s → o ≡ option_map (with_note (Some s)) o
+    by : (o : Option (SegmentOf _)) → note_of o ≡ Some s → o ≡ option_map (with_note (Some s)) o
     by None h = cc
-    by (Some p) h = λ i. Some (piece p.slots (h i))
+    by (Some p) h = λ i. Some (segment p.slots (h i))
 
-module _ {R P : Type 0} (E : R → R → Bool) (old new : Cut (StoredRun R P)) (c : Configuration R P) (k : ℕ) (s : StoredRun R P) (noted : IsNoted old new k (Some s)) where
+module _ {R P : Type 0} (E : R → R → Bool) (old new : TrieOf (StoredRun R P)) (c : Configuration R P) (k : ℕ) (s : StoredRun R P) (noted : IsNoted old new k (Some s)) where
   -- a new run, of the segment's steps
   pub segment_replayed : IsEquivalence E → s.run.steps ≡ steps_at old k → s.run.entry ≡ c → (Fits E old c k → ⊥) → (n : ℕ) → n ≡ length (steps_at old k)
       → IsSegmentSettled E old new c k s n
@@ -40,7 +40,7 @@ module _ {R P : Type 0} (E : R → R → Bool) (old new : Cut (StoredRun R P)) (
       (subst (λ n. ((n ≡ None) × (after ≡ next)) ⊎ ((n ≡ Some next) × (after ≡ next + 1))) (sym number) given)
 
   -- the run that was stored there
-  module _ (was : StoredRun R P) (at_first : note_of (piece_at old.pieces k) ≡ Some was) (d : Configuration R P) (there : d ≡ c) (fits_there : RunFits E d (steps_at old k) was.run)
+  module _ (was : StoredRun R P) (at_first : note_of (segment_at old.segments k) ≡ Some was) (d : Configuration R P) (there : d ≡ c) (fits_there : RunFits E d (steps_at old k) was.run)
       (again : s.run ≡ was.run) where
     fits : RunFits E c (steps_at old k) was.run
     fits = subst (λ e. RunFits E e (steps_at old k) was.run) there fits_there

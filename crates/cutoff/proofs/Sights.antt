@@ -8,11 +8,11 @@ use Rattle.frames.specs.Behaviour.{Behaviour}
 use Rattle.frames.specs.Configuration.{Configuration, replayed, fits_step}
 use Rattle.frames.specs.Recorded.{AllFit}
 use Rattle.schedule_trie.specs.Forest.{step_of}
-use Rattle.schedule_trie.specs.Cut.{Cut, piece_at, slots_of, line, forest, keys_in, has, Once, IsCut}
+use Rattle.schedule_trie.specs.Trie.{TrieOf, segment_at, slots_of, line, forest, keys_in, has, Once, IsCut}
 use Rattle.schedule_trie.specs.Climbs.{keys_up_to, keys_to, HasClimbedTo}
-use Rattle.schedule_trie.proofs.Climbs.{IsStepUp, step_up, up_to-here}
-use Rattle.schedule_trie.proofs.NoRepeats.{has_cases, has-append, has-head, has-tail, has-in, once_before}
-use Rattle.schedule_trie.proofs.OwnParts.{IsClimbing, last_reached}
+use Rattle.schedule_trie.proofs.climbs.Climbs.{IsStepUp, step_up, up_to-here}
+use Rattle.schedule_trie.proofs.lists.NoRepeats.{has_cases, has-append, has-head, has-tail, has-in, once_before}
+use Rattle.schedule_trie.proofs.limbs.OwnParts.{IsClimbing, last_reached}
 use Rattle.cutoff.specs.declared.sight.Sight.{Sight}
 use Rattle.cutoff.specs.declared.sight.Sight.TheVariants.{Unseen, Fit, Unfit}
 use Rattle.cutoff.specs.Charts.{StepsFit}
@@ -45,218 +45,218 @@ module _ (seen : List Sight) (keys : List ℕ) where
       subst (IsUnseenPart mark seen keys fits) (sym turned) (record { above = at; reached = c.reached; path = c.is; lacks = c.free; known = known })
 
 -- the steps of a segment of a branch fit
-segment_fits : {R P : Type 0} (b : Behaviour P) (cut : Cut (StoredRun R P)) (keys : List ℕ) (k : ℕ) → has k keys ≡ true → AllFit b (map step_of (line (piece_at cut.pieces) keys))
-    → AllFit b (steps_at cut k)
-segment_fits b cut [] k h fit = absurd (true≢false (sym h))
-segment_fits b cut (j ∷ js) k h fit =
-    let both = subst (AllFit b) (map-append step_of (slots_of (piece_at cut.pieces j)) (line (piece_at cut.pieces) js)) fit in
-    has_cases k j js (AllFit b (steps_at cut k)) h
-    (λ e. subst (λ i. AllFit b (steps_at cut i)) (sym e) (all_left (λ s. fits_step b s ≡ true) (steps_at cut j) (map step_of (line (piece_at cut.pieces) js)) both))
-    (λ r. segment_fits b cut js k r (all_right (λ s. fits_step b s ≡ true) (steps_at cut j) (map step_of (line (piece_at cut.pieces) js)) both))
+segment_fits : {R P : Type 0} (b : Behaviour P) (trie : TrieOf (StoredRun R P)) (keys : List ℕ) (k : ℕ) → has k keys ≡ true → AllFit b (map step_of (line (segment_at trie.segments) keys))
+    → AllFit b (steps_at trie k)
+segment_fits b trie [] k h fit = absurd (true≢false (sym h))
+segment_fits b trie (j ∷ js) k h fit =
+    let both = subst (AllFit b) (map-append step_of (slots_of (segment_at trie.segments j)) (line (segment_at trie.segments) js)) fit in
+    has_cases k j js (AllFit b (steps_at trie k)) h
+    (λ e. subst (λ i. AllFit b (steps_at trie i)) (sym e) (all_left (λ s. fits_step b s ≡ true) (steps_at trie j) (map step_of (line (segment_at trie.segments) js)) both))
+    (λ r. segment_fits b trie js k r (all_right (λ s. fits_step b s ≡ true) (steps_at trie j) (map step_of (line (segment_at trie.segments) js)) both))
 
 -- walks down that end, and the first segment that no run fits
-module _ {R P : Type 0} (E : R → R → Bool) (b : Behaviour P) (cut : Cut (StoredRun R P)) where
-  descends_more : (c end : Configuration R P) (keys more : List ℕ) (m : ℕ) → Descends E b cut c keys (Some m) end → Descends E b cut c (keys ++ more) (Some m) end
+module _ {R P : Type 0} (E : R → R → Bool) (b : Behaviour P) (trie : TrieOf (StoredRun R P)) where
+  descends_more : (c end : Configuration R P) (keys more : List ℕ) (m : ℕ) → Descends E b trie c keys (Some m) end → Descends E b trie c (keys ++ more) (Some m) end
   descends_more c end [] more m d = absurd (let e : ◌≡◌ {A = Option ℕ} (Some m) None = d.0 in cc)
-  descends_more c end (k ∷ ks) more m (inl d) = inl (d.0, descends_more (replayed b c (steps_at cut k)) end ks more m d.1)
+  descends_more c end (k ∷ ks) more m (inl d) = inl (d.0, descends_more (replayed b c (steps_at trie k)) end ks more m d.1)
   descends_more c end (k ∷ ks) more m (inr d) = inr d
 
-  comes_descends : (c end : Configuration R P) (keys : List ℕ) → FitsDownTo E b cut c keys end → Descends E b cut c keys None end
+  comes_descends : (c end : Configuration R P) (keys : List ℕ) → FitsDownTo E b trie c keys end → Descends E b trie c keys None end
   comes_descends c end [] d = (refl, d)
-  comes_descends c end (k ∷ ks) d = inl (d.0, comes_descends (replayed b c (steps_at cut k)) end ks d.1)
+  comes_descends c end (k ∷ ks) d = inl (d.0, comes_descends (replayed b c (steps_at trie k)) end ks d.1)
 
-  comes_missing : (per : IsPartialEquivalence E) (c end : Configuration R P) (keys : List ℕ) (k : ℕ) → FitsDownTo E b cut c keys end → (Fits E cut end k → ⊥)
-      → Descends E b cut c (keys ++ k ∷ []) (Some k) end
-  comes_missing per c end [] k d misses = inr ((λ f. misses (fits_alike E per cut c end k (same_symm E per end c d) f)), refl, d)
-  comes_missing per c end (j ∷ ks) k d misses = inl (d.0, comes_missing per (replayed b c (steps_at cut j)) end ks k d.1 misses)
+  comes_missing : (per : IsPartialEquivalence E) (c end : Configuration R P) (keys : List ℕ) (k : ℕ) → FitsDownTo E b trie c keys end → (Fits E trie end k → ⊥)
+      → Descends E b trie c (keys ++ k ∷ []) (Some k) end
+  comes_missing per c end [] k d misses = inr ((λ f. misses (fits_alike E per trie c end k (same_symm E per end c d) f)), refl, d)
+  comes_missing per c end (j ∷ ks) k d misses = inl (d.0, comes_missing per (replayed b c (steps_at trie j)) end ks k d.1 misses)
 
 -- jobs with one more, of a key
-module _ {R P : Type 0} (cut : Cut (StoredRun R P)) (k : ℕ) (end : Configuration R P) where
+module _ {R P : Type 0} (trie : TrieOf (StoredRun R P)) (k : ℕ) (end : Configuration R P) where
   abbrev pub job : Planned R P
-  job = record { key = k; entry = end; steps = steps_at cut k }
+  job = record { key = k; entry = end; steps = steps_at trie k }
 
-  pub job_is : (made : Planned R P) → Some made ≡ job_of cut (Some k) end → made ≡ job
+  pub job_is : (made : Planned R P) → Some made ≡ job_of trie (Some k) end → made ≡ job
   job_is made same = cc
 
-  job_again : (jobs : List (Planned R P)) → has k (map key_of jobs) ≡ true → jobs ≡ with_job jobs (job_of cut (Some k) end)
+  job_again : (jobs : List (Planned R P)) → has k (map key_of jobs) ≡ true → jobs ≡ with_job jobs (job_of trie (Some k) end)
   job_again jobs there = sym (ap (λ t. cond t jobs (jobs ++ job ∷ [])) there)
 
-  job_new : (jobs : List (Planned R P)) → has k (map key_of jobs) ≡ false → with_job jobs (job_of cut (Some k) end) ≡ jobs ++ job ∷ []
+  job_new : (jobs : List (Planned R P)) → has k (map key_of jobs) ≡ false → with_job jobs (job_of trie (Some k) end) ≡ jobs ++ job ∷ []
   job_new jobs other = ap (λ t. cond t jobs (jobs ++ job ∷ [])) other
 
   keys_more : (jobs : List (Planned R P)) (j : ℕ) → has j (map key_of (jobs ++ job ∷ [])) ≡ has j (map key_of jobs) || has j (k ∷ [])
   keys_more jobs j = ap (has j) (map-append key_of jobs (job ∷ [])) ∙ has-append j (map key_of jobs) (k ∷ [])
 
 -- nothing has been visited yet
-pub none_seen : {R P : Type 0} (E : R → R → Bool) (is : R → Behaviour P) (cut : Cut (StoredRun R P)) (start : Configuration R P) (seen : List Sight) (jobs : List (Planned R P)) → seen ≡ [] → jobs ≡ []
-    → AreSeen E is cut start seen jobs
-none_seen E is cut start seen jobs no_sights no_jobs k =
-    subst (λ l. IsSight E is cut start jobs k (sight_at l k)) (sym no_sights) (subst (λ l. has k (map key_of l) ≡ false) (sym no_jobs) refl)
+pub none_seen : {R P : Type 0} (E : R → R → Bool) (is : R → Behaviour P) (trie : TrieOf (StoredRun R P)) (start : Configuration R P) (seen : List Sight) (jobs : List (Planned R P)) → seen ≡ [] → jobs ≡ []
+    → AreSeen E is trie start seen jobs
+none_seen E is trie start seen jobs no_sights no_jobs k =
+    subst (λ l. IsSight E is trie start jobs k (sight_at l k)) (sym no_sights) (subst (λ l. has k (map key_of l) ≡ false) (sym no_jobs) refl)
 
 -- a visit of a key adds the key's job or nothing
-abbrev pub Grows : {R P : Type 0} → Cut (StoredRun R P) → ℕ → List (Planned R P) → List (Planned R P) → Type 0
-Grows {R} {P} cut key old new = (new ≡ old) ⊎ ((end : Configuration R P) × (new ≡ old ++ record { key = key; entry = end; steps = steps_at cut key } ∷ []))
+abbrev pub Grows : {R P : Type 0} → TrieOf (StoredRun R P) → ℕ → List (Planned R P) → List (Planned R P) → Type 0
+Grows {R} {P} trie key old new = (new ≡ old) ⊎ ((end : Configuration R P) × (new ≡ old ++ record { key = key; entry = end; steps = steps_at trie key } ∷ []))
 
-grows_has : {R P : Type 0} (cut : Cut (StoredRun R P)) (key : ℕ) (old new : List (Planned R P)) → Grows cut key old new → (m : ℕ) → has m (map key_of old) ≡ true → has m (map key_of new) ≡ true
-grows_has cut key old new (inl same) m h = ap (λ l. has m (map key_of l)) same ∙ h
-grows_has cut key old new (inr more) m h =
-    ap (λ l. has m (map key_of l)) more.1 ∙ keys_more cut key more.0 old m ∙ or_left (has m (map key_of old)) (has m (key ∷ [])) h
+grows_has : {R P : Type 0} (trie : TrieOf (StoredRun R P)) (key : ℕ) (old new : List (Planned R P)) → Grows trie key old new → (m : ℕ) → has m (map key_of old) ≡ true → has m (map key_of new) ≡ true
+grows_has trie key old new (inl same) m h = ap (λ l. has m (map key_of l)) same ∙ h
+grows_has trie key old new (inr more) m h =
+    ap (λ l. has m (map key_of l)) more.1 ∙ keys_more trie key more.0 old m ∙ or_left (has m (map key_of old)) (has m (key ∷ [])) h
 
-grows_lacks : {R P : Type 0} (cut : Cut (StoredRun R P)) (key : ℕ) (old new : List (Planned R P)) → Grows cut key old new → (m : ℕ) → (m ≡ key → ⊥) → has m (map key_of old) ≡ false
+grows_lacks : {R P : Type 0} (trie : TrieOf (StoredRun R P)) (key : ℕ) (old new : List (Planned R P)) → Grows trie key old new → (m : ℕ) → (m ≡ key → ⊥) → has m (map key_of old) ≡ false
     → has m (map key_of new) ≡ false
-grows_lacks cut key old new (inl same) m other h = ap (λ l. has m (map key_of l)) same ∙ h
-grows_lacks cut key old new (inr more) m other h =
-    ap (λ l. has m (map key_of l)) more.1 ∙ keys_more cut key more.0 old m ∙ ap (λ t. t || (nat_eq m key || false)) h ∙ ap (λ t. t || false) (ne_eqb m key other)
+grows_lacks trie key old new (inl same) m other h = ap (λ l. has m (map key_of l)) same ∙ h
+grows_lacks trie key old new (inr more) m other h =
+    ap (λ l. has m (map key_of l)) more.1 ∙ keys_more trie key more.0 old m ∙ ap (λ t. t || (nat_eq m key || false)) h ∙ ap (λ t. t || false) (ne_eqb m key other)
 
 module _ {R P : Type 0} (E : R → R → Bool) (per : IsPartialEquivalence E) (is : R → Behaviour P) (alike : (x y : R) → E x y ≡ true → is x ≡ is y)
-    (cut : Cut (StoredRun R P)) (start : Configuration R P) where
+    (trie : TrieOf (StoredRun R P)) (start : Configuration R P) where
   abbrev b : Behaviour P
   b = is start.register
 
-  come_seen : (old jobs : List (Planned R P)) (last : Option ℕ) (fits : Bool) → HasDescended E is cut start old jobs last fits → HasDescended E is cut start jobs jobs last fits
+  come_seen : (old jobs : List (Planned R P)) (last : Option ℕ) (fits : Bool) → HasDescended E is trie start old jobs last fits → HasDescended E is trie start jobs jobs last fits
   come_seen old jobs last true c = (c.0, refl)
-  come_seen old jobs last false c = λ i h. let p = c i h in (p.0, p.1, p.2, p.3, job_again cut p.0 p.1 jobs p.3)
+  come_seen old jobs last false c = λ i h. let p = c i h in (p.0, p.1, p.2, p.3, job_again trie p.0 p.1 jobs p.3)
 
   -- one key further down
-  module _ (whole : IsCut cut) (key : ℕ) (above : Option ℕ) (each : IsAbove cut key above) where
-    step : (i : ℕ) → has key (keys_in cut.strands i) ≡ true → IsStepUp (keys_in cut.strands i) key above
-    step i h = step_up (keys_in cut.strands i) key above (path_once cut whole i) h (λ front back e. each i front back e)
+  module _ (whole : IsCut trie) (key : ℕ) (above : Option ℕ) (each : IsAbove trie key above) where
+    step : (i : ℕ) → has key (keys_in trie.branches i) ≡ true → IsStepUp (keys_in trie.branches i) key above
+    step i h = step_up (keys_in trie.branches i) key above (path_once trie whole i) h (λ front back e. each i front back e)
 
-    pub come_unfit : (old jobs : List (Planned R P)) → HasDescended E is cut start old jobs above false → HasDescended E is cut start old jobs (Some key) false
+    pub come_unfit : (old jobs : List (Planned R P)) → HasDescended E is trie start old jobs above false → HasDescended E is trie start old jobs (Some key) false
     come_unfit old jobs c = λ i h.
-        let keys = keys_in cut.strands i in
+        let keys = keys_in trie.branches i in
         let s = step i h in
         let p = c i s.reached in
-        (p.0, p.1, subst (λ l. Descends E b cut start l (Some p.0) p.1) (sym s.is) (descends_more E b cut start p.1 (keys_to keys above) (key ∷ []) p.0 p.2), p.3, p.4)
+        (p.0, p.1, subst (λ l. Descends E b trie start l (Some p.0) p.1) (sym s.is) (descends_more E b trie start p.1 (keys_to keys above) (key ∷ []) p.0 p.2), p.3, p.4)
 
-    pub come_fit : (old jobs new : List (Planned R P)) → HasDescended E is cut start old jobs above true → HasTrueRun E is cut (exit_or_start cut start above) key → new ≡ jobs
-        → HasDescended E is cut start old new (Some key) true
+    pub come_fit : (old jobs new : List (Planned R P)) → HasDescended E is trie start old jobs above true → HasTrueRun E is trie (exit_or_start trie start above) key → new ≡ jobs
+        → HasDescended E is trie start old new (Some key) true
     come_fit old jobs new c run same = (
       λ i h.
-          let keys = keys_in cut.strands i in
+          let keys = keys_in trie.branches i in
           let s = step i h in
-          up_new E per is alike cut key run.stored run.noted run.true_run run.fits.steps start keys above s
-          (down_same E per is alike cut b start (keys_to keys above) run.stored.run.entry (exit_or_start cut start above) run.fits.entry (c.0 i s.reached)),
+          up_new E per is alike trie key run.stored run.noted run.true_run run.fits.steps start keys above s
+          (down_same E per is alike trie b start (keys_to keys above) run.stored.run.entry (exit_or_start trie start above) run.fits.entry (c.0 i s.reached)),
       same ∙ c.1,
     )
 
-    pub come_missed : (old jobs new : List (Planned R P)) → HasDescended E is cut start old jobs above true → has key (map key_of jobs) ≡ false → (Fits E cut (exit_or_start cut start above) key → ⊥)
-        → new ≡ jobs ++ record { key = key; entry = exit_or_start cut start above; steps = steps_at cut key } ∷ [] → HasDescended E is cut start old new (Some key) false
+    pub come_missed : (old jobs new : List (Planned R P)) → HasDescended E is trie start old jobs above true → has key (map key_of jobs) ≡ false → (Fits E trie (exit_or_start trie start above) key → ⊥)
+        → new ≡ jobs ++ record { key = key; entry = exit_or_start trie start above; steps = steps_at trie key } ∷ [] → HasDescended E is trie start old new (Some key) false
     come_missed old jobs new c other misses added = λ i h.
-        let keys = keys_in cut.strands i in
+        let keys = keys_in trie.branches i in
         let s = step i h in
-        let end = exit_or_start cut start above in
-        let down = runs_come E per is alike cut b start (keys_to keys above) end (c.0 i s.reached) in
+        let end = exit_or_start trie start above in
+        let down = runs_come E per is alike trie b start (keys_to keys above) end (c.0 i s.reached) in
         let lacks : has key (map key_of old) ≡ false = ap (λ l. has key (map key_of l)) (sym c.1) ∙ other in (
           key,
           end,
-          subst (λ l. Descends E b cut start l (Some key) end) (sym s.is) (comes_missing E b cut per start end (keys_to keys above) key down misses),
-          ap (λ l. has key (map key_of l)) added ∙ keys_more cut key end jobs key ∙ or_right (has key (map key_of jobs)) (has key (key ∷ [])) (has-head key []),
-          added ∙ ap (λ l. l ++ job cut key end ∷ []) c.1 ∙ sym (job_new cut key end old lacks),
+          subst (λ l. Descends E b trie start l (Some key) end) (sym s.is) (comes_missing E b trie per start end (keys_to keys above) key down misses),
+          ap (λ l. has key (map key_of l)) added ∙ keys_more trie key end jobs key ∙ or_right (has key (map key_of jobs)) (has key (key ∷ [])) (has-head key []),
+          added ∙ ap (λ l. l ++ job trie key end ∷ []) c.1 ∙ sym (job_new trie key end old lacks),
         )
 
   -- what was found stays so, and the key visited is now known
-  pub see_on : (seen after : List Sight) (jobs new : List (Planned R P)) (key : ℕ) (fits : Bool) → AreSeen E is cut start seen jobs → sight_at after key ≡ sight_of fits
-      → ((k : ℕ) → (k ≡ key → ⊥) → sight_at after k ≡ sight_at seen k) → HasDescended E is cut start new new (Some key) fits → Grows cut key jobs new → AreSeen E is cut start after new
-  see_on seen after jobs new key fits were at others now grows = λ k. by_key k key (IsSight E is cut start new k (sight_at after k))
-      (λ e. subst (λ j. IsSight E is cut start new j (sight_at after j)) (sym e) (subst (IsSight E is cut start new key) (sym at) (by fits now)))
-      (λ ne. subst (IsSight E is cut start new k) (sym (others k ne)) (still k ne (sight_at seen k) (were k)))
+  pub see_on : (seen after : List Sight) (jobs new : List (Planned R P)) (key : ℕ) (fits : Bool) → AreSeen E is trie start seen jobs → sight_at after key ≡ sight_of fits
+      → ((k : ℕ) → (k ≡ key → ⊥) → sight_at after k ≡ sight_at seen k) → HasDescended E is trie start new new (Some key) fits → Grows trie key jobs new → AreSeen E is trie start after new
+  see_on seen after jobs new key fits were at others now grows = λ k. by_key k key (IsSight E is trie start new k (sight_at after k))
+      (λ e. subst (λ j. IsSight E is trie start new j (sight_at after j)) (sym e) (subst (IsSight E is trie start new key) (sym at) (by fits now)))
+      (λ ne. subst (IsSight E is trie start new k) (sym (others k ne)) (still k ne (sight_at seen k) (were k)))
     where
-      by : (f : Bool) → HasDescended E is cut start new new (Some key) f → IsSight E is cut start new key (sight_of f)
+      by : (f : Bool) → HasDescended E is trie start new new (Some key) f → IsSight E is trie start new key (sight_of f)
       by true h = h
       by false h = h
 
-      still : (k : ℕ) → (k ≡ key → ⊥) → (s : Sight) → IsSight E is cut start jobs k s → IsSight E is cut start new k s
-      still k ne Unseen h = grows_lacks cut key jobs new grows k ne h
+      still : (k : ℕ) → (k ≡ key → ⊥) → (s : Sight) → IsSight E is trie start jobs k s → IsSight E is trie start new k s
+      still k ne Unseen h = grows_lacks trie key jobs new grows k ne h
       still k ne Fit h = (h.0, refl)
-      still k ne Unfit h = λ i r. let p = h i r in let there = grows_has cut key jobs new grows p.0 p.3 in (p.0, p.1, p.2, there, job_again cut p.0 p.1 new there)
+      still k ne Unfit h = λ i r. let p = h i r in let there = grows_has trie key jobs new grows p.0 p.3 in (p.0, p.1, p.2, there, job_again trie p.0 p.1 new there)
 
   -- a visit of a key, if runs don't fit down to the key above
-  module _ (whole : IsCut cut) (key : ℕ) (above : Option ℕ) (each : IsAbove cut key above) (jobs : List (Planned R P)) where
-    pub visit_unfit : (old : List (Planned R P)) → HasDescendedAbove E is cut start old jobs key false → HasDescended E is cut start old jobs (Some key) false
+  module _ (whole : IsCut trie) (key : ℕ) (above : Option ℕ) (each : IsAbove trie key above) (jobs : List (Planned R P)) where
+    pub visit_unfit : (old : List (Planned R P)) → HasDescendedAbove E is trie start old jobs key false → HasDescended E is trie start old jobs (Some key) false
     visit_unfit old c = come_unfit whole key above each old jobs (c above each)
 
-    pub seen_unfit : (seen after : List Sight) → AreSeen E is cut start seen jobs → sight_at after key ≡ Unfit → ((k : ℕ) → (k ≡ key → ⊥) → sight_at after k ≡ sight_at seen k)
-        → (old : List (Planned R P)) × HasDescendedAbove E is cut start old jobs key false → AreSeen E is cut start after jobs
+    pub seen_unfit : (seen after : List Sight) → AreSeen E is trie start seen jobs → sight_at after key ≡ Unfit → ((k : ℕ) → (k ≡ key → ⊥) → sight_at after k ≡ sight_at seen k)
+        → (old : List (Planned R P)) × HasDescendedAbove E is trie start old jobs key false → AreSeen E is trie start after jobs
     seen_unfit seen after were at others c =
         see_on seen after jobs jobs key false were at others (come_seen c.0 jobs (Some key) false (visit_unfit c.0 c.1)) (inl refl)
 
-    module _ (fits : Bool) (new : List (Planned R P)) (looks : LooksBelow E is cut (exit_or_start cut start above) key fits jobs new) (lacks : has key (map key_of jobs) ≡ false) where
-      pub visit_below : (old : List (Planned R P)) → HasDescendedAbove E is cut start old jobs key true → HasDescended E is cut start old new (Some key) fits
+    module _ (fits : Bool) (new : List (Planned R P)) (looks : LooksBelow E is trie (exit_or_start trie start above) key fits jobs new) (lacks : has key (map key_of jobs) ≡ false) where
+      pub visit_below : (old : List (Planned R P)) → HasDescendedAbove E is trie start old jobs key true → HasDescended E is trie start old new (Some key) fits
       visit_below old c = by fits looks
         where
-          by : (f : Bool) → LooksBelow E is cut (exit_or_start cut start above) key f jobs new → HasDescended E is cut start old new (Some key) f
+          by : (f : Bool) → LooksBelow E is trie (exit_or_start trie start above) key f jobs new → HasDescended E is trie start old new (Some key) f
           by true l = come_fit whole key above each old jobs new (c above each) l.0 l.1
           by false l = come_missed whole key above each old jobs new (c above each) lacks l.0 l.1
 
-      grows : Grows cut key jobs new
+      grows : Grows trie key jobs new
       grows = by fits looks
         where
-          by : (f : Bool) → LooksBelow E is cut (exit_or_start cut start above) key f jobs new → Grows cut key jobs new
+          by : (f : Bool) → LooksBelow E is trie (exit_or_start trie start above) key f jobs new → Grows trie key jobs new
           by true l = inl l.1
-          by false l = inr (exit_or_start cut start above, l.1)
+          by false l = inr (exit_or_start trie start above, l.1)
 
-      pub seen_below : (seen after : List Sight) → AreSeen E is cut start seen jobs → sight_at after key ≡ sight_of fits → ((k : ℕ) → (k ≡ key → ⊥) → sight_at after k ≡ sight_at seen k)
-          → (old : List (Planned R P)) × HasDescendedAbove E is cut start old jobs key true → AreSeen E is cut start after new
+      pub seen_below : (seen after : List Sight) → AreSeen E is trie start seen jobs → sight_at after key ≡ sight_of fits → ((k : ℕ) → (k ≡ key → ⊥) → sight_at after k ≡ sight_at seen k)
+          → (old : List (Planned R P)) × HasDescendedAbove E is trie start old jobs key true → AreSeen E is trie start after new
       seen_below seen after were at others c =
           see_on seen after jobs new key fits were at others (come_seen c.0 new (Some key) fits (visit_below c.0 c.1)) grows
 
   -- what is known of a key that was visited or is marked is true
-  known_come : (mark : Option ℕ) (seen : List Sight) (jobs : List (Planned R P)) (last : Option ℕ) (fits : Bool) → IsEquivalence E → IsMarked E is cut start mark
-      → AreSeen E is cut start seen jobs → IsKnownAt mark seen last fits → HasDescended E is cut start jobs jobs last fits
+  known_come : (mark : Option ℕ) (seen : List Sight) (jobs : List (Planned R P)) (last : Option ℕ) (fits : Bool) → IsEquivalence E → IsMarked E is trie start mark
+      → AreSeen E is trie start seen jobs → IsKnownAt mark seen last fits → HasDescended E is trie start jobs jobs last fits
   known_come mark seen jobs None fits equal marked seen_so known =
-      subst (HasDescended E is cut start jobs jobs None) (sym known) ((λ i h. record { register = equal.refl start.register; memory = refl; running = refl; stopped = refl }), refl)
+      subst (HasDescended E is trie start jobs jobs None) (sym known) ((λ i h. record { register = equal.refl start.register; memory = refl; running = refl; stopped = refl }), refl)
   known_come mark seen jobs (Some k) fits equal marked seen_so (inl known) =
-      subst (HasDescended E is cut start jobs jobs (Some k)) (sym known.1) (subst (IsMarked E is cut start) known.0 marked, refl)
-  known_come mark seen jobs (Some k) fits equal marked seen_so (inr known) = by fits (subst (IsSight E is cut start jobs k) known (seen_so k))
+      subst (HasDescended E is trie start jobs jobs (Some k)) (sym known.1) (subst (IsMarked E is trie start) known.0 marked, refl)
+  known_come mark seen jobs (Some k) fits equal marked seen_so (inr known) = by fits (subst (IsSight E is trie start jobs k) known (seen_so k))
     where
-      by : (f : Bool) → IsSight E is cut start jobs k (sight_of f) → HasDescended E is cut start jobs jobs (Some k) f
+      by : (f : Bool) → IsSight E is trie start jobs k (sight_of f) → HasDescended E is trie start jobs jobs (Some k) f
       by true h = h
       by false h = h
 
 -- a walk down a branch has passed a key, or is above the first; the keys `left` are still to go,
 -- and weren't visited
-pub record IsPlanning {R P : Type 0} (E : R → R → Bool) (is : R → Behaviour P) (cut : Cut (StoredRun R P)) (start : Configuration R P) (old jobs : List (Planned R P)) (seen : List Sight)
+pub record IsPlanning {R P : Type 0} (E : R → R → Bool) (is : R → Behaviour P) (trie : TrieOf (StoredRun R P)) (start : Configuration R P) (old jobs : List (Planned R P)) (seen : List Sight)
     (i : ℕ) (left : List ℕ) (fits : Bool) : Type 0 where
   pub above : Option ℕ
-  pub reached : HasClimbedTo (keys_in cut.strands i) above
-  pub path : keys_in cut.strands i ≡ keys_to (keys_in cut.strands i) above ++ left
+  pub reached : HasClimbedTo (keys_in trie.branches i) above
+  pub path : keys_in trie.branches i ≡ keys_to (keys_in trie.branches i) above ++ left
   pub lacks : (k : ℕ) → has k left ≡ true → sight_at seen k ≡ Unseen
-  pub seen_so : AreSeen E is cut start seen jobs
-  pub come : HasDescended E is cut start old jobs above fits
+  pub seen_so : AreSeen E is trie start seen jobs
+  pub come : HasDescended E is trie start old jobs above fits
 
 module _ {R P : Type 0} (E : R → R → Bool) (per : IsPartialEquivalence E) (is : R → Behaviour P) (alike : (x y : R) → E x y ≡ true → is x ≡ is y)
-    (cut : Cut (StoredRun R P)) (start : Configuration R P) (old : List (Planned R P)) (i : ℕ) where
-  pub planning_starts : (mark : Option ℕ) (seen was : List Sight) (left given : List ℕ) (fits : Bool) → IsEquivalence E → IsMarked E is cut start mark → AreSeen E is cut start seen old
-      → was ≡ seen → given ≡ left → IsUnseenPart mark was (keys_in cut.strands i) fits left → IsPlanning E is cut start old old seen i given fits
+    (trie : TrieOf (StoredRun R P)) (start : Configuration R P) (old : List (Planned R P)) (i : ℕ) where
+  pub planning_starts : (mark : Option ℕ) (seen was : List Sight) (left given : List ℕ) (fits : Bool) → IsEquivalence E → IsMarked E is trie start mark → AreSeen E is trie start seen old
+      → was ≡ seen → given ≡ left → IsUnseenPart mark was (keys_in trie.branches i) fits left → IsPlanning E is trie start old old seen i given fits
   planning_starts mark seen was left given fits equal marked seen_so found same unseen =
-      let part = subst (λ l. IsUnseenPart mark l (keys_in cut.strands i) fits left) found unseen in
-      subst (λ l. IsPlanning E is cut start old old seen i l fits) (sym same) (record {
+      let part = subst (λ l. IsUnseenPart mark l (keys_in trie.branches i) fits left) found unseen in
+      subst (λ l. IsPlanning E is trie start old old seen i l fits) (sym same) (record {
         above = part.above;
         reached = part.reached;
         path = part.path;
         lacks = part.lacks;
         seen_so = seen_so;
-        come = known_come E per is alike cut start mark seen old part.above fits equal marked seen_so part.known;
+        come = known_come E per is alike trie start mark seen old part.above fits equal marked seen_so part.known;
       })
 
-  module _ (jobs : List (Planned R P)) (seen : List Sight) (key : ℕ) (rest : List ℕ) (fits : Bool) (p : IsPlanning E is cut start old jobs seen i (key ∷ rest) fits) where
+  module _ (jobs : List (Planned R P)) (seen : List Sight) (key : ℕ) (rest : List ℕ) (fits : Bool) (p : IsPlanning E is trie start old jobs seen i (key ∷ rest) fits) where
     abbrev keys : List ℕ
-    keys = keys_in cut.strands i
+    keys = keys_in trie.branches i
 
     next_there : has key keys ≡ true
     next_there = ap (has key) p.path ∙ has-in key (keys_to keys p.above) rest
 
-    next_comes : HasDescendedAbove E is cut start old jobs key fits
+    next_comes : HasDescendedAbove E is trie start old jobs key fits
     next_comes = λ above each.
         let same : above ≡ p.above = each i (keys_to keys p.above) rest p.path ∙ last_reached keys p.above p.reached in
-        subst (λ o. HasDescended E is cut start old jobs o fits) (sym same) p.come
+        subst (λ o. HasDescended E is trie start old jobs o fits) (sym same) p.come
 
-    planning_on : IsCut cut → (new : List (Planned R P)) (after : List Sight) (found : Bool) → AreSeen E is cut start after new
-        → ((k : ℕ) → (k ≡ key → ⊥) → sight_at after k ≡ sight_at seen k) → HasDescended E is cut start old new (Some key) found → IsPlanning E is cut start old new after i rest found
+    planning_on : IsCut trie → (new : List (Planned R P)) (after : List Sight) (found : Bool) → AreSeen E is trie start after new
+        → ((k : ℕ) → (k ≡ key → ⊥) → sight_at after k ≡ sight_at seen k) → HasDescended E is trie start old new (Some key) found → IsPlanning E is trie start old new after i rest found
     planning_on whole new after found seen_so others come =
         let front = keys_to keys p.above in
-        let once : Once (front ++ key ∷ rest) = subst Once p.path (path_once cut whole i) in
+        let once : Once (front ++ key ∷ rest) = subst Once p.path (path_once trie whole i) in
         let up : keys_up_to key keys ≡ front ++ key ∷ [] = ap (keys_up_to key) p.path ∙ up_to-here key front rest (once_before front key rest once) in
         record {
           above = Some key;
@@ -272,42 +272,42 @@ module _ {R P : Type 0} (E : R → R → Bool) (per : IsPartialEquivalence E) (i
         lacks_rest (f ∷ front) once = lacks_rest front once.1
 
   -- the next key, by its index
-  module _ {jobs : List (Planned R P)} {seen : List Sight} (keys : List ℕ) (index : ℕ) (fits : Bool) (less : index < length keys) (p : IsPlanning E is cut start old jobs seen i (drop index keys) fits) where
+  module _ {jobs : List (Planned R P)} {seen : List Sight} (keys : List ℕ) (index : ℕ) (fits : Bool) (less : index < length keys) (p : IsPlanning E is trie start old jobs seen i (drop index keys) fits) where
     abbrev key : ℕ
     key = get_or keys index 0
 
-    next : IsPlanning E is cut start old jobs seen i (key ∷ drop (index + 1) keys) fits
+    next : IsPlanning E is trie start old jobs seen i (key ∷ drop (index + 1) keys) fits
     next =
         let step : suc index ≡ index + 1 = omega arith in
-        subst (λ l. IsPlanning E is cut start old jobs seen i l fits) (drop-cons keys index 0 less ∙ ap (λ n. key ∷ drop n keys) step) p
+        subst (λ l. IsPlanning E is trie start old jobs seen i l fits) (drop-cons keys index 0 less ∙ ap (λ n. key ∷ drop n keys) step) p
 
-    pub at_fits : StepsFit (is start.register) (forest cut) → AllFit (is start.register) (steps_at cut key)
+    pub at_fits : StepsFit (is start.register) (forest trie) → AllFit (is start.register) (steps_at trie key)
     at_fits fit =
-        segment_fits (is start.register) cut (keys_in cut.strands i) key (next_there jobs seen key (drop (index + 1) keys) fits next) (fits_on (is start.register) cut fit i (keys_in cut.strands i) refl)
+        segment_fits (is start.register) trie (keys_in trie.branches i) key (next_there jobs seen key (drop (index + 1) keys) fits next) (fits_on (is start.register) trie fit i (keys_in trie.branches i) refl)
 
     pub at_new : sight_at seen key ≡ Unseen
     at_new = next.lacks key (has-head key (drop (index + 1) keys))
 
-    pub at_comes : HasDescendedAbove E is cut start old jobs key fits
+    pub at_comes : HasDescendedAbove E is trie start old jobs key fits
     at_comes = next_comes jobs seen key (drop (index + 1) keys) fits next
 
-    pub at_on : {new : List (Planned R P)} {after : List Sight} {found : Bool} → IsCut cut → AreSeen E is cut start after new → ((k : ℕ) → (k ≡ key → ⊥) → sight_at after k ≡ sight_at seen k)
-        → HasDescended E is cut start old new (Some key) found → IsPlanning E is cut start old new after i (drop (index + 1) keys) found
+    pub at_on : {new : List (Planned R P)} {after : List Sight} {found : Bool} → IsCut trie → AreSeen E is trie start after new → ((k : ℕ) → (k ≡ key → ⊥) → sight_at after k ≡ sight_at seen k)
+        → HasDescended E is trie start old new (Some key) found → IsPlanning E is trie start old new after i (drop (index + 1) keys) found
     at_on {new} {after} {found} whole = planning_on jobs seen key (drop (index + 1) keys) fits next whole new after found
 
-  pub planning_ends : (jobs : List (Planned R P)) (seen : List Sight) (left : List ℕ) (fits : Bool) → left ≡ [] → IsPlanning E is cut start old jobs seen i left fits
-      → (missed : Option ℕ) × (end : Configuration R P) × Descends E (is start.register) cut start (keys_in cut.strands i) missed end × (jobs ≡ with_job old (job_of cut missed end))
+  pub planning_ends : (jobs : List (Planned R P)) (seen : List Sight) (left : List ℕ) (fits : Bool) → left ≡ [] → IsPlanning E is trie start old jobs seen i left fits
+      → (missed : Option ℕ) × (end : Configuration R P) × Descends E (is start.register) trie start (keys_in trie.branches i) missed end × (jobs ≡ with_job old (job_of trie missed end))
   planning_ends jobs seen left fits none p = by fits p.come
     where
-      all : keys_to (keys_in cut.strands i) p.above ≡ keys_in cut.strands i
-      all = sym (p.path ∙ ap (λ l. keys_to (keys_in cut.strands i) p.above ++ l) none ∙ append-nil (keys_to (keys_in cut.strands i) p.above))
+      all : keys_to (keys_in trie.branches i) p.above ≡ keys_in trie.branches i
+      all = sym (p.path ∙ ap (λ l. keys_to (keys_in trie.branches i) p.above ++ l) none ∙ append-nil (keys_to (keys_in trie.branches i) p.above))
 
-      by : (f : Bool) → HasDescended E is cut start old jobs p.above f
-          → (missed : Option ℕ) × (end : Configuration R P) × Descends E (is start.register) cut start (keys_in cut.strands i) missed end × (jobs ≡ with_job old (job_of cut missed end))
+      by : (f : Bool) → HasDescended E is trie start old jobs p.above f
+          → (missed : Option ℕ) × (end : Configuration R P) × Descends E (is start.register) trie start (keys_in trie.branches i) missed end × (jobs ≡ with_job old (job_of trie missed end))
       by true c =
-          let end = exit_or_start cut start p.above in
-          let down = runs_come E per is alike cut (is start.register) start (keys_to (keys_in cut.strands i) p.above) end (c.0 i p.reached) in
-          (None, end, subst (λ l. Descends E (is start.register) cut start l None end) all (comes_descends E (is start.register) cut start end (keys_to (keys_in cut.strands i) p.above) down), c.1)
+          let end = exit_or_start trie start p.above in
+          let down = runs_come E per is alike trie (is start.register) start (keys_to (keys_in trie.branches i) p.above) end (c.0 i p.reached) in
+          (None, end, subst (λ l. Descends E (is start.register) trie start l None end) all (comes_descends E (is start.register) trie start end (keys_to (keys_in trie.branches i) p.above) down), c.1)
       by false c =
           let m = c i p.reached in
-          (Some m.0, m.1, subst (λ l. Descends E (is start.register) cut start l (Some m.0) m.1) all m.2, m.4)
+          (Some m.0, m.1, subst (λ l. Descends E (is start.register) trie start l (Some m.0) m.1) all m.2, m.4)

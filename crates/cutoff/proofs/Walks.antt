@@ -14,11 +14,11 @@ use Rattle.frames.specs.Equality.{SameConfiguration}
 use Rattle.checkpoints.specs.Segment.{SegmentRun, IsRun}
 use Rattle.frames.specs.Recorded.{AllFit}
 use Rattle.schedule_trie.specs.Forest.{step_of}
-use Rattle.schedule_trie.specs.Cut.{Cut, Piece, piece_at, slots_of, note_of, with_note, line, has, Once, keys_in, IsNoted, IsCut}
-use Rattle.schedule_trie.proofs.NoRepeats.{has-head, has-tail, Once-from_linked}
+use Rattle.schedule_trie.specs.Trie.{TrieOf, SegmentOf, segment_at, slots_of, note_of, with_note, line, has, Once, keys_in, IsNoted, IsCut}
+use Rattle.schedule_trie.proofs.lists.NoRepeats.{has-head, has-tail, Once-from_linked}
 use Rattle.cutoff.specs.Fitting.{StoredRun, RunPart, run_of, RunFits, Fits, KeepsRuns, steps_at, slots_at, run_at, reached, counted, part_of}
 use Rattle.cutoff.specs.Settles.{IsWork, IsSettledAt, IsSegmentSettled, Settles, IsFilled}
-use Rattle.cutoff.specs.Links.{IsStored, IsTruePiece, IsLinked}
+use Rattle.cutoff.specs.Links.{IsStored, IsTrueSegment, IsLinked}
 use Rattle.cutoff.proofs.Edits.{all_left, all_right}
 use Rattle.cutoff.proofs.Fits.{register_kept, same_symm, run_fits_alike, fits_alike, exit_same}
 
@@ -29,9 +29,9 @@ exit_of c (part ∷ parts) = exit_of part.run.exit parts
 
 module _ {R P : Type 0} where
   -- if no cells are to be reached, no segment is
-  pub reached_none : (cut : Cut (StoredRun R P)) (ks : List ℕ) → reached cut 0 ks ≡ []
-  reached_none cut [] = refl
-  reached_none cut (k ∷ ks) = refl
+  pub reached_none : (trie : TrieOf (StoredRun R P)) (ks : List ℕ) → reached trie 0 ks ≡ []
+  reached_none trie [] = refl
+  reached_none trie (k ∷ ks) = refl
 
   abbrev pub part : SegmentRun R P → ℕ → RunPart R P
   part run count = record { run = run; count = count }
@@ -61,72 +61,72 @@ lacks_cons j k ks h = (λ e. true≢false (sym (subst (λ i. has i (k ∷ ks) �
 
 -- the effect of storing a run
 module _ {R P : Type 0} where
-  noted_run : (s : StoredRun R P) (o : Option (Piece (StoredRun R P))) → IsSome o → option_map run_of (note_of (option_map (with_note (Some s)) o)) ≡ Some s.run
+  noted_run : (s : StoredRun R P) (o : Option (SegmentOf (StoredRun R P))) → IsSome o → option_map run_of (note_of (option_map (with_note (Some s)) o)) ≡ Some s.run
   noted_run s None h = absurd (true≢false (sym h))
   noted_run s (Some p) h = refl
 
-  pub noted_slots : (s : StoredRun R P) (o : Option (Piece (StoredRun R P)))
+  pub noted_slots : (s : StoredRun R P) (o : Option (SegmentOf (StoredRun R P)))
       → option_map (λ p. p.slots) (option_map (with_note (Some s)) o) ≡ option_map (λ p. p.slots) o
   noted_slots s None = refl
   noted_slots s (Some p) = refl
 
 -- numbers and links are also true for an equal register
-pub linked_home : {R P : Type 0} (E : R → R → Bool) → IsPartialEquivalence E → (h g : R) (next : ℕ) (above : Option ℕ) (c : Configuration ⊤ P) (cut : Cut (StoredRun R P))
-    → E h g ≡ true → IsLinked E h next above c cut → IsLinked E g next above c cut
-linked_home {R} {P} E per h g next above c cut e l = record { exits = l.exits; as_many = l.as_many; each = λ k. told (piece_at cut.pieces k) (l.each k); reached_exit = l.reached_exit }
+pub linked_home : {R P : Type 0} (E : R → R → Bool) → IsPartialEquivalence E → (h g : R) (next : ℕ) (above : Option ℕ) (c : Configuration ⊤ P) (trie : TrieOf (StoredRun R P))
+    → E h g ≡ true → IsLinked E h next above c trie → IsLinked E g next above c trie
+linked_home {R} {P} E per h g next above c trie e l = record { exits = l.exits; as_many = l.as_many; each = λ k. told (segment_at trie.segments k) (l.each k); reached_exit = l.reached_exit }
   where
     stored : (segment : List Step) (n : Option (StoredRun R P)) → MatchOption n ⊤ (IsStored E h l.exits segment) → MatchOption n ⊤ (IsStored E g l.exits segment)
     stored segment None t = tt
     stored segment (Some s) t = record { own = per.trans s.run.entry.register h g t.own e; covers = t.covers; id = t.id; link = t.link; checked = t.checked }
 
-    told : (o : Option (Piece (StoredRun R P))) → IsTruePiece E h l.exits o → IsTruePiece E g l.exits o
+    told : (o : Option (SegmentOf (StoredRun R P))) → IsTrueSegment E h l.exits o → IsTrueSegment E g l.exits o
     told None t = tt
     told (Some p) t = stored (map step_of p.slots) p.note t
 
 -- a segment stays filled if its stored run stays
-filled_still : {R P : Type 0} (E : R → R → Bool) (b : Behaviour P) (old cut new : Cut (StoredRun R P)) (c : Configuration R P) (ks : List ℕ) (k : ℕ)
-    → run_at new k ≡ run_at cut k → IsFilled E b old cut c ks k → IsFilled E b old new c ks k
-filled_still E b old cut new c [] k same f = f
-filled_still E b old cut new c (j ∷ js) k same (inl f) = inl (f.0, f.1, (f.2.0, ap (run_at new) (sym f.0) ∙ same ∙ ap (run_at cut) f.0 ∙ f.2.1, f.2.2))
-filled_still E b old cut new c (j ∷ js) k same (inr f) = inr (filled_still E b old cut new (replayed b c (steps_at old j)) js k same f)
+filled_still : {R P : Type 0} (E : R → R → Bool) (b : Behaviour P) (old trie new : TrieOf (StoredRun R P)) (c : Configuration R P) (ks : List ℕ) (k : ℕ)
+    → run_at new k ≡ run_at trie k → IsFilled E b old trie c ks k → IsFilled E b old new c ks k
+filled_still E b old trie new c [] k same f = f
+filled_still E b old trie new c (j ∷ js) k same (inl f) = inl (f.0, f.1, (f.2.0, ap (run_at new) (sym f.0) ∙ same ∙ ap (run_at trie) f.0 ∙ f.2.1, f.2.2))
+filled_still E b old trie new c (j ∷ js) k same (inr f) = inr (filled_still E b old trie new (replayed b c (steps_at old j)) js k same f)
 
 -- a walk has passed the runs `parts` and replayed n steps; the segments `left` and `rest` cells are
 -- still to go
-pub record IsWalking {R P : Type 0} (E : R → R → Bool) (b : Behaviour P) (old cut : Cut (StoredRun R P)) (start : Configuration R P)
+pub record IsWalking {R P : Type 0} (E : R → R → Bool) (b : Behaviour P) (old trie : TrieOf (StoredRun R P)) (start : Configuration R P)
     (keys left : List ℕ) (place rest n : ℕ) (parts : List (RunPart R P)) : Type 0 where
   pub at : Configuration R P
   pub home : at.register ≡ start.register
   pub same : SameConfiguration E (exit_of start parts) at
-  pub keeps : KeepsRuns old cut (IsFilled E b old cut start (reached old place keys))
-  pub ahead : (k : ℕ) → has k left ≡ true → piece_at cut.pieces k ≡ piece_at old.pieces k
-  pub there : (k : ℕ) → has k left ≡ true → IsSome (piece_at old.pieces k)
+  pub keeps : KeepsRuns old trie (IsFilled E b old trie start (reached old place keys))
+  pub ahead : (k : ℕ) → has k left ≡ true → segment_at trie.segments k ≡ segment_at old.segments k
+  pub there : (k : ℕ) → has k left ≡ true → IsSome (segment_at old.segments k)
   pub small : (k : ℕ) → length (steps_at old k) ≤ 128
-  pub filled : (new : Cut (StoredRun R P)) (k : ℕ) → IsFilled E b old new at (reached old rest left) k → IsFilled E b old new start (reached old place keys) k
-  pub settles : (new : Cut (StoredRun R P)) (more : List (RunPart R P)) (m : ℕ) → ((k : ℕ) → has k left ≡ false → run_at new k ≡ run_at cut k)
+  pub filled : (new : TrieOf (StoredRun R P)) (k : ℕ) → IsFilled E b old new at (reached old rest left) k → IsFilled E b old new start (reached old place keys) k
+  pub settles : (new : TrieOf (StoredRun R P)) (more : List (RunPart R P)) (m : ℕ) → ((k : ℕ) → has k left ≡ false → run_at new k ≡ run_at trie k)
       → Settles E b old new at rest (reached old rest left) more m → Settles E b old new start place (reached old place keys) (parts ++ more) (n + m)
   pub count : counted parts + rest ≡ place
-  pub enough : rest ≤ length (line (piece_at old.pieces) left)
-  pub short : n + length (line (piece_at old.pieces) left) ≤ length (line (piece_at old.pieces) keys)
+  pub enough : rest ≤ length (line (segment_at old.segments) left)
+  pub short : n + length (line (segment_at old.segments) left) ≤ length (line (segment_at old.segments) keys)
   pub once : Once left
-  pub fit : AllFit b (map step_of (line (piece_at old.pieces) left))
+  pub fit : AllFit b (map step_of (line (segment_at old.segments) left))
 
 -- the walk begins
-module _ {R P : Type 0} (E : R → R → Bool) (equal : IsEquivalence E) (b : Behaviour P) (old : Cut (StoredRun R P)) (start : Configuration R P) where
+module _ {R P : Type 0} (E : R → R → Bool) (equal : IsEquivalence E) (b : Behaviour P) (old : TrieOf (StoredRun R P)) (start : Configuration R P) where
   small_steps : IsCut old → (k : ℕ) → length (steps_at old k) ≤ 128
-  small_steps whole k = by (piece_at old.pieces k) (whole.sizes k)
+  small_steps whole k = by (segment_at old.segments k) (whole.sizes k)
     where
-      by : (o : Option (Piece (StoredRun R P))) → IfSome o (λ p. (0 < length p.slots) × (length p.slots ≤ 128)) → length (map step_of (slots_of o)) ≤ 128
+      by : (o : Option (SegmentOf (StoredRun R P))) → IfSome o (λ p. (0 < length p.slots) × (length p.slots ≤ 128)) → length (map step_of (slots_of o)) ≤ 128
       by None h = omega arith
       by (Some p) h = let e : length (map step_of p.slots) ≡ length p.slots = length-map p.slots step_of in omega arith
 
-  pub walk_starts : (keys : List ℕ) (place : ℕ) → IsCut old → (branch : (i : ℕ) × (keys ≡ keys_in old.strands i))
-      → AllFit b (map step_of (line (piece_at old.pieces) keys)) → place ≤ length (line (piece_at old.pieces) keys)
+  pub walk_starts : (keys : List ℕ) (place : ℕ) → IsCut old → (branch : (i : ℕ) × (keys ≡ keys_in old.branches i))
+      → AllFit b (map step_of (line (segment_at old.segments) keys)) → place ≤ length (line (segment_at old.segments) keys)
       → IsWalking E b old old start keys keys place place 0 []
   walk_starts keys place whole branch fit within = record {
     at = start;
     home = refl;
     same = record { register = equal.refl start.register; memory = refl; running = refl; stopped = refl };
-    keeps = record { strands = refl; limits = refl; forest_kept = refl; slots = λ k. refl; runs = λ k. inl refl };
+    keeps = record { branches = refl; limits = refl; forest_kept = refl; slots = λ k. refl; runs = λ k. inl refl };
     ahead = λ k h. refl;
     there = λ k h. whole.held branch.0 k (subst (λ l. has k l ≡ true) branch.1 h);
     small = small_steps whole;
@@ -135,39 +135,39 @@ module _ {R P : Type 0} (E : R → R → Bool) (equal : IsEquivalence E) (b : Be
     count = omega arith;
     enough = within;
     short = omega arith;
-    once = subst Once (sym branch.1) (Once-from_linked whole.shares.above (keys_in old.strands branch.0) (whole.shares.linked branch.0));
+    once = subst Once (sym branch.1) (Once-from_linked whole.shares.above (keys_in old.branches branch.0) (whole.shares.linked branch.0));
     fit = fit;
   }
 
 -- the walk goes on after one more settled segment
 module _ {R P : Type 0} (E : R → R → Bool) (equal : IsEquivalence E) (per : IsPartialEquivalence E) (is : R → Behaviour P) (alike : (x y : R) → E x y ≡ true → is x ≡ is y)
-    (old cut : Cut (StoredRun R P)) (start : Configuration R P) (keys ks : List ℕ) (k place rest n : ℕ) (parts : List (RunPart R P))
-    (w : IsWalking E (is start.register) old cut start keys (k ∷ ks) place rest n parts) (wanted : rest ≡ 0 → ⊥) where
+    (old trie : TrieOf (StoredRun R P)) (start : Configuration R P) (keys ks : List ℕ) (k place rest n : ℕ) (parts : List (RunPart R P))
+    (w : IsWalking E (is start.register) old trie start keys (k ∷ ks) place rest n parts) (wanted : rest ≡ 0 → ⊥) where
   -- what holds when the segment is settled
   home_same : E (exit_of start parts).register start.register ≡ true
   home_same = subst (λ r. E (exit_of start parts).register r ≡ true) w.home w.same.register
 
-  here_same : piece_at cut.pieces k ≡ piece_at old.pieces k
+  here_same : segment_at trie.segments k ≡ segment_at old.segments k
   here_same = w.ahead k (has-head k ks)
 
-  steps_here : steps_at cut k ≡ steps_at old k
+  steps_here : steps_at trie k ≡ steps_at old k
   steps_here = ap (λ o. map step_of (slots_of o)) here_same
 
-  line_here : map step_of (line (piece_at old.pieces) (k ∷ ks)) ≡ steps_at old k ++ map step_of (line (piece_at old.pieces) ks)
-  line_here = map-append step_of (slots_of (piece_at old.pieces k)) (line (piece_at old.pieces) ks)
+  line_here : map step_of (line (segment_at old.segments) (k ∷ ks)) ≡ steps_at old k ++ map step_of (line (segment_at old.segments) ks)
+  line_here = map-append step_of (slots_of (segment_at old.segments k)) (line (segment_at old.segments) ks)
 
   fits_old : AllFit (is start.register) (steps_at old k)
-  fits_old = all_left (λ s. fits_step (is start.register) s ≡ true) (steps_at old k) (map step_of (line (piece_at old.pieces) ks)) (subst (AllFit (is start.register)) line_here w.fit)
+  fits_old = all_left (λ s. fits_step (is start.register) s ≡ true) (steps_at old k) (map step_of (line (segment_at old.segments) ks)) (subst (AllFit (is start.register)) line_here w.fit)
 
-  pub fits_here : AllFit (is (exit_of start parts).register) (steps_at cut k)
+  pub fits_here : AllFit (is (exit_of start parts).register) (steps_at trie k)
   fits_here =
       subst (AllFit (is (exit_of start parts).register)) (sym steps_here)
       (subst (λ b. AllFit b (steps_at old k)) (sym (alike (exit_of start parts).register start.register home_same)) fits_old)
 
-  len_here : length (line (piece_at old.pieces) (k ∷ ks)) ≡ length (steps_at old k) + length (line (piece_at old.pieces) ks)
+  len_here : length (line (segment_at old.segments) (k ∷ ks)) ≡ length (steps_at old k) + length (line (segment_at old.segments) ks)
   len_here =
-      length-append (slots_of (piece_at old.pieces k)) (line (piece_at old.pieces) ks)
-      ∙ ap (λ x. x + length (line (piece_at old.pieces) ks)) (sym (length-map (slots_of (piece_at old.pieces k)) step_of))
+      length-append (slots_of (segment_at old.segments k)) (line (segment_at old.segments) ks)
+      ∙ ap (λ x. x + length (line (segment_at old.segments) ks)) (sym (length-map (slots_of (segment_at old.segments k)) step_of))
 
   reached_here : (c : Bool) → nat_eq rest 0 ≡ c → c ≡ false → reached old rest (k ∷ ks) ≡ k ∷ reached old (rest - length (steps_at old k)) ks
   reached_here c e f = ap (λ x. cond x [] (k ∷ reached old (rest - length (steps_at old k)) ks)) (e ∙ f)
@@ -179,19 +179,19 @@ module _ {R P : Type 0} (E : R → R → Bool) (equal : IsEquivalence E) (per : 
       by true e = absurd (wanted (eqb-true rest 0 e))
       by false e = reached_here false e refl
 
-  module _ (new : Cut (StoredRun R P)) (s : StoredRun R P) (work count rest_after n_after : ℕ) (settled : IsSegmentSettled E cut new (exit_of start parts) k s work)
+  module _ (new : TrieOf (StoredRun R P)) (s : StoredRun R P) (work count rest_after n_after : ℕ) (settled : IsSegmentSettled E trie new (exit_of start parts) k s work)
       (true_run : IsRun (is s.run.entry.register) s.run) (counts : count ≡ min rest (length s.run.steps)) (less : rest_after ≡ rest - count) (more_work : n_after ≡ n + work) where
     abbrev run : SegmentRun R P
     run = s.run
 
-    noted : IsNoted cut new k (Some s)
+    noted : IsNoted trie new k (Some s)
     noted = settled.noted
 
     abbrev goes_to : Configuration R P
     goes_to = replayed (is start.register) w.at (steps_at old k)
 
     fits_at : RunFits E w.at (steps_at old k) run
-    fits_at = subst (λ l. RunFits E w.at l run) steps_here (run_fits_alike E per (exit_of start parts) w.at (steps_at cut k) run w.same settled.fits)
+    fits_at = subst (λ l. RunFits E w.at l run) steps_here (run_fits_alike E per (exit_of start parts) w.at (steps_at trie k) run w.same settled.fits)
 
     run_len : length run.steps ≡ length (steps_at old k)
     run_len = ap length fits_at.steps
@@ -199,50 +199,50 @@ module _ {R P : Type 0} (E : R → R → Bool) (equal : IsEquivalence E) (per : 
     stored_here : run_at new k ≡ Some run
     stored_here =
         ap (λ o. option_map run_of (note_of o)) noted.here
-        ∙ noted_run s (piece_at cut.pieces k) (subst IsSome (sym here_same) (w.there k (has-head k ks)))
+        ∙ noted_run s (segment_at trie.segments k) (subst IsSome (sym here_same) (w.there k (has-head k ks)))
 
-    other_piece : (j : ℕ) → (j ≡ k → ⊥) → piece_at new.pieces j ≡ piece_at cut.pieces j
-    other_piece j ne = noted.others j ne
+    other_segment : (j : ℕ) → (j ≡ k → ⊥) → segment_at new.segments j ≡ segment_at trie.segments j
+    other_segment j ne = noted.others j ne
 
-    other_run : (j : ℕ) → (j ≡ k → ⊥) → run_at new j ≡ run_at cut j
-    other_run j ne = ap (λ o. option_map run_of (note_of o)) (other_piece j ne)
+    other_run : (j : ℕ) → (j ≡ k → ⊥) → run_at new j ≡ run_at trie j
+    other_run j ne = ap (λ o. option_map run_of (note_of o)) (other_segment j ne)
 
-    run_here : run_at cut k ≡ run_at old k
+    run_here : run_at trie k ≡ run_at old k
     run_here = ap (λ o. option_map run_of (note_of o)) here_same
 
-    -- the same run fits in the cut as it was
-    fits_cut : Fits E old w.at k → Fits E cut (exit_of start parts) k
+    -- the same run fits in the trie as it was
+    fits_cut : Fits E old w.at k → Fits E trie (exit_of start parts) k
     fits_cut f = subst (λ o. MatchOption (option_map run_of (note_of o)) ⊥ (RunFits E (exit_of start parts) (map step_of (slots_of o)))) (sym here_same)
         (fits_alike E per old w.at (exit_of start parts) k (same_symm E per (exit_of start parts) w.at w.same) f)
 
-    fits_was : Fits E cut (exit_of start parts) k → Fits E old w.at k
+    fits_was : Fits E trie (exit_of start parts) k → Fits E old w.at k
     fits_was f = fits_alike E per old (exit_of start parts) w.at k w.same
         (subst (λ o. MatchOption (option_map run_of (note_of o)) ⊥ (RunFits E (exit_of start parts) (map step_of (slots_of o)))) here_same f)
 
     work_was : IsWork E old w.at k run work
     work_was = by settled.work
       where
-        by : IsWork E cut (exit_of start parts) k run work → IsWork E old w.at k run work
+        by : IsWork E trie (exit_of start parts) k run work → IsWork E old w.at k run work
         by (inl f) = inl (fits_was f.0, sym run_here ∙ f.1, f.2)
         by (inr m) = inr ((λ f. m.0 (fits_cut f)), m.1 ∙ ap length steps_here)
 
-    settled_at : (last : Cut (StoredRun R P)) → run_at last k ≡ run_at new k → IsSettledAt E old last w.at rest k (part run count) work
+    settled_at : (last : TrieOf (StoredRun R P)) → run_at last k ≡ run_at new k → IsSettledAt E old last w.at rest k (part run count) work
     settled_at last e = record { stored = e ∙ stored_here; fits = fits_at; count = counts ∙ ap (min rest) run_len; work = work_was }
 
     rest_is : rest_after ≡ rest - length (steps_at old k)
     rest_is = let e : length run.steps ≡ length (steps_at old k) = run_len in omega arith
 
-    filled_here : (last : Cut (StoredRun R P)) (j : ℕ) → IsFilled E (is start.register) old last w.at (k ∷ reached old (rest - length (steps_at old k)) ks) j
+    filled_here : (last : TrieOf (StoredRun R P)) (j : ℕ) → IsFilled E (is start.register) old last w.at (k ∷ reached old (rest - length (steps_at old k)) ks) j
         → IsFilled E (is start.register) old last start (reached old place keys) j
     filled_here last j m = w.filled last j (subst (λ l. IsFilled E (is start.register) old last w.at l j) (sym reached_is) m)
 
     runs_kept : (j : ℕ) → (run_at new j ≡ run_at old j) ⊎ IsFilled E (is start.register) old new start (reached old place keys) j
     runs_kept j = by_key j k _ here (λ ne. other ne (w.keeps.runs j))
       where
-        other : (j ≡ k → ⊥) → (run_at cut j ≡ run_at old j) ⊎ IsFilled E (is start.register) old cut start (reached old place keys) j
+        other : (j ≡ k → ⊥) → (run_at trie j ≡ run_at old j) ⊎ IsFilled E (is start.register) old trie start (reached old place keys) j
             → (run_at new j ≡ run_at old j) ⊎ IsFilled E (is start.register) old new start (reached old place keys) j
         other ne (inl e) = inl (other_run j ne ∙ e)
-        other ne (inr f) = inr (filled_still E (is start.register) old cut new start (reached old place keys) j (other_run j ne) f)
+        other ne (inr f) = inr (filled_still E (is start.register) old trie new start (reached old place keys) j (other_run j ne) f)
 
         by : j ≡ k → IsWork E old w.at k run work → (run_at new j ≡ run_at old j) ⊎ IsFilled E (is start.register) old new start (reached old place keys) j
         by e (inl f) = inl (ap (run_at new) e ∙ stored_here ∙ sym f.1 ∙ ap (run_at old) (sym e))
@@ -253,13 +253,13 @@ module _ {R P : Type 0} (E : R → R → Bool) (equal : IsEquivalence E) (per : 
 
     slots_kept : (j : ℕ) → slots_at new j ≡ slots_at old j
     slots_kept j = by_key j k _
-        (λ e. ap (slots_at new) e ∙ ap (option_map (λ p. p.slots)) noted.here ∙ noted_slots s (piece_at cut.pieces k) ∙ w.keeps.slots k ∙ ap (slots_at old) (sym e))
-        (λ ne. ap (option_map (λ p. p.slots)) (other_piece j ne) ∙ w.keeps.slots j)
+        (λ e. ap (slots_at new) e ∙ ap (option_map (λ p. p.slots)) noted.here ∙ noted_slots s (segment_at trie.segments k) ∙ w.keeps.slots k ∙ ap (slots_at old) (sym e))
+        (λ ne. ap (option_map (λ p. p.slots)) (other_segment j ne) ∙ w.keeps.slots j)
 
     exit_is : exit_of start (parts ++ part run count ∷ []) ≡ run.exit
     exit_is = exit_of-last start parts (part run count)
 
-    settles_on : (last : Cut (StoredRun R P)) (more : List (RunPart R P)) (m : ℕ) → ((j : ℕ) → has j ks ≡ false → run_at last j ≡ run_at new j)
+    settles_on : (last : TrieOf (StoredRun R P)) (more : List (RunPart R P)) (m : ℕ) → ((j : ℕ) → has j ks ≡ false → run_at last j ≡ run_at new j)
         → Settles E (is start.register) old last goes_to rest_after (reached old rest_after ks) more m
         → Settles E (is start.register) old last start place (reached old place keys) ((parts ++ part run count ∷ []) ++ more) (n_after + m)
     settles_on last more m same s =
@@ -277,7 +277,7 @@ module _ {R P : Type 0} (E : R → R → Bool) (equal : IsEquivalence E) (per : 
       home = register_kept (is start.register) w.at (steps_at old k) ∙ w.home;
       same = subst (λ c. SameConfiguration E c goes_to) (sym exit_is) (exit_same E is alike (is start.register) w.at (steps_at old k) run (ap is w.home) true_run fits_at);
       keeps = record {
-        strands = noted.strands ∙ w.keeps.strands;
+        branches = noted.branches ∙ w.keeps.branches;
         limits = noted.limits ∙ w.keeps.limits;
         forest_kept = noted.unchanged ∙ w.keeps.forest_kept;
         slots = slots_kept;
@@ -292,7 +292,7 @@ module _ {R P : Type 0} (E : R → R → Bool) (equal : IsEquivalence E) (per : 
       enough = let e = w.enough in let l = len_here in let r = rest_is in omega arith;
       short = let f = w.short in let l = len_here in let wk = work_short work_was in omega arith;
       once = w.once.1;
-      fit = all_right (λ s. fits_step (is start.register) s ≡ true) (steps_at old k) (map step_of (line (piece_at old.pieces) ks)) (subst (AllFit (is start.register)) line_here w.fit);
+      fit = all_right (λ s. fits_step (is start.register) s ≡ true) (steps_at old k) (map step_of (line (segment_at old.segments) ks)) (subst (AllFit (is start.register)) line_here w.fit);
     }
       where
         work_short : IsWork E old w.at k run work → work ≤ length (steps_at old k)

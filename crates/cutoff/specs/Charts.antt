@@ -8,7 +8,7 @@ use Rattle.schedule_trie.specs.declared.limb.Limb.{Limb}
 use Rattle.schedule_trie.specs.declared.refusal.Refusal.{Refusal}
 use Rattle.schedule_trie.specs.declared.refusal.Refusal.TheVariants.{NoPlace}
 use Rattle.schedule_trie.specs.Forest.{Forest, slots_in, step_of, index_of, on_branch}
-use Rattle.schedule_trie.specs.Cut.{Cut, Strand, IsCut, forest, keys_in}
+use Rattle.schedule_trie.specs.Trie.{TrieOf, KeyedBranch, IsCut, forest, keys_in}
 use Rattle.cutoff.specs.Fitting.{StoredRun, reached}
 use Rattle.cutoff.specs.Links.{without_register, IsLinked}
 use Rattle.cutoff.specs.Prefixes.{IsMarked, AreFresh}
@@ -16,7 +16,7 @@ use Rattle.cutoff.specs.Prefixes.{IsMarked, AreFresh}
 -- a chart: a forest cut into segments with their stored runs, the initial configuration, and the
 -- initial value
 pub record Charted (R P : Type 0) : Type 0 where
-  pub cut : Cut (StoredRun R P)
+  pub trie : TrieOf (StoredRun R P)
   pub start : Configuration R P
   pub value : ℕ
 
@@ -31,24 +31,24 @@ StepsFit b f = (i : ℕ) → AllFit b (map step_of (slots_in f.branches i))
 pub record IsCharted {R P : Type 0} (E : R → R → Bool) (is : R → Behaviour P) (next : ℕ) (fresh mark : Option ℕ) (c : Charted R P) : Type 0 where
   pub within : c.value < (is c.start.register).values
   pub begins : c.start ≡ initial_configuration (is c.start.register) c.start.register c.value
-  pub fits : StepsFit (is c.start.register) (forest c.cut)
-  pub whole : IsCut c.cut
-  pub linked : IsLinked E c.start.register next None (without_register c.start) c.cut
-  pub marked : IsMarked E is c.cut c.start mark
-  pub fresh_marked : AreFresh E is c.cut c.start fresh
+  pub fits : StepsFit (is c.start.register) (forest c.trie)
+  pub whole : IsCut c.trie
+  pub linked : IsLinked E c.start.register next None (without_register c.start) c.trie
+  pub marked : IsMarked E is c.trie c.start mark
+  pub fresh_marked : AreFresh E is c.trie c.start fresh
 
 -- each limb's own steps fit the register with the behaviour b
 abbrev pub LimbsFit : {P : Type 0} → Behaviour P → List Limb → Type 0
 LimbsFit b limbs = All (λ l. AllFit b l.steps) limbs
 
 -- the keys of the segments of the branch at an index; none if the index is `None`
-abbrev pub keys_or : Option ℕ → List Strand → List ℕ
-keys_or None strands = []
-keys_or (Some i) strands = keys_in strands i
+abbrev pub keys_or : Option ℕ → List KeyedBranch → List ℕ
+keys_or None branches = []
+keys_or (Some i) branches = keys_in branches i
 
 -- the keys of the segments of the named branch; none if there is no such branch
-abbrev pub keys_named : {R P : Type 0} → Cut (StoredRun R P) → List ℕ → List ℕ
-keys_named cut name = keys_or (index_of (forest cut).branches name) cut.strands
+abbrev pub keys_named : {R P : Type 0} → TrieOf (StoredRun R P) → List ℕ → List ℕ
+keys_named trie name = keys_or (index_of (forest trie).branches name) trie.branches
 
 -- the result of a look at a place of the branch i: the same branches, or NoPlace if the branch has
 -- fewer than `place` cells
@@ -61,5 +61,5 @@ abbrev pub look : Forest → List ℕ → ℕ → Result Forest Refusal
 look f name place = on_branch f name (looked_at f place)
 
 -- the keys of the segments that have at least one of the first `place` cells of the named branch
-abbrev pub reached_by : {R P : Type 0} → Cut (StoredRun R P) → List ℕ → ℕ → List ℕ
-reached_by cut name place = reached cut place (keys_named cut name)
+abbrev pub reached_by : {R P : Type 0} → TrieOf (StoredRun R P) → List ℕ → ℕ → List ℕ
+reached_by trie name place = reached trie place (keys_named trie name)

@@ -9,7 +9,7 @@ use Rattle.frames.specs.Equality.{SameConfiguration}
 use Rattle.checkpoints.specs.Segment.{SegmentRun}
 use Rattle.schedule_trie.specs.declared.slot.Slot.{Slot}
 use Rattle.schedule_trie.specs.Forest.{step_of}
-use Rattle.schedule_trie.specs.Cut.{Cut, Piece, piece, piece_at, slots_of, note_of, keys_in, has, forest}
+use Rattle.schedule_trie.specs.Trie.{TrieOf, SegmentOf, segment, segment_at, slots_of, note_of, keys_in, has, forest}
 use Rattle.schedule_trie.specs.Climbs.{keys_up_to}
 
 -- a stored run, with its number and its link, if it has them; the link is the number of another
@@ -38,22 +38,22 @@ module _ {R P : Type 0} where
   run_of s = s.run
 
   -- the steps of the segment at a key
-  abbrev pub steps_at : Cut (StoredRun R P) → ℕ → List Step
-  steps_at cut k = map step_of (slots_of (piece_at cut.pieces k))
+  abbrev pub steps_at : TrieOf (StoredRun R P) → ℕ → List Step
+  steps_at trie k = map step_of (slots_of (segment_at trie.segments k))
 
   -- the run stored at a key, if there is one
-  abbrev pub run_at : Cut (StoredRun R P) → ℕ → Option (SegmentRun R P)
-  run_at cut k = option_map run_of (note_of (piece_at cut.pieces k))
+  abbrev pub run_at : TrieOf (StoredRun R P) → ℕ → Option (SegmentRun R P)
+  run_at trie k = option_map run_of (note_of (segment_at trie.segments k))
 
   -- given a branch's keys in order, those of the segments that have at least one of the branch's
   -- first `place` cells
-  abbrev pub reached : Cut (StoredRun R P) → ℕ → List ℕ → List ℕ
-  reached cut place [] = []
-  reached cut place (k ∷ ks) = if nat_eq place 0 then [] else k ∷ reached cut (place - length (steps_at cut k)) ks
+  abbrev pub reached : TrieOf (StoredRun R P) → ℕ → List ℕ → List ℕ
+  reached trie place [] = []
+  reached trie place (k ∷ ks) = if nat_eq place 0 then [] else k ∷ reached trie (place - length (steps_at trie k)) ks
 
   -- the segment k, which begins at c, has a stored run that fits it
-  abbrev pub Fits : (R → R → Bool) → Cut (StoredRun R P) → Configuration R P → ℕ → Type 0
-  Fits E cut c k = MatchOption (run_at cut k) ⊥ (RunFits E c (steps_at cut k))
+  abbrev pub Fits : (R → R → Bool) → TrieOf (StoredRun R P) → Configuration R P → ℕ → Type 0
+  Fits E trie c k = MatchOption (run_at trie k) ⊥ (RunFits E c (steps_at trie k))
 
 -- how many steps count in all these parts together
 abbrev pub counted : {R P : Type 0} → List (RunPart R P) → ℕ
@@ -69,13 +69,13 @@ parts_of place (Some run ∷ runs) =
     if nat_eq place 0 then [] else record { run = run; count = min place (length run.steps) } ∷ parts_of (place - min place (length run.steps)) runs
 
 -- the cells of the segment at a key, if there is one
-abbrev pub slots_at : {R P : Type 0} → Cut (StoredRun R P) → ℕ → Option (List Slot)
-slots_at cut k = option_map (λ p. p.slots) (piece_at cut.pieces k)
+abbrev pub slots_at : {R P : Type 0} → TrieOf (StoredRun R P) → ℕ → Option (List Slot)
+slots_at trie k = option_map (λ p. p.slots) (segment_at trie.segments k)
 
 -- the branches and their segments stay the same, and each segment k for which `Filled k` doesn't
 -- hold keeps its stored run
-pub record KeepsRuns {R P : Type 0} (old new : Cut (StoredRun R P)) (Filled : ℕ → Type 0) : Type 0 where
-  pub strands : new.strands ≡ old.strands
+pub record KeepsRuns {R P : Type 0} (old new : TrieOf (StoredRun R P)) (Filled : ℕ → Type 0) : Type 0 where
+  pub branches : new.branches ≡ old.branches
   pub limits : new.limits ≡ old.limits
   pub forest_kept : forest new ≡ forest old
   pub slots : (k : ℕ) → slots_at new k ≡ slots_at old k
@@ -90,18 +90,18 @@ abbrev pub counted_of : {R P : Type 0} → ℕ → StoredRun R P → RunPart R P
 counted_of count s = record { run = s.run; count = count }
 
 -- the same cells and stored run, which was last found to fit at the install of the run `number`
-abbrev pub checked_piece : {R P : Type 0} → Option ℕ → Piece (StoredRun R P) → Piece (StoredRun R P)
-checked_piece number p = piece p.slots (option_map (λ s. record { run = s.run; id = s.id; link = s.link; checked = number }) p.note)
+abbrev pub checked_segment : {R P : Type 0} → Option ℕ → SegmentOf (StoredRun R P) → SegmentOf (StoredRun R P)
+checked_segment number p = segment p.slots (option_map (λ s. record { run = s.run; id = s.id; link = s.link; checked = number }) p.note)
 
 -- on each branch with the segment `key`, the segment k is `key` or above it
-abbrev pub IsOnWayTo : {R P : Type 0} → Cut (StoredRun R P) → ℕ → ℕ → Type 0
-IsOnWayTo cut key k = (i : ℕ) → has key (keys_in cut.strands i) ≡ true → has k (keys_up_to key (keys_in cut.strands i)) ≡ true
+abbrev pub IsOnWayTo : {R P : Type 0} → TrieOf (StoredRun R P) → ℕ → ℕ → Type 0
+IsOnWayTo trie key k = (i : ℕ) → has key (keys_in trie.branches i) ≡ true → has k (keys_up_to key (keys_in trie.branches i)) ≡ true
 
 -- nothing changes but with which number runs on the way to the segment `key` were last found to
 -- fit: it is `number` now, or as before
-pub record IsChecked {R P : Type 0} (old new : Cut (StoredRun R P)) (number : Option ℕ) (key : ℕ) : Type 0 where
-  pub strands : new.strands ≡ old.strands
+pub record IsChecked {R P : Type 0} (old new : TrieOf (StoredRun R P)) (number : Option ℕ) (key : ℕ) : Type 0 where
+  pub branches : new.branches ≡ old.branches
   pub limits : new.limits ≡ old.limits
   pub unchanged : forest new ≡ forest old
-  pub each : (k : ℕ) → (piece_at new.pieces k ≡ piece_at old.pieces k)
-      ⊎ (IsOnWayTo old key k × (piece_at new.pieces k ≡ option_map (checked_piece number) (piece_at old.pieces k)))
+  pub each : (k : ℕ) → (segment_at new.segments k ≡ segment_at old.segments k)
+      ⊎ (IsOnWayTo old key k × (segment_at new.segments k ≡ option_map (checked_segment number) (segment_at old.segments k)))

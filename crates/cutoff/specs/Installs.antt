@@ -2,7 +2,7 @@
 use Rattle.std.specs.Prelude.{ℕ, ◌≡◌, Bool, None, IsSome}
 use Rattle.frames.specs.Behaviour.{Behaviour}
 use Rattle.checkpoints.specs.Segment.{SegmentRun}
-use Rattle.schedule_trie.specs.Cut.{piece_at}
+use Rattle.schedule_trie.specs.Trie.{segment_at}
 use Rattle.cutoff.specs.declared.install.Installation.{Installation}
 use Rattle.cutoff.specs.declared.install.Installation.TheVariants.{Installed, Stale, Gone}
 use Rattle.cutoff.specs.Charts.{Charted}
@@ -12,6 +12,6 @@ use Rattle.cutoff.specs.Plans.{CanInstall, CannotInstall, IsInstalled}
 -- Installed if the run fits and stored runs fit all segments above; else Stale; only Installed
 -- changes the chart
 abbrev pub Installs : {R P : Type 0} → (R → R → Bool) → Behaviour P → Charted R P → Charted R P → ℕ → SegmentRun R P → Installation → Type 0
-Installs E b old new key run Gone = (piece_at old.cut.pieces key ≡ None) × (new ≡ old)
-Installs E b old new key run Stale = IsSome (piece_at old.cut.pieces key) × CannotInstall E b old key run × (new ≡ old)
-Installs E b old new key run Installed = IsSome (piece_at old.cut.pieces key) × CanInstall E b old key run × IsInstalled old new key run
+Installs E b old new key run Gone = (segment_at old.trie.segments key ≡ None) × (new ≡ old)
+Installs E b old new key run Stale = IsSome (segment_at old.trie.segments key) × CannotInstall E b old key run × (new ≡ old)
+Installs E b old new key run Installed = IsSome (segment_at old.trie.segments key) × CanInstall E b old key run × IsInstalled old new key run

@@ -4,7 +4,7 @@ use Rattle.std.specs.Prelude.{ℕ, ◌≡◌, ◌<◌, ⊤, Bool, true, List, Op
 use Rattle.frames.specs.declared.types.Step.{Step}
 use Rattle.frames.specs.Configuration.{Configuration}
 use Rattle.schedule_trie.specs.Forest.{step_of}
-use Rattle.schedule_trie.specs.Cut.{Cut, Piece, piece_at}
+use Rattle.schedule_trie.specs.Trie.{TrieOf, SegmentOf, segment_at}
 use Rattle.cutoff.specs.Fitting.{StoredRun}
 
 -- a configuration without its register
@@ -32,26 +32,28 @@ pub record IsStored {R P : Type 0} (E : R → R → Bool) (h : R) (exits : List 
 
 -- if there is a segment and it has a stored run: the run begins with a register equal to h, and has
 -- the segment's steps; its number and link agree with `exits` (`IsStored`)
-abbrev pub IsTruePiece : {R P : Type 0} → (R → R → Bool) → R → List (Configuration ⊤ P) → Option (Piece (StoredRun R P)) → Type 0
-IsTruePiece E h exits None = ⊤
-IsTruePiece E h exits (Some p) = MatchOption p.note ⊤ (IsStored E h exits (map step_of p.slots))
+abbrev pub IsTrueSegment : {R P : Type 0} → (R → R → Bool) → R → List (Configuration ⊤ P) → Option (SegmentOf (StoredRun R P)) → Type 0
+IsTrueSegment E h exits None = ⊤
+IsTrueSegment E h exits (Some p) = MatchOption p.note ⊤ (IsStored E h exits (map step_of p.slots))
 
 -- the numbers below `next` were given to runs, whose exits are `exits`; each stored run begins with
 -- a register equal to h, and has its segment's steps; each such run's number and link, if any,
 -- agree with `exits` (`IsStored`); and `above` is `None`, or the number of a run with the exit c
-pub record IsLinked {R P : Type 0} (E : R → R → Bool) (h : R) (next : ℕ) (above : Option ℕ) (c : Configuration ⊤ P) (cut : Cut (StoredRun R P)) : Type 0 where
+pub record IsLinked {R P : Type 0} (E : R → R → Bool) (h : R) (next : ℕ) (above : Option ℕ) (c : Configuration ⊤ P) (trie : TrieOf (StoredRun R P)) : Type 0 where
   pub exits : List (Configuration ⊤ P)
   pub as_many : length exits ≡ next
-  pub each : (k : ℕ) → IsTruePiece E h exits (piece_at cut.pieces k)
+  pub each : (k : ℕ) → IsTrueSegment E h exits (segment_at trie.segments k)
   pub reached_exit : IsExitOf exits above c
 
--- the runs stored in `cut` are linked, and `above` is `None`, or the number of a run with the exit c
-abbrev pub IsLinkedAt : {R P : Type 0} → (R → R → Bool) → Configuration R P → ℕ → Option ℕ → Cut (StoredRun R P) → Type 0
-IsLinkedAt E c next above cut = IsLinked E c.register next above (without_register c) cut
+-- the runs stored in `trie` are linked, and `above` is `None`, or the number of a run with the exit
+-- c
+abbrev pub IsLinkedAt : {R P : Type 0} → (R → R → Bool) → Configuration R P → ℕ → Option ℕ → TrieOf (StoredRun R P) → Type 0
+IsLinkedAt E c next above trie = IsLinked E c.register next above (without_register c) trie
 
--- the runs stored in `cut`, of a chart that begins from `start`, are linked, for some number of runs
-abbrev pub AreLinked : {R P : Type 0} → (R → R → Bool) → Configuration R P → Cut (StoredRun R P) → Type 0
-AreLinked E start cut = (next : ℕ) × IsLinkedAt E start next None cut
+-- the runs stored in `trie`, of a chart that begins from `start`, are linked, for some number of
+-- runs
+abbrev pub AreLinked : {R P : Type 0} → (R → R → Bool) → Configuration R P → TrieOf (StoredRun R P) → Type 0
+AreLinked E start trie = (next : ℕ) × IsLinkedAt E start next None trie
 
 -- the number of a stored run; `None` if there is no run, or if it has no number
 abbrev pub run_number : {R P : Type 0} → Option (StoredRun R P) → Option ℕ

@@ -8,19 +8,19 @@ use Rattle.frames.specs.Equality.{SameConfiguration}
 use Rattle.frames.specs.Recorded.{AllFit}
 use Rattle.checkpoints.specs.Segment.{SegmentRun, IsRun}
 use Rattle.schedule_trie.specs.Forest.{step_of}
-use Rattle.schedule_trie.specs.Cut.{Cut, piece_at, slots_of, note_of, keys_in, has, line}
-use Rattle.schedule_trie.specs.Climbs.{keys_to, keys_up_to, HasClimbedTo}
+use Rattle.schedule_trie.specs.Trie.{TrieOf, segment_at, slots_of, note_of, keys_in, has, line}
+use Rattle.schedule_trie.specs.Climbs.{keys_to, keys_up_to, last_of, HasClimbedTo}
 use Rattle.cutoff.specs.Fitting.{StoredRun, run_of, RunFits, steps_at}
 use Rattle.cutoff.specs.Links.{run_checked}
 
 -- what is stored at a key; `None` if there is no key or no run
-abbrev pub note_named : {R P : Type 0} → Cut (StoredRun R P) → Option ℕ → Option (StoredRun R P)
-note_named cut None = None
-note_named cut (Some k) = note_of (piece_at cut.pieces k)
+abbrev pub note_named : {R P : Type 0} → TrieOf (StoredRun R P) → Option ℕ → Option (StoredRun R P)
+note_named trie None = None
+note_named trie (Some k) = note_of (segment_at trie.segments k)
 
 -- the run stored at a key; `None` if there is no key or no run
-abbrev pub run_named : {R P : Type 0} → Cut (StoredRun R P) → Option ℕ → Option (SegmentRun R P)
-run_named cut key = option_map run_of (note_named cut key)
+abbrev pub run_named : {R P : Type 0} → TrieOf (StoredRun R P) → Option ℕ → Option (SegmentRun R P)
+run_named trie key = option_map run_of (note_named trie key)
 
 -- the exit of a run, or c if there is no run
 abbrev pub exit_or : {R P : Type 0} → Configuration R P → Option (SegmentRun R P) → Configuration R P
@@ -28,23 +28,23 @@ exit_or c None = c
 exit_or c (Some run) = run.exit
 
 -- the exit of the run stored at a key, or `start` if there is no key or no run
-abbrev pub exit_or_start : {R P : Type 0} → Cut (StoredRun R P) → Configuration R P → Option ℕ → Configuration R P
-exit_or_start cut start key = exit_or start (run_named cut key)
+abbrev pub exit_or_start : {R P : Type 0} → TrieOf (StoredRun R P) → Configuration R P → Option ℕ → Configuration R P
+exit_or_start trie start key = exit_or start (run_named trie key)
 
-module _ {R P : Type 0} (E : R → R → Bool) (is : R → Behaviour P) (cut : Cut (StoredRun R P)) where
+module _ {R P : Type 0} (E : R → R → Bool) (is : R → Behaviour P) (trie : TrieOf (StoredRun R P)) where
   -- the segment k, which begins at c, has a stored run that fits it; the run is true, for the
   -- register of its entry
   pub record HasTrueRun (c : Configuration R P) (k : ℕ) : Type 0 where
     pub stored : StoredRun R P
-    pub noted : note_of (piece_at cut.pieces k) ≡ Some stored
+    pub noted : note_of (segment_at trie.segments k) ≡ Some stored
     pub true_run : IsRun (is stored.run.entry.register) stored.run
-    pub fits : RunFits E c (steps_at cut k) stored.run
+    pub fits : RunFits E c (steps_at trie k) stored.run
 
   -- true runs that fit are stored in all these segments, of which the first begins at c, and replay
   -- of them reaches `end`
   abbrev pub RunsDown : Behaviour P → Configuration R P → List ℕ → Configuration R P → Type 0
   RunsDown b c [] end = SameConfiguration E end c
-  RunsDown b c (k ∷ ks) end = HasTrueRun c k × RunsDown b (replayed b c (steps_at cut k)) ks end
+  RunsDown b c (k ∷ ks) end = HasTrueRun c k × RunsDown b (replayed b c (steps_at trie k)) ks end
 
   -- true runs are stored in all these segments: the first fits at c, and each other one at the exit
   -- of the run right above it
@@ -56,75 +56,81 @@ module _ {R P : Type 0} (E : R → R → Bool) (is : R → Behaviour P) (cut : C
     -- true runs that fit are stored at these keys, from the first down to `last`, and replay
     -- reaches the exit of the run stored at `last`; if `last` is `None`, no run is needed
     abbrev pub RunsTo : Option ℕ → List ℕ → Type 0
-    RunsTo last keys = RunsDown (is start.register) start (keys_to keys last) (exit_or_start cut start last)
+    RunsTo last keys = RunsDown (is start.register) start (keys_to keys last) (exit_or_start trie start last)
 
     -- if a segment is marked: on each branch that has it, true runs that fit are stored in all
     -- segments from the first down to it
     abbrev pub IsMarked : Option ℕ → Type 0
     IsMarked None = Unit {0}
-    IsMarked (Some k) = (i : ℕ) → has k (keys_in cut.strands i) ≡ true → RunsTo (Some k) (keys_in cut.strands i)
+    IsMarked (Some k) = (i : ℕ) → has k (keys_in trie.branches i) ≡ true → RunsTo (Some k) (keys_in trie.branches i)
 
     -- each segment is marked whose run was last found to fit with the number `first` or a greater
     -- one; if `first` is `None`, nothing is required
     abbrev pub AreFresh : Option ℕ → Type 0
     AreFresh None = Unit {0}
-    AreFresh (Some first) = (k a : ℕ) → run_checked (note_of (piece_at cut.pieces k)) ≡ Some a → first ≤ a → IsMarked (Some k)
+    AreFresh (Some first) = (k a : ℕ) → run_checked (note_of (segment_at trie.segments k)) ≡ Some a → first ≤ a → IsMarked (Some k)
 
     -- on each branch with the key k, true runs that fit are stored at all keys above k, and lead to
     -- the entry of `run`
     abbrev pub RunGoesOn : ℕ → SegmentRun R P → Type 0
     RunGoesOn k run =
-        (i : ℕ) → has k (keys_in cut.strands i) ≡ true
-        → (above : List ℕ) × (keys_up_to k (keys_in cut.strands i) ≡ above ++ k ∷ []) × RunsDown (is start.register) start above run.entry
+        (i : ℕ) → has k (keys_in trie.branches i) ≡ true
+        → (above : List ℕ) × (keys_up_to k (keys_in trie.branches i) ≡ above ++ k ∷ []) × RunsDown (is start.register) start above run.entry
 
     -- on each branch with `key`, `front` is one of the branch's keys, and true runs that fit are
     -- stored from the first down to it; if `front` is `None`, nothing is required
     abbrev pub IsKnown : ℕ → Option ℕ → Type 0
-    IsKnown key front = (i : ℕ) → has key (keys_in cut.strands i) ≡ true → HasClimbedTo (keys_in cut.strands i) front × RunsTo front (keys_in cut.strands i)
+    IsKnown key front = (i : ℕ) → has key (keys_in trie.branches i) ≡ true → HasClimbedTo (keys_in trie.branches i) front × RunsTo front (keys_in trie.branches i)
 
 -- on each branch with `key`, `left` are the keys below `last` down to `key`, or all keys down to
 -- `key` if `last` is `None`; and `last` is `front` or `None`
-abbrev pub AreKeysAfter : {T : Type 0} → Cut T → ℕ → Option ℕ → Option ℕ → List ℕ → Type 0
-AreKeysAfter cut key front last left =
+abbrev pub AreKeysAfter : {T : Type 0} → TrieOf T → ℕ → Option ℕ → Option ℕ → List ℕ → Type 0
+AreKeysAfter trie key front last left =
     ((last ≡ front) ⊎ (last ≡ None))
-    × ((i : ℕ) → has key (keys_in cut.strands i) ≡ true → HasClimbedTo (keys_in cut.strands i) last × (keys_up_to key (keys_in cut.strands i) ≡ keys_to (keys_in cut.strands i) last ++ left))
+    × ((i : ℕ) → has key (keys_in trie.branches i) ≡ true → HasClimbedTo (keys_in trie.branches i) last × (keys_up_to key (keys_in trie.branches i) ≡ keys_to (keys_in trie.branches i) last ++ left))
+
+-- `stored` is what is stored at `key`, and on each branch with `key`, `above` is the key right
+-- above it, or `None` if there is none
+pub record IsTop {R P : Type 0} (trie : TrieOf (StoredRun R P)) (key : ℕ) (stored : Option (StoredRun R P)) (above : Option ℕ) : Type 0 where
+  pub noted : stored ≡ note_of (segment_at trie.segments key)
+  pub each : (i : ℕ) (front back : List ℕ) → keys_in trie.branches i ≡ front ++ key ∷ back → above ≡ last_of front
 
 -- `key` is the last of these keys; `place` is `count` plus the number of cells of all segments
 -- before `key`
-pub record EndsIn {T : Type 0} (cut : Cut T) (key count place : ℕ) (keys : List ℕ) : Type 0 where
+pub record EndsIn {T : Type 0} (trie : TrieOf T) (key count place : ℕ) (keys : List ℕ) : Type 0 where
   pub front : List ℕ
   pub is : keys ≡ front ++ key ∷ []
-  pub sum : length (line (piece_at cut.pieces) front) + count ≡ place
+  pub sum : length (line (segment_at trie.segments) front) + count ≡ place
 
 -- the first `place` cells of branch i end with the first `count` cells, at least one, of the
 -- segment `key`
-pub record IsPlaceIn {T : Type 0} (cut : Cut T) (key count place i : ℕ) : Type 0 where
-  pub there : has key (keys_in cut.strands i) ≡ true
-  pub ends : EndsIn cut key count place (keys_up_to key (keys_in cut.strands i))
+pub record IsPlaceIn {T : Type 0} (trie : TrieOf T) (key count place i : ℕ) : Type 0 where
+  pub there : has key (keys_in trie.branches i) ≡ true
+  pub ends : EndsIn trie key count place (keys_up_to key (keys_in trie.branches i))
   pub some : 0 < count
-  pub few : count ≤ length (slots_of (piece_at cut.pieces key))
+  pub few : count ≤ length (slots_of (segment_at trie.segments key))
 
 -- on branch i, true runs that fit are stored from the first segment down to `front`, and `left` are
 -- the segments below `front` down to `key`; the branch's first `place` cells end with `count` cells
 -- of `key`, and its steps fit the register
-pub record IsRest {R P : Type 0} (E : R → R → Bool) (is : R → Behaviour P) (cut : Cut (StoredRun R P)) (start : Configuration R P) (front : Option ℕ) (left : List ℕ) (key count place i : ℕ) : Type 0 where
-  pub lies : IsPlaceIn cut key count place i
-  pub reached : HasClimbedTo (keys_in cut.strands i) front
-  pub down : RunsTo E is cut start front (keys_in cut.strands i)
-  pub path : keys_up_to key (keys_in cut.strands i) ≡ keys_to (keys_in cut.strands i) front ++ left
-  pub fits : AllFit (is start.register) (map step_of (line (piece_at cut.pieces) (keys_in cut.strands i)))
+pub record IsRest {R P : Type 0} (E : R → R → Bool) (is : R → Behaviour P) (trie : TrieOf (StoredRun R P)) (start : Configuration R P) (front : Option ℕ) (left : List ℕ) (key count place i : ℕ) : Type 0 where
+  pub lies : IsPlaceIn trie key count place i
+  pub reached : HasClimbedTo (keys_in trie.branches i) front
+  pub down : RunsTo E is trie start front (keys_in trie.branches i)
+  pub path : keys_up_to key (keys_in trie.branches i) ≡ keys_to (keys_in trie.branches i) front ++ left
+  pub fits : AllFit (is start.register) (map step_of (line (segment_at trie.segments) (keys_in trie.branches i)))
 
 -- true runs are stored at all keys of branch i below `hung` down to `key`, and each fits at the
 -- exit of the run right above it; there are no such keys if `hung` is `key`
-pub record IsHung {R P : Type 0} (E : R → R → Bool) (is : R → Behaviour P) (cut : Cut (StoredRun R P)) (hung key i : ℕ) : Type 0 where
-  pub there : has hung (keys_in cut.strands i) ≡ true
+pub record IsHung {R P : Type 0} (E : R → R → Bool) (is : R → Behaviour P) (trie : TrieOf (StoredRun R P)) (hung key i : ℕ) : Type 0 where
+  pub there : has hung (keys_in trie.branches i) ≡ true
   pub below : List ℕ
-  pub path : keys_up_to key (keys_in cut.strands i) ≡ keys_up_to hung (keys_in cut.strands i) ++ below
-  pub hangs : (start : Configuration R P) → Hangs E is cut (exit_or_start cut start (Some hung)) below
+  pub path : keys_up_to key (keys_in trie.branches i) ≡ keys_up_to hung (keys_in trie.branches i) ++ below
+  pub hangs : (start : Configuration R P) → Hangs E is trie (exit_or_start trie start (Some hung)) below
 
 -- what is left to settle of branch i below `front` down to `key`: the segments `left`, down to
 -- `hung`, and then those below `hung`, each of which has a run that begins at the exit of the run
 -- right above it
-pub record IsLeft {R P : Type 0} (E : R → R → Bool) (is : R → Behaviour P) (cut : Cut (StoredRun R P)) (start : Configuration R P) (front : Option ℕ) (left : List ℕ) (hung key count place i : ℕ) : Type 0 where
-  pub hanging : IsHung E is cut hung key i
-  pub rest : IsRest E is cut start front (left ++ hanging.below) key count place i
+pub record IsLeft {R P : Type 0} (E : R → R → Bool) (is : R → Behaviour P) (trie : TrieOf (StoredRun R P)) (start : Configuration R P) (front : Option ℕ) (left : List ℕ) (hung key count place i : ℕ) : Type 0 where
+  pub hanging : IsHung E is trie hung key i
+  pub rest : IsRest E is trie start front (left ++ hanging.below) key count place i

@@ -2,7 +2,7 @@
 use Rattle.std.specs.Prelude.{ℕ, ◌≡◌, ◌⊎◌, Bool, true, false, List, [], ◌∷◌, ◌++◌, Option, Some, None, map, slice_index_or}
 use Rattle.frames.specs.Behaviour.{Behaviour}
 use Rattle.frames.specs.Configuration.{Configuration}
-use Rattle.schedule_trie.specs.Cut.{Cut, keys_in, has}
+use Rattle.schedule_trie.specs.Trie.{TrieOf, keys_in, has}
 use Rattle.schedule_trie.specs.Climbs.{last_of, keys_to, HasClimbedTo}
 use Rattle.cutoff.specs.declared.sight.Sight.{Sight}
 use Rattle.cutoff.specs.declared.sight.Sight.TheVariants.{Unseen, Fit, Unfit}
@@ -38,30 +38,30 @@ pub record IsUnseenPart (mark : Option ℕ) (seen : List Sight) (keys : List ℕ
   pub known : IsKnownAt mark seen above fits
 
 -- on each branch with `key`, `above` is the key right above it, or `None` if `key` is the first
-abbrev pub IsAbove : {T : Type 0} → Cut T → ℕ → Option ℕ → Type 0
-IsAbove cut key above = (i : ℕ) (front back : List ℕ) → keys_in cut.strands i ≡ front ++ key ∷ back → above ≡ last_of front
+abbrev pub IsAbove : {T : Type 0} → TrieOf T → ℕ → Option ℕ → Type 0
+IsAbove trie key above = (i : ℕ) (front back : List ℕ) → keys_in trie.branches i ≡ front ++ key ∷ back → above ≡ last_of front
 
-module _ {R P : Type 0} (E : R → R → Bool) (is : R → Behaviour P) (cut : Cut (StoredRun R P)) where
+module _ {R P : Type 0} (E : R → R → Bool) (is : R → Behaviour P) (trie : TrieOf (StoredRun R P)) where
   -- the answer to whether a run that fits is stored in the segment k, which begins at c: if true,
   -- there is such a run, and the jobs stay; if false, there is none, and k's job is added
   abbrev pub LooksBelow : Configuration R P → ℕ → Bool → List (Planned R P) → List (Planned R P) → Type 0
-  LooksBelow c k true old new = HasTrueRun E is cut c k × (new ≡ old)
-  LooksBelow c k false old new = (Fits E cut c k → ⊥) × (new ≡ old ++ record { key = k; entry = c; steps = steps_at cut k } ∷ [])
+  LooksBelow c k true old new = HasTrueRun E is trie c k × (new ≡ old)
+  LooksBelow c k false old new = (Fits E trie c k → ⊥) × (new ≡ old ++ record { key = k; entry = c; steps = steps_at trie k } ∷ [])
 
   module _ (start : Configuration R P) where
     -- one of these segments is the first that no stored run fits; `jobs` are `old`, with that
     -- segment's job added if the segment had none
     abbrev pub AddsMissed : List (Planned R P) → List (Planned R P) → List ℕ → Type 0
     AddsMissed old jobs keys =
-        (m : ℕ) × (end : Configuration R P) × Descends E (is start.register) cut start keys (Some m) end × (has m (map key_of jobs) ≡ true)
-        × (jobs ≡ with_job old (job_of cut (Some m) end))
+        (m : ℕ) × (end : Configuration R P) × Descends E (is start.register) trie start keys (Some m) end × (has m (map key_of jobs) ≡ true)
+        × (jobs ≡ with_job old (job_of trie (Some m) end))
 
     -- A walk down each branch with the key `last` has reached this key, and has found whether
     -- stored runs fit down to it. If true, they do, and no job was added. If false, they don't, and
     -- the job of the first segment that no stored run fits was added if that segment had none.
     abbrev pub HasDescended : List (Planned R P) → List (Planned R P) → Option ℕ → Bool → Type 0
-    HasDescended old jobs last true = ((i : ℕ) → HasClimbedTo (keys_in cut.strands i) last → RunsTo E is cut start last (keys_in cut.strands i)) × (jobs ≡ old)
-    HasDescended old jobs last false = (i : ℕ) → HasClimbedTo (keys_in cut.strands i) last → AddsMissed old jobs (keys_to (keys_in cut.strands i) last)
+    HasDescended old jobs last true = ((i : ℕ) → HasClimbedTo (keys_in trie.branches i) last → RunsTo E is trie start last (keys_in trie.branches i)) × (jobs ≡ old)
+    HasDescended old jobs last false = (i : ℕ) → HasClimbedTo (keys_in trie.branches i) last → AddsMissed old jobs (keys_to (keys_in trie.branches i) last)
 
     -- what a plan has found at the key k is right: if it is `Fit`, stored runs fit down to k; if it
     -- is `Unfit`, they don't, and the first segment that no stored run fits has a job; if it is
@@ -79,4 +79,4 @@ module _ {R P : Type 0} (E : R → R → Bool) (is : R → Behaviour P) (cut : C
     -- stored runs fit down to that upper key, and no job was added. If `fits` is false, they don't,
     -- and the job of the first segment that no stored run fits was added if that segment had none.
     abbrev pub HasDescendedAbove : List (Planned R P) → List (Planned R P) → ℕ → Bool → Type 0
-    HasDescendedAbove old jobs key fits = (above : Option ℕ) → IsAbove cut key above → HasDescended old jobs above fits
+    HasDescendedAbove old jobs key fits = (above : Option ℕ) → IsAbove trie key above → HasDescended old jobs above fits

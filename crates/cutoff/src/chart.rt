@@ -9,7 +9,7 @@ ghost use Rattle.cutoff.specs.Plans.{IsPlan};
 ghost use Rattle.cutoff.specs.Installs.{Installs};
 ghost use Rattle.cutoff.specs.Charts.{StepsFit, look};
 ghost use Rattle.cutoff.specs.Settles.{IsSettled, KeepsOrFills};
-ghost use Rattle.schedule_trie.specs.Cut.{AreLimits, IsCut, IsBlank, forest, if_lacks};
+ghost use Rattle.schedule_trie.specs.Trie.{AreLimits, IsCut, IsBlank, forest, if_lacks};
 
 mod edits;
 mod last;
@@ -53,9 +53,9 @@ impl<R: Register> Model for Chart<R> {
 
     ghost Value = { Charted R R.Pending };
 
-    ghost view = { λ c. record { cut = c.trie; start = c.start; value = c.value } };
+    ghost view = { λ c. record { trie = c.trie; start = c.start; value = c.value } };
 
-    ghost invariant = { λ c. IsCharted R.PartialEq.eq R.behaviour c.next c.fresh c.mark (record { cut = c.trie; start = c.start; value = c.value }) };
+    ghost invariant = { λ c. IsCharted R.PartialEq.eq R.behaviour c.next c.fresh c.mark (record { trie = c.trie; start = c.start; value = c.value }) };
 }
 
 impl<R: Register> Chart<R> {
@@ -78,13 +78,13 @@ impl<R: Register> Chart<R> {
         requires value { value < (R.behaviour register).values }
         requires limits { AreLimits limits }
         requires fits { AllFit (R.behaviour register) steps.now }
-        ensures forest { IfOk result (λ c. opened limits steps.now ≡ Ok (forest c.cut)) }
-        ensures limits { IfOk result (λ c. c.cut.limits ≡ limits) }
+        ensures forest { IfOk result (λ c. opened limits steps.now ≡ Ok (forest c.trie)) }
+        ensures limits { IfOk result (λ c. c.trie.limits ≡ limits) }
         ensures start { let initial = initial_configuration (R.behaviour register) register value in
             IfOk result (λ c. c.start ≡ initial) }
         ensures value { IfOk result (λ c. c.value ≡ value) }
-        ensures blank { IfOk result (λ c. IsBlank c.cut) }
-        ensures cut { IfOk result (λ c. IsCut c.cut) }
+        ensures blank { IfOk result (λ c. IsBlank c.trie) }
+        ensures cut { IfOk result (λ c. IsCut c.trie) }
         ensures err { IfErr result (IsRefused (opened limits steps.now)) }
     {
         let trie = Trie::new(alloc, limits, steps)?;
@@ -103,9 +103,9 @@ impl<R: Register> Chart<R> {
         requires fits { StepsFit (R.behaviour register) (forest trie) }
         requires cut { IsCut trie }
         requires blank { IsBlank trie }
-        ensures cut { IfOk result (λ c. c.cut ≡ trie) }
-        ensures whole { IfOk result (λ c. IsCut c.cut) }
-        ensures blank { IfOk result (λ c. IsBlank c.cut) }
+        ensures cut { IfOk result (λ c. c.trie ≡ trie) }
+        ensures whole { IfOk result (λ c. IsCut c.trie) }
+        ensures blank { IfOk result (λ c. IsBlank c.trie) }
         ensures start { let initial = initial_configuration (R.behaviour register) register value in
             IfOk result (λ c. c.start ≡ initial) }
         ensures value { IfOk result (λ c. c.value ≡ value) }
@@ -142,7 +142,7 @@ impl<R: Register> Chart<R> {
     /// Does nothing. Its contract guarantees that each step of each branch fits the chart's
     /// register, and that the initial value is one of the register's values.
     pub fn lemma_steps_fit(&self)
-        ensures fit { StepsFit (R.behaviour self.now.start.register) (forest self.now.cut) }
+        ensures fit { StepsFit (R.behaviour self.now.start.register) (forest self.now.trie) }
         ensures within { self.now.value < (R.behaviour self.now.start.register).values }
     {
         let _start = &self.start;
@@ -150,15 +150,15 @@ impl<R: Register> Chart<R> {
 
     /// The number of cells ever made, including those that are no longer on any branch.
     pub fn made(&self) -> u32
-        ensures { result ≡ (forest self.now.cut).made }
+        ensures { result ≡ (forest self.now.trie).made }
     {
         self.trie.made()
     }
 
     /// The number of branches. No two have the same name.
     pub fn branches(&self) -> u32
-        ensures count { result ≡ length (forest self.now.cut).branches }
-        ensures apart { AreNamedApart (forest self.now.cut).branches }
+        ensures count { result ≡ length (forest self.now.trie).branches }
+        ensures apart { AreNamedApart (forest self.now.trie).branches }
     {
         self.trie.branches()
     }
@@ -168,8 +168,8 @@ impl<R: Register> Chart<R> {
     /// cell's number is below the number of cells ever made. The forest is cut into segments, and
     /// each branch begins from the initial configuration.
     pub fn lemma_invariant(&self)
-        ensures forest { IsForest (forest self.now.cut) }
-        ensures cut { IsCut self.now.cut }
+        ensures forest { IsForest (forest self.now.trie) }
+        ensures cut { IsCut self.now.trie }
         ensures initial { self.now.start ≡ initial_configuration
             (R.behaviour self.now.start.register) self.now.start.register self.now.value }
     {
@@ -179,14 +179,14 @@ impl<R: Register> Chart<R> {
     /// The name of the branch at `index`, in the order the branches were made; `None` if there is
     /// no such branch.
     pub fn name_at(&self, index: u32) -> Option<Name>
-        ensures { result ≡ name_in (forest self.now.cut).branches index }
+        ensures { result ≡ name_in (forest self.now.trie).branches index }
     {
         self.trie.name_at(index)
     }
 
     /// How many cells a branch has; `None` if there is no such branch.
     pub fn len(&self, branch: &Name) -> Option<u32>
-        ensures { result ≡ len_of (forest self.now.cut) branch.now }
+        ensures { result ≡ len_of (forest self.now.trie) branch.now }
     {
         self.trie.len(branch)
     }
@@ -194,7 +194,7 @@ impl<R: Register> Chart<R> {
     /// The number that identifies the cell at `place` of a branch; `None` if there is no such
     /// branch or cell.
     pub fn cell_at(&self, branch: &Name, place: u32) -> Option<u32>
-        ensures { result ≡ cell_on_branch (forest self.now.cut) branch.now place }
+        ensures { result ≡ cell_on_branch (forest self.now.trie) branch.now place }
     {
         self.trie.cell_at(branch, place)
     }
@@ -202,7 +202,7 @@ impl<R: Register> Chart<R> {
     /// The place of the cell with the number `cell` on a branch; `None` if there is no such branch,
     /// or it doesn't have that cell.
     pub fn place_of(&self, branch: &Name, cell: u32) -> Option<u32>
-        ensures { result ≡ place_of (forest self.now.cut) branch.now cell }
+        ensures { result ≡ place_of (forest self.now.trie) branch.now cell }
     {
         self.trie.place_of(branch, cell)
     }
@@ -213,9 +213,9 @@ impl<R: Register> Chart<R> {
     ///
     /// NoBranch; Memory.
     pub fn path(&self, alloc: Global, branch: &Name) -> Result<Vec<Step>, Refusal>
-        ensures ok { IfOk result (λ steps. path_of (forest self.now.cut) branch.now
+        ensures ok { IfOk result (λ steps. path_of (forest self.now.trie) branch.now
             ≡ Some steps.items) }
-        ensures err { IfErr result (λ e. if_lacks (path_of (forest self.now.cut) branch.now) ≡ e) }
+        ensures err { IfErr result (λ e. if_lacks (path_of (forest self.now.trie) branch.now) ≡ e) }
     {
         self.trie.path(alloc, branch)
     }
@@ -236,9 +236,9 @@ impl<R: Register> Chart<R> {
             (λ spot. IsSettled R.PartialEq.eq (R.behaviour self.old.start.register) self.old
             self.new
             branch.now place spot.runs spot.replayed) }
-        ensures found { OnOk result (look (forest self.old.cut) branch.now place
-            ≡ Ok (forest self.new.cut)) }
-        ensures err { IfErr result (IsRefused (look (forest self.old.cut) branch.now place)) }
+        ensures found { OnOk result (look (forest self.old.trie) branch.now place
+            ≡ Ok (forest self.new.trie)) }
+        ensures err { IfErr result (IsRefused (look (forest self.old.trie) branch.now place)) }
         ensures keeps { KeepsOrFills R.PartialEq.eq R.behaviour self.old self.new branch.now place }
         ensures begins { self.old.start ≡ initial_configuration
             (R.behaviour self.old.start.register) self.old.start.register self.old.value }
@@ -269,9 +269,9 @@ impl<R: Register> Chart<R> {
         ensures ok { IfOk result
             (λ jobs. IsPlan R.PartialEq.eq (R.behaviour self.now.start.register) self.now branch.now
             jobs.items) }
-        ensures found { OnOk result (IsSome (index_of (forest self.now.cut).branches branch.now)) }
+        ensures found { OnOk result (IsSome (index_of (forest self.now.trie).branches branch.now)) }
         ensures err { IfErr result
-            (λ e. if_lacks (index_of (forest self.now.cut).branches branch.now) ≡ e) }
+            (λ e. if_lacks (index_of (forest self.now.trie).branches branch.now) ≡ e) }
     {
         let Some(index) = self.trie.index(branch) else {
             return Err(Refusal::NoBranch);

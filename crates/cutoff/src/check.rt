@@ -1,7 +1,7 @@
 //! After an install: at the runs that its climb passed it is recorded that they fit, so that no
 //! climb before the next other change passes them again.
 
-ghost use Rattle.schedule_trie.specs.Cut.{IsCut};
+ghost use Rattle.schedule_trie.specs.Trie.{IsCut};
 ghost use Rattle.cutoff.specs.Fitting.{IsChecked};
 
 use crate::number::Number;

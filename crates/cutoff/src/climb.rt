@@ -3,7 +3,7 @@
 //! that one ends at a given configuration. It changes nothing.
 
 ghost use Rattle.std.specs.Prelude.{◌≡◌, ◌≤◌, ◌+◌, ℕ, None, true, length};
-ghost use Rattle.schedule_trie.specs.Cut.{keys_in, line, piece_at, IsCut};
+ghost use Rattle.schedule_trie.specs.Trie.{keys_in, line, IsCut};
 ghost use Rattle.schedule_trie.specs.Climbs.{keys_to, HasClimbedTo};
 ghost use Rattle.cutoff.specs.Links.{AreLinked};
 ghost use Rattle.cutoff.specs.Plans.{FitsDownTo};
@@ -31,8 +31,8 @@ pub(crate) fn comes_down<R: Register>(
     requires linked { AreLinked R.PartialEq.eq start.now trie.now }
     requires cut { IsCut trie.now }
     requires fresh { AreFresh R.PartialEq.eq R.behaviour trie.now start.now fresh }
-    requires reached { (i : ℕ) × HasClimbedTo (keys_in trie.now.strands i) last }
-    ensures { (i : ℕ) → let keys = keys_in trie.now.strands i in HasClimbedTo keys last
+    requires reached { (i : ℕ) × HasClimbedTo (keys_in trie.now.branches i) last }
+    ensures { (i : ℕ) → let keys = keys_in trie.now.branches i in HasClimbedTo keys last
         → let b = R.behaviour start.now.register in let down = keys_to keys last in
         (result ≡ true → RunsDown R.PartialEq.eq R.behaviour trie.now b start.now down config.now)
         × (FitsDownTo R.PartialEq.eq b trie.now start.now down config.now → result ≡ true) }

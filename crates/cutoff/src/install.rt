@@ -3,7 +3,7 @@
 ghost use Rattle.std.specs.Prelude.{◌≡◌, ℕ, None, Some, IsSome, true, false, map};
 ghost use Rattle.std.specs.Bool.{Decides};
 ghost use Rattle.schedule_trie.specs.Forest.{step_of};
-ghost use Rattle.schedule_trie.specs.Cut.{has, keys_in, piece_at, IsCut};
+ghost use Rattle.schedule_trie.specs.Trie.{has, keys_in, segment_at, IsCut};
 ghost use Rattle.checkpoints.specs.Segment.{IsRun};
 ghost use Rattle.cutoff.specs.Fitting.{steps_at};
 ghost use Rattle.cutoff.specs.Links.{AreLinked, IsLinked, IsLinkedAt, without_register};
@@ -46,11 +46,11 @@ pub(crate) fn fits_down<R: Register>(
     requires linked { AreLinked R.PartialEq.eq start.now trie.now }
     requires cut { IsCut trie.now }
     requires fresh { AreFresh R.PartialEq.eq R.behaviour trie.now start.now fresh }
-    requires there { IsSome (piece_at trie.now.pieces key) }
-    ensures fits { (i : ℕ) → has key (keys_in trie.now.strands i) ≡ true
+    requires there { IsSome (segment_at trie.now.segments key) }
+    ensures fits { (i : ℕ) → has key (keys_in trie.now.branches i) ≡ true
         → Decides result.0
         (FitsDown R.PartialEq.eq (R.behaviour start.now.register) trie.now key run.now
-        start.now (keys_in trie.now.strands i)) }
+        start.now (keys_in trie.now.branches i)) }
     ensures moved { result.0 ≡ true → (next : ℕ)
         → IsLinkedAt R.PartialEq.eq start.now next None trie.now
         → IsLinked R.PartialEq.eq start.now.register next result.1 (without_register run.now.entry)
@@ -72,8 +72,8 @@ pub(crate) fn fits_down<R: Register>(
 
 /// Whether there is a segment with this key.
 pub(crate) fn has_segment<R: Register>(trie: &Trie<Stored<R>>, key: SegKey) -> bool
-    ensures yes { result ≡ true → IsSome (piece_at trie.now.pieces key) }
-    ensures no { result ≡ false → piece_at trie.now.pieces key ≡ None }
+    ensures yes { result ≡ true → IsSome (segment_at trie.now.segments key) }
+    ensures no { result ≡ false → segment_at trie.now.segments key ≡ None }
 {
     trie.cells_of(key).is_some()
 }

@@ -6,7 +6,7 @@ ghost use Rattle.std.specs.Prelude.{◌≡◌, ◌≤◌, ℕ, Option, None, Som
 ghost use Rattle.std.specs.Option.{option_copied, option_map};
 ghost use Rattle.checkpoints.specs.Segment.{IsRun};
 ghost use Rattle.frames.specs.Recorded.{AllFit};
-ghost use Rattle.schedule_trie.specs.Cut.{forest, keys_in, line, piece_at, IsCut};
+ghost use Rattle.schedule_trie.specs.Trie.{forest, keys_in, line, segment_at, IsCut};
 ghost use Rattle.cutoff.specs.Fitting.{KeepsRuns, counted_of, part_of, reached, run_of, steps_at};
 ghost use Rattle.cutoff.specs.Settles.{IsSegmentSettled, IsFilled, SettlesTo};
 ghost use Rattle.cutoff.specs.Charts.{StepsFit};
@@ -97,7 +97,8 @@ fn settle_rest<R: Register>(
     requires cut { IsCut trie.old }
     requires left { (i : ℕ) × (count : ℕ) × (place : ℕ) × IsLeft R.PartialEq.eq R.behaviour trie.old
         start.now rest.now.front rest.now.keys.items rest.now.hung key count place i
-        × (length (line (piece_at trie.old.pieces) (keys_in trie.old.strands i)) ≤ 4294967295) }
+        × (length (line (segment_at trie.old.segments) (keys_in trie.old.branches i))
+        ≤ 4294967295) }
     ensures stored { IfOk result (λ r. r.0 ≡ note_named trie.new (Some key)) }
     ensures settles { IfOk result
         (λ r. (i count place : ℕ) → IsLeft R.PartialEq.eq R.behaviour trie.old
@@ -106,7 +107,7 @@ fn settle_rest<R: Register>(
     ensures keeps { (i count place : ℕ) → IsLeft R.PartialEq.eq R.behaviour trie.old start.now
         rest.now.front rest.now.keys.items rest.now.hung key count place i
         → KeepsRuns trie.old trie.new (IsFilled R.PartialEq.eq (R.behaviour start.now.register)
-        trie.old trie.new start.now (reached trie.old place (keys_in trie.old.strands i))) }
+        trie.old trie.new start.now (reached trie.old place (keys_in trie.old.branches i))) }
     ensures linked { IsLinkedAt R.PartialEq.eq start.now next.new None trie.new }
 {
     let mut replayed = 0;
@@ -150,13 +151,14 @@ pub(crate) fn settle_to<R: Register>(
     requires marked { IsMarked R.PartialEq.eq R.behaviour trie.old start.now mark }
     requires fits { StepsFit (R.behaviour start.now.register) (forest trie.old) }
     requires there { (i : ℕ) × (count : ℕ) × (place : ℕ) × IsPlaceIn trie.old key count place i
-        × (length (line (piece_at trie.old.pieces) (keys_in trie.old.strands i)) ≤ 4294967295) }
+        × (length (line (segment_at trie.old.segments) (keys_in trie.old.branches i))
+        ≤ 4294967295) }
     ensures stored { IfOk result (λ r. r.0 ≡ note_named trie.new (Some key)) }
     ensures settles { IfOk result (λ r. (i count place : ℕ) → IsPlaceIn trie.old key count place i
         → SettlesTo R.PartialEq.eq R.behaviour trie.old trie.new start.now key count place i r.1) }
     ensures keeps { (i count place : ℕ) → IsPlaceIn trie.old key count place i
         → KeepsRuns trie.old trie.new (IsFilled R.PartialEq.eq (R.behaviour start.now.register)
-        trie.old trie.new start.now (reached trie.old place (keys_in trie.old.strands i))) }
+        trie.old trie.new start.now (reached trie.old place (keys_in trie.old.branches i))) }
     ensures linked { IsLinkedAt R.PartialEq.eq start.now next.new None trie.new }
 {
     let rest = rest_to(alloc, trie, start, mark, key)?;

@@ -5,7 +5,7 @@ ghost use Rattle.std.specs.Arc.{arc_value};
 ghost use Rattle.frames.specs.Configuration.{Configuration};
 ghost use Rattle.frames.specs.Recorded.{AllFit};
 ghost use Rattle.schedule_trie.specs.Forest.{step_of};
-ghost use Rattle.schedule_trie.specs.Cut.{keys_in, forest, IsCut};
+ghost use Rattle.schedule_trie.specs.Trie.{keys_in, forest, IsCut};
 ghost use Rattle.cutoff.specs.Fitting.{steps_at};
 ghost use Rattle.cutoff.specs.Charts.{StepsFit};
 ghost use Rattle.cutoff.specs.Links.{AreLinked};
@@ -83,7 +83,7 @@ pub(crate) fn plan_all<R: Register>(
     ensures { IfOk result
         (λ jobs. Plans R.PartialEq.eq (R.behaviour base.now.start.now.register) base.now.trie.now
         base.now.start.now []
-        (keys_in base.now.trie.now.strands index ∷ map keys_of base.now.trie.now.strands)
+        (keys_in base.now.trie.now.branches index ∷ map keys_of base.now.trie.now.branches)
         jobs.items) }
 {
     let mut planning = Planning {
@@ -119,7 +119,7 @@ fn plan_branch<R: Register>(
         base.now.start.now planning.new.seen.items planning.new.jobs.items) }
     ensures adds { OnOk result ((missed : Option ℕ) × (end : Configuration R R.Pending)
         × Descends R.PartialEq.eq (R.behaviour base.now.start.now.register) base.now.trie.now
-        base.now.start.now (keys_in base.now.trie.now.strands index) missed end
+        base.now.start.now (keys_in base.now.trie.now.branches index) missed end
         × (planning.new.jobs.items ≡ with_job planning.old.jobs.items
         (job_of base.now.trie.now missed end))) }
 {
@@ -142,7 +142,7 @@ fn unseen_keys<R: Register>(
 ) -> Result<bool, AllocError>
     requires { IsCut base.now.trie.now }
     ensures { IfOk result
-        (λ fits. IsUnseenPart base.now.mark seen.now (keys_in base.now.trie.now.strands index) fits
+        (λ fits. IsUnseenPart base.now.mark seen.now (keys_in base.now.trie.now.branches index) fits
         keys.new.items) }
 {
     keys.clear();
@@ -191,11 +191,11 @@ fn visit<R: Register>(
         planning.new.jobs.items (Some key)
         fits) }
 {
-    let above = base.trie.above(key);
     if !above_fits {
         see(&mut planning.seen, key, false)?;
         return Ok(false);
     }
+    let above = base.trie.above(key);
     let fits = look_below(base, above, key, &mut planning.jobs)?;
     see(&mut planning.seen, key, fits)?;
     Ok(fits)

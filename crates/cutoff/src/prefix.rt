@@ -5,11 +5,12 @@
 
 ghost use Rattle.std.specs.Prelude.{◌≡◌, ℕ, None, Some, true, IfOk};
 ghost use Rattle.std.specs.Bool.{Decides};
+ghost use Rattle.std.specs.Option.{option_copied};
 ghost use Rattle.frames.specs.Configuration.{Configuration};
-ghost use Rattle.schedule_trie.specs.Cut.{forest, has, keys_in, IsCut};
+ghost use Rattle.schedule_trie.specs.Trie.{forest, has, keys_in, IsCut};
 ghost use Rattle.schedule_trie.specs.Climbs.{keys_up_to};
 ghost use Rattle.cutoff.specs.Links.{AreLinked};
-ghost use Rattle.cutoff.specs.Prefixes.{AreKeysAfter, IsMarked, IsKnown, IsPlaceIn, IsHung, IsLeft};
+ghost use Rattle.cutoff.specs.Prefixes.{AreKeysAfter, IsMarked, IsKnown, IsPlaceIn, IsHung, IsLeft, IsTop};
 ghost use Rattle.cutoff.specs.Charts.{StepsFit};
 
 use crate::stored::Stored;
@@ -30,35 +31,45 @@ pub(crate) struct Rest {
     pub(crate) hung: SegKey,
 }
 
-/// The lowest segment, at `key` or above, down to which stored runs are known to fit. `None` if no
-/// run is known to fit. Uses the mark, the runs' numbers, and a comparison of the first run's entry
-/// with the start.
+/// The segment at which a climb ended: its key, what is stored in it, and the key of the segment
+/// right above it, `None` if it is the first of its branches.
+#[derive(Drop)]
+struct Top<'a, R: Register> {
+    key: SegKey,
+    stored: Option<&'a Stored<R>>,
+    above: Option<SegKey>,
+}
+
+/// The lowest segment, at `first` or above, down to which stored runs are known to fit. `None` if
+/// no run is known to fit. Uses the mark, the runs' numbers, and a comparison of the first run's
+/// entry with the start.
 fn known_prefix<R: Register>(
     trie: &Trie<Stored<R>>,
     start: &Config<R>,
     mark: Option<SegKey>,
-    key: SegKey,
+    first: Top<'_, R>,
 ) -> Option<SegKey>
     requires linked { AreLinked R.PartialEq.eq start.now trie.now }
     requires cut { IsCut trie.now }
     requires marked { IsMarked R.PartialEq.eq R.behaviour trie.now start.now mark }
-    requires there { (i : ℕ) × (has key (keys_in trie.now.strands i) ≡ true) }
-    ensures { IsKnown R.PartialEq.eq R.behaviour trie.now start.now key result }
+    requires there { (i : ℕ) × (has first.key (keys_in trie.now.branches i) ≡ true) }
+    requires top { IsTop trie.now first.key (option_copied first.stored) first.above }
+    ensures { IsKnown R.PartialEq.eq R.behaviour trie.now start.now first.entry.key result }
 {
-    let mut front = key;
+    let mut front = first.key;
+    let mut top = first;
     // a branch has at most one segment for each cell ever made
     for _ in 0..trie.made() {
-        let top = hung_from(trie, mark, front);
-        if is_marked(mark, top) {
+        if is_marked(mark, top.key) {
             return Some(front);
         }
-        let (note, above) = trie.step_up_from(top);
-        let Some(next) = above else {
-            let stored = note?;
+        let Some(next) = top.above else {
+            let stored = top.stored?;
             let begun = stored.entry();
             return if *begun == *start { Some(front) } else { None };
         };
         front = next;
+        top = hung_from(trie, mark, next);
     }
     None
 }
@@ -67,17 +78,22 @@ fn known_prefix<R: Register>(
 /// returns the segment at which the climb ends. Also stops at the marked segment. Returns `key`
 /// itself if that segment is marked, has no stored run, or has a run that hangs from none. Compares
 /// only numbers.
-fn hung_from<R: Register>(trie: &Trie<Stored<R>>, mark: Option<SegKey>, key: SegKey) -> SegKey
+fn hung_from<R: Register>(trie: &Trie<Stored<R>>, mark: Option<SegKey>, key: SegKey) -> Top<'_, R>
     requires linked { (start : Configuration R R.Pending)
         × AreLinked R.PartialEq.eq start trie.now }
     requires cut { IsCut trie.now }
-    requires there { (i : ℕ) × (has key (keys_in trie.now.strands i) ≡ true) }
-    ensures { (i : ℕ) → has key (keys_in trie.now.strands i) ≡ true
-        → IsHung R.PartialEq.eq R.behaviour trie.now result key i }
+    requires there { (i : ℕ) × (has key (keys_in trie.now.branches i) ≡ true) }
+    ensures hung { (i : ℕ) → has key (keys_in trie.now.branches i) ≡ true
+        → IsHung R.PartialEq.eq R.behaviour trie.now result.key key i }
+    ensures top { IsTop trie.now result.key (option_copied result.stored) result.above }
 {
     let (note, above) = trie.step_up_from(key);
     let Some(stored) = note else {
-        return key;
+        return Top {
+            key,
+            stored: None,
+            above,
+        };
     };
     let _entry = stored.entry();
     let mut hung = key;
@@ -103,7 +119,11 @@ fn hung_from<R: Register>(trie: &Trie<Stored<R>>, mark: Option<SegKey>, key: Seg
         lower = stored;
         at = above;
     }
-    hung
+    Top {
+        key: hung,
+        stored: Some(lower),
+        above: at,
+    }
 }
 
 /// Whether the segment `key` is the marked one; false if none is marked.
@@ -129,13 +149,14 @@ pub(crate) fn rest_to<R: Register>(
     requires cut { IsCut trie.now }
     requires marked { IsMarked R.PartialEq.eq R.behaviour trie.now start.now mark }
     requires fits { StepsFit (R.behaviour start.now.register) (forest trie.now) }
-    requires there { (i : ℕ) × (has key (keys_in trie.now.strands i) ≡ true) }
+    requires there { (i : ℕ) × (has key (keys_in trie.now.branches i) ≡ true) }
     ensures { IfOk result (λ r. (i count place : ℕ) → IsPlaceIn trie.now key count place i
         → IsLeft R.PartialEq.eq R.behaviour trie.now start.now r.front r.keys.items r.hung
         key count place i) }
 {
-    let hung = hung_from(trie, mark, key);
-    let known = known_prefix(trie, start, mark, hung);
+    let top = hung_from(trie, mark, key);
+    let hung = top.key;
+    let known = known_prefix(trie, start, mark, top);
     let (front, keys) = keys_down_to(alloc, trie, known, hung)?;
     Ok(Rest { front, keys, hung })
 }
@@ -150,10 +171,10 @@ pub(crate) fn keys_down_to<T: Drop>(
     key: SegKey,
 ) -> Result<(Option<SegKey>, Vec<SegKey>), AllocError>
     requires cut { IsCut trie.now }
-    requires there { (i : ℕ) × (has key (keys_in trie.now.strands i) ≡ true) }
+    requires there { (i : ℕ) × (has key (keys_in trie.now.branches i) ≡ true) }
     ensures following { IfOk result (λ r. AreKeysAfter trie.now key front r.0 r.1.items) }
-    ensures stops { IfOk result (λ r. (i f : ℕ) → has key (keys_in trie.now.strands i) ≡ true
-        → front ≡ Some f → has f (keys_up_to key (keys_in trie.now.strands i)) ≡ true
+    ensures stops { IfOk result (λ r. (i f : ℕ) → has key (keys_in trie.now.branches i) ≡ true
+        → front ≡ Some f → has f (keys_up_to key (keys_in trie.now.branches i)) ≡ true
         → r.0 ≡ front) }
 {
     let mut keys = Vec::new(alloc);

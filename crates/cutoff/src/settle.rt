@@ -5,7 +5,7 @@ ghost use Rattle.std.specs.Prelude.{◌≡◌, ◌≤◌, ℕ, None, Some, IfOk,
 ghost use Rattle.std.specs.Arc.{arc_value};
 ghost use Rattle.checkpoints.specs.Segment.{IsRun};
 ghost use Rattle.frames.specs.Recorded.{AllFit};
-ghost use Rattle.schedule_trie.specs.Cut.{piece_at, slots_of, note_of};
+ghost use Rattle.schedule_trie.specs.Trie.{segment_at, slots_of, note_of};
 ghost use Rattle.cutoff.specs.Fitting.{RunFits, Fits, steps_at};
 ghost use Rattle.cutoff.specs.Settles.{IsSegmentSettled};
 ghost use Rattle.cutoff.specs.Links.{IsLinkedAt};
@@ -31,7 +31,7 @@ pub(crate) fn fitting<'a, R: Register>(
 ) -> Option<&'a Stored<R>>
     requires linked { (next : ℕ) × IsLinkedAt R.PartialEq.eq config.now next above trie.now }
     ensures { MatchOption result (Fits R.PartialEq.eq trie.now config.now key → ⊥)
-        (λ s. (note_of (piece_at trie.now.pieces key) ≡ Some s.now)
+        (λ s. (note_of (segment_at trie.now.segments key) ≡ Some s.now)
         × RunFits R.PartialEq.eq config.now (steps_at trie.now key) s.now.run
         × IsRun (R.behaviour s.now.run.entry.register) s.now.run) }
 {
@@ -45,7 +45,7 @@ pub(crate) fn fitting<'a, R: Register>(
 
 /// The cells of the segment `key`, in order; empty if there is no such segment.
 pub(crate) fn segment_cells<R: Register>(trie: &Trie<Stored<R>>, key: SegKey) -> &[Slot]
-    ensures { result.now ≡ slots_of (piece_at trie.now.pieces key) }
+    ensures { result.now ≡ slots_of (segment_at trie.now.segments key) }
 {
     match trie.cells_of(key) {
         Some(slots) => slots,

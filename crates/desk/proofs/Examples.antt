@@ -7,7 +7,7 @@ use Rattle.frames.specs.SafeBit.{safe_behaviour}
 use Rattle.frames.specs.Configuration.{initial_configuration}
 use Rattle.schedule_trie.specs.declared.limits.Limits.{Limits}
 use Rattle.schedule_trie.specs.declared.refusal.Refusal.TheVariants.{Memory, LogFull, NoBranch}
-use Rattle.schedule_trie.specs.Cut.{Cut, strand}
+use Rattle.schedule_trie.specs.Trie.{TrieOf, keyed_branch}
 use Rattle.cutoff.specs.Fitting.{StoredRun}
 use Rattle.cutoff.specs.Charts.{Charted}
 use Rattle.turn.specs.declared.view.View.{View}
@@ -31,11 +31,11 @@ abbrev limits : Limits
 limits = record { cells = 9; branches = 9; log = 9 }
 
 -- the one branch `main`, of no steps
-abbrev cut : Cut (StoredRun ⊤ SafePoint)
-cut = record { strands = strand (codes "main") [] ∷ []; pieces = []; made = 0; limits = limits }
+abbrev trie : TrieOf (StoredRun ⊤ SafePoint)
+trie = record { branches = keyed_branch (codes "main") [] ∷ []; segments = []; made = 0; limits = limits }
 
 abbrev chart : Charted ⊤ SafePoint
-chart = record { cut = cut; start = initial_configuration safe_behaviour tt 0; value = 0 }
+chart = record { trie = trie; start = initial_configuration safe_behaviour tt 0; value = 0 }
 
 abbrev stored : StoredWorld ⊤ SafePoint
 stored = record {

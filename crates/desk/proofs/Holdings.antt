@@ -4,7 +4,7 @@ use Rattle.std.proofs.lemmas.List.{append_cancel_left}
 use Rattle.frames.specs.Behaviour.{Behaviour}
 use Rattle.schedule_trie.specs.declared.refusal.Refusal.{Refusal}
 use Rattle.schedule_trie.specs.declared.refusal.Refusal.TheVariants.{LogFull, Memory}
-use Rattle.schedule_trie.specs.Cut.{if_lacks}
+use Rattle.schedule_trie.specs.Trie.{if_lacks}
 use Rattle.schedule_trie.specs.Forest.{index_of}
 use Rattle.pages.specs.declared.page.Page.{Page}
 use Rattle.pages.specs.declared.query.Query.{Query}

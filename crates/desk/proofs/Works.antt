@@ -5,7 +5,7 @@ use Rattle.std.specs.Result.{IsErrAnd}
 use Rattle.frames.specs.Behaviour.{Behaviour}
 use Rattle.schedule_trie.specs.declared.refusal.Refusal.{Refusal}
 use Rattle.schedule_trie.specs.declared.refusal.Refusal.TheVariants.{LogFull, Memory}
-use Rattle.schedule_trie.specs.Cut.{forest, if_lacks}
+use Rattle.schedule_trie.specs.Trie.{forest, if_lacks}
 use Rattle.schedule_trie.specs.Forest.{IsRefused, index_of}
 use Rattle.pages.specs.declared.page.Page.{Page}
 use Rattle.pages.specs.declared.query.Query.{Query}
@@ -205,6 +205,6 @@ module _ {R P : Type 0} (is : R → Behaviour P) where
     pub stays_so : (tells : ℕ → World P → Type 0) → tells (length old.log) (world_of is old.now) → IsReading is tells before before
     stays_so tells told = subst (λ l. IsReading is tells before l) book.listed (reads_so first old old book refl held tells refl refl told)
 
-    pub plans_so : {A : Type 0} (branch : List ℕ) (r : Result A Refusal) → OnOk r (IsSome (index_of (forest old.now.chart.cut).branches branch))
-        → IfErr r (λ e. if_lacks (index_of (forest old.now.chart.cut).branches branch) ≡ e) → IsReading is (λ n w. NeedsBranch branch w r) before before
+    pub plans_so : {A : Type 0} (branch : List ℕ) (r : Result A Refusal) → OnOk r (IsSome (index_of (forest old.now.chart.trie).branches branch))
+        → IfErr r (λ e. if_lacks (index_of (forest old.now.chart.trie).branches branch) ≡ e) → IsReading is (λ n w. NeedsBranch branch w r) before before
     plans_so branch r found refused = stays_so (λ n w. NeedsBranch branch w r) (needs (world_of is old.now) branch r found refused)

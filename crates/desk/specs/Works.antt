@@ -4,7 +4,7 @@ use Rattle.std.specs.Prelude.{ℕ, ◌<◌, ◌≡◌, ◌⊎◌, List, Option, 
 use Rattle.frames.specs.Behaviour.{Behaviour}
 use Rattle.schedule_trie.specs.declared.refusal.Refusal.{Refusal}
 use Rattle.schedule_trie.specs.declared.refusal.Refusal.TheVariants.{LogFull, Memory}
-use Rattle.schedule_trie.specs.Cut.{if_lacks}
+use Rattle.schedule_trie.specs.Trie.{if_lacks}
 use Rattle.schedule_trie.specs.Forest.{IsRefused, index_of}
 use Rattle.pages.specs.declared.page.Page.{Page}
 use Rattle.pages.specs.declared.query.Query.{Query}

@@ -5,7 +5,7 @@ ghost use Rattle.frames.specs.Recorded.{AllFit};
 ghost use Rattle.schedule_trie.specs.Forest.{IsRefused, opened};
 ghost use Rattle.schedule_trie.specs.Forest as forests;
 ghost use Rattle.schedule_trie.specs.declared.refusal.Refusal.TheVariants.{Memory};
-ghost use Rattle.schedule_trie.specs.Cut.{AreLimits};
+ghost use Rattle.schedule_trie.specs.Trie.{AreLimits};
 ghost use Rattle.schedule_trie.specs.Limbs.{AreLawfulLimbs, forest_of, loaded};
 ghost use Rattle.cutoff.specs.Charts.{LimbsFit};
 ghost use Rattle.turn.specs.Shares.{HasAll, count, next_least};

@@ -3,7 +3,7 @@
 
 ghost use Rattle.std.specs.Prelude.{◌≡◌, IsSome, IfOk, IfErr, OnOk};
 ghost use Rattle.schedule_trie.specs.Forest.{index_of};
-ghost use Rattle.schedule_trie.specs.Cut.{forest, if_lacks};
+ghost use Rattle.schedule_trie.specs.Trie.{forest, if_lacks};
 ghost use Rattle.cutoff.specs.Plans.{IsPlan};
 
 use crate::journal::Journal;
@@ -48,9 +48,9 @@ fn jobs_left<R: Register>(
         (λ jobs. IsPlan R.PartialEq.eq (R.behaviour chart.start.register) chart branch.now
         jobs.items) }
     ensures found { OnOk result
-        (IsSome (index_of (forest book.now.now.chart.cut).branches branch.now)) }
+        (IsSome (index_of (forest book.now.now.chart.trie).branches branch.now)) }
     ensures err { IfErr result
-        (λ e. if_lacks (index_of (forest book.now.now.chart.cut).branches branch.now) ≡ e) }
+        (λ e. if_lacks (index_of (forest book.now.now.chart.trie).branches branch.now) ≡ e) }
 {
     book.plan(alloc, branch)
 }

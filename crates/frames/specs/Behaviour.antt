@@ -1,5 +1,5 @@
 -- A register's behaviour, on its own cells and words alone, and the laws that every register obeys.
-use Rattle.std.specs.Prelude.{◌≡◌, ℕ, ◌<◌, ◌≤◌, Bool, true, List, length, Option, MatchOption, ⊤}
+use Rattle.std.specs.Prelude.{◌≡◌, ℕ, ◌<◌, ◌≤◌, Bool, true, false, List, length, Option, None, MatchOption, ⊤}
 use Rattle.safe_bit.specs.declared.Place.{Place}
 use Rattle.safe_bit.specs.Memory.{Memory}
 use Rattle.safe_bit.specs.Parts.{HasSize}
@@ -91,6 +91,8 @@ pub record IsLawful {P : Type 0} (b : Behaviour P) (Holds : Memory → Type 0) (
       → GoesOn b Holds Reaches who o (b.goes p choice m).next (b.goes p choice m).memory
   -- if a bit action ends a hit read, the bit that was read is one of the register's own cells
   pub chooses_own : (who : ℕ) (o : Op) (p : P) (choice : Bool) (m : Memory) → Holds m → Reaches who o p → MatchOption (b.goes p choice m).chosen ⊤ (λ bit. bit.0 < b.size.cell)
+  -- a bit action that ends no hit read has the same effect with either choice
+  pub unused_choice : (who : ℕ) (o : Op) (p : P) (m : Memory) → Holds m → Reaches who o p → (b.goes p false m).chosen ≡ None → b.goes p true m ≡ b.goes p false m
   -- an operation that a process has pending fits the process
   pub reached_suits : (who : ℕ) (o : Op) (p : P) → Reaches who o p → b.suits who o ≡ true
   pub frames_fit : (who : ℕ) (o : Op) (p : P) → Reaches who o p → length (b.frames p) ≤ b.depth

@@ -72,16 +72,20 @@ RunsUnder {U = U} a t w p op Out (Asks task rest) j =
 abbrev pub Running : Type 0 → Type 0 → Type 1
 Running Task U = ℕ → Op → (Option Event → U → Type 0) → Program Task → View Task → Type 0
 
+-- the steps that do nothing, and those after which an operation stays at its task
+pub record Passes {Task U : Type 0} (w : Watch Task U) (Up : U → StepEvents → U → Type 0) : Type 0 where
+  pub void : (u : U) (p : ℕ) (reason : Reason) → Up u (in_order (Some (Void p reason)) None) u
+  pub stop : (u : U) (p : ℕ) → Up u (in_order (Some (Stop p)) None) u
+  pub still : (u : U) (j : View Task) (p : ℕ) (chosen : Option (ℕ × Bool)) → w.Inv u j → (z : U) × (Up u (in_order (chosen_of p chosen) None) z × w.Inv z j)
+
 -- the invariant holds at first; each operation that starts keeps it, and so does each operation of
 -- a part that ends; `runs` says what is shown of a program that runs
 pub record IsKeptBy {Task U : Type 0} (runs : Running Task U) (t : Table Task) (MayBeAt : ℕ → Op → Task → Type 0) (w : Watch Task U) (first : ℕ → U) (Up : U → StepEvents → U → Type 0) : Type 0 where
   pub initial : (v : ℕ) → v < t.values → (j : View Task) → ((i : ℕ) → i < t.words → j.words i ≡ t.first_word v i)
       → ((p : ℕ) → j.tasks p ≡ None) → ((k : ℕ) → k < t.parts → j.parts k ≡ opening (t.first v k)) → w.Inv (first v) j
-  pub void : (u : U) (p : ℕ) (reason : Reason) → Up u (in_order (Some (Void p reason)) None) u
-  pub stop : (u : U) (p : ℕ) → Up u (in_order (Some (Stop p)) None) u
+  pub passes : Passes w Up
   pub begins : (u : U) (j : View Task) (p : ℕ) (op : Op) → w.Inv u j → j.tasks p ≡ None → t.suits p op ≡ true
       → runs p op (λ e. Up u (in_order (Some (Invoke p op)) e)) (t.program p op) j
-  pub still : (u : U) (j : View Task) (p : ℕ) (chosen : Option (ℕ × Bool)) → w.Inv u j → (z : U) × (Up u (in_order (chosen_of p chosen) None) z × w.Inv z j)
   pub goes : (u : U) (j : View Task) (p : ℕ) (n : Standing Task) (chosen : Option (ℕ × Bool)) (o : Outcome)
       → w.Inv u j → j.tasks p ≡ Some n → MayBeAt p n.op n.task
       → Answers t.inner_values (t.asks n.task).op o → IsNotSpent o
@@ -116,10 +120,8 @@ pub kept_under : {Task U : Type 0} (t : Table Task) (MayBeAt : ℕ → Op → Ta
     → IsKept t MayBeAt w first Up → IsKeptUnder takes_all t MayBeAt w first Up
 kept_under t MayBeAt w first Up k = record {
   initial = k.initial;
-  void = k.void;
-  stop = k.stop;
+  passes = k.passes;
   begins = λ u j p op inv free suits. runs_under t w p op (λ e. Up u (in_order (Some (Invoke p op)) e)) (t.program p op) j (k.begins u j p op inv free suits);
-  still = k.still;
   goes = λ u j p n chosen o inv mine at ans pass good. runs_under t w p n.op (λ e. Up u (in_order (chosen_of p chosen) e)) (t.rest n.task o) _ (k.goes u j p n chosen o inv mine at ans pass good);
 }
 

@@ -24,13 +24,17 @@ use Rattle.layers.specs.laws.Nested.{row_fits}
 use Rattle.layers.specs.laws.Gathered.{length-gathered, window-gathered, get_or-gathered}
 use Rattle.layers.specs.laws.Layered.{layer_lawful}
 use Rattle.layers.specs.laws.Over.{LayerOver}
-use Rattle.layers.proofs.Law.{View, Watch, Admission, IsKept, IsKeptUnder, IsUser, takes_all, kept_under}
+use Rattle.layers.proofs.Law.{View, Watch, Admission, Passes, IsKept, IsKeptUnder, IsUser, takes_all, kept_under}
 use Rattle.layers.proofs.Admitted.{AlwaysAdmits, always_admits}
 use Rattle.layers.proofs.Links.{below_of}
 pub use Rattle.frames.proofs.GoodHistories.{Told, told_begun, told_gone, told_void, told_stop, told_none, told_reads}
 use Rattle.frames.proofs.Pending.{none_at, awake_at, first_well}
 use Rattle.layers.proofs.Turns.{standing_of}
 use Rattle.layers.proofs.LayerSteps.{Joint, steps_joint, step_joint, replayed_joint}
+
+-- steps that do nothing, and those that record no outcome, return no read
+pub told_passes : {Task : Type 0} (w : Watch Task Seen) (Good : Returned → Type 0) → Passes w (Told Good)
+told_passes w Good = record { void = told_void Good; stop = told_stop Good; still = λ u j p chosen h. (u, (told_gone Good p chosen None u refl tt, h)) }
 
 -- what is known before step s, in which the layer's configuration is c, and after it
 pub record NextStep {Task P U : Type 0} (l : LayerOver Task P) (w : Watch Task U) (Up : U → StepEvents → U → Type 0) (c : Alone (Nested Task P)) (s : Step) : Type 0 where

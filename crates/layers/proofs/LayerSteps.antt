@@ -80,7 +80,7 @@ module _ {Task P U : Type 0} (l : LayerOver Task P) (user : ℕ → ℕ → ℕ)
 
   -- a void step keeps the links
   void_joint : (s : Step) (c : Alone N) (u : U) → IsVoid L c s → J c u → Next_joint c u s
-  void_joint s c u v h = (u, (subst (λ e. Up u e u) (sym v.reported) (K.void u (process_of s) (why_void c s)), subst (λ d. J d u) (sym v.leaves) h))
+  void_joint s c u v h = (u, (subst (λ e. Up u e u) (sym v.reported) (K.passes.void u (process_of s) (why_void c s)), subst (λ d. J d u) (sym v.leaves) h))
 
   -- the links hold again after p's turn has ended
   joined_ran : (p : ℕ) (o : Op) (s : Step) (event : Option Event) (begun : Begun N) (c : Alone N) (u : U)
@@ -162,7 +162,7 @@ module _ {Task P U : Type 0} (l : LayerOver Task P) (user : ℕ → ℕ → ℕ)
       let tasks_same : (q : ℕ) → h.j.tasks q ≡ put p (Some n) h.j.tasks q = λ q. put_is p q (Some n) h.j.tasks mine in
       let parts_same : (k : ℕ) → h.j.parts k ≡ put a (h.j.parts a) h.j.parts k = λ k. put_again a k h.j.parts in
       let Out : Option Event → U → Type 0 = λ e. Up u (in_order (chosen_of p chosen) e) in
-      let still = K.still u h.j p chosen h.inv in
+      let still = K.passes.still u h.j p chosen h.inv in
       let ran = behind_ran l user value (λ q. is_stopped q c) w p o task new at h.j h.j (h.j.parts a) moved.next Out (λ outcome m'. advance l.table l.below (l.table.rest task outcome) m')
       lh
       (λ i lt. h.words i lt ∙ sym (word_behind l moved.memory m a i h.well.holds la hs))
@@ -235,7 +235,7 @@ module _ {Task P U : Type 0} (l : LayerOver Task P) (user : ℕ → ℕ → ℕ)
       let is = step_stops L p c awake in (
         u,
         (
-          subst (λ e. Up u e u) (sym is.events) (K.stop u p),
+          subst (λ e. Up u e u) (sym is.events) (K.passes.stop u p),
           subst (λ d. J d u) (sym is.after) (record {
             well = subst (IsConfiguration L (LayerHolds l.table l.below l.Holds) (LayerReaches l.table l.MayBeAt l.Reaches)) is.after (keeps c (step.Stop p) u f h);
             j = h.j;

@@ -40,7 +40,7 @@ use Rattle.matrix.specs.declared.task.MatrixTask.{MatrixTask}
 use Rattle.matrix.specs.declared.task.MatrixTask.TheVariants.{Column, Row}
 use Rattle.matrix.specs.Program.{matrix_code_count, code_of, tag_of, greater, row_outcome, row_from, after_column, column_from, matrix_program, matrix_rest, matrix_asks, matrix_suits, matrix_table, ValueFits, InWork, MatrixMayBeAt}
 use Rattle.matrix.proofs.Codes.{Coded, Known, made, writer_made, value_made}
-use Rattle.matrix.proofs.Phases.{Phase, Rests, Climbs, Looks, Holds, Puts, row_last, row_writing, row_count, Open, Climbing, Rowing, Works, Invariant}
+use Rattle.matrix.proofs.Phases.{Phase, Rests, Climbs, Looks, Holds, Puts, row_count, PartShows, Open, Climbing, Rowing, Works, Invariant}
 use Rattle.matrix.proofs.PhaseSteps.{column_asked, column_given, row_asked, row_given, same_part}
 use Rattle.matrix.proofs.Moves.{returned, row_done, invoked, invokes, read_chosen, closed, refused, took_code, write_chosen, code_new, code_above, floor_found}
 use Rattle.matrix.proofs.Ledger.{Counts, Fresh, Takes, Steps, uncoded}
@@ -176,7 +176,7 @@ module _ (L : ℕ → Bool) (n V last : ℕ) (some : 2 ≤ n) (values : 0 < V) w
       full at is h li e =
           let wk : Rowing c p o x = subst (Works n c p j.parts) is (h.works p lp) in
           let r : c.limit (c.rows p) ≡ true = wk.room in
-          let u : length ((j.parts (p * n + i)).overlaps 0) ≡ c.rows p = h.counts p i lp li ∙ ap (λ z. row_count (c.rows p) z i) is ∙ same_part (c.rows p) i (c.rows p + 1) in
+          let u : length ((j.parts (p * n + i)).overlaps 0) ≡ c.rows p = (h.row p i lp li).1.1 ∙ ap (λ z. row_count (c.rows p) z i) is ∙ same_part (c.rows p) i (c.rows p + 1) in
           let f : true ≡ false = sym r ∙ (λ d. lim d (c.rows p)) ∙ ap L (sym u) ∙ e in cc
 
       after : (s : Seen) → Mid p (Puts o i x) c (record j { parts = put (p * n + i) s j.parts }) → i < n → Mid p (Holds o (i + 1) x) c (record j { parts = put (p * n + i) (sees (Some (Wrote 0)) s) j.parts })
@@ -214,7 +214,7 @@ module _ (L : ℕ → Bool) (n V last : ℕ) (some : 2 ≤ n) (values : 0 < V) w
 
       room : L (length ((j.parts (p * n + 0)).overlaps 0)) ≡ true → c.limit (c.rows p) ≡ true
       room lt =
-          let u : length ((j.parts (p * n + 0)).overlaps 0) ≡ c.rows p = h.counts p 0 lp none ∙ ap (λ z. row_count (c.rows p) z 0) (put_same p (Climbs o n g) (phases j)) in
+          let u : length ((j.parts (p * n + 0)).overlaps 0) ≡ c.rows p = (h.row p 0 lp none).1.1 ∙ ap (λ z. row_count (c.rows p) z 0) (put_same p (Climbs o n g) (phases j)) in
           (λ d. lc d (c.rows p)) ∙ ap L (sym u) ∙ lt
 
       asked : Mid p (Holds o 0 x) d j → Mid p (Puts o 0 x) d (record j { parts = put (p * n + 0) s j.parts })
@@ -335,17 +335,13 @@ module _ (L : ℕ → Bool) (n V last : ℕ) (some : 2 ≤ n) (values : 0 < V) w
   begins u j p op h free suits =
       let c : Coded = u.coded in
       let lp = suits_below p op suits in
-      runs_column n 0 0 p op op (λ e. RowSteps V u (in_order (Some (Invoke p op)) e)) (invoked p op c) j (limits op) (omega arith) lp.0 lp.1
+      runs_column n 0 0 p op op (λ e. RowSteps V u (in_order (Some (Invoke p op)) e)) (invoked p op c) j h.0 (omega arith) lp.0 lp.1
       (invokes n V p c op (phases j) j.parts lp.0 (ap phase_of free) h.1.0)
       (λ e d z f of takes counts. record {
         steps = record { taken = c; takes = inl refl; mid = invoked p op c; first = refl; later = d; retakes = takes; second = counts };
         first = λ q layer x. absurd (let no : ⊥ = cc in no);
         second = λ q layer x. ap u.rowing (of q layer x) ∙ h.1.1 p ∙ ap (λ s. in_row (phase_of s)) free;
       })
-    where
-      limits : (o : Op) → (invoked p o u.coded).limit ≡ L
-      limits (Write v) = h.0
-      limits Read = h.0
 
   gone : (p : ℕ) (chosen : Option (ℕ × Bool)) (e : Option Event) (u : Rowed) (d z : Coded) (f : ℕ → Bool) → ((q : ℕ) (layer : Layer) → e ≡ Some (Refused q layer) → u.rowing q ≡ false)
       → Takes V u.coded d → Counts V e d z → RowSteps V u (in_order (chosen_of p chosen) e) (record { coded = z; rowing = f })
@@ -400,9 +396,7 @@ module _ (L : ℕ → Bool) (n V last : ℕ) (some : 2 ≤ n) (values : 0 < V) w
     refl,
     (
       record {
-        counts = λ a b la lb. ap (λ s. length (s.overlaps 0)) (parts (a * n + b) (mul-add-lt a n b n la lb)) ∙ sym (ap (λ s. row_count 0 (phase_of s) b) (idle a));
-        last = λ a b la lb. ap (λ s. s.last) (parts (a * n + b) (mul-add-lt a n b n la lb)) ∙ sym (ap (λ s. row_last v (phase_of s) b) (idle a));
-        writing = λ a b la lb. ap (λ s. s.writing) (parts (a * n + b) (mul-add-lt a n b n la lb)) ∙ sym (ap (λ s. row_writing (phase_of s) b) (idle a));
+        row = λ a b la lb. subst (λ s. PartShows v 0 (phase_of s) b (j.parts (a * n + b))) (sym (idle a)) (subst (PartShows v 0 Rests b) (sym (parts (a * n + b) (mul-add-lt a n b n la lb))) (refl, (refl, refl)));
         top = (0, (omega (arith, some), omega arith));
         known = λ a la. inl refl;
         taken = λ q k x e. absurd (let f : None ≡ Some x = e in cc);
@@ -427,10 +421,12 @@ module _ (L : ℕ → Bool) (n V last : ℕ) (some : 2 ≤ n) (values : 0 < V) w
   pub matrix_kept : IsKeptUnder rule t (MatrixMayBeAt n V last) w unrowed (RowSteps V)
   matrix_kept = record {
     initial = λ v l j ew et ep. holds_at_first v j et ep;
-    void = λ u p reason. void u (Void p reason) (λ c. refl) (λ q layer e. cc);
-    stop = λ u p. void u (Stop p) (λ c. refl) (λ q layer e. cc);
+    passes = record {
+      void = λ u p reason. void u (Void p reason) (λ c. refl) (λ q layer e. cc);
+      stop = λ u p. void u (Stop p) (λ c. refl) (λ q layer e. cc);
+      still = λ u j p chosen h. (u, (gone p chosen None u u.coded u.coded u.rowing (λ q layer x. absurd (let no : ⊥ = cc in no)) (inl refl) refl, h));
+    };
     begins = begins;
-    still = λ u j p chosen h. (u, (gone p chosen None u u.coded u.coded u.rowing (λ q layer x. absurd (let no : ⊥ = cc in no)) (inl refl) refl, h));
     goes = λ u j p s chosen o h mine place ans pass good. goes u j p s.op s.task chosen o h (ap phase_of mine) place ans pass good;
   }
 

@@ -8,8 +8,8 @@ use Rattle.frames.specs.declared.types.Op.TheVariants.{Read, Write}
 use Rattle.frames.proofs.Seen.{Seen}
 use Rattle.frames.proofs.Pointwise.{put, put_same, put_other, put_all}
 use Rattle.matrix.proofs.Codes.{Coded, Known, writer_of, made, writer_made, value_made}
-use Rattle.matrix.proofs.Phases.{Phase, Rests, Climbs, Looks, Holds, Puts, row_last, row_writing, row_count, InRow, Open, Took, Climbing, Looking, Rowing, Works, Invariant, Later, later_same, More, more_same, works_later}
-use Rattle.matrix.proofs.PhaseSteps.{Moves, invariant_after}
+use Rattle.matrix.proofs.Phases.{Phase, Rests, Climbs, Looks, Holds, Puts, PartShows, InRow, Open, Took, Climbing, Looking, Rowing, Works, Invariant, Later, More, works_later}
+use Rattle.matrix.proofs.PhaseSteps.{in_place, all_held, same_codes, invariant_after}
 
 -- p has written x to its whole row, and its operation returns with code x
 abbrev pub returned : ℕ → ℕ → Coded → Coded
@@ -25,22 +25,17 @@ row_done n V p c o x f parts lp is h =
     let le : c.held p ≤ x = w.held in
     let d : Coded = returned p x c in
     let mine : d.held p ≡ x = put_same p x c.held in
-    invariant_after n V p c d Rests f parts parts lp h (record {
-      last = λ b lb. h.last p b lp lb ∙ ap (λ z. row_last (c.held p) z b) is ∙ ap (λ z. if z then x else c.held p) (lt-ltb b n lb) ∙ sym mine;
-      writing = λ b lb. h.writing p b lp lb ∙ ap (λ z. row_writing z b) is;
-      other_last = λ a b la lb ne. refl;
-      other_writing = λ a b la lb ne. refl;
-      counted = λ b lb. h.counts p b lp lb ∙ ap (λ z. row_count (c.rows p) z b) is ∙ ap (λ z. if z then c.rows p + 1 else c.rows p) (lt-ltb b n lb) ∙ sym (put_same p (c.rows p + 1) c.rows);
-      other_counted = λ a b la lb ne. refl;
+    invariant_after n V p c d (Holds o n x) Rests f parts parts lp is h
+    (in_place n V p c d (Holds o n x) Rests parts
+    (λ b lb e. (e.0 ∙ ap (λ z. if z then x else c.held p) (lt-ltb b n lb) ∙ sym mine, (e.1.0, e.1.1 ∙ ap (λ z. if z then c.rows p + 1 else c.rows p) (lt-ltb b n lb) ∙ sym (put_same p (c.rows p + 1) c.rows))))
+    (λ t k y e. let u = t k y e in (u.0, elim (u.1) [ inl r ↦ inl (omega (arith, r, le, mine)) | inr r ↦ inl (omega (arith, r, mine)) ]))
+    tt)
+    (record {
       top = elim (cases_lt x c.top) [
         | inl lt ↦ (let t = h.top in let r : c.held t.0 ≤ d.held t.0 = rises p x c le t.0 in let u : c.top ≤ c.held t.0 = t.1.1 in (t.0, (t.1.0, omega (arith, lt, r, u))))
         | inr ge ↦ (p, (lp, omega (arith, ge, mine)))
       ];
       known = subst (Known c) (sym mine) w.known;
-      taken = λ i y e.
-          (let t = h.taken p i y e in
-          let u : (y ≤ c.held p) ⊎ (x ≡ y) = subst (λ z. (y ≤ c.held p) ⊎ InRow z y) is t.1.1 in
-          (t.1.0, elim u [ inl r ↦ inl (omega (arith, r, le, mine)) | inr r ↦ inl (omega (arith, r, mine)) ]));
       below = λ a la. (let r : c.held a ≤ d.held a = rises p x c le a in let u : c.snap p a ≤ c.held a = h.below p a la in omega (arith, r, u));
       none = h.later p;
       others = λ q ne. record {
@@ -56,92 +51,68 @@ row_done n V p c o x f parts lp is h =
         rows = sym (put_other p q (c.rows p + 1) c.rows ne);
         known = λ y k. k;
       };
-      more = λ q a lq la ne. more_same d q a (parts (a * n + q));
-      works = tt;
     })
+
+abbrev pub is_write : Op → Bool
+is_write (Write v) = true
+is_write Read = false
+
+abbrev pub counts_of : ℕ → Op → Coded → ℕ → ℕ
+counts_of p (Write v) c = put p (c.count p + 1) c.count
+counts_of p Read c = c.count
+
+abbrev pub values_of : ℕ → Op → Coded → ℕ → ℕ
+values_of p (Write v) c = put p v c.value
+values_of p Read c = c.value
 
 -- p invokes an operation
 abbrev pub invoked : ℕ → Op → Coded → Coded
-invoked p (Write v) c = record c { count = put p (c.count p + 1) c.count; floor = put p c.top c.floor; value = put p v c.value; snap = put p c.held c.snap; writing = put p true c.writing }
-invoked p Read c = record c { floor = put p c.top c.floor; snap = put p c.held c.snap; writing = put p false c.writing }
+invoked p o c = record c { count = counts_of p o c; floor = put p c.top c.floor; value = values_of p o c; snap = put p c.held c.snap; writing = put p (is_write o) c.writing }
 
 pub invokes : (n V p : ℕ) (c : Coded) (o : Op) (f : ℕ → Phase) (parts : ℕ → Seen) → p < n → f p ≡ Rests → Invariant n V c f parts
     → Invariant n V (invoked p o c) (put p (Climbs o 0 0) f) parts
-invokes n V p c (Write v) f parts lp is h =
-    let d : Coded = invoked p (Write v) c in
+invokes n V p c o f parts lp is h =
+    let d : Coded = invoked p o c in
     let at : (a : ℕ) → d.snap p a ≡ c.held a = λ a. ap (λ (g : ℕ → ℕ). g a) (put_same p c.held c.snap) in
-    let more : d.count p ≡ c.count p + 1 = put_same p (c.count p + 1) c.count in
-    invariant_after n V p c d (Climbs (Write v) 0 0) f parts parts lp h (record {
-      last = λ b lb. h.last p b lp lb ∙ ap (λ z. row_last (c.held p) z b) is;
-      writing = λ b lb. h.writing p b lp lb ∙ ap (λ z. row_writing z b) is;
-      other_last = λ a b la lb ne. refl;
-      other_writing = λ a b la lb ne. refl;
-      counted = λ b lb. h.counts p b lp lb ∙ ap (λ z. row_count (c.rows p) z b) is;
-      other_counted = λ a b la lb ne. refl;
+    invariant_after n V p c d Rests (Climbs o 0 0) f parts parts lp is h
+    (in_place n V p c d Rests (Climbs o 0 0) parts (λ b lb e. e) (λ t. t) (record {
+      own = at p;
+      witness = (let t = h.top in let u : c.top ≤ c.held t.0 = t.1.1 in let e : d.snap p t.0 ≡ c.held t.0 = at t.0 in let r : d.floor p ≡ c.top = put_same p c.top c.floor in (t.0, (t.1.0, omega (arith, u, e, r))));
+      climbed = λ a la. absurd (omega (arith, la));
+      heard = inl (refl, refl);
+      free = free o;
+    }))
+    (record {
       top = h.top;
       known = h.known p lp;
-      taken = λ i y e. (let t = h.taken p i y e in (t.1.0, subst (λ z. (y ≤ c.held p) ⊎ InRow z y) is t.1.1));
       below = λ a la. (let e : d.snap p a ≡ c.held a = at a in omega (arith, e));
-      none = λ k lt. h.later p k (omega (arith, more, lt));
-      others = λ q ne. record {
+      none = λ k lt. h.later p k (let r : c.count p ≤ d.count p = no_fewer o in omega (arith, r, lt));
+      others = λ q ne. (let same = others_same q o ne in record {
         held = λ a la. omega arith;
         own = refl;
         snap = λ a. ap (λ (g : ℕ → ℕ). g a) (sym (put_other p q c.held c.snap ne));
         floor = sym (put_other p q c.top c.floor ne);
-        value = sym (put_other p q v c.value ne);
-        count = sym (put_other p q (c.count p + 1) c.count ne);
+        value = same.1;
+        count = same.0;
         code = λ k. refl;
-        writing = sym (put_other p q true c.writing ne);
+        writing = sym (put_other p q (is_write o) c.writing ne);
         limit = refl;
         rows = refl;
         known = λ y k. k;
-      };
-      more = λ q a lq la ne. more_same d q a (parts (a * n + q));
-      works = record {
-        own = at p;
-        witness = (let t = h.top in let u : c.top ≤ c.held t.0 = t.1.1 in let e : d.snap p t.0 ≡ c.held t.0 = at t.0 in let r : d.floor p ≡ c.top = put_same p c.top c.floor in (t.0, (t.1.0, omega (arith, u, e, r))));
-        climbed = λ a la. absurd (omega (arith, la));
-        heard = inl (refl, refl);
-        free = (ap (c.code p) more ∙ h.later p (c.count p + 1) (omega arith), put_same p v c.value, put_same p true c.writing);
-      };
+      });
     })
-invokes n V p c Read f parts lp is h =
-    let d : Coded = invoked p Read c in
-    let at : (a : ℕ) → d.snap p a ≡ c.held a = λ a. ap (λ (g : ℕ → ℕ). g a) (put_same p c.held c.snap) in
-    invariant_after n V p c d (Climbs Read 0 0) f parts parts lp h (record {
-      last = λ b lb. h.last p b lp lb ∙ ap (λ z. row_last (c.held p) z b) is;
-      writing = λ b lb. h.writing p b lp lb ∙ ap (λ z. row_writing z b) is;
-      other_last = λ a b la lb ne. refl;
-      other_writing = λ a b la lb ne. refl;
-      counted = λ b lb. h.counts p b lp lb ∙ ap (λ z. row_count (c.rows p) z b) is;
-      other_counted = λ a b la lb ne. refl;
-      top = h.top;
-      known = h.known p lp;
-      taken = λ i y e. (let t = h.taken p i y e in (t.1.0, subst (λ z. (y ≤ c.held p) ⊎ InRow z y) is t.1.1));
-      below = λ a la. (let e : d.snap p a ≡ c.held a = at a in omega (arith, e));
-      none = h.later p;
-      others = λ q ne. record {
-        held = λ a la. omega arith;
-        own = refl;
-        snap = λ a. ap (λ (g : ℕ → ℕ). g a) (sym (put_other p q c.held c.snap ne));
-        floor = sym (put_other p q c.top c.floor ne);
-        value = refl;
-        count = refl;
-        code = λ k. refl;
-        writing = sym (put_other p q false c.writing ne);
-        limit = refl;
-        rows = refl;
-        known = λ y k. k;
-      };
-      more = λ q a lq la ne. more_same d q a (parts (a * n + q));
-      works = record {
-        own = at p;
-        witness = (let t = h.top in let u : c.top ≤ c.held t.0 = t.1.1 in let e : d.snap p t.0 ≡ c.held t.0 = at t.0 in let r : d.floor p ≡ c.top = put_same p c.top c.floor in (t.0, (t.1.0, omega (arith, u, e, r))));
-        climbed = λ a la. absurd (omega (arith, la));
-        heard = inl (refl, refl);
-        free = put_same p false c.writing;
-      };
-    })
+  where
+    no_fewer : (o : Op) → c.count p ≤ counts_of p o c p
+    no_fewer (Write v) = let more : counts_of p (Write v) c p ≡ c.count p + 1 = put_same p (c.count p + 1) c.count in omega (arith, more)
+    no_fewer Read = omega arith
+
+    others_same : (q : ℕ) (o : Op) → (q ≡ p → ⊥) → (c.count q ≡ counts_of p o c q) × (c.value q ≡ values_of p o c q)
+    others_same q (Write v) ne = (sym (put_other p q (c.count p + 1) c.count ne), sym (put_other p q v c.value ne))
+    others_same q Read ne = (refl, refl)
+
+    free : (o : Op) → Open (invoked p o c) p o
+    free (Write v) = (ap (c.code p) (put_same p (c.count p + 1) c.count) ∙ h.later p (c.count p + 1) (omega arith), put_same p v c.value, put_same p true c.writing)
+    free Read = put_same p false c.writing
 
 -- before part 0 of a row is written, the row is as it was
 nothing_yet : (h x b : ℕ) → h ≡ (if nat_lt b 0 then x else h)
@@ -150,6 +121,9 @@ nothing_yet h x b = go (nat_lt b 0) refl
     go : (u : Bool) → nat_lt b 0 ≡ u → h ≡ (if u then x else h)
     go true e = absurd (let p = ltb-true b 0 e in omega (arith, p))
     go false e = refl
+
+not_yet : (n p g : ℕ) (c : Coded) (o : Op) (x b : ℕ) (s : Seen) → PartShows (c.held p) (c.rows p) (Climbs o n g) b s → PartShows (c.held p) (c.rows p) (Holds o 0 x) b s
+not_yet n p g c o x b s e = (e.0 ∙ nothing_yet (c.held p) x b, (e.1.0, e.1.1 ∙ nothing_yet (c.rows p) (c.rows p + 1) b))
 
 found : (n j g : ℕ) (c : Coded) → 1 ≤ n → j ≡ n → ((j ≡ 0) × (g ≡ 0)) ⊎ Known c g → Known c g
 found n j g c some e h = elim h [ inl z ↦ absurd (let r : j ≡ 0 = z.0 in omega (arith, some, e, r)) | inr k ↦ k ]
@@ -165,22 +139,10 @@ held_found n p g c o lp w = let u : c.snap p p ≡ c.held p = w.own in let v : c
 pub read_chosen : (n V p : ℕ) (c : Coded) (g : ℕ) (f : ℕ → Phase) (parts : ℕ → Seen) → p < n → f p ≡ Climbs Read n g → c.limit (c.rows p) ≡ true → Invariant n V c f parts → Invariant n V c (put p (Holds Read 0 g) f) parts
 read_chosen n V p c g f parts lp is room h =
     let w : Climbing n c p Read n g = subst (Works n c p parts) is (h.works p lp) in
-    invariant_after n V p c c (Holds Read 0 g) f parts parts lp h (record {
-      last = λ b lb. h.last p b lp lb ∙ ap (λ z. row_last (c.held p) z b) is ∙ nothing_yet (c.held p) g b;
-      writing = λ b lb. h.writing p b lp lb ∙ ap (λ z. row_writing z b) is;
-      other_last = λ a b la lb ne. refl;
-      other_writing = λ a b la lb ne. refl;
-      counted = λ b lb. h.counts p b lp lb ∙ ap (λ z. row_count (c.rows p) z b) is ∙ nothing_yet (c.rows p) (c.rows p + 1) b;
-      other_counted = λ a b la lb ne. refl;
-      top = h.top;
-      known = h.known p lp;
-      taken = λ i y e. (let t = h.taken p i y e in let u : (y ≤ c.held p) ⊎ ⊥ = subst (λ z. (y ≤ c.held p) ⊎ InRow z y) is t.1.1 in (t.1.0, elim u [ inl r ↦ inl r | inr r ↦ absurd r ]));
-      below = h.below p;
-      none = h.later p;
-      others = λ q ne. later_same n q c;
-      more = λ q a lq la ne. more_same c q a (parts (a * n + q));
-      works = record { held = held_found n p g c Read lp w; floor = floor_found n p g c Read w; known = found n n g c (omega (arith, lp)) refl w.heard; took = w.free; room = room };
-    })
+    invariant_after n V p c c (Climbs Read n g) (Holds Read 0 g) f parts parts lp is h
+    (in_place n V p c c (Climbs Read n g) (Holds Read 0 g) parts (λ b lb e. not_yet n p g c Read g b (parts (p * n + b)) e) (all_held n V p c Read n g (Holds Read 0 g))
+    (record { held = held_found n p g c Read lp w; floor = floor_found n p g c Read w; known = found n n g c (omega (arith, lp)) refl w.heard; took = w.free; room = room }))
+    (same_codes n V p c f parts lp h)
 
 -- an operation is refused once it has read its column
 abbrev pub closed : ℕ → Coded → Coded
@@ -188,34 +150,8 @@ closed p c = record c { writing = put p false c.writing }
 
 pub refused : (n V p : ℕ) (c : Coded) (o : Op) (j g : ℕ) (f : ℕ → Phase) (parts : ℕ → Seen) → p < n → f p ≡ Climbs o j g → Invariant n V c f parts → Invariant n V (closed p c) (put p Rests f) parts
 refused n V p c o j g f parts lp is h =
-    invariant_after n V p c (closed p c) Rests f parts parts lp h (record {
-      last = λ b lb. h.last p b lp lb ∙ ap (λ z. row_last (c.held p) z b) is;
-      writing = λ b lb. h.writing p b lp lb ∙ ap (λ z. row_writing z b) is;
-      other_last = λ a b la lb ne. refl;
-      other_writing = λ a b la lb ne. refl;
-      counted = λ b lb. h.counts p b lp lb ∙ ap (λ z. row_count (c.rows p) z b) is;
-      other_counted = λ a b la lb ne. refl;
-      top = h.top;
-      known = h.known p lp;
-      taken = λ i y e. (let t = h.taken p i y e in (t.1.0, subst (λ z. (y ≤ c.held p) ⊎ InRow z y) is t.1.1));
-      below = h.below p;
-      none = h.later p;
-      others = λ q ne. record {
-        held = λ a la. omega arith;
-        own = refl;
-        snap = λ a. refl;
-        floor = refl;
-        value = refl;
-        count = refl;
-        code = λ k. refl;
-        writing = sym (put_other p q false c.writing ne);
-        limit = refl;
-        rows = refl;
-        known = λ y k. k;
-      };
-      more = λ q a lq la ne. more_same (closed p c) q a (parts (a * n + q));
-      works = tt;
-    })
+    invariant_after n V p c (closed p c) (Climbs o j g) Rests f parts parts lp is h (in_place n V p c (closed p c) (Climbs o j g) Rests parts (λ b lb e. e) (λ t. t) tt)
+    (record { top = h.top; known = h.known p lp; below = h.below p; none = h.later p; others = λ q ne. record { held = λ a la. omega arith; own = refl; snap = λ a. refl; floor = refl; value = refl; count = refl; code = λ k. refl; writing = sym (put_other p q false c.writing ne); limit = refl; rows = refl; known = λ y k. k } })
 
 -- p's write takes code z
 abbrev pub took_code : ℕ → ℕ → Coded → Coded
@@ -257,38 +193,21 @@ write_chosen n V p c v g z f parts lp is above names room h =
     let low : c.held p ≤ g = held_found n p g c (Write v) lp w in
     let base : c.floor p ≤ g = floor_found n p g c (Write v) w in
     let lift : (y : ℕ) → Known c y → Known d y = known_took p z c w.free.0 in
-    invariant_after n V p c d (Holds (Write v) 0 z) f parts parts lp h (record {
-      last = λ b lb. h.last p b lp lb ∙ ap (λ z. row_last (c.held p) z b) is ∙ nothing_yet (c.held p) z b;
-      writing = λ b lb. h.writing p b lp lb ∙ ap (λ z. row_writing z b) is;
-      other_last = λ a b la lb ne. refl;
-      other_writing = λ a b la lb ne. refl;
-      counted = λ b lb. h.counts p b lp lb ∙ ap (λ z. row_count (c.rows p) z b) is ∙ nothing_yet (c.rows p) (c.rows p + 1) b;
-      other_counted = λ a b la lb ne. refl;
+    invariant_after n V p c d (Climbs (Write v) n g) (Holds (Write v) 0 z) f parts parts lp is h
+    (in_place n V p c d (Climbs (Write v) n g) (Holds (Write v) 0 z) parts (λ b lb e. not_yet n p g c (Write v) z b (parts (p * n + b)) e)
+    (λ t k y e. elim (cases_eq k (c.count p)) [
+      | inl i ↦
+          (let same : z ≡ y = some_same z y (sym (took_at p z c) ∙ ap (d.code p) (sym i) ∙ e) in
+          (ap (writer_of n V) (sym same) ∙ names, inr same))
+      | inr ne ↦ all_held n V p c (Write v) n g (Holds (Write v) 0 z) t k y (sym (took_else p z k c ne) ∙ e)
+    ])
+    (record { held = omega (arith, low, above); floor = omega (arith, base, above); known = inr (p, (c.count p, took_at p z c)); took = (took_at p z c, w.free.2); room = room }))
+    (record {
       top = h.top;
       known = lift (c.held p) (h.known p lp);
-      taken = λ k y e. elim (cases_eq k (c.count p)) [
-        | inl i ↦
-            (let same : z ≡ y = some_same z y (sym (took_at p z c) ∙ ap (d.code p) (sym i) ∙ e) in
-            (ap (writer_of n V) (sym same) ∙ names, inr same))
-        | inr ne ↦ (let t = h.taken p k y (sym (took_else p z k c ne) ∙ e) in let u : (y ≤ c.held p) ⊎ ⊥ = subst (λ z. (y ≤ c.held p) ⊎ InRow z y) is t.1.1 in (t.1.0, elim u [ inl r ↦ inl r | inr r ↦ absurd r ]))
-      ];
       below = h.below p;
       none = λ k lt. took_else p z k c (λ e. omega (arith, e, lt)) ∙ h.later p k lt;
-      others = λ q ne. record {
-        held = λ a la. omega arith;
-        own = refl;
-        snap = λ a. refl;
-        floor = refl;
-        value = refl;
-        count = refl;
-        code = λ k. sym (took_others p z q k c ne);
-        writing = refl;
-        limit = refl;
-        rows = refl;
-        known = lift;
-      };
-      more = λ q a lq la ne. more_same d q a (parts (a * n + q));
-      works = record { held = omega (arith, low, above); floor = omega (arith, base, above); known = inr (p, (c.count p, took_at p z c)); took = (took_at p z c, w.free.2); room = room };
+      others = λ q ne. record { held = λ a la. omega arith; own = refl; snap = λ a. refl; floor = refl; value = refl; count = refl; code = λ k. sym (took_others p z q k c ne); writing = refl; limit = refl; rows = refl; known = lift };
     })
   where
     some_same : (x y : ℕ) → (let s : Option ℕ = Some x in s) ≡ Some y → x ≡ y

@@ -10,41 +10,63 @@ use Rattle.frames.proofs.Seen.{Seen, among, sees, now_last, IsNotStray}
 use Rattle.frames.proofs.VerdictFacts.{not_stray_is}
 use Rattle.frames.proofs.Pointwise.{put, put_same, put_other, put_all}
 use Rattle.matrix.proofs.Codes.{Coded, Known, heard_more, writer_of, cells_apart}
-use Rattle.matrix.proofs.Phases.{Phase, Rests, Climbs, Looks, Holds, Puts, row_last, row_writing, row_count, InRow, Open, Took, Climbing, Looking, Rowing, Works, Invariant, Later, later_same, More, more_same, works_later}
+use Rattle.matrix.proofs.Phases.{Phase, Rests, Climbs, Looks, Holds, Puts, row_last, row_writing, row_count, PartShows, InRow, Open, Took, Climbing, Looking, Rowing, Works, Invariant, Later, later_same, More, more_same, works_later}
 
--- Process p enters phase x. Its row, its codes and its work are as x says, and the others keep
--- theirs.
-pub record Moves (n V p : ℕ) (c d : Coded) (x : Phase) (parts to : ℕ → Seen) : Type 0 where
-  pub last : (b : ℕ) → b < n → (to (p * n + b)).last ≡ row_last (d.held p) x b
-  pub writing : (b : ℕ) → b < n → (to (p * n + b)).writing ≡ row_writing x b
-  pub other_last : (a b : ℕ) → a < n → b < n → (a ≡ p → ⊥) → (to (a * n + b)).last ≡ (parts (a * n + b)).last
-  pub other_writing : (a b : ℕ) → a < n → b < n → (a ≡ p → ⊥) → (to (a * n + b)).writing ≡ (parts (a * n + b)).writing
-  pub counted : (b : ℕ) → b < n → length ((to (p * n + b)).overlaps 0) ≡ row_count (d.rows p) x b
-  pub other_counted : (a b : ℕ) → a < n → b < n → (a ≡ p → ⊥) → length ((to (a * n + b)).overlaps 0) ≡ length ((parts (a * n + b)).overlaps 0)
-  pub top : (a : ℕ) × ((a < n) × (d.top ≤ d.held a))
-  pub known : Known d (d.held p)
-  pub taken : (k y : ℕ) → d.code p k ≡ Some y → (writer_of n V y ≡ p) × ((y ≤ d.held p) ⊎ InRow x y)
-  pub below : (a : ℕ) → a < n → d.snap p a ≤ d.held a
-  pub none : (k : ℕ) → d.count p < k → d.code p k ≡ None
-  pub others : (q : ℕ) → (q ≡ p → ⊥) → Later n q c d
+-- the codes that p's writes have taken name p, and p has written each to its row, or writes it
+abbrev pub TakenBy : ℕ → ℕ → Coded → ℕ → Phase → Type 0
+TakenBy n V c p x = (k y : ℕ) → c.code p k ≡ Some y → (writer_of n V y ≡ p) × ((y ≤ c.held p) ⊎ InRow x y)
+
+-- a process that climbs writes no code to its row
+pub all_held : (n V p : ℕ) (c : Coded) (o : Op) (j g : ℕ) (x : Phase) → TakenBy n V c p (Climbs o j g) → TakenBy n V c p x
+all_held n V p c o j g x t k y e = let u = t k y e in (u.0, elim (u.1) [ inl r ↦ inl r | inr r ↦ absurd r ])
+
+-- a part shows the same of its writes
+pub record Alike (s t : Seen) : Type 0 where
+  pub last : t.last ≡ s.last
+  pub writing : t.writing ≡ s.writing
+  pub count : length (t.overlaps 0) ≡ length (s.overlaps 0)
+
+alike_same : (s : Seen) → Alike s s
+alike_same s = record { last = refl; writing = refl; count = refl }
+
+-- Process p goes from phase z to phase x. Its row, its codes and its work are as x says, and other
+-- rows keep theirs.
+pub record Moves (n V p : ℕ) (c d : Coded) (z x : Phase) (parts to : ℕ → Seen) : Type 0 where
+  pub row : (b : ℕ) → b < n → PartShows (c.held p) (c.rows p) z b (parts (p * n + b)) → PartShows (d.held p) (d.rows p) x b (to (p * n + b))
+  pub apart : (a b : ℕ) → a < n → b < n → (a ≡ p → ⊥) → Alike (parts (a * n + b)) (to (a * n + b))
+  pub taken : TakenBy n V c p z → TakenBy n V d p x
   pub more : (q a : ℕ) → q < n → a < n → (q ≡ p → ⊥) → More d q a (parts (a * n + q)) (to (a * n + q))
   pub works : Works n d p to x
 
-pub invariant_after : (n V p : ℕ) (c d : Coded) (x : Phase) (f : ℕ → Phase) (parts to : ℕ → Seen) → p < n → Invariant n V c f parts → Moves n V p c d x parts to → Invariant n V d (put p x f) to
-invariant_after n V p c d x f parts to lp h m = record {
-  last = λ a b la lb. put_all (λ a y. a < n → (to (a * n + b)).last ≡ row_last (d.held a) y b) p x f (λ l. m.last b lb)
-      (λ a ne l. m.other_last a b l lb ne ∙ h.last a b l lb ∙ ap (λ z. row_last z (f a) b) (m.others a ne).own) a la;
-  writing = λ a b la lb. put_all (λ a y. a < n → (to (a * n + b)).writing ≡ row_writing y b) p x f (λ l. m.writing b lb)
-      (λ a ne l. m.other_writing a b l lb ne ∙ h.writing a b l lb) a la;
-  counts = λ a b la lb. put_all (λ a y. a < n → length ((to (a * n + b)).overlaps 0) ≡ row_count (d.rows a) y b) p x f (λ l. m.counted b lb)
-      (λ a ne l. m.other_counted a b l lb ne ∙ h.counts a b l lb ∙ ap (λ z. row_count z (f a) b) (m.others a ne).rows) a la;
+-- p goes from z to x, and no part changes
+pub in_place : (n V p : ℕ) (c d : Coded) (z x : Phase) (parts : ℕ → Seen) → ((b : ℕ) → b < n → PartShows (c.held p) (c.rows p) z b (parts (p * n + b)) → PartShows (d.held p) (d.rows p) x b (parts (p * n + b)))
+    → (TakenBy n V c p z → TakenBy n V d p x) → Works n d p parts x → Moves n V p c d z x parts parts
+in_place n V p c d z x parts row taken works = record { row = row; apart = λ a b la lb ne. alike_same (parts (a * n + b)); taken = taken; more = λ q a lq la ne. more_same d q a (parts (a * n + q)); works = works }
+
+-- what is known of codes changes from c to d, and what the processes other than p rely on stays
+pub record Recodes (n p : ℕ) (c d : Coded) : Type 0 where
+  pub top : (a : ℕ) × ((a < n) × (d.top ≤ d.held a))
+  pub known : Known d (d.held p)
+  pub below : (a : ℕ) → a < n → d.snap p a ≤ d.held a
+  pub none : (k : ℕ) → d.count p < k → d.code p k ≡ None
+  pub others : (q : ℕ) → (q ≡ p → ⊥) → Later n q c d
+
+pub same_codes : (n V p : ℕ) (c : Coded) (f : ℕ → Phase) (parts : ℕ → Seen) → p < n → Invariant n V c f parts → Recodes n p c c
+same_codes n V p c f parts lp h = record { top = h.top; known = h.known p lp; below = h.below p; none = h.later p; others = λ q ne. later_same n q c }
+
+pub invariant_after : (n V p : ℕ) (c d : Coded) (z x : Phase) (f : ℕ → Phase) (parts to : ℕ → Seen) → p < n → f p ≡ z → Invariant n V c f parts → Moves n V p c d z x parts to → Recodes n p c d → Invariant n V d (put p x f) to
+invariant_after n V p c d z x f parts to lp is h move m = record {
+  row = λ a b la lb. put_all (λ a y. a < n → PartShows (d.held a) (d.rows a) y b (to (a * n + b))) p x f
+      (λ l. move.row b lb (subst (λ y. PartShows (c.held p) (c.rows p) y b (parts (p * n + b))) is (h.row p b lp lb)))
+      (λ a ne l. let s = move.apart a b l lb ne in let t = h.row a b l lb in let own = m.others a ne in
+      (s.last ∙ t.0 ∙ ap (λ z. row_last z (f a) b) own.own, (s.writing ∙ t.1.0, s.count ∙ t.1.1 ∙ ap (λ z. row_count z (f a) b) own.rows))) a la;
   top = m.top;
   known = λ a la. elim (cases_eq a p) [
     | inl e ↦ subst (λ a. Known d (d.held a)) (sym e) m.known
     | inr ne ↦ subst (Known d) (m.others a ne).own ((m.others a ne).known (c.held a) (h.known a la))
   ];
   taken = λ q k y. put_all (λ q z. d.code q k ≡ Some y → (q < n) × ((writer_of n V y ≡ q) × ((y ≤ d.held q) ⊎ InRow z y))) p x f
-      (λ e. (lp, m.taken k y e))
+      (λ e. (lp, move.taken (λ k y e. subst (λ w. (writer_of n V y ≡ p) × ((y ≤ c.held p) ⊎ InRow w y)) is (h.taken p k y e).1) k y e))
       (λ q ne e. let t = h.taken q k y ((m.others q ne).code k ∙ e) in
       (t.0, (t.1.0, subst (λ z. (y ≤ z) ⊎ InRow (f q) y) (m.others q ne).own t.1.1))) q;
   below = λ q a la. elim (cases_eq q p) [
@@ -55,8 +77,8 @@ invariant_after n V p c d x f parts to lp h m = record {
     | inl e ↦ ap (λ q. d.code q k) e ∙ m.none k (let s = ap d.count e in omega (arith, s, lt))
     | inr ne ↦ sym ((m.others q ne).code k) ∙ h.later q k (let s = (m.others q ne).count in omega (arith, s, lt))
   ];
-  works = λ q lq. put_all (λ q z. q < n → Works n d q to z) p x f (λ l. m.works)
-      (λ q ne l. works_later n q c d parts to l (m.others q ne) (λ a la. m.more q a l la ne) (f q) (h.works q l)) q lq;
+  works = λ q lq. put_all (λ q z. q < n → Works n d q to z) p x f (λ l. move.works)
+      (λ q ne l. works_later n q c d parts to l (m.others q ne) (λ a la. move.more q a l la ne) (f q) (h.works q l)) q lq;
 }
 
 -- process p invokes the read of part j of its column
@@ -66,34 +88,23 @@ column_asked n V p c o j g f parts lp lj is h =
     let k : ℕ = j * n + p in
     let s : Seen = sees (Some (Invoke 1 Read)) (parts k) in
     let to : ℕ → Seen = put k s parts in
-    let same_last : (i : ℕ) → (to i).last ≡ (parts i).last = put_all (λ i t. t.last ≡ (parts i).last) k s parts refl (λ i ne. refl) in
-    let same_writing : (i : ℕ) → (to i).writing ≡ (parts i).writing = put_all (λ i t. t.writing ≡ (parts i).writing) k s parts refl (λ i ne. refl) in
-    let same_count : (i : ℕ) → length ((to i).overlaps 0) ≡ length ((parts i).overlaps 0) = put_all (λ i t. length (t.overlaps 0) ≡ length ((parts i).overlaps 0)) k s parts refl (λ i ne. refl) in
+    let same : (i : ℕ) → Alike (parts i) (to i) = put_all (λ i t. Alike (parts i) t) k s parts (record { last = refl; writing = refl; count = refl }) (λ i ne. alike_same (parts i)) in
     let climbing : Climbing n c p o j g = subst (Works n c p parts) is (h.works p lp) in
     let low : c.snap p j ≤ c.held j = h.below p j lj in
-    invariant_after n V p c c (Looks o j g) f parts to lp h (record {
-      last = λ b lb. same_last (p * n + b) ∙ h.last p b lp lb ∙ ap (λ z. row_last (c.held p) z b) is;
-      writing = λ b lb. same_writing (p * n + b) ∙ h.writing p b lp lb ∙ ap (λ z. row_writing z b) is;
-      other_last = λ a b la lb ne. same_last (a * n + b);
-      other_writing = λ a b la lb ne. same_writing (a * n + b);
-      counted = λ b lb. same_count (p * n + b) ∙ h.counts p b lp lb ∙ ap (λ z. row_count (c.rows p) z b) is;
-      other_counted = λ a b la lb ne. same_count (a * n + b);
-      top = h.top;
-      known = h.known p lp;
-      taken = λ i y e. (let t = h.taken p i y e in (t.1.0, subst (λ z. (y ≤ c.held p) ⊎ InRow z y) is t.1.1));
-      below = h.below p;
-      none = h.later p;
-      others = λ q ne. later_same n q c;
+    invariant_after n V p c c (Climbs o j g) (Looks o j g) f parts to lp is h (record {
+      row = λ b lb e. (let t = same (p * n + b) in (t.last ∙ e.0, (t.writing ∙ e.1.0, t.count ∙ e.1.1)));
+      apart = λ a b la lb ne. same (a * n + b);
+      taken = λ t. t;
       more = λ q a lq la ne. subst (More c q a (parts (a * n + q))) (sym (put_other k (a * n + q) s parts (cells_apart n a q j p lq lp (λ e d. ne d)))) (more_same c q a (parts (a * n + q)));
       works = (
         climbing,
         subst (Looking n c p j) (sym (put_same k s parts)) (record {
           part = lj;
-          fresh = fresh_known (f j) low (h.last j p lj lp) refl;
-          overlaps = λ y m. over_known (f j) y low (h.writing j p lj lp) refl m;
+          fresh = fresh_known (f j) low (h.row j p lj lp).0 refl;
+          overlaps = λ y m. over_known (f j) y low (h.row j p lj lp).1.0 refl m;
         }),
       );
-    })
+    }) (same_codes n V p c f parts lp h)
   where
     -- what was last written to this part is no lower than what its writer held
     fresh_known : (x : Phase) → c.snap p j ≤ c.held j → (parts (j * n + p)).last ≡ row_last (c.held j) (f j) p → f j ≡ x → (c.snap p j ≤ (parts (j * n + p)).last) × Known c ((parts (j * n + p)).last)
@@ -145,31 +156,17 @@ column_given n V p c o j g x f parts lp is h good =
     let w : Climbing n c p o j g × Looking n c p j (parts (j * n + p)) = subst (Works n c p parts) is (h.works p lp) in
     let u : (c.snap p j ≤ x) × Known c x = given w.1 in
     let seen : c.snap p j ≤ x = u.0 in
-    invariant_after n V p c c (Climbs o (j + 1) (max g x)) f parts parts lp h (record {
-      last = λ b lb. h.last p b lp lb ∙ ap (λ z. row_last (c.held p) z b) is;
-      writing = λ b lb. h.writing p b lp lb ∙ ap (λ z. row_writing z b) is;
-      other_last = λ a b la lb ne. refl;
-      other_writing = λ a b la lb ne. refl;
-      counted = λ b lb. h.counts p b lp lb ∙ ap (λ z. row_count (c.rows p) z b) is;
-      other_counted = λ a b la lb ne. refl;
-      top = h.top;
-      known = h.known p lp;
-      taken = λ i y e. (let t = h.taken p i y e in (t.1.0, subst (λ z. (y ≤ c.held p) ⊎ InRow z y) is t.1.1));
-      below = h.below p;
-      none = h.later p;
-      others = λ q ne. later_same n q c;
-      more = λ q a lq la ne. more_same c q a (parts (a * n + q));
-      works = record {
-        own = w.0.own;
-        witness = w.0.witness;
-        climbed = λ a la. elim (cases_eq a j) [
-          | inl e ↦ (let s : c.snap p a ≡ c.snap p j = ap (c.snap p) e in omega (arith, s, seen))
-          | inr ne ↦ (let s : c.snap p a ≤ g = w.0.climbed a (omega (arith, la, ne)) in omega (arith, s))
-        ];
-        heard = inr (heard_more c g x (elim (w.0.heard) [ inl z ↦ inl z.1 | inr k ↦ inr k ]) u.1);
-        free = w.0.free;
-      };
-    })
+    invariant_after n V p c c (Looks o j g) (Climbs o (j + 1) (max g x)) f parts parts lp is h
+    (in_place n V p c c (Looks o j g) (Climbs o (j + 1) (max g x)) parts (λ b lb e. e) (λ t. t) (record {
+      own = w.0.own;
+      witness = w.0.witness;
+      climbed = λ a la. elim (cases_eq a j) [
+        | inl e ↦ (let s : c.snap p a ≡ c.snap p j = ap (c.snap p) e in omega (arith, s, seen))
+        | inr ne ↦ (let s : c.snap p a ≤ g = w.0.climbed a (omega (arith, la, ne)) in omega (arith, s))
+      ];
+      heard = inr (heard_more c g x (elim (w.0.heard) [ inl z ↦ inl z.1 | inr k ↦ inr k ]) u.1);
+      free = w.0.free;
+    })) (same_codes n V p c f parts lp h)
   where
     given : Looking n c p j (parts (j * n + p)) → (c.snap p j ≤ x) × Known c x
     given l = elim (not_stray_is (record { reader = 1; value = x; fresh = (parts (j * n + p)).fresh 1; overlaps = (parts (j * n + p)).overlaps 1 }) good) [
@@ -194,6 +191,10 @@ same_part h j x = go (nat_lt j j) refl
     go true e = absurd (let p = ltb-true j j e in omega (arith, p))
     go false e = refl
 
+-- another row shows the same after part j of p's row changes
+apart_from : (n p j : ℕ) (s : Seen) (parts : ℕ → Seen) → j < n → (a b : ℕ) → a < n → b < n → (a ≡ p → ⊥) → Alike (parts (a * n + b)) (put (p * n + j) s parts (a * n + b))
+apart_from n p j s parts lj a b la lb ne = subst (Alike (parts (a * n + b))) (sym (put_other (p * n + j) (a * n + b) s parts (cells_apart n a b p j lb lj (λ d e. ne d)))) (alike_same (parts (a * n + b)))
+
 -- process p invokes the write of x to part j of its row
 pub row_asked : (n V p : ℕ) (c : Coded) (o : Op) (j x : ℕ) (f : ℕ → Phase) (parts : ℕ → Seen) → p < n → j < n → f p ≡ Holds o j x → Invariant n V c f parts
     → Invariant n V c (put p (Puts o j x) f) (put (p * n + j) (sees (Some (Invoke 0 (Write x))) (parts (p * n + j))) parts)
@@ -201,35 +202,29 @@ row_asked n V p c o j x f parts lp lj is h =
     let k : ℕ = p * n + j in
     let s : Seen = sees (Some (Invoke 0 (Write x))) (parts k) in
     let to : ℕ → Seen = put k s parts in
-    let same_last : (i : ℕ) → (to i).last ≡ (parts i).last = put_all (λ i t. t.last ≡ (parts i).last) k s parts refl (λ i ne. refl) in
     let w : Rowing c p o x = subst (Works n c p parts) is (h.works p lp) in
-    invariant_after n V p c c (Puts o j x) f parts to lp h (record {
-      last = λ b lb. same_last (p * n + b) ∙ h.last p b lp lb ∙ ap (λ z. row_last (c.held p) z b) is;
-      writing = λ b lb. elim (cases_eq b j) as (λ _. (to (p * n + b)).writing ≡ row_writing (Puts o j x) b) [
-        | inl e ↦ ap (λ i. (to (p * n + i)).writing) e ∙ ap (λ t. t.writing) (put_same k s parts) ∙ sym (ap (λ z. if z then Some x else None) (eq-eqb b j e))
-        | inr ne ↦ ap (λ t. t.writing) (put_other k (p * n + b) s parts (cells_apart n p b p j lb lj (λ d e. ne e))) ∙ h.writing p b lp lb ∙ ap (λ z. row_writing z b) is
-            ∙ sym (ap (λ z. if z then Some x else None) (ne_eqb b j ne))
-      ];
-      other_last = λ a b la lb ne. same_last (a * n + b);
-      counted = λ b lb. elim (cases_eq b j) as (λ _. length ((to (p * n + b)).overlaps 0) ≡ row_count (c.rows p) (Puts o j x) b) [
-        | inl e ↦ ap (λ i. length ((to (p * n + i)).overlaps 0)) e ∙ ap (λ t. length (t.overlaps 0)) (put_same k s parts)
-            ∙ ap suc (h.counts p j lp lj ∙ ap (λ z. row_count (c.rows p) z j) is ∙ same_part (c.rows p) j (c.rows p + 1))
-            ∙ (let q : suc (c.rows p) ≡ c.rows p + 1 = omega arith in q) ∙ sym (ap (λ z. if z then c.rows p + 1 else c.rows p) (lt-ltb b (j + 1) (omega (arith, e))))
-        | inr ne ↦ ap (λ t. length (t.overlaps 0)) (put_other k (p * n + b) s parts (cells_apart n p b p j lb lj (λ d e. ne e))) ∙ h.counts p b lp lb ∙ ap (λ z. row_count (c.rows p) z b) is
-            ∙ one_more (c.rows p) j (c.rows p + 1) b ne
-      ];
-      other_counted = λ a b la lb ne. ap (λ t. length (t.overlaps 0)) (put_other k (a * n + b) s parts (cells_apart n a b p j lb lj (λ d e. ne d)));
-      other_writing = λ a b la lb ne. ap (λ t. t.writing) (put_other k (a * n + b) s parts (cells_apart n a b p j lb lj (λ d e. ne d)));
-      top = h.top;
-      known = h.known p lp;
-      taken = λ i y e. (let t = h.taken p i y e in (t.1.0, subst (λ z. (y ≤ c.held p) ⊎ InRow z y) is t.1.1));
-      below = h.below p;
-      none = h.later p;
-      others = λ q ne. later_same n q c;
+    invariant_after n V p c c (Holds o j x) (Puts o j x) f parts to lp is h (record {
+      row = λ b lb was. (
+        put_all (λ i t. t.last ≡ (parts i).last) k s parts refl (λ i ne. refl) (p * n + b) ∙ was.0,
+        elim (cases_eq b j) as (λ _. ((to (p * n + b)).writing ≡ row_writing (Puts o j x) b) × (length ((to (p * n + b)).overlaps 0) ≡ row_count (c.rows p) (Puts o j x) b)) [
+          | inl e ↦ (
+            ap (λ i. (to (p * n + i)).writing) e ∙ ap (λ t. t.writing) (put_same k s parts) ∙ sym (ap (λ z. if z then Some x else None) (eq-eqb b j e)),
+            ap (λ i. length ((to (p * n + i)).overlaps 0)) e ∙ ap (λ t. length (t.overlaps 0)) (put_same k s parts)
+                ∙ ap suc ((h.row p j lp lj).1.1 ∙ ap (λ z. row_count (c.rows p) z j) is ∙ same_part (c.rows p) j (c.rows p + 1))
+                ∙ (let q : suc (c.rows p) ≡ c.rows p + 1 = omega arith in q) ∙ sym (ap (λ z. if z then c.rows p + 1 else c.rows p) (lt-ltb b (j + 1) (omega (arith, e)))),
+          )
+          | inr ne ↦ (let other = put_other k (p * n + b) s parts (cells_apart n p b p j lb lj (λ d e. ne e)) in (
+            ap (λ t. t.writing) other ∙ was.1.0 ∙ sym (ap (λ z. if z then Some x else None) (ne_eqb b j ne)),
+            ap (λ t. length (t.overlaps 0)) other ∙ was.1.1 ∙ one_more (c.rows p) j (c.rows p + 1) b ne,
+          ))
+        ],
+      );
+      apart = apart_from n p j s parts lj;
+      taken = λ t. t;
       more = λ q a lq la ne. put_all (λ i t. i ≡ a * n + q → More c q a (parts i) t) k s parts
           (λ e. over q a lq la e w) (λ i d e. more_same c q a (parts i)) (a * n + q) refl;
       works = w;
-    })
+    }) (same_codes n V p c f parts lp h)
   where
     over : (q a : ℕ) → q < n → a < n → p * n + j ≡ a * n + q → Rowing c p o x → More c q a (parts (p * n + j)) (sees (Some (Invoke 0 (Write x))) (parts (p * n + j)))
     over q a lq la e w = record { fresh = refl; overlaps = λ y m. by y (x == y) refl m }
@@ -252,29 +247,22 @@ row_given n V p c o j x f parts lp lj is h =
     let s : Seen = sees (Some (Wrote 0)) (parts k) in
     let to : ℕ → Seen = put k s parts in
     let w : Rowing c p o x = subst (Works n c p parts) is (h.works p lp) in
-    let was : (parts k).writing ≡ Some x = h.writing p j lp lj ∙ ap (λ z. row_writing z j) is ∙ ap (λ z. if z then Some x else None) (eq-eqb j j refl) in
-    invariant_after n V p c c (Holds o (j + 1) x) f parts to lp h (record {
-      last = λ b lb. elim (cases_eq b j) as (λ _. (to (p * n + b)).last ≡ row_last (c.held p) (Holds o (j + 1) x) b) [
-        | inl e ↦ ap (λ i. (to (p * n + i)).last) e ∙ ap (λ t. t.last) (put_same k s parts) ∙ ap (λ z. now_last z (parts k).last) was
-            ∙ sym (ap (λ z. if z then x else c.held p) (lt-ltb b (j + 1) (omega (arith, e))))
-        | inr ne ↦ ap (λ t. t.last) (put_other k (p * n + b) s parts (cells_apart n p b p j lb lj (λ d e. ne e))) ∙ h.last p b lp lb ∙ ap (λ z. row_last (c.held p) z b) is
-            ∙ one_more (c.held p) j x b ne
+    let now : (parts k).writing ≡ Some x = (h.row p j lp lj).1.0 ∙ ap (λ z. row_writing z j) is ∙ ap (λ z. if z then Some x else None) (eq-eqb j j refl) in
+    let counted : (b : ℕ) → length ((to (p * n + b)).overlaps 0) ≡ length ((parts (p * n + b)).overlaps 0) = λ b. put_all (λ i t. length (t.overlaps 0) ≡ length ((parts i).overlaps 0)) k s parts refl (λ i ne. refl) (p * n + b) in
+    invariant_after n V p c c (Puts o j x) (Holds o (j + 1) x) f parts to lp is h (record {
+      row = λ b lb was. elim (cases_eq b j) as (λ _. PartShows (c.held p) (c.rows p) (Holds o (j + 1) x) b (to (p * n + b))) [
+        | inl e ↦ (
+          ap (λ i. (to (p * n + i)).last) e ∙ ap (λ t. t.last) (put_same k s parts) ∙ ap (λ z. now_last z (parts k).last) now
+              ∙ sym (ap (λ z. if z then x else c.held p) (lt-ltb b (j + 1) (omega (arith, e)))),
+          (ap (λ i. (to (p * n + i)).writing) e ∙ ap (λ t. t.writing) (put_same k s parts), counted b ∙ was.1.1),
+        )
+        | inr ne ↦ (let other = put_other k (p * n + b) s parts (cells_apart n p b p j lb lj (λ d e. ne e)) in (
+          ap (λ t. t.last) other ∙ was.0 ∙ one_more (c.held p) j x b ne,
+          (ap (λ t. t.writing) other ∙ was.1.0 ∙ ap (λ z. if z then Some x else None) (ne_eqb b j ne), counted b ∙ was.1.1),
+        ))
       ];
-      writing = λ b lb. elim (cases_eq b j) as (λ _. (to (p * n + b)).writing ≡ None) [
-        | inl e ↦ ap (λ i. (to (p * n + i)).writing) e ∙ ap (λ t. t.writing) (put_same k s parts)
-        | inr ne ↦ ap (λ t. t.writing) (put_other k (p * n + b) s parts (cells_apart n p b p j lb lj (λ d e. ne e))) ∙ h.writing p b lp lb ∙ ap (λ z. row_writing z b) is
-            ∙ ap (λ z. if z then Some x else None) (ne_eqb b j ne)
-      ];
-      counted = λ b lb. put_all (λ i t. length (t.overlaps 0) ≡ length ((parts i).overlaps 0)) k s parts refl (λ i ne. refl) (p * n + b) ∙ h.counts p b lp lb ∙ ap (λ z. row_count (c.rows p) z b) is;
-      other_counted = λ a b la lb ne. put_all (λ i t. length (t.overlaps 0) ≡ length ((parts i).overlaps 0)) k s parts refl (λ i ne. refl) (a * n + b);
-      other_last = λ a b la lb ne. ap (λ t. t.last) (put_other k (a * n + b) s parts (cells_apart n a b p j lb lj (λ d e. ne d)));
-      other_writing = λ a b la lb ne. ap (λ t. t.writing) (put_other k (a * n + b) s parts (cells_apart n a b p j lb lj (λ d e. ne d)));
-      top = h.top;
-      known = h.known p lp;
-      taken = λ i y e. (let t = h.taken p i y e in (t.1.0, subst (λ z. (y ≤ c.held p) ⊎ InRow z y) is t.1.1));
-      below = h.below p;
-      none = h.later p;
-      others = λ q ne. later_same n q c;
+      apart = apart_from n p j s parts lj;
+      taken = λ t. t;
       more = λ q a lq la ne. put_all (λ i t. More c q a (parts i) t) k s parts (record { fresh = refl; overlaps = λ y m. inl m }) (λ i d. more_same c q a (parts i)) (a * n + q);
       works = w;
-    })
+    }) (same_codes n V p c f parts lp h)

@@ -41,6 +41,10 @@ row_count m Rests b = m
 row_count m (Climbs o j g) b = m
 row_count m (Looks o j g) b = m
 
+-- what part b of its row shows
+abbrev pub PartShows : ℕ → ℕ → Phase → ℕ → Seen → Type 0
+PartShows h m x b s = (s.last ≡ row_last h x b) × ((s.writing ≡ row_writing x b) × (length (s.overlaps 0) ≡ row_count m x b))
+
 -- the process writes x to its row
 abbrev pub InRow : Phase → ℕ → Type 0
 InRow (Holds o j x) y = x ≡ y
@@ -91,9 +95,7 @@ Works n c p parts (Puts o j x) = Rowing c p o x
 
 -- the matrix's invariant
 pub record Invariant (n V : ℕ) (c : Coded) (f : ℕ → Phase) (parts : ℕ → Seen) : Type 0 where
-  pub last : (a b : ℕ) → a < n → b < n → (parts (a * n + b)).last ≡ row_last (c.held a) (f a) b
-  pub writing : (a b : ℕ) → a < n → b < n → (parts (a * n + b)).writing ≡ row_writing (f a) b
-  pub counts : (a b : ℕ) → a < n → b < n → length ((parts (a * n + b)).overlaps 0) ≡ row_count (c.rows a) (f a) b
+  pub row : (a b : ℕ) → a < n → b < n → PartShows (c.held a) (c.rows a) (f a) b (parts (a * n + b))
   pub top : (a : ℕ) × ((a < n) × (c.top ≤ c.held a))
   pub known : (a : ℕ) → a < n → Known c (c.held a)
   pub taken : (q k x : ℕ) → c.code q k ≡ Some x → (q < n) × ((writer_of n V x ≡ q) × ((x ≤ c.held q) ⊎ InRow (f q) x))

@@ -23,7 +23,7 @@ use Rattle.layers.specs.Nested.{Ends, Table, layered}
 use Rattle.layers.specs.Sound.{IsNotSpent, IsSoundTable, FitsBelow}
 use Rattle.layers.specs.laws.Over.{over}
 use Rattle.layers.proofs.Law.{Standing as Doing, View, Watch, Runs, IsKept, IsUser}
-use Rattle.layers.proofs.LayerLaw.{Told as IsGoodStep, told_begun as begun, told_gone as gone, told_void as void_step, told_stop as stop_step, layer_promises}
+use Rattle.layers.proofs.LayerLaw.{Told as IsGoodStep, told_begun as begun, told_gone as gone, told_passes, layer_promises}
 use Rattle.own_register.specs.declared.task.TwoBitsTask.{TwoBitsTask}
 use Rattle.own_register.specs.declared.task.TwoBitsTask.TheVariants.{WriteHigh, WriteLow, ReadHigh, ReadLow}
 use Rattle.own_register.specs.Program.{high_of, low_of, with_bit, write_low, read_low, two_bits_program, two_bits_rest, two_bits_table, TwoBitsMayBeAt}
@@ -380,10 +380,8 @@ module _ (processes : ℕ) where
   pub two_bits_kept : IsKept t (TwoBitsMayBeAt processes) two_bits_watch opening (IsGoodStep IsFreshAlone)
   two_bits_kept = record {
     initial = λ v l j words free parts. at_first v j free (parts 0 (omega arith)) (parts 1 (omega arith));
-    void = void_step IsFreshAlone;
-    stop = stop_step IsFreshAlone;
+    passes = told_passes two_bits_watch IsFreshAlone;
     begins = begins;
-    still = λ u j p chosen h. (u, (gone IsFreshAlone p chosen None u refl tt, h));
     goes = λ u j p n chosen o h at may. goes u j p n.op n.task chosen o h at may;
   }
 

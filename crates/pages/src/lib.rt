@@ -8,7 +8,7 @@ pub mod page;
 pub mod query;
 pub mod verdict;
 
+pub use branch_terms::listed::{self, Listed};
 pub use breakpoint::Break;
 pub use page::{Page, page_text};
 pub use query::Query;
-pub use schedule_trie::listed::{self, Listed};

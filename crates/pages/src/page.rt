@@ -19,6 +19,7 @@ pub mod verdict;
 
 use crate::query::PlaceKind;
 use bits::{BitsPage, bits_page, push_bits};
+use branch_terms::listed::Listed;
 use branches::{BranchesPage, push_branches};
 use cursor::{CursorPage, push_cursor};
 use frames::config::Config;
@@ -28,7 +29,6 @@ use head::Head;
 use history::{HistoryPage, push_history};
 use pending::{PendingPage, push_pending};
 use process::{ProcessPage, process_page, push_process};
-use schedule_trie::listed::Listed;
 use state::{StatePage, push_state, state_page};
 use std::alloc::{AllocError, Global};
 use steps::{StepsPage, push_steps};

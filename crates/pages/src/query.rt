@@ -1,6 +1,6 @@
 //! Looks: what a session can ask to be shown.
 
-use schedule_trie::name::Name;
+use branch_terms::name::Name;
 
 /// What a look is to show. If the query has a `k`, the look shows the place after the first `k`
 /// steps of branch `b`. `p` is the number of a process, and `who` that of a session.

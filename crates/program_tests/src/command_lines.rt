@@ -161,7 +161,7 @@ fn refusals(rt: HostRuntime) -> Result<(), Fail> {
 }
 
 const HELP: &str = "\
-towerbench 1.0.0
+towerbench 1.1.0
 
 Answers the script on standard input: edits and looks over the runs of a register tower
 

@@ -1,5 +1,5 @@
 -- What a line is read as.
-use Rattle.std.specs.Prelude.{ℕ, ◌==◌, ◌&&◌, not, nat_le, nat_lt, Bool, true, false, List, [], ◌∷◌, ◌++◌, Option, Some, None, Result, Ok, Err, length, codes, slice_get, slice_set, is_none, if◌then◌else◌}
+use Rattle.std.specs.Prelude.{◌≡◌, ◌≢◌, ⊤, ℕ, ◌==◌, ◌&&◌, not, nat_le, nat_lt, Bool, true, false, List, [], ◌∷◌, ◌++◌, Option, Some, None, Result, Ok, Err, OnOk, IfErr, length, codes, slice_get, slice_set, is_none, if◌then◌else◌}
 use Rattle.std.specs.Option.{option_map, ok_or}
 use Rattle.std.specs.List.{list_all, list_any}
 use Rattle.std.specs.Str.{bytes_eq}
@@ -7,15 +7,14 @@ use Rattle.frames.specs.declared.types.Op.{Op}
 use Rattle.frames.specs.declared.types.Op.TheVariants.{Write, Read}
 use Rattle.answers.specs.declared.question.After.{After}
 use Rattle.tower_file.specs.declared.tower.TowerSpec.{TowerSpec}
-use Rattle.tower_file.specs.declared.fault.FaultKind as tower_file
-use Rattle.tower_file.specs.declared.fault.FaultKind.TheVariants as of_tower
 use Rattle.tower_file.specs.declared.fault.FileFault.{FileFault}
 use Rattle.tower_file.specs.Files.{File}
 use Rattle.tower_file.specs.Reading.{file_reading}
 use Rattle.tower_file.specs.Towers.{suits}
 use Rattle.words.specs.Words.{◌>>=◌, words, next, after_next, number, one_number, four_numbers}
 use Rattle.question_file.specs.declared.fault.QuestionFaultKind.{QuestionFaultKind}
-use Rattle.question_file.specs.declared.fault.QuestionFaultKind.TheVariants.{NotAscii, UnknownTower, BadField, BadSize, BadLine, Memory, BadProcess, BadAfter, BadStop, BadMost}
+use Rattle.question_file.specs.declared.fault.QuestionFaultKind.TheVariants.{BadLine, Shared, BadProcess, BadAfter, BadStop, BadMost}
+use Rattle.question_file.specs.Faults.{no_memory}
 use Rattle.question_file.specs.Asked.{Asked}
 
 -- the operation at the front of these words: `r`, or `w` and a value; `None` if there is none
@@ -90,6 +89,13 @@ with_most a ws = do
   n ← one_number ws
   if (is_none a.most && nat_le 1 n) && nat_le n 16777216 then Some (record a { most = Some n }) else None
 
+-- A call takes a line with which what is asked is `read`, or which is faulty if that is `None`. It
+-- leaves `new`, or has the fault `bad` of a faulty line, or memory ran out.
+pub record Takes (bad : QuestionFaultKind) (read : Option Asked) (new : Asked) (result : Result ⊤ QuestionFaultKind) : Type 0 where
+  pub taken : OnOk result (read ≡ Some new)
+  pub kind : IfErr result (λ k. k ≢ no_memory → k ≡ bad)
+  pub fault : IfErr result (λ k. k ≢ no_memory → read ≡ None)
+
 -- what is asked with one more line, which isn't a tower's; or the line's fault
 abbrev pub with_entry : Asked → List (List ℕ) → Result Asked QuestionFaultKind
 with_entry a ws =
@@ -99,18 +105,6 @@ with_entry a ws =
     else (if bytes_eq (next ws) (codes "most") then ok_or (with_most a (after_next ws)) BadMost
     else Err BadLine)))
 
--- the kind of a question file's fault that a tower file's fault is
-abbrev pub question_kind : tower_file.FaultKind → QuestionFaultKind
-question_kind of_tower.NotAscii = NotAscii
-question_kind of_tower.BadHeader = BadLine
-question_kind of_tower.UnknownTower = UnknownTower
-question_kind of_tower.BadField = BadField
-question_kind of_tower.BadStep = BadLine
-question_kind of_tower.BadSize = BadSize
-question_kind of_tower.BadBranch = BadLine
-question_kind of_tower.Tangled = BadLine
-question_kind of_tower.Memory = Memory
-
 -- the tower file that has this line as its tower and no steps
 abbrev pub tower_file_of : List ℕ → List ℕ
 tower_file_of line = codes "tower 1" ++ 10 ∷ line ++ 10 ∷ []
@@ -118,7 +112,7 @@ tower_file_of line = codes "tower 1" ++ 10 ∷ line ++ 10 ∷ []
 -- the tower that a tower file has, or the kind of the file's fault
 abbrev pub tower_of_file : Result File FileFault → Result TowerSpec QuestionFaultKind
 tower_of_file (Ok f) = Ok f.spec
-tower_of_file (Err e) = Err (question_kind e.kind)
+tower_of_file (Err e) = Err (Shared e.kind)
 
 -- the tower of a line, or the line's fault: those of the tower file that has it as its tower's line
 abbrev pub tower_in : List ℕ → Result TowerSpec QuestionFaultKind

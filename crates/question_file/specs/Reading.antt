@@ -2,10 +2,11 @@
 use Rattle.std.specs.Prelude.{◌≡◌, ℕ, ◌+◌, ◌==◌, ◌||◌, not, Bool, true, false, List, [], ◌∷◌, Option, Some, None, Result, Ok, Err, length, if◌then◌else◌}
 use Rattle.std.specs.List.{list_all}
 use Rattle.tower_file.specs.declared.tower.TowerSpec.{TowerSpec}
+use Rattle.tower_file.specs.declared.fault.FaultKind.TheVariants.{NotAscii, UnknownTower}
 use Rattle.tower_file.specs.Reading.{is_file_byte}
 use Rattle.words.specs.Words.{lines, words}
 use Rattle.question_file.specs.declared.fault.QuestionFaultKind.{QuestionFaultKind}
-use Rattle.question_file.specs.declared.fault.QuestionFaultKind.TheVariants.{NotAscii, UnknownTower, BadLine}
+use Rattle.question_file.specs.declared.fault.QuestionFaultKind.TheVariants.{BadLine, Shared}
 use Rattle.question_file.specs.declared.fault.QuestionFault.{QuestionFault}
 use Rattle.question_file.specs.Faults.{question_fault}
 use Rattle.question_file.specs.Asked.{Asked, asked_of}
@@ -34,14 +35,14 @@ with_saying (Some a) line = gone_on (with_entry a (words line))
 -- what the lines so far say, with one more; or that line's fault
 abbrev pub with_line : Option Asked → List ℕ → Result (Option Asked) QuestionFaultKind
 with_line read line =
-    if not (list_all is_file_byte line) then Err NotAscii
+    if not (list_all is_file_byte line) then Err (Shared NotAscii)
     else (if is_comment line then Ok read
     else with_saying read line)
 
 -- what a file says whose lines have ended, line n being the text after its last line end; or the
 -- fault that no tower is given
 abbrev pub whole_file : ℕ → Option Asked → Result Asked QuestionFault
-whole_file n None = Err (question_fault UnknownTower n)
+whole_file n None = Err (question_fault (Shared UnknownTower) n)
 whole_file n (Some a) = Ok a
 
 -- what a file says that ends with the text `rest` of line n, which should be empty, or its fault

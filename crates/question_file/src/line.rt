@@ -2,14 +2,15 @@
 
 ghost use Rattle.std.specs.Prelude.{◌≡◌, ◌≢◌, ◌==◌, ◌<◌, [], true, None, Some, Ok, Err, OnOk, OnErr, IfErr, IfOk, IfSome, OnSome, length, slice_get};
 ghost use Rattle.std.specs.List.{list_all, list_any};
-ghost use Rattle.question_file.specs.declared.fault.QuestionFaultKind.TheVariants.{Memory, BadProcess, BadAfter, BadStop, BadMost};
+ghost use Rattle.question_file.specs.declared.fault.QuestionFaultKind.TheVariants.{BadProcess, BadAfter, BadStop, BadMost};
+ghost use Rattle.question_file.specs.Faults.{no_memory};
 ghost use Rattle.question_file.specs.Asked.{lists_of};
 ghost use Rattle.question_file.specs.Said.{as_asked};
 ghost use Rattle.question_file.specs.Lines as spec;
 ghost use Rattle.tower_file.specs.Towers.{is_lawful_tower, suits};
 ghost use Rattle.words.specs.Words.{words, next, after_next};
 
-use crate::fault::QuestionFaultKind;
+use crate::fault::{OUT_OF_MEMORY, QuestionFaultKind};
 use crate::file::QuestionFile;
 use answers::find::MOST_STATES;
 use answers::question::{After, Nth};
@@ -21,23 +22,6 @@ use words::number::{four_numbers, number, one_number};
 use words::parts::Parts;
 use words::step::is;
 use words::text::{push_bytes, push_text};
-
-/// The kind of a question file's fault that a tower file's fault is.
-fn question_kind(kind: tower_file::FaultKind) -> QuestionFaultKind
-    ensures { result ≡ spec.question_kind kind }
-{
-    match kind {
-        tower_file::FaultKind::NotAscii => QuestionFaultKind::NotAscii,
-        tower_file::FaultKind::UnknownTower => QuestionFaultKind::UnknownTower,
-        tower_file::FaultKind::BadField => QuestionFaultKind::BadField,
-        tower_file::FaultKind::BadSize => QuestionFaultKind::BadSize,
-        tower_file::FaultKind::Memory => QuestionFaultKind::Memory,
-        tower_file::FaultKind::BadHeader
-        | tower_file::FaultKind::BadStep
-        | tower_file::FaultKind::BadBranch
-        | tower_file::FaultKind::Tangled => QuestionFaultKind::BadLine,
-    }
-}
 
 /// The tower file that has this line as its tower and no steps. It is made because `tower_file`
 /// parses whole files only.
@@ -55,14 +39,14 @@ fn tower_file_of(alloc: Global, line: &[u8]) -> Result<Vec<u8>, AllocError>
 pub(crate) fn tower_in(alloc: Global, line: &[u8]) -> Result<TowerSpec, QuestionFaultKind>
     ensures tower { IfOk result (λ tower. spec.tower_in line.now ≡ Ok tower) }
     ensures lawful { IfOk result (λ tower. is_lawful_tower tower ≡ true) }
-    ensures fault { IfErr result (λ k. k ≢ Memory → spec.tower_in line.now ≡ Err k) }
+    ensures fault { IfErr result (λ k. k ≢ no_memory → spec.tower_in line.now ≡ Err k) }
 {
     let Ok(text) = tower_file_of(alloc, line) else {
-        return Err(QuestionFaultKind::Memory);
+        return Err(OUT_OF_MEMORY);
     };
     match tower_file::parse(alloc, &text) {
         Ok(file) => Ok(file.spec),
-        Err(fault) => Err(question_kind(fault.kind)),
+        Err(fault) => Err(QuestionFaultKind::Shared(fault.kind)),
     }
 }
 
@@ -141,17 +125,14 @@ impl QuestionFile {
         alloc: Global,
         words: &mut Parts<'_>,
     ) -> Result<(), QuestionFaultKind>
-        ensures taken { OnOk result
-            (spec.with_operations (as_asked self.old) words.old ≡ Some (as_asked self.new)) }
-        ensures kind { IfErr result (λ k. k ≢ Memory → k ≡ BadProcess) }
-        ensures fault { IfErr result (λ k. k ≢ Memory
-            → spec.with_operations (as_asked self.old) words.old ≡ None) }
+        ensures { spec.Takes BadProcess (spec.with_operations (as_asked self.old) words.old)
+            (as_asked self.new) result }
     {
         let Some(p) = number(words.next()) else {
             return Err(QuestionFaultKind::BadProcess);
         };
         let Ok(list) = operations(alloc, words) else {
-            return Err(QuestionFaultKind::Memory);
+            return Err(OUT_OF_MEMORY);
         };
         let Some(list) = list else {
             return Err(QuestionFaultKind::BadProcess);
@@ -165,11 +146,8 @@ impl QuestionFile {
 
     /// Adds what a line `after` says, given the words after the first.
     fn take_after(&mut self, words: &mut Parts<'_>) -> Result<(), QuestionFaultKind>
-        ensures taken { OnOk result
-            (spec.with_after (as_asked self.old) words.old ≡ Some (as_asked self.new)) }
-        ensures kind { IfErr result (λ k. k ≢ Memory → k ≡ BadAfter) }
-        ensures fault { IfErr result (λ k. k ≢ Memory
-            → spec.with_after (as_asked self.old) words.old ≡ None) }
+        ensures { spec.Takes BadAfter (spec.with_after (as_asked self.old) words.old)
+            (as_asked self.new) result }
     {
         let Some((p, i, q, j)) = four_numbers(words) else {
             return Err(QuestionFaultKind::BadAfter);
@@ -188,18 +166,15 @@ impl QuestionFile {
             },
         };
         let Ok(()) = self.question.after.push(after) else {
-            return Err(QuestionFaultKind::Memory);
+            return Err(OUT_OF_MEMORY);
         };
         Ok(())
     }
 
     /// Lets the process of a line `stop` stop, given the words after the first.
     fn take_stop(&mut self, words: &mut Parts<'_>) -> Result<(), QuestionFaultKind>
-        ensures taken { OnOk result
-            (spec.with_stop (as_asked self.old) words.old ≡ Some (as_asked self.new)) }
-        ensures kind { IfErr result (λ k. k ≢ Memory → k ≡ BadStop) }
-        ensures fault { IfErr result (λ k. k ≢ Memory
-            → spec.with_stop (as_asked self.old) words.old ≡ None) }
+        ensures { spec.Takes BadStop (spec.with_stop (as_asked self.old) words.old)
+            (as_asked self.new) result }
     {
         let Some(p) = one_number(words) else {
             return Err(QuestionFaultKind::BadStop);
@@ -208,7 +183,7 @@ impl QuestionFile {
             return Err(QuestionFaultKind::BadStop);
         }
         let Ok(()) = self.question.may_stop.push(p) else {
-            return Err(QuestionFaultKind::Memory);
+            return Err(OUT_OF_MEMORY);
         };
         Ok(())
     }
@@ -241,7 +216,7 @@ impl QuestionFile {
     pub(crate) fn take_line(&mut self, alloc: Global, line: &[u8]) -> Result<(), QuestionFaultKind>
         ensures taken { OnOk result
             (spec.with_entry (as_asked self.old) (words line.now) ≡ Ok (as_asked self.new)) }
-        ensures fault { IfErr result (λ k. k ≢ Memory
+        ensures fault { IfErr result (λ k. k ≢ no_memory
             → spec.with_entry (as_asked self.old) (words line.now) ≡ Err k) }
     {
         let mut words = Parts::new(line, b' ');

@@ -5,15 +5,15 @@ ghost use Rattle.std.specs.List.{list_all};
 ghost use Rattle.std.specs.Option.{option_map};
 ghost use Rattle.tower_file.specs.Reading.{is_file_byte};
 ghost use Rattle.words.specs.Words.{lines, is_end};
-ghost use Rattle.question_file.specs.declared.fault.QuestionFaultKind.TheVariants.{Memory};
-ghost use Rattle.question_file.specs.Faults as faults;
+ghost use Rattle.question_file.specs.Faults.{no_memory};
 ghost use Rattle.question_file.specs.Said.{as_asked};
 ghost use Rattle.question_file.specs.Reading as spec;
 
-use crate::fault::{QuestionFault, QuestionFaultKind};
+use crate::fault::{OUT_OF_MEMORY, QuestionFault, QuestionFaultKind};
 use crate::file::QuestionFile;
 use crate::line::tower_in;
 use std::alloc::Global;
+use tower_file::FaultKind;
 use words::lines::Lines;
 
 /// Whether a line says nothing: it is empty or begins with `#`.
@@ -44,7 +44,7 @@ fn is_ascii(line: &[u8]) -> bool
 fn begin(alloc: Global, line: &[u8]) -> Result<QuestionFile, QuestionFaultKind>
     ensures begun { IfOk result (λ file.
         spec.with_saying None line.now ≡ Ok (Some (as_asked file))) }
-    ensures fault { IfErr result (λ k. k ≢ Memory → spec.with_saying None line.now ≡ Err k) }
+    ensures fault { IfErr result (λ k. k ≢ no_memory → spec.with_saying None line.now ≡ Err k) }
 {
     let tower = match tower_in(alloc, line) {
         Ok(tower) => tower,
@@ -52,7 +52,7 @@ fn begin(alloc: Global, line: &[u8]) -> Result<QuestionFile, QuestionFaultKind>
     };
     match QuestionFile::of_tower(alloc, tower) {
         Ok(file) => Ok(file),
-        Err(_) => Err(QuestionFaultKind::Memory),
+        Err(_) => Err(OUT_OF_MEMORY),
     }
 }
 
@@ -64,7 +64,7 @@ fn with_saying(
 ) -> Result<QuestionFile, QuestionFaultKind>
     ensures said { IfOk result (λ new. spec.with_saying (option_map as_asked file) line.now
         ≡ Ok (Some (as_asked new))) }
-    ensures fault { IfErr result (λ k. k ≢ Memory
+    ensures fault { IfErr result (λ k. k ≢ no_memory
         → spec.with_saying (option_map as_asked file) line.now ≡ Err k) }
 {
     match file {
@@ -87,11 +87,11 @@ fn with_line(
 ) -> Result<Option<QuestionFile>, QuestionFaultKind>
     ensures said { IfOk result (λ new. spec.with_line (option_map as_asked file) line.now
         ≡ Ok (option_map as_asked new)) }
-    ensures fault { IfErr result (λ k. k ≢ Memory
+    ensures fault { IfErr result (λ k. k ≢ no_memory
         → spec.with_line (option_map as_asked file) line.now ≡ Err k) }
 {
     if !is_ascii(line) {
-        return Err(QuestionFaultKind::NotAscii);
+        return Err(QuestionFaultKind::Shared(FaultKind::NotAscii));
     }
     if is_comment(line) {
         return Ok(file);
@@ -117,7 +117,7 @@ fn lines_of(bytes: &[u8]) -> Lines<'_>
 #[tactic(auto, using(crate::proofs::ReadLines::line_said, crate::proofs::ReadLines::line_faulty, crate::proofs::ReadLines::at_end, crate::proofs::ReadLines::one_less))]
 pub fn parse_question(alloc: Global, bytes: &[u8]) -> Result<QuestionFile, QuestionFault>
     ensures read { IfOk result (λ file. spec.question_reading bytes.now ≡ Ok (as_asked file)) }
-    ensures fault { IfErr result (λ e. e.kind ≢ Memory
+    ensures fault { IfErr result (λ e. e.kind ≢ no_memory
         → spec.question_reading bytes.now ≡ Err e) }
 {
     let mut lines = lines_of(bytes);
@@ -152,7 +152,7 @@ fn end(file: Option<QuestionFile>, rest: &[u8], number: u64) -> Result<QuestionF
     match file {
         Some(file) => Ok(file),
         None => Err(QuestionFault {
-            kind: QuestionFaultKind::UnknownTower,
+            kind: QuestionFaultKind::Shared(FaultKind::UnknownTower),
             line: number,
         }),
     }

@@ -22,7 +22,7 @@ use Rattle.layers.specs.Nested.{Ends, Table, layered}
 use Rattle.layers.specs.Sound.{IsNotSpent, IsSoundTable, FitsBelow}
 use Rattle.layers.specs.laws.Over.{over}
 use Rattle.layers.proofs.Law.{Standing, View, Watch, Runs, IsKept, IsUser}
-use Rattle.layers.proofs.LayerLaw.{Told, told_begun, told_gone, told_void, told_stop, layer_promises}
+use Rattle.layers.proofs.LayerLaw.{Told, told_begun, told_gone, told_passes, layer_promises}
 use Rattle.reader_copies.specs.declared.task.CopiesTask.{CopiesTask}
 use Rattle.reader_copies.specs.declared.task.CopiesTask.TheVariants.{Writing, Reading}
 use Rattle.reader_copies.specs.Program.{write_from, copies_program, copies_rest, copies_table, CopiesMayBeAt}
@@ -271,10 +271,8 @@ module _ (m values : ℕ) where
       alone = λ r lo hi o. (let f = ep (r - 1) (omega (arith, lo, hi)) in (ap (λ s. s.overlaps 1) f, (ap (λ s. s.fresh 1) f, refl)));
       copier = subst (λ y. CopierSays m y (opening v) j.parts) (sym (et 0)) (record { writing = refl; last = λ k lk. ap (λ s. s.last) (ep k lk); quiet = λ k lk. ap (λ s. s.writing) (ep k lk) });
     };
-    void = told_void IsFreshAlone;
-    stop = told_stop IsFreshAlone;
+    passes = told_passes w IsFreshAlone;
     begins = begins;
-    still = λ u j p chosen h. (u, (told_gone IsFreshAlone p chosen None u refl tt, h));
     goes = λ u j p n chosen o h mine s ans pass good. go_ends u j p n.op n.task chosen o h mine s ans pass good;
   }
 

@@ -98,13 +98,34 @@ fn assert_two_reads<R: Register>(rt: &impl Abort, alloc: Global, register: &R) -
     Ok(())
 }
 
+/// Asserts that each of the values 0 and 1 can be read, in schedules of 6 steps.
+fn assert_either(rt: &impl Abort, found: &Found) {
+    for value in 0..2 {
+        assert_length(rt, found, &[Outcome::Value(value)], 6);
+    }
+}
+
+/// The answers to a question about a safe bit, after it is asserted that there are `count`.
+fn listed(
+    rt: &impl Abort,
+    alloc: Global,
+    question: &Question,
+    count: usize,
+) -> Result<Found, Unfound> {
+    let found = find(alloc, &Safe, question, MANY)?;
+    assert_eq!(rt; found.possible.len(), count);
+    Ok(found)
+}
+
+/// Asserts that a question about a safe bit has no answers within `most` states, for this reason.
+fn assert_unfound(rt: &impl Abort, alloc: Global, question: &Question, most: u32, why: Unfound) {
+    assert_eq!(rt; find(alloc, &Safe, question, most).err(), Some(why));
+}
+
 #[test]
 fn read_that_overlaps_a_write(rt: HostRuntime) -> Result<(), Fail> {
     let question = write_and_read(rt.alloc())?;
-    let found = find(rt.alloc(), &Safe, &question, MANY)?;
-    assert_eq!(rt; found.possible.len(), 2);
-    assert_length(&rt, &found, &[Outcome::Value(0)], 6);
-    assert_length(&rt, &found, &[Outcome::Value(1)], 6);
+    assert_either(&rt, &listed(&rt, rt.alloc(), &question, 2)?);
     Ok(())
 }
 
@@ -136,12 +157,10 @@ fn new_before_old(rt: HostRuntime) -> Result<(), Fail> {
 fn stopped_writer(rt: HostRuntime) -> Result<(), Fail> {
     let mut question = write_and_read(rt.alloc())?;
     question.may_stop.push(0)?;
-    let found = find(rt.alloc(), &Safe, &question, MANY)?;
-    assert_eq!(rt; found.possible.len(), 4);
+    let found = listed(&rt, rt.alloc(), &question, 4)?;
     assert_eq!(rt; length(&found, &[], &[Outcome::Value(0)]), Some(4));
     assert_eq!(rt; length(&found, &[], &[Outcome::Value(1)]), Some(6));
-    assert_length(&rt, &found, &[Outcome::Value(0)], 6);
-    assert_length(&rt, &found, &[Outcome::Value(1)], 6);
+    assert_either(&rt, &found);
     Ok(())
 }
 
@@ -150,8 +169,7 @@ fn stopped_writer(rt: HostRuntime) -> Result<(), Fail> {
 fn read_after_write(rt: HostRuntime) -> Result<(), Fail> {
     let mut question = write_and_read(rt.alloc())?;
     question.after.push(READ_AFTER_WRITE)?;
-    let found = find(rt.alloc(), &Safe, &question, MANY)?;
-    assert_eq!(rt; found.possible.len(), 1);
+    let found = listed(&rt, rt.alloc(), &question, 1)?;
     assert_length(&rt, &found, &[Outcome::Value(1)], 6);
     Ok(())
 }
@@ -160,8 +178,7 @@ fn read_after_write(rt: HostRuntime) -> Result<(), Fail> {
 #[test]
 fn limit(rt: HostRuntime) -> Result<(), Fail> {
     let question = write_and_read(rt.alloc())?;
-    let few = find(rt.alloc(), &Safe, &question, 18);
-    assert_eq!(rt; few.err(), Some(Unfound::TooMany));
+    assert_unfound(&rt, rt.alloc(), &question, 18, Unfound::TooMany);
     let enough = find(rt.alloc(), &Safe, &question, 19)?;
     assert_eq!(rt; enough.states, 19);
     Ok(())
@@ -171,8 +188,7 @@ fn limit(rt: HostRuntime) -> Result<(), Fail> {
 #[test]
 fn unfit(rt: HostRuntime) -> Result<(), Fail> {
     let question = asked(rt.alloc(), &[Op::Write(1)], &[Op::Write(1)])?;
-    let found = find(rt.alloc(), &Safe, &question, MANY);
-    assert_eq!(rt; found.err(), Some(Unfound::Unfit));
+    assert_unfound(&rt, rt.alloc(), &question, MANY, Unfound::Unfit);
     Ok(())
 }
 
@@ -181,11 +197,9 @@ fn unfit(rt: HostRuntime) -> Result<(), Fail> {
 fn cycle(rt: HostRuntime) -> Result<(), Fail> {
     let mut question = write_and_read(rt.alloc())?;
     question.after.push(WRITE_AFTER_READ)?;
-    let found = find(rt.alloc(), &Safe, &question, MANY)?;
-    assert_eq!(rt; found.possible.len(), 1);
+    listed(&rt, rt.alloc(), &question, 1)?;
     question.after.push(READ_AFTER_WRITE)?;
-    let refused = find(rt.alloc(), &Safe, &question, MANY);
-    assert_eq!(rt; refused.err(), Some(Unfound::Unfit));
+    assert_unfound(&rt, rt.alloc(), &question, MANY, Unfound::Unfit);
     Ok(())
 }
 
@@ -193,13 +207,10 @@ fn cycle(rt: HostRuntime) -> Result<(), Fail> {
 #[test]
 fn limits(rt: HostRuntime) -> Result<(), Fail> {
     let question = write_and_read(rt.alloc())?;
-    let none = find(rt.alloc(), &Safe, &question, 0);
-    assert_eq!(rt; none.err(), Some(Unfound::Unfit));
-    let one = find(rt.alloc(), &Safe, &question, 1);
-    assert_eq!(rt; one.err(), Some(Unfound::TooMany));
+    assert_unfound(&rt, rt.alloc(), &question, 0, Unfound::Unfit);
+    assert_unfound(&rt, rt.alloc(), &question, 1, Unfound::TooMany);
     let most = find(rt.alloc(), &Safe, &question, MOST_STATES)?;
     assert_eq!(rt; most.states, 19);
-    let more = find(rt.alloc(), &Safe, &question, MOST_STATES + 1);
-    assert_eq!(rt; more.err(), Some(Unfound::Unfit));
+    assert_unfound(&rt, rt.alloc(), &question, MOST_STATES + 1, Unfound::Unfit);
     Ok(())
 }

@@ -24,7 +24,7 @@ use Rattle.layers.specs.Nested.{Ends, Asks, Sets, Table, layered}
 use Rattle.layers.specs.Sound.{IsNotSpent, IsSoundTable, FitsBelow}
 use Rattle.layers.specs.laws.Over.{over}
 use Rattle.layers.proofs.Law.{Standing, View, Watch, Runs, IsKept, IsUser}
-use Rattle.layers.proofs.LayerLaw.{Told, told_begun, told_gone, told_void, told_stop, layer_promises}
+use Rattle.layers.proofs.LayerLaw.{Told, told_begun, told_gone, told_passes, layer_promises}
 use Rattle.regular_bit.specs.declared.task.RegularTask.{RegularTask}
 use Rattle.regular_bit.specs.declared.task.RegularTask.TheVariants.{Writing, Reading}
 use Rattle.regular_bit.specs.Program.{regular_table, regular_program, RegularMayBeAt}
@@ -307,10 +307,8 @@ module _ (processes : ℕ) where
   pub regular_kept : IsKept t (RegularMayBeAt processes) regular_watch opening (Told IsNotStray)
   regular_kept = record {
     initial = λ v l j ew et ep. at_first v l j (ew 0 (omega arith)) (ep 0 (omega arith));
-    void = told_void IsNotStray;
-    stop = told_stop IsNotStray;
+    passes = told_passes regular_watch IsNotStray;
     begins = begins;
-    still = λ u j p chosen h. (u, (told_gone IsNotStray p chosen None u refl tt, h));
     goes = λ u j p n chosen o h mine s ans pass good. go_ends u j p n.op n.task chosen o h s ans pass good;
   }
 

@@ -45,8 +45,7 @@ impl<S: Register> NewRegularBit<S> for RegularBit<S> {
         if processes == 0 {
             return Err(LayerError::BadSize);
         }
-        let layer = RegularBitRules { processes };
-        Layered::over(below, layer)
+        Layered::over(below, RegularBitRules { processes })
     }
 }
 

@@ -2,18 +2,18 @@
 use Rattle.std.proofs.Common.{◌≡◌, ℕ, true, List, [], ◌∷◌, length, Option, Some, None, inl, inr, refl, sym, ap, subst, ◌∙◌, true≢false, arith}
 use Rattle.schedule_steps.specs.declared.types.Step.{Step}
 use Rattle.schedule_steps.specs.declared.types.Step.TheVariants.{Write}
-use Rattle.schedule_trie.specs.Rows.{main, a, read, go}
-use Rattle.schedule_trie.specs.declared.slot.Slot.{Slot}
-use Rattle.schedule_trie.specs.Forest.{slot, slots_in}
-use Rattle.schedule_trie.specs.Cut.{Cut, Piece, Strand, strand, piece, note_of, slots_of, has_cell, HoldsCellAt, IsInserted, IsOwnEnd}
+use Rattle.branch_terms.specs.Rows.{main, a, read, go}
+use Rattle.branch_terms.specs.declared.slot.Slot.{Slot}
+use Rattle.branch_terms.specs.Forest.{slot, slots_in}
+use Rattle.schedule_trie.specs.Trie.{TrieOf, SegmentOf, KeyedBranch, keyed_branch, segment, note_of, slots_of, has_cell, HoldsCellAt, IsInserted, IsOwnEnd}
 use Rattle.schedule_trie.specs.Edits.{Insert, Replace, IsEdited}
 
-abbrev cut : List Strand → List (Option (Piece ℕ)) → ℕ → Cut ℕ
-cut strands pieces made = record { strands = strands; pieces = pieces; made = made; limits = record { cells = 64; branches = 64; log = 64 } }
+abbrev cut : List KeyedBranch → List (Option (SegmentOf ℕ)) → ℕ → TrieOf ℕ
+cut branches segments made = record { branches = branches; segments = segments; made = made; limits = record { cells = 64; branches = 64; log = 64 } }
 
 -- `main` has one cell, in a segment with the note 7
-abbrev one : Cut ℕ
-one = cut (strand main (0 ∷ []) ∷ []) (Some (piece (slot 0 read ∷ []) (Some 7)) ∷ []) 1
+abbrev one : TrieOf ℕ
+one = cut (keyed_branch main (0 ∷ []) ∷ []) (Some (segment (slot 0 read ∷ []) (Some 7)) ∷ []) 1
 
 -- same-step-keeps-the-note
 pub same_step : IsEdited one one (Replace main 0 read) → ⊥
@@ -23,9 +23,9 @@ same_step e =
     cc
 
 -- `main` has two segments of one cell each, with these notes; the first cell has this step
-abbrev two : Step → Option ℕ → Option ℕ → Cut ℕ
+abbrev two : Step → Option ℕ → Option ℕ → TrieOf ℕ
 two step first second =
-    cut (strand main (0 ∷ 1 ∷ []) ∷ []) (Some (piece (slot 0 step ∷ []) first) ∷ Some (piece (slot 1 read ∷ []) second) ∷ []) 2
+    cut (keyed_branch main (0 ∷ 1 ∷ []) ∷ []) (Some (segment (slot 0 step ∷ []) first) ∷ Some (segment (slot 1 read ∷ []) second) ∷ []) 2
 
 -- throw-all-away-every-run: the second segment isn't touched, and has no note
 pub thrown_away : IsEdited (two read (Some 7) (Some 8)) (two go None None) (Replace main 0 go) → ⊥
@@ -42,15 +42,15 @@ thrown_away e = elim (e.notes.notes.kept 1 untouched refl) [
         true≢false (sym (subst (λ x. has_cell x (slot 1 read ∷ []) ≡ true) (sym cell) held.held))
 
 -- `main` has four cells in two segments
-abbrev four : Cut ℕ
-four = cut (strand main (0 ∷ 1 ∷ []) ∷ [])
-    (Some (piece (slot 0 read ∷ slot 1 read ∷ []) None) ∷ Some (piece (slot 2 read ∷ slot 3 read ∷ []) None) ∷ []) 4
+abbrev four : TrieOf ℕ
+four = cut (keyed_branch main (0 ∷ 1 ∷ []) ∷ [])
+    (Some (segment (slot 0 read ∷ slot 1 read ∷ []) None) ∷ Some (segment (slot 2 read ∷ slot 3 read ∷ []) None) ∷ []) 4
 
 -- each cell is in its own segment, and there is a fifth
-abbrev five : Cut ℕ
-five = cut (strand main (2 ∷ 0 ∷ 3 ∷ 1 ∷ 4 ∷ []) ∷ [])
-    (Some (piece (slot 1 read ∷ []) None) ∷ Some (piece (slot 3 read ∷ []) None) ∷ Some (piece (slot 0 read ∷ []) None)
-    ∷ Some (piece (slot 2 read ∷ []) None) ∷ Some (piece (slot 4 go ∷ []) None) ∷ []) 5
+abbrev five : TrieOf ℕ
+five = cut (keyed_branch main (2 ∷ 0 ∷ 3 ∷ 1 ∷ 4 ∷ []) ∷ [])
+    (Some (segment (slot 1 read ∷ []) None) ∷ Some (segment (slot 3 read ∷ []) None) ∷ Some (segment (slot 0 read ∷ []) None)
+    ∷ Some (segment (slot 2 read ∷ []) None) ∷ Some (segment (slot 4 go ∷ []) None) ∷ []) 5
 
 -- throw-all-away-cuts-again: both segments have changed, and at most one may be touched
 pub cut_anew : IsEdited four five (Insert main 4 go) → ⊥
@@ -69,14 +69,14 @@ cut_anew e = first (λ t. second (λ u. let same : ◌≡◌ {A = Option ℕ} (S
     ]
 
 -- `main` and `a` share a segment of two cells, with the note 7
-abbrev both : Cut ℕ
-both = cut (strand main (0 ∷ []) ∷ strand a (0 ∷ []) ∷ []) (Some (piece (slot 0 read ∷ slot 1 go ∷ []) (Some 7)) ∷ []) 2
+abbrev both : TrieOf ℕ
+both = cut (keyed_branch main (0 ∷ []) ∷ keyed_branch a (0 ∷ []) ∷ []) (Some (segment (slot 0 read ∷ slot 1 go ∷ []) (Some 7)) ∷ []) 2
 
 -- the shared segment is cut in two, and its note is gone; a new cell of `main` is in a segment of
 -- its own
-abbrev divided : Cut ℕ
-divided = cut (strand main (1 ∷ 0 ∷ 2 ∷ []) ∷ strand a (1 ∷ 0 ∷ []) ∷ [])
-    (Some (piece (slot 1 go ∷ []) None) ∷ Some (piece (slot 0 read ∷ []) None) ∷ Some (piece (slot 2 (Write 0 1) ∷ []) None) ∷ []) 3
+abbrev divided : TrieOf ℕ
+divided = cut (keyed_branch main (1 ∷ 0 ∷ 2 ∷ []) ∷ keyed_branch a (1 ∷ 0 ∷ []) ∷ [])
+    (Some (segment (slot 1 go ∷ []) None) ∷ Some (segment (slot 0 read ∷ []) None) ∷ Some (segment (slot 2 (Write 0 1) ∷ []) None) ∷ []) 3
 
 -- append-cuts-a-shared-end: the shared segment is touched, and doesn't get the new cell
 pub append_cuts : IsEdited both divided (Insert main 2 (Write 0 1)) → ⊥
@@ -95,17 +95,17 @@ abbrev three : List Slot
 three = slot 0 read ∷ slot 1 go ∷ slot 2 go ∷ []
 
 -- `main` and `a` share their three cells
-abbrev shared : Cut ℕ
-shared = cut (strand main (0 ∷ []) ∷ strand a (0 ∷ []) ∷ []) (Some (piece three None) ∷ []) 3
+abbrev shared : TrieOf ℕ
+shared = cut (keyed_branch main (0 ∷ []) ∷ keyed_branch a (0 ∷ []) ∷ []) (Some (segment three None) ∷ []) 3
 
 -- leaking-insert: the end of `main` is also that of `a`
 pub leaking : IsOwnEnd shared 0 0 → ⊥
 leaking e = true≢false (e.own 1 (λ h. omega arith))
 
 -- `main` has a new cell before its second one, and `a` keeps its three
-abbrev private : Cut ℕ
-private = cut (strand main (1 ∷ []) ∷ strand a (0 ∷ []) ∷ [])
-    (Some (piece three None) ∷ Some (piece (slot 0 read ∷ slot 3 (Write 0 1) ∷ slot 1 go ∷ slot 2 go ∷ []) None) ∷ []) 4
+abbrev private : TrieOf ℕ
+private = cut (keyed_branch main (1 ∷ []) ∷ keyed_branch a (0 ∷ []) ∷ [])
+    (Some (segment three None) ∷ Some (segment (slot 0 read ∷ slot 3 (Write 0 1) ∷ slot 1 go ∷ slot 2 go ∷ []) None) ∷ []) 4
 
 -- private-insert: `a` has to have the new cell too
 pub privately : IsInserted shared private 0 1 (Write 0 1) → ⊥

@@ -1,7 +1,7 @@
 -- Climbs: reading the keys of a path from one of them up to the first.
 pub use Rattle.lineage.specs.Family.{last_from, last_of}
 use Rattle.std.specs.Prelude.{ℕ, ◌≡◌, true, nat_eq, List, [], ◌∷◌, Option, Some, None, if◌then◌else◌}
-use Rattle.schedule_trie.specs.Cut.{has}
+use Rattle.schedule_trie.specs.Trie.{has}
 
 -- the keys of a path from the first down to `key`; all its keys if `key` isn't one of them
 abbrev pub keys_up_to : ℕ → List ℕ → List ℕ

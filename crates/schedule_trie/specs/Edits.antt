@@ -1,12 +1,12 @@
--- Edits of branches as data, and their effect on a cut.
+-- Edits of branches as data, and their effect on a trie.
 use Rattle.std.specs.Prelude.{ℕ, ◌≡◌, List, Option, Some, None, Result, Ok, Err}
 use Rattle.schedule_steps.specs.declared.types.Step.{Step}
 use Rattle.schedule_trie.specs.declared.edit.Edit.{Edit as Borrowed}
 use Rattle.schedule_trie.specs.declared.edit.Edit.TheVariants as borrowed
-use Rattle.schedule_trie.specs.declared.refusal.Refusal.{Refusal}
-use Rattle.schedule_trie.specs.declared.limits.Limits.{Limits}
-use Rattle.schedule_trie.specs.Forest.{Forest, insert, remove_cell, replace_step, fork, detach, drop_branch, IsRefused}
-use Rattle.schedule_trie.specs.Cut.{Cut, forest, IsCut, KeepsNotesBut, KeepsNotesOff, KeepsUnchanged, KeepsAllNotes, HoldsCellAt, MayGrowAt, IsParted}
+use Rattle.branch_terms.specs.declared.refusal.Refusal.{Refusal}
+use Rattle.branch_terms.specs.declared.limits.Limits.{Limits}
+use Rattle.branch_terms.specs.Forest.{Forest, insert, remove_cell, replace_step, fork, detach, drop_branch, IsRefused}
+use Rattle.schedule_trie.specs.Trie.{TrieOf, forest, IsCut, KeepsNotesBut, KeepsNotesOff, KeepsUnchanged, KeepsAllNotes, HoldsCellAt, MayGrowAt, IsParted}
 
 -- an edit of the branch with the first name. `Insert` a new cell at a place; `Remove` the cell at a
 -- place; `Replace` the step of the cell at a place; `Fork`: add a branch, with the second name,
@@ -48,7 +48,7 @@ edited limits f (Drop name) = drop_branch f name
 -- last segment only to add its cell to it. No insert touches a segment whose cells don't change.
 -- Detach and drop touch no segment. The other segments that remain keep their notes, and new ones
 -- have none.
-abbrev pub KeepsNotesBy : {T : Type 0} → Edit → Cut T → Cut T → Type 0
+abbrev pub KeepsNotesBy : {T : Type 0} → Edit → TrieOf T → TrieOf T → Type 0
 KeepsNotesBy (Insert name place step) old new = KeepsNotesBut old new (HoldsCellAt old name place) (MayGrowAt old new name place step) × KeepsUnchanged old new
 KeepsNotesBy (Remove name place) old new = KeepsNotesOff old new (HoldsCellAt old name place)
 KeepsNotesBy (Replace name place step) old new = KeepsNotesOff old new (HoldsCellAt old name place)
@@ -56,11 +56,11 @@ KeepsNotesBy (Fork name place made) old new = KeepsNotesOff old new (IsParted ol
 KeepsNotesBy (Detach name) old new = KeepsAllNotes old new
 KeepsNotesBy (Drop name) old new = KeepsAllNotes old new
 
--- An edit is made, not refused: from cut `old` to cut `new`, the forest changes as `edited` says.
+-- An edit is made, not refused: from trie `old` to trie `new`, the forest changes as `edited` says.
 -- Of the segments that remain, at most one loses its note (in a chart, its stored run): the one
 -- that the edit touches (`KeepsNotesBy`). `new` is cut into segments as `IsCut` says, and the
 -- limits don't change.
-pub record IsEdited {T : Type 0} (old new : Cut T) (edit : Edit) : Type 0 where
+pub record IsEdited {T : Type 0} (old new : TrieOf T) (edit : Edit) : Type 0 where
   pub forest : edited old.limits (forest old) edit ≡ Ok (forest new)
   pub notes : KeepsNotesBy edit old new
   pub cut : IsCut new
@@ -79,6 +79,6 @@ WhyRefused (Drop name) model e = model ≡ Err e
 
 -- an edit is refused, and nothing changes: `e` is the first reason that holds; or, if the edit
 -- allocates and no reason holds, Memory
-pub record IsUnedited {T : Type 0} (old new : Cut T) (edit : Edit) (e : Refusal) : Type 0 where
+pub record IsUnedited {T : Type 0} (old new : TrieOf T) (edit : Edit) (e : Refusal) : Type 0 where
   pub why : WhyRefused edit (edited old.limits (forest old) edit) e
   pub unchanged : new ≡ old

@@ -1,8 +1,8 @@
 -- Lists of cells.
 use Rattle.std.specs.Prelude.{ℕ, zero, suc, List, [], ◌∷◌}
 use Rattle.schedule_steps.specs.declared.types.Step.{Step}
-use Rattle.schedule_trie.specs.declared.slot.Slot.{Slot}
-use Rattle.schedule_trie.specs.Forest.{slot}
+use Rattle.branch_terms.specs.declared.slot.Slot.{Slot}
+use Rattle.branch_terms.specs.Forest.{slot}
 
 -- these cells, with the given step in the cell at an index
 abbrev pub set_step : List Slot → ℕ → Step → List Slot

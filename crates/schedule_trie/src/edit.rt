@@ -1,6 +1,6 @@
 //! Edits of branches, as data.
 
-use crate::name::Name;
+use branch_terms::name::Name;
 use schedule_steps::types::Step;
 
 /// An edit of the branch with the first name; a place is one of this branch.

@@ -6,22 +6,16 @@
 #![tactic(auto)]
 
 pub mod edit;
-pub mod limb;
-pub mod limits;
-pub mod listed;
 mod mark;
-pub mod name;
-pub mod refusal;
 mod segment;
-pub mod slot;
 pub mod trie;
 
+pub use branch_terms::limb::{self, Limb, Limbs, Steps};
+pub use branch_terms::limits::{self, Limits};
+pub use branch_terms::listed::{self, Listed};
+pub use branch_terms::name::{self, Name};
+pub use branch_terms::refusal::{self, Refusal};
+pub use branch_terms::slot::{self, Slot};
 pub use edit::Edit;
-pub use limb::{Limb, Limbs, Steps};
-pub use limits::Limits;
-pub use listed::Listed;
-pub use name::Name;
-pub use refusal::Refusal;
 pub use segment::SegKey;
-pub use slot::Slot;
 pub use trie::Trie;

@@ -3,9 +3,9 @@
 ghost use Rattle.std.specs.Prelude.{◌≡◌, ◌<◌, ◌≤◌, ◌+◌, ◌^◌, ◌++◌, ◌∷◌, [], length, None, IfOk, OnOk, OnErr, insert};
 ghost use Rattle.std.specs.List.{remove};
 ghost use Rattle.schedule_trie.specs.Slots.{set_step};
-ghost use Rattle.schedule_trie.specs.Forest.{renumbered};
+ghost use Rattle.branch_terms.specs.Forest.{renumbered};
 
-use crate::slot::Slot;
+use branch_terms::slot::Slot;
 use schedule_steps::types::Step;
 use std::alloc::{AllocError, Global};
 

@@ -4,11 +4,11 @@ ghost use Rattle.std.specs.Prelude.{ℕ, List, ◌∷◌, ◌<◌, ◌≤◌, le
 ghost use Rattle.std.specs.Option.{option_map, option_copied};
 ghost use Rattle.schedule_trie.specs.Climbs.{last_of};
 ghost use Rattle.std.specs.List.{position};
-ghost use Rattle.schedule_trie.specs.Forest.{path_of, step_of, cell_on_branch, place_of, is_cell, opened, opening_forest, lone_branch, IsRefused, index_of, slots_in, name_in, len_of, AreNamedApart, IsForest};
+ghost use Rattle.branch_terms.specs.Forest.{path_of, step_of, cell_on_branch, place_of, is_cell, opened, opening_forest, lone_branch, IsRefused, index_of, slots_in, name_in, len_of, AreNamedApart, IsForest};
 ghost use Rattle.schedule_trie.specs.Edits.{Replace, IsEdited, IsUnedited};
-ghost use Rattle.schedule_trie.specs.Limbs.{is_name, HaveNames};
-ghost use Rattle.schedule_trie.specs.Cut.{IsBlank, IsNoted, IsWhole, above_of, before_key, keys_by, if_lacks, note_of, AreLimits, has, IsOwnEnd, IsPushed, LackedByOthers, forest, IsCut, IsStepSet, piece_at, slots_of, keys_in, line, IsSpotInPath};
-ghost use Rattle.schedule_trie.specs.declared.limits.TheConstants.{MOST_CELLS_MADE};
+ghost use Rattle.branch_terms.specs.Limbs.{is_name, HaveNames};
+ghost use Rattle.schedule_trie.specs.Trie.{IsBlank, IsNoted, IsWhole, above_of, before_key, keys_by, if_lacks, note_of, AreLimits, has, IsOwnEnd, IsPushed, LackedByOthers, forest, IsCut, IsStepSet, segment_at, slots_of, keys_in, line, IsSpotInPath};
+ghost use Rattle.branch_terms.specs.declared.limits.TheConstants.{MOST_CELLS_MADE};
 
 mod climb;
 mod detach;
@@ -21,12 +21,12 @@ mod load;
 mod push;
 mod remove;
 
-use crate::limits::Limits;
-use crate::name::Name;
-use crate::refusal::Refusal;
 pub use crate::segment::SegKey;
 use crate::segment::Segment;
-use crate::slot::Slot;
+use branch_terms::limits::Limits;
+use branch_terms::name::Name;
+use branch_terms::refusal::Refusal;
+use branch_terms::slot::Slot;
 use indexmap::IndexMap;
 use lineage::lineage::Lineage;
 use schedule_steps::types::Step;
@@ -49,13 +49,13 @@ pub struct Trie<T> {
 }
 
 impl<T> Model for Trie<T> {
-    ghost use Rattle.schedule_trie.specs.Cut.{Cut};
+    ghost use Rattle.schedule_trie.specs.Trie.{TrieOf};
 
-    ghost Value = { Cut T };
+    ghost Value = { TrieOf T };
 
-    ghost use Rattle.schedule_trie.specs.Tries.{cut_of, IsKept};
+    ghost use Rattle.schedule_trie.specs.TrieFields.{trie_of, IsKept};
 
-    ghost view = { cut_of };
+    ghost view = { trie_of };
 
     ghost invariant = { IsKept };
 }
@@ -109,7 +109,7 @@ impl<T: Drop> Trie<T> {
         requires name { is_name name ≡ true }
         ensures forest { IfOk result (λ t. forest t ≡ lone_branch name []) }
         ensures limits { IfOk result (λ t. t.limits ≡ limits) }
-        ensures count { IfOk result (λ t. length t.strands ≡ 1) }
+        ensures count { IfOk result (λ t. length t.branches ≡ 1) }
         ensures cut { IfOk result IsCut }
         ensures blank { IfOk result IsBlank }
     {
@@ -130,7 +130,7 @@ impl<T: Drop> Trie<T> {
     /// more segments than this number.
     pub fn made(&self) -> u32
         ensures made { result ≡ (forest self.now).made }
-        ensures few { (i : ℕ) → length (keys_in self.now.strands i) ≤ result }
+        ensures few { (i : ℕ) → length (keys_in self.now.branches i) ≤ result }
     {
         self.made
     }
@@ -153,6 +153,7 @@ impl<T: Drop> Trie<T> {
         ensures names { HaveNames (forest self.now).branches }
         ensures whole { IsWhole self.now }
     {
+        // for the proof: reading a field opens the model, so what its invariant says is known
         let _count = self.branches.len();
     }
 
@@ -221,7 +222,7 @@ impl<T: Drop> Trie<T> {
     /// The steps of the segments with these keys, in order.
     fn steps_of(&self, alloc: Global, keys: &[SegKey]) -> Result<Vec<Step>, AllocError>
         ensures { IfOk result
-            (λ steps. steps.items ≡ map step_of (line (piece_at self.now.pieces) keys.now)) }
+            (λ steps. steps.items ≡ map step_of (line (segment_at self.now.segments) keys.now)) }
     {
         let mut steps = Vec::new(alloc);
         for key in keys {
@@ -237,11 +238,11 @@ impl<T: Drop> Trie<T> {
     /// NoBranch if there is no such branch; Memory if memory runs out.
     pub fn segments(&self, alloc: Global, branch: &Name) -> Result<Vec<SegKey>, Refusal>
         ensures ok { IfOk result
-            (λ keys. keys_by (index_of (forest self.now).branches branch.now) self.now.strands
+            (λ keys. keys_by (index_of (forest self.now).branches branch.now) self.now.branches
             ≡ Some keys.items) }
         ensures err { IfErr result
             (λ e. if_lacks
-            (keys_by (index_of (forest self.now).branches branch.now) self.now.strands) ≡ e) }
+            (keys_by (index_of (forest self.now).branches branch.now) self.now.branches) ≡ e) }
     {
         let Some(index) = self.index(branch) else {
             return Err(Refusal::NoBranch);
@@ -253,9 +254,9 @@ impl<T: Drop> Trie<T> {
     /// has this segment. `None` if the segment is the first of its branches, or if no segment has
     /// `key`.
     pub fn above(&self, key: SegKey) -> Option<SegKey>
-        ensures first { result ≡ above_of self.now.strands key }
+        ensures first { result ≡ above_of self.now.branches key }
         ensures each { (i : ℕ) (front back : List ℕ)
-            → keys_in self.now.strands i ≡ front ++ key ∷ back → result ≡ last_of front }
+            → keys_in self.now.branches i ≡ front ++ key ∷ back → result ≡ last_of front }
     {
         self.segments.above(key)
     }
@@ -263,7 +264,7 @@ impl<T: Drop> Trie<T> {
     /// The cells of a segment, in order; `None` if no segment has the key.
     pub fn cells_of(&self, key: SegKey) -> Option<&[Slot]>
         ensures { option_map (λ slots. slots.now) result
-            ≡ option_map (λ p. p.slots) (piece_at self.now.pieces key) }
+            ≡ option_map (λ p. p.slots) (segment_at self.now.segments key) }
     {
         let segment = self.segments.item(key)?;
         Some(segment.slots.as_slice())
@@ -271,7 +272,7 @@ impl<T: Drop> Trie<T> {
 
     /// The note of a segment; `None` if the segment has no note, or if no segment has the key.
     pub fn note(&self, key: SegKey) -> Option<&T>
-        ensures { option_copied result ≡ note_of (piece_at self.now.pieces key) }
+        ensures { option_copied result ≡ note_of (segment_at self.now.segments key) }
     {
         self.segments.item(key)?.note.as_ref()
     }
@@ -281,10 +282,10 @@ impl<T: Drop> Trie<T> {
     /// `key`. Same as `note` and `above`, but finds the segment only once.
     #[inline(always)]
     pub fn step_up(&self, key: SegKey) -> (Option<&T>, Option<SegKey>)
-        ensures note { option_copied result.0 ≡ note_of (piece_at self.now.pieces key) }
-        ensures first { result.1 ≡ above_of self.now.strands key }
+        ensures note { option_copied result.0 ≡ note_of (segment_at self.now.segments key) }
+        ensures first { result.1 ≡ above_of self.now.branches key }
         ensures each { (i : ℕ) (front back : List ℕ)
-            → keys_in self.now.strands i ≡ front ++ key ∷ back → result.1 ≡ last_of front }
+            → keys_in self.now.branches i ≡ front ++ key ∷ back → result.1 ≡ last_of front }
     {
         match self.segments.step_up(key) {
             Some((segment, above)) => (segment.note.as_ref(), above),
@@ -296,11 +297,11 @@ impl<T: Drop> Trie<T> {
     /// above it, `None` if it is the first of its branches. There has to be a segment at `key`.
     #[inline(always)]
     pub fn step_up_from(&self, key: SegKey) -> (Option<&T>, Option<SegKey>)
-        requires { IsSome (piece_at self.now.pieces key) }
-        ensures note { option_copied result.0 ≡ note_of (piece_at self.now.pieces key) }
-        ensures first { result.1 ≡ above_of self.now.strands key }
+        requires { IsSome (segment_at self.now.segments key) }
+        ensures note { option_copied result.0 ≡ note_of (segment_at self.now.segments key) }
+        ensures first { result.1 ≡ above_of self.now.branches key }
         ensures each { (i : ℕ) (front back : List ℕ)
-            → keys_in self.now.strands i ≡ front ++ key ∷ back → result.1 ≡ last_of front }
+            → keys_in self.now.branches i ≡ front ++ key ∷ back → result.1 ≡ last_of front }
     {
         let (segment, above) = self.segments.step_up_from(key);
         (segment.note.as_ref(), above.get())
@@ -345,7 +346,7 @@ impl<T: Drop> Trie<T> {
     /// there is no such branch.
     pub fn index(&self, branch: &Name) -> Option<usize>
         ensures index { result ≡ index_of (forest self.now).branches branch.now }
-        ensures within { IfSome result (λ i. i < length self.now.strands) }
+        ensures within { IfSome result (λ i. i < length self.now.branches) }
     {
         self.branches.get_index_of(branch)
     }
@@ -353,7 +354,7 @@ impl<T: Drop> Trie<T> {
     /// The key of the last segment of the branch at an index; `None` if there is no such branch, or
     /// if the branch has no cell.
     pub fn last_at(&self, index: usize) -> Option<SegKey>
-        ensures { result ≡ last_of (keys_in self.now.strands index) }
+        ensures { result ≡ last_of (keys_in self.now.branches index) }
     {
         self.segments.last(index)
     }
@@ -366,9 +367,9 @@ impl<T: Drop> Trie<T> {
     ///
     /// If memory runs out.
     pub fn keys_at(&self, alloc: Global, index: usize) -> Result<Vec<SegKey>, AllocError>
-        ensures keys { IfOk result (λ keys. keys.items ≡ keys_in self.now.strands index) }
+        ensures keys { IfOk result (λ keys. keys.items ≡ keys_in self.now.branches index) }
         ensures short { IfOk result
-            (λ keys. length (line (piece_at self.now.pieces) keys.items) ≤ self.now.made) }
+            (λ keys. length (line (segment_at self.now.segments) keys.items) ≤ self.now.made) }
         ensures made { self.now.made ≤ MOST_CELLS_MADE }
     {
         self.segments.keys(alloc, index)
@@ -376,7 +377,7 @@ impl<T: Drop> Trie<T> {
 
     /// The cells of a segment; no cells if no segment has the key.
     fn slots_at(&self, key: SegKey) -> &[Slot]
-        ensures { result.now ≡ slots_of (piece_at self.now.pieces key) }
+        ensures { result.now ≡ slots_of (segment_at self.now.segments key) }
     {
         match self.segments.item(key) {
             Some(segment) => segment.slots.as_slice(),
@@ -386,7 +387,7 @@ impl<T: Drop> Trie<T> {
 
     /// Replaces the step of the cell at an offset of a segment, and clears the segment's note.
     fn set_step(&mut self, key: SegKey, offset: usize, step: Step)
-        requires { offset < length (slots_of (piece_at self.old.pieces key)) }
+        requires { offset < length (slots_of (segment_at self.old.segments key)) }
         ensures { IsStepSet self.old self.new key offset step }
     {
         self.segments.item_mut(key).set_step(offset, step);

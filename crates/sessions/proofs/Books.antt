@@ -3,7 +3,7 @@ use Rattle.std.proofs.Common.{◌≡◌, ℕ, ◌+◌, ◌<◌, Bool, true, fals
 use Rattle.std.proofs.lemmas.Bool.Decides.{nat_tests}
 use Rattle.std.proofs.lemmas.List.{length_push}
 use Rattle.frames.specs.Behaviour.{Behaviour}
-use Rattle.schedule_trie.specs.Cut.{forest}
+use Rattle.schedule_trie.specs.Trie.{forest}
 use Rattle.schedule_trie.specs.Forest.{IsForest, AreNamedApart}
 use Rattle.sessions.specs.declared.command.Command.{Command}
 use Rattle.sessions.specs.declared.log.Entry.{Entry}
@@ -30,7 +30,7 @@ above a b h = grind (arith, nat_tests)
 -- has what its type guarantees
 module _ {R P : Type 0} (is : R → Behaviour P) (old new : Held R P) (is_first : new.first ≡ old.first) (is_world : world_of is new.now ≡ world_of is old.now) where
   pub opens_same : opening_of is new ≡ opening_of is old
-  opens_same = λ i. opening (is (is_first i).start.register) (is_first i).value (is_world i).limits (forest (is_first i).cut)
+  opens_same = λ i. opening (is (is_first i).start.register) (is_first i).value (is_world i).limits (forest (is_first i).trie)
 
   pub book_same : (limit : ℕ) → new.log ≡ old.log → IsBook is limit old → IsBook is limit new
   book_same limit is_log b =
@@ -57,7 +57,7 @@ module _ {R P : Type 0} (is : R → Behaviour P) (first : Charted R P) (s t : Wo
   old = book_of first s log
 
   pub room : is_full (world_of is old.now) ≡ false
-  room = let most = b.same_limit in above s.chart.cut.limits.log (length log.items) (omega (arith, most, count, less))
+  room = let most = b.same_limit in above s.chart.trie.limits.log (length log.items) (omega (arith, most, count, less))
 
   -- memory runs out
   module _ (who : ℕ) (guard : Option ℕ) (c : Command) (has : (n : ℕ) → is_full (world_of is (stored s n)) ≡ false → NoneDue who guard c (world_of is (stored s n)) × (world_of is (stored t n) ≡ world_of is (stored s n))) where
@@ -97,7 +97,7 @@ module _ {R P : Type 0} (is : R → Behaviour P) (first : Charted R P) (s t : Wo
     pub opens_more : opening_of is new ≡ opening_of is old
     opens_more = ap (opening_over is first) limits_same
 
-    pub book_more : IsForest (forest s.chart.cut) → IsForest (forest t.chart.cut) → IsBook is limit new
+    pub book_more : IsForest (forest s.chart.trie) → IsForest (forest t.chart.trie) → IsBook is limit new
     book_more before after =
         let h = b.held in
         let w = opening_of is old in

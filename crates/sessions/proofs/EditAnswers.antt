@@ -10,7 +10,7 @@ use Rattle.schedule_trie.specs.declared.refusal.Refusal.{Refusal}
 use Rattle.schedule_trie.specs.declared.refusal.Refusal.TheVariants.{Occupied, Memory, LastBranch}
 use Rattle.schedule_trie.specs.Forest as forests
 use Rattle.schedule_trie.specs.Forest.{Forest, IsRefused, index_of, slots_in}
-use Rattle.schedule_trie.specs.Cut.{forest}
+use Rattle.schedule_trie.specs.Trie.{forest}
 use Rattle.schedule_trie.specs.Edits.{Edit, Insert, Remove, Replace, Fork, Detach, Drop, edited, WhyRefused}
 use Rattle.cutoff.specs.Charts.{Charted}
 use Rattle.cutoff.specs.Edits.{Edits}
@@ -128,16 +128,16 @@ after old chart cursors = record old { chart = chart; cursors = cursors; edits =
 
 module _ {R P : Type 0} (is : R → Behaviour P) (n : ℕ) (old : Workspace R P) (chart : Charted R P) (cursors : List (Option Cursor)) (edit : Edit) where
   module _ (who : ℕ) (c : Command) (is_edit : edit_of c ≡ Some edit) where
-    pub done_edit : (done : Unit {0}) → is_held_up edit (forest old.chart.cut) old.cursors ≡ false → Edits old.chart chart edit (Ok done)
-        → cursors ≡ moved_by edit (forest old.chart.cut) old.cursors → IsCarriedOut is who c (stored old n) (stored (after old chart cursors) n) (Edited (old.edits + 1))
+    pub done_edit : (done : Unit {0}) → is_held_up edit (forest old.chart.trie) old.cursors ≡ false → Edits old.chart chart edit (Ok done)
+        → cursors ≡ moved_by edit (forest old.chart.trie) old.cursors → IsCarriedOut is who c (stored old n) (stored (after old chart cursors) n) (Edited (old.edits + 1))
     done_edit done h e m =
-        let limits = old.chart.cut.limits in
+        let limits = old.chart.trie.limits in
         let w = world_of is (stored old n) in
-        let stays = free limits (forest old.chart.cut) (forest chart.cut) edit old.cursors e.0.forest h in
-        let forests_same : kept_or (edited limits (forest old.chart.cut) edit) (forest old.chart.cut) ≡ forest chart.cut = ap (λ x. kept_or x (forest old.chart.cut)) e.0.forest in
+        let stays = free limits (forest old.chart.trie) (forest chart.trie) edit old.cursors e.0.forest h in
+        let forests_same : kept_or (edited limits (forest old.chart.trie) edit) (forest old.chart.trie) ≡ forest chart.trie = ap (λ x. kept_or x (forest old.chart.trie)) e.0.forest in
         let register : is old.chart.start.register ≡ is chart.start.register = sym (ap (λ s. is s.register) e.1.0) in
         let value : old.chart.value ≡ chart.value = sym e.1.1 in
-        let same_limits : limits ≡ chart.cut.limits = sym e.0.limits in
+        let same_limits : limits ≡ chart.trie.limits = sym e.0.limits in
         let leaves : edited_world edit w ≡ with_one_logged (world_of is (stored (after old chart cursors) n)) =
         λ i. record {
           tower = register i;
@@ -150,15 +150,15 @@ module _ {R P : Type 0} (is : R → Behaviour P) (n : ℕ) (old : Workspace R P)
           logged = n + 1;
         } in
         record {
-          fine = ap (λ o. first_refusal (late_by o who c w)) is_edit ∙ fine who c w edit (forest chart.cut) e.0.forest stays;
+          fine = ap (λ o. first_refusal (late_by o who c w)) is_edit ∙ fine who c w edit (forest chart.trie) e.0.forest stays;
           leaves = ap (λ o. left_by o who c w) is_edit ∙ leaves;
           replies = edit_reply who c w (subst IsSome (sym is_edit) refl);
         }
 
-    why_edit : (e : Refusal) → (is_held_up edit (forest old.chart.cut) old.cursors ≡ true → ◌≡◌ {A = Result (Unit {0}) Refusal} (Err e) (Err Occupied)) → (is_held_up edit (forest old.chart.cut) old.cursors ≡ false → Edits old.chart chart edit (Err e)) → IsLate who c (world_of is (stored old n)) e
-    why_edit e up h = by (is_held_up edit (forest old.chart.cut) old.cursors) refl
+    why_edit : (e : Refusal) → (is_held_up edit (forest old.chart.trie) old.cursors ≡ true → ◌≡◌ {A = Result (Unit {0}) Refusal} (Err e) (Err Occupied)) → (is_held_up edit (forest old.chart.trie) old.cursors ≡ false → Edits old.chart chart edit (Err e)) → IsLate who c (world_of is (stored old n)) e
+    why_edit e up h = by (is_held_up edit (forest old.chart.trie) old.cursors) refl
       where
-        by : (b : Bool) → is_held_up edit (forest old.chart.cut) old.cursors ≡ b → IsLate who c (world_of is (stored old n)) e
+        by : (b : Bool) → is_held_up edit (forest old.chart.trie) old.cursors ≡ b → IsLate who c (world_of is (stored old n)) e
         by true held_up =
             let occupied : e ≡ Occupied = (let failed = up held_up in cc) in
             subst (IsLate who c (world_of is (stored old n))) (sym occupied) (inl (ap (λ o. first_refusal (late_by o who c (world_of is (stored old n)))) is_edit ∙ held_up_by who c (world_of is (stored old n)) edit held_up))
@@ -166,8 +166,8 @@ module _ {R P : Type 0} (is : R → Behaviour P) (n : ℕ) (old : Workspace R P)
             rw is_edit (late_edit who c (world_of is (stored old n)) edit e (h free).0)
 
     -- an edit that is refused, or runs out of memory
-    pub undone_edit : (r : Result Reply Refusal) (e : Refusal) (Is : Refusal → Type 0) → IsErrAnd r Is → ((x : Refusal) → Is x → x ≡ e) → (is_held_up edit (forest old.chart.cut) old.cursors ≡ true → ◌≡◌ {A = Result (Unit {0}) Refusal} (Err e) (Err Occupied))
-        → (is_held_up edit (forest old.chart.cut) old.cursors ≡ false → Edits old.chart chart edit (Err e)) → (chart ≡ old.chart) × (cursors ≡ old.cursors)
+    pub undone_edit : (r : Result Reply Refusal) (e : Refusal) (Is : Refusal → Type 0) → IsErrAnd r Is → ((x : Refusal) → Is x → x ≡ e) → (is_held_up edit (forest old.chart.trie) old.cursors ≡ true → ◌≡◌ {A = Result (Unit {0}) Refusal} (Err e) (Err Occupied))
+        → (is_held_up edit (forest old.chart.trie) old.cursors ≡ false → Edits old.chart chart edit (Err e)) → (chart ≡ old.chart) × (cursors ≡ old.cursors)
         → Does is who c (stored old n) (stored (record old { chart = chart; cursors = cursors }) n) r
     undone_edit (Ok reply) e Is told one up h kept = absurd told
     undone_edit (Err x) e Is told one up h kept =

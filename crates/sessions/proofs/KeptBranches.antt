@@ -2,7 +2,7 @@
 use Rattle.std.proofs.Common.{◌≡◌, ℕ, Bool, ap, ◌∙◌}
 use Rattle.frames.specs.Behaviour.{Behaviour}
 use Rattle.checkpoints.specs.Segment.{SegmentRun}
-use Rattle.schedule_trie.specs.Cut.{forest}
+use Rattle.schedule_trie.specs.Trie.{forest}
 use Rattle.cutoff.specs.declared.install.Installation.{Installation}
 use Rattle.cutoff.specs.declared.install.Installation.TheVariants.{Installed, Stale, Gone}
 use Rattle.cutoff.specs.Charts.{Charted}
@@ -14,8 +14,8 @@ use Rattle.sessions.specs.declared.workspace.Workspace.{Workspace}
 module _ {R P : Type 0} where
   same_kept : (old new : Charted R P) → new ≡ old → IsChartKept old new
   same_kept old new same = record {
-    branches = ap (λ c. forest c.cut) same;
-    limits = ap (λ c. c.cut.limits) same;
+    branches = ap (λ c. forest c.trie) same;
+    limits = ap (λ c. c.trie.limits) same;
     start = ap (λ c. c.start) same;
     value = ap (λ c. c.value) same;
   }

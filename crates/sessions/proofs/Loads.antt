@@ -8,9 +8,9 @@ use Rattle.schedule_trie.specs.declared.limits.Limits.{Limits}
 use Rattle.schedule_trie.specs.declared.refusal.Refusal.TheVariants.{Full, TooManyBranches}
 use Rattle.schedule_trie.specs.Forest.{Forest, opened}
 use Rattle.schedule_trie.specs.Forest as forests
-use Rattle.schedule_trie.specs.Cut.{forest}
+use Rattle.schedule_trie.specs.Trie.{forest}
 use Rattle.schedule_trie.specs.Limbs.{FitLimits, AreLawfulLimbs, cells_of, forest_of, limbs, loaded}
-use Rattle.schedule_trie.proofs.LimbLaws.{forest_made}
+use Rattle.branch_terms.proofs.LimbLaws.{forest_made}
 use Rattle.cutoff.specs.Charts.{Charted, LimbsFit}
 use Rattle.sessions.specs.World.{opening}
 use Rattle.sessions.specs.Books.{opening_over, stored, world_of}
@@ -38,15 +38,15 @@ opened_is limits steps f e = by (nat_lt limits.cells (length steps)) e
 
 -- the opening over a chart is that of its register, value and branches
 pub opening_so : {R P : Type 0} (is : R → Behaviour P) (chart : Charted R P) (register : R) (value : ℕ) (limits : Limits)
-    (f : Forest) → chart.start.register ≡ register → chart.value ≡ value → forest chart.cut ≡ f
+    (f : Forest) → chart.start.register ≡ register → chart.value ≡ value → forest chart.trie ≡ f
     → opening_over is chart limits ≡ opening (is register) value limits f
 opening_so is chart register value limits f same_register same_value same =
     λ i. opening (is (same_register i)) (same_value i) limits (same i)
 
 -- a chart's limbs are what is saved of its world
 pub saved_so : {R P A E : Type 0} (is : R → Behaviour P) (s : Workspace R P) (n : ℕ) (items : A → List Limb) (told : Result A E)
-    → IfOk told (λ r. items r ≡ limbs (forest s.chart.cut)) → IfOk told (λ r. AreLawfulLimbs (items r)) → IfOk told (λ r. 0 < length (items r))
-    → IfOk told (λ r. FitLimits s.chart.cut.limits (items r)) → IfOk told (λ r. LimbsFit (is s.chart.start.register) (items r))
+    → IfOk told (λ r. items r ≡ limbs (forest s.chart.trie)) → IfOk told (λ r. AreLawfulLimbs (items r)) → IfOk told (λ r. 0 < length (items r))
+    → IfOk told (λ r. FitLimits s.chart.trie.limits (items r)) → IfOk told (λ r. LimbsFit (is s.chart.start.register) (items r))
     → IfOk told (λ r. IsSaved (world_of is (stored s n)) (items r))
 saved_so is s n items (Ok r) same lawful some near fit = record { same = same; lawful = lawful; some = some; fit = fit; near = near }
 saved_so is s n items (Err e) same lawful some near fit = tt

@@ -11,7 +11,7 @@ use Rattle.frames.specs.Behaviour.{Behaviour}
 use Rattle.frames.specs.Configuration.{Configuration, initial_configuration, stepped, replayed, history}
 use Rattle.frames.specs.Configuration.{events_of as events_of_step}
 use Rattle.schedule_trie.specs.Forest.{step_of}
-use Rattle.schedule_trie.specs.Cut.{Cut, piece_at, slots_of, line, forest}
+use Rattle.schedule_trie.specs.Trie.{TrieOf, segment_at, slots_of, line, forest}
 use Rattle.cutoff.specs.Fitting.{StoredRun, RunPart, RunFits, steps_at, reached, counted, part_of}
 use Rattle.cutoff.specs.Settles.{Settles, IsSettled}
 use Rattle.cutoff.specs.Charts.{Charted, keys_named}
@@ -69,15 +69,15 @@ module _ {P : Type 0} (b : Behaviour P) (value : ℕ) (breaks : List Break) (bef
       ∙ ap (λ c. is_met breaks (slice_index_or (history b (shown b value before) segment) i no_events) c.memory) (shown_in i within)
 
 module _ {R P : Type 0} (E : R → R → Bool) (is : R → Behaviour P) (alike : (x y : R) → E x y ≡ true → is x ≡ is y)
-    (b : Behaviour P) (old new : Cut (StoredRun R P)) (value : ℕ) (breaks : List Break) (steps : List Step) where
+    (b : Behaviour P) (old new : TrieOf (StoredRun R P)) (value : ℕ) (breaks : List Break) (steps : List Step) where
   test : ℕ → Bool
   test place = is_hit b value steps breaks place
 
   abbrev along : List ℕ → List Step
-  along keys = map step_of (line (piece_at old.pieces) keys)
+  along keys = map step_of (line (segment_at old.segments) keys)
 
   along_more : (k : ℕ) (ks : List ℕ) → along (k ∷ ks) ≡ steps_at old k ++ along ks
-  along_more k ks = map-append step_of (slots_of (piece_at old.pieces k)) (line (piece_at old.pieces) ks)
+  along_more k ks = map-append step_of (slots_of (segment_at old.segments k)) (line (segment_at old.segments) ks)
 
   -- a run that follows a front, and counts whole
   one : (before : List Step) (c : Configuration R P) (k : ℕ) (ks : List ℕ) (part : RunPart R P) → is c.register ≡ b → without_register c ≡ shown b value before
@@ -137,14 +137,14 @@ module _ {R P : Type 0} (E : R → R → Bool) (is : R → Behaviour P) (alike :
 
 module _ {R P : Type 0} (E : R → R → Bool) (is : R → Behaviour P) (alike : (x y : R) → E x y ≡ true → is x ≡ is y) where
   -- the runs that a settle of a whole branch gives agree with the test of its places
-  pub runs_tell : (old new : Charted R P) (name : List ℕ) (len : ℕ) (parts : List (RunPart R P)) (n : ℕ) (breaks : List Break) → len ≡ length (steps_in (forest old.cut) name)
+  pub runs_tell : (old new : Charted R P) (name : List ℕ) (len : ℕ) (parts : List (RunPart R P)) (n : ℕ) (breaks : List Break) → len ≡ length (steps_in (forest old.trie) name)
       → old.start ≡ initial_configuration (is old.start.register) old.start.register old.value
       → IsSettled E (is old.start.register) old new name len parts n
-      → ReportsParts is breaks (is_hit (is old.start.register) old.value (steps_in (forest old.cut) name) breaks) 0 parts
+      → ReportsParts is breaks (is_hit (is old.start.register) old.value (steps_in (forest old.trie) name) breaks) 0 parts
   runs_tell old new name len parts n breaks long begins h =
       let b = is old.start.register in
-      let named = steps_named old.cut name in
-      told E is alike b old.cut new.cut old.value breaks (steps_in (forest old.cut) name) [] old.start (keys_named old.cut name) len parts n refl (ap without_register begins) named
+      let named = steps_named old.trie name in
+      told E is alike b old.trie new.trie old.value breaks (steps_in (forest old.trie) name) [] old.start (keys_named old.trie name) len parts n refl (ap without_register begins) named
       (long ∙ ap length named) h.settles
 
 -- one step of many

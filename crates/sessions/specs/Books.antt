@@ -7,7 +7,7 @@ use Rattle.frames.specs.Configuration.{initial_configuration}
 use Rattle.schedule_trie.specs.declared.limits.Limits.{Limits}
 use Rattle.schedule_trie.specs.declared.refusal.Refusal.{Refusal}
 use Rattle.schedule_trie.specs.declared.refusal.Refusal.TheVariants.{Memory}
-use Rattle.schedule_trie.specs.Cut.{AreLimits, forest}
+use Rattle.schedule_trie.specs.Trie.{AreLimits, forest}
 use Rattle.cutoff.specs.Charts.{Charted}
 use Rattle.pages.specs.declared.breakpoint.Break.{Break}
 use Rattle.sessions.specs.declared.cursor.Cursor.{Cursor}
@@ -40,7 +40,7 @@ world_of is s =
       tower = is s.chart.start.register;
       value = s.chart.value;
       limits = s.limits;
-      forest = forest s.chart.cut;
+      forest = forest s.chart.trie;
       cursors = s.cursors;
       breaks = s.breaks;
       edits = s.edits;
@@ -49,7 +49,7 @@ world_of is s =
 
 -- the stored world of a workspace, when n commands are logged
 abbrev pub stored : {R P : Type 0} → Workspace R P → ℕ → StoredWorld R P
-stored s n = record { chart = s.chart; limits = s.chart.cut.limits; cursors = s.cursors; breaks = s.breaks.items; edits = s.edits; logged = n }
+stored s n = record { chart = s.chart; limits = s.chart.trie.limits; cursors = s.cursors; breaks = s.breaks.items; edits = s.edits; logged = n }
 
 -- what every command keeps of a world: its limits are in their ranges; the number of cells ever
 -- made is within them; it has sixteen sessions, whose cursors are at places that exist; and the
@@ -72,7 +72,7 @@ pub record Held (R P : Type 0) : Type 0 where
 
 -- the world at the opening of a book, before its first command
 abbrev pub opening_of : {R P : Type 0} → (R → Behaviour P) → Held R P → World P
-opening_of is h = opening (is h.first.start.register) h.first.value h.now.limits (forest h.first.cut)
+opening_of is h = opening (is h.first.start.register) h.first.value h.now.limits (forest h.first.trie)
 
 -- the configuration from which a book's branches are replayed is the initial one of the register
 -- and the value that the book opened with
@@ -83,7 +83,7 @@ BeginsAtOpening is h =
 -- the world before the first command, with these limits, and with the register, the initial value
 -- and the branches of a chart
 abbrev pub opening_over : {R P : Type 0} → (R → Behaviour P) → Charted R P → Limits → World P
-opening_over is chart limits = opening (is chart.start.register) chart.value limits (forest chart.cut)
+opening_over is chart limits = opening (is chart.start.register) chart.value limits (forest chart.trie)
 
 -- the invariant of a book. Its log is legal (each reply is the one that its command gets), and
 -- leads from the opening to the present world. This world counts as many logged commands as the log

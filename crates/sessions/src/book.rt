@@ -5,7 +5,7 @@ ghost use Rattle.std.specs.Arc.{arc_value};
 ghost use Rattle.frames.specs.Recorded.{AllFit};
 ghost use Rattle.schedule_trie.specs.Forest.{IsRefused, index_of, opened};
 ghost use Rattle.schedule_trie.specs.Forest as forests;
-ghost use Rattle.schedule_trie.specs.Cut.{AreLimits, IsCut, forest, if_lacks};
+ghost use Rattle.schedule_trie.specs.Trie.{AreLimits, IsCut, forest, if_lacks};
 ghost use Rattle.cutoff.specs.Plans.{IsPlan};
 ghost use Rattle.cutoff.specs.Installs.{Installs};
 ghost use Rattle.sessions.specs.World.{opening};
@@ -102,8 +102,8 @@ impl<R: Register> Book<R> {
     /// Fails only if memory runs out.
     fn over(alloc: Global, chart: Chart<R>, limits: Limits) -> Result<Book<R>, AllocError>
         requires limits { AreLimits limits }
-        requires same_limits { chart.cut.limits ≡ limits }
-        requires few_cells { (forest chart.cut).made ≤ limits.cells }
+        requires same_limits { chart.trie.limits ≡ limits }
+        requires few_cells { (forest chart.trie).made ≤ limits.cells }
         ensures world { let first = opening_over R.behaviour chart limits
             in IfOk result (λ book. world_of R.behaviour book.now ≡ first) }
         ensures opening { let first = opening_over R.behaviour chart limits
@@ -206,9 +206,9 @@ impl<R: Register> Book<R> {
             (λ jobs. IsPlan R.PartialEq.eq (R.behaviour chart.start.register) chart branch.now
             jobs.items) }
         ensures found { OnOk result
-            (IsSome (index_of (forest self.now.now.chart.cut).branches branch.now)) }
+            (IsSome (index_of (forest self.now.now.chart.trie).branches branch.now)) }
         ensures err { IfErr result
-            (λ e. if_lacks (index_of (forest self.now.now.chart.cut).branches branch.now) ≡ e) }
+            (λ e. if_lacks (index_of (forest self.now.now.chart.trie).branches branch.now) ≡ e) }
     {
         self.workspace.chart.plan(alloc, branch)
     }
@@ -245,7 +245,7 @@ impl<R: Register> Book<R> {
     /// opened with.
     pub fn lemma_invariant(&self)
         ensures log { IsHeld R.behaviour self.now }
-        ensures cut { IsCut self.now.now.chart.cut }
+        ensures cut { IsCut self.now.now.chart.trie }
         ensures begins { BeginsAtOpening R.behaviour self.now }
     {
         self.workspace.chart.lemma_invariant();

@@ -4,10 +4,10 @@ ghost use Rattle.std.specs.Prelude.{◌≡◌, ◌<◌, ◌≤◌, IfSome, lengt
 ghost use Rattle.std.specs.List.{list_any};
 ghost use Rattle.std.specs.Option.{option_map};
 ghost use Rattle.schedule_trie.specs.Forest.{cell_on_branch};
-ghost use Rattle.schedule_trie.specs.Cut.{forest};
+ghost use Rattle.schedule_trie.specs.Trie.{forest};
 ghost use Rattle.sessions.specs.Bounds.{AreWithin};
 ghost use Rattle.sessions.specs.Cursors as spec;
-ghost use Rattle.schedule_trie.specs.declared.limits.TheConstants.{MOST_CELLS_MADE};
+ghost use Rattle.branch_terms.specs.declared.limits.TheConstants.{MOST_CELLS_MADE};
 
 use cutoff::chart::Chart;
 use frames::register::Register;
@@ -51,7 +51,7 @@ impl Shift {
 /// Whether an insert or a remove at `cell` changes the branch `other`. If `cell` is `None`, the
 /// edit is at the end of `branch`, and changes `branch` alone.
 fn acts_in<R: Register>(chart: &Chart<R>, cell: Option<u32>, branch: &Name, other: &Name) -> bool
-    ensures { result ≡ spec.acts_in cell (forest chart.now.cut) branch.now other.now }
+    ensures { result ≡ spec.acts_in cell (forest chart.now.trie) branch.now other.now }
 {
     match cell {
         None => branch == other,
@@ -70,10 +70,10 @@ fn shifted_one<R: Register>(
     shift: Shift,
     cursor: &Option<Cursor>,
 ) -> Option<Cursor>
-    requires cell { cell ≡ cell_on_branch (forest chart.now.cut) branch.now place }
+    requires cell { cell ≡ cell_on_branch (forest chart.now.trie) branch.now place }
     requires within { IfSome cursor.now (λ c. c.place ≤ MOST_CELLS_MADE) }
     ensures { result
-        ≡ option_map (spec.shifted shift (forest chart.now.cut) branch.now place) cursor.now }
+        ≡ option_map (spec.shifted shift (forest chart.now.trie) branch.now place) cursor.now }
 {
     let Some(cursor) = cursor else {
         return None;
@@ -99,7 +99,7 @@ pub(crate) fn shifted<R: Register>(
     requires sessions { length cursors.now ≡ 16 }
     requires within { AreWithin cursors.now }
     ensures { result
-        ≡ spec.each_cursor (spec.shifted shift (forest chart.now.cut) branch.now place)
+        ≡ spec.each_cursor (spec.shifted shift (forest chart.now.trie) branch.now place)
         cursors.now }
 {
     let cell = chart.cell_at(branch, place);

@@ -4,7 +4,7 @@ ghost use Rattle.std.specs.Prelude.{ℕ, Bool, List, ◌≡◌, ◌<◌, ◌≤�
 ghost use Rattle.std.specs.List.{list_any};
 ghost use Rattle.std.specs.Option.{option_or};
 ghost use Rattle.frames.specs.Recorded.{AllFit};
-ghost use Rattle.schedule_trie.specs.Cut.{forest};
+ghost use Rattle.schedule_trie.specs.Trie.{forest};
 ghost use Rattle.cutoff.specs.Fitting.{counted, part_of};
 ghost use Rattle.cutoff.specs.Settles.{KeepsOrFills};
 ghost use Rattle.pages.specs.Breaks as breaks_spec;
@@ -255,15 +255,15 @@ pub fn next_hit<R: Register>(
     search: &Search<'_>,
 ) -> Result<Option<u32>, AllocError>
     ensures met { let b = R.behaviour chart.old.start.register in
-        let steps = steps_in (forest chart.old.cut) branch.now in
+        let steps = steps_in (forest chart.old.trie) branch.now in
         let test = is_hit b chart.old.value steps search.now.breaks.now in IfOk result
         (λ place. IfSome place (IsNextHit search.now.way test (length steps + 1) search.now.from)) }
     ensures hit { let all = hits (R.behaviour chart.old.start.register) chart.old.value
-        (steps_in (forest chart.old.cut) branch.now) search.now.breaks.now in
+        (steps_in (forest chart.old.trie) branch.now) search.now.breaks.now in
         IfOk result (λ place. place ≡ next_place search.now.way search.now.from all) }
     ensures kept { IsChartKept chart.old chart.new }
     ensures keeps { KeepsOrFills R.PartialEq.eq R.behaviour chart.old chart.new branch.now
-        (length (steps_in (forest chart.old.cut) branch.now)) }
+        (length (steps_in (forest chart.old.trie) branch.now)) }
 {
     let runs = settled(alloc, chart, branch)?;
     let first = chart.initial().copy(alloc)?;
@@ -277,15 +277,15 @@ fn settled<R: Register>(
     branch: &Name,
 ) -> Result<Runs<R>, AllocError>
     ensures reports { let b = R.behaviour chart.old.start.register in
-        let steps = steps_in (forest chart.old.cut) branch.now in (breaks : List Break)
+        let steps = steps_in (forest chart.old.trie) branch.now in (breaks : List Break)
         → IfOk result
         (λ runs. ReportsParts R.behaviour breaks (is_hit b chart.old.value steps breaks) 0 runs) }
     ensures counts { IfOk result (λ runs. counted runs
-        ≡ length (steps_in (forest chart.old.cut) branch.now)) }
+        ≡ length (steps_in (forest chart.old.trie) branch.now)) }
     ensures room { IfOk result (λ runs. IsPlace (counted runs)) }
     ensures kept { IsChartKept chart.old chart.new }
     ensures keeps { KeepsOrFills R.PartialEq.eq R.behaviour chart.old chart.new branch.now
-        (length (steps_in (forest chart.old.cut) branch.now)) }
+        (length (steps_in (forest chart.old.trie) branch.now)) }
 {
     let Some(len) = chart.len(branch) else {
         return Ok(Runs::new(Vec::new(alloc)));

@@ -39,7 +39,7 @@ use Rattle.layers.proofs.Law.{View, Watch, Runs, IsKept, IsUser}
 use Rattle.layers.proofs.LayerLaw.{layer_law}
 use Rattle.layers.proofs.Admitted.{IsAdmitted, AlwaysAdmits, OnInvoke, by_count, takes_if, refuses_if}
 use Rattle.layers.proofs.Counted.{Counted, uncounted}
-use Rattle.stamped.proofs.Kept.{code_of, Since, WriteSays, Stamps, after_write, stamps_invoke, stamps_wrote, stamps_read, read_since, greater, stamped_user}
+use Rattle.stamped.proofs.Kept.{code_of, Since, Stamps, after_write, stamps_first, stamps_invoke, stamps_wrote, stamps_floor, stamps_read, read_since, greater, stamped_user}
 use Rattle.stamped.specs.declared.task.StampedTask.{StampedTask}
 use Rattle.stamped.specs.declared.task.StampedTask.TheVariants.{Writing, Reading}
 use Rattle.stamped.specs.Program.{stamped_program, stamped_rest, stamped_table, stamped_code_count, StampedMayBeAt}
@@ -210,27 +210,12 @@ module _ (V last : ℕ) where
         (
           og (max (j.words 1) x % V) z refl (tie_not_stray last (max (j.words 1) x % V) n u.seen c h.tie g.1.0 nb value, tt),
           record {
-            stamps = record {
-              small = h.stamps.small;
-              stamped = h.stamps.stamped;
-              best_is = is;
-              floor = nb;
-              low = h.stamps.low;
-              done = h.stamps.done;
-              last = h.stamps.last;
-              writing = says (j.parts 0).writing h.stamps.writing;
-              fresh = h.stamps.fresh;
-              overlaps = λ y m. h.stamps.overlaps y m;
-            };
+            stamps = stamps_floor V n c (j.parts 0) (j.words 0) (j.words 1) (max (j.words 1) x) h.stamps nb is;
             tie = tie_floor last n u.seen c h.tie;
             idle = h.idle;
           },
         ),
       )
-    where
-      says : (o : Option ℕ) → WriteSays V u.counted o → WriteSays V (record u.counted { floor = (greater V x u.counted (j.parts 0) (j.words 0) (j.words 1) h.stamps y).0 }) o
-      says None k = k
-      says (Some y) k = k
 
   begin_write : (u : Two) (j : View StampedTask) (v : ℕ) → LimitedInv V last u j → j.tasks 0 ≡ None → v < V
       → Runs t w 0 (Write v) (λ e. ShowsTwo last u (in_order (Some (Invoke 0 (Write v))) e)) (stamped_program V last 0 (Write v)) j
@@ -334,20 +319,8 @@ module _ (V last : ℕ) where
 
   at_first : (v : ℕ) → v < V → (j : View StampedTask) → j.words 0 ≡ 0 → j.words 1 ≡ v → j.parts 0 ≡ opening v → LimitedInv V last (two_first v) j
   at_first v l j e0 e1 ep =
-      let zero_code : v ≡ code_of V (uncounted v) 0 = omega arith in
       record {
-        stamps = subst (λ s. Stamps V (uncounted v) s (j.words 0) (j.words 1)) (sym ep) (record {
-          small = λ n k. l;
-          stamped = e0;
-          best_is = e1 ∙ zero_code;
-          floor = omega arith;
-          low = omega arith;
-          done = omega arith;
-          last = zero_code;
-          writing = refl;
-          fresh = zero_code;
-          overlaps = λ y m. (let n : ⊥ = cc in absurd n);
-        });
+        stamps = stamps_first V v (j.parts 0) (j.words 0) (j.words 1) l ep e0 e1;
         tie = record { latest = refl; writing = refl; fresh = refl; overlaps = λ n lo hi. absurd (omega (arith, lo, hi)); count = refl; few = omega arith };
         idle = λ k. (ap (λ s. s.writing) ep, refl);
       }
@@ -355,10 +328,12 @@ module _ (V last : ℕ) where
   pub limited_kept : IsKept t (StampedMayBeAt V last) w two_first (ShowsTwo last)
   limited_kept = record {
     initial = λ v l j ew et ep. at_first v l j (ew 0 (omega arith)) (ew 1 (omega arith)) (ep 0 (omega arith));
-    void = λ u p reason. (record { first = refl; taken = λ e. tt; refused = λ e. absurd (cc e); reads = tt }, refl);
-    stop = λ u p. (record { first = refl; taken = λ e. tt; refused = λ e. absurd (cc e); reads = tt }, refl);
+    passes = record {
+      void = λ u p reason. (record { first = refl; taken = λ e. tt; refused = λ e. absurd (cc e); reads = tt }, refl);
+      stop = λ u p. (record { first = refl; taken = λ e. tt; refused = λ e. absurd (cc e); reads = tt }, refl);
+      still = λ u j p chosen h. (u, (shows_gone last p chosen None u.seen tt tt, h));
+    };
     begins = begins;
-    still = λ u j p chosen h. (u, (shows_gone last p chosen None u.seen tt tt, h));
     goes = λ u j p n chosen o h mine s ans pass good. go_ends u j p n.op n.task chosen o h s ans pass good;
   }
 

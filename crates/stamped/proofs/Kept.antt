@@ -70,6 +70,23 @@ after_write v c = record c { value = put (c.begun + 1) v c.value; begun = (c.beg
 same_code : (V v n : ℕ) (c : Counted) → n ≤ c.begun → code_of V c n ≡ code_of V (after_write v c) n
 same_code V v n c l = ap (λ x. n * V + x) (sym (put_other (c.begun + 1) n v c.value (λ e. omega (arith, e, l))))
 
+-- at first the code is the initial value, with stamp 0
+pub stamps_first : (V v : ℕ) (s : Seen) (stamp best : ℕ) → v < V → s ≡ opening v → stamp ≡ 0 → best ≡ v → Stamps V (uncounted v) s stamp best
+stamps_first V v s stamp best l opened zero same =
+    let zero_code : v ≡ code_of V (uncounted v) 0 = omega arith in
+    subst (λ s. Stamps V (uncounted v) s stamp best) (sym opened) (record {
+      small = λ n k. l;
+      stamped = zero;
+      best_is = same ∙ zero_code;
+      floor = omega arith;
+      low = omega arith;
+      done = omega arith;
+      last = zero_code;
+      writing = refl;
+      fresh = zero_code;
+      overlaps = λ y m. (let n : ⊥ = cc in absurd n);
+    })
+
 pub stamps_invoke : (V v p q : ℕ) (c : Counted) (s : Seen) (stamp best : ℕ) → Stamps V c s stamp best → s.writing ≡ None → v < V
     → Stamps V (after_write v c) (sees (Some (Invoke q (Write ((stamp + 1) * V + v)))) s) (stamp + 1) best
 stamps_invoke V v p q c s stamp best h idle lv =
@@ -124,6 +141,25 @@ stamps_wrote V q c s stamp best h =
       fresh = h.fresh;
       overlaps = λ y m. h.overlaps y m;
     }
+
+-- a read has given the greatest code so far, which is that of write n
+pub stamps_floor : (V n : ℕ) (c : Counted) (s : Seen) (stamp best most : ℕ) → Stamps V c s stamp best → n ≤ c.begun → most ≡ code_of V c n → Stamps V (record c { floor = n }) s stamp most
+stamps_floor V n c s stamp best most h few is = record {
+  small = h.small;
+  stamped = h.stamped;
+  best_is = is;
+  floor = few;
+  low = h.low;
+  done = h.done;
+  last = h.last;
+  writing = says s.writing h.writing;
+  fresh = h.fresh;
+  overlaps = λ y m. h.overlaps y m;
+}
+  where
+    says : (o : Option ℕ) → WriteSays V c o → WriteSays V (record c { floor = n }) o
+    says None k = k
+    says (Some y) k = k
 
 begun_since : (V : ℕ) (c : Counted) (w : Option ℕ) (y : ℕ) → WriteSays V c w → IsTrue (among y (in_progress w)) → y ≡ code_of V c c.begun
 begun_since V c None y w m = let n : ⊥ = cc in absurd n
@@ -215,26 +251,11 @@ module _ (V last : ℕ) where
         (
           og (max (j.words 1) x % V) z (n, (value, (g.1.0, (nb, (g.1.1.1.0, refl))))),
           record {
-            stamps = record {
-              small = h.stamps.small;
-              stamped = h.stamps.stamped;
-              best_is = is;
-              floor = nb;
-              low = h.stamps.low;
-              done = h.stamps.done;
-              last = h.stamps.last;
-              writing = says (j.parts 0).writing h.stamps.writing;
-              fresh = h.stamps.fresh;
-              overlaps = λ y m. h.stamps.overlaps y m;
-            };
+            stamps = stamps_floor V n c (j.parts 0) (j.words 0) (j.words 1) (max (j.words 1) x) h.stamps nb is;
             idle = h.idle;
           },
         ),
       )
-    where
-      says : (o : Option ℕ) → WriteSays V c o → WriteSays V (record c { floor = (greater V x c (j.parts 0) (j.words 0) (j.words 1) h.stamps y).0 }) o
-      says None k = k
-      says (Some y) k = k
 
   begin_write : (c : Counted) (j : View StampedTask) (v : ℕ) → StampedInv V c j → j.tasks 0 ≡ None → v < V
       → Runs t w 0 (Write v) (λ e. NumberedStep c (in_order (Some (Invoke 0 (Write v))) e)) (stamped_program V last 0 (Write v)) j
@@ -322,31 +343,17 @@ module _ (V last : ℕ) where
   go_ends c j p Read (Writing x k) chosen o h s ans pass good = absurd s
 
   at_first : (v : ℕ) → v < V → (j : View StampedTask) → j.words 0 ≡ 0 → j.words 1 ≡ v → j.parts 0 ≡ opening v → StampedInv V (uncounted v) j
-  at_first v l j e0 e1 ep =
-      let zero_code : v ≡ code_of V (uncounted v) 0 = omega arith in
-      record {
-        stamps = subst (λ s. Stamps V (uncounted v) s (j.words 0) (j.words 1)) (sym ep) (record {
-          small = λ n k. l;
-          stamped = e0;
-          best_is = e1 ∙ zero_code;
-          floor = omega arith;
-          low = omega arith;
-          done = omega arith;
-          last = zero_code;
-          writing = refl;
-          fresh = zero_code;
-          overlaps = λ y m. (let n : ⊥ = cc in absurd n);
-        });
-        idle = λ k. ap (λ s. s.writing) ep;
-      }
+  at_first v l j e0 e1 ep = record { stamps = stamps_first V v (j.parts 0) (j.words 0) (j.words 1) l ep e0 e1; idle = λ k. ap (λ s. s.writing) ep }
 
   pub stamped_kept : IsKept t (StampedMayBeAt V last) w uncounted NumberedStep
   stamped_kept = record {
     initial = λ v l j ew et ep. at_first v l j (ew 0 (omega arith)) (ew 1 (omega arith)) (ep 0 (omega arith));
-    void = λ c p reason. (refl, (c, (refl, refl)));
-    stop = λ c p. (refl, (c, (refl, refl)));
+    passes = record {
+      void = λ c p reason. (refl, (c, (refl, refl)));
+      stop = λ c p. (refl, (c, (refl, refl)));
+      still = λ c j p chosen h. (c, (gone p chosen None c c refl refl, h));
+    };
     begins = begins;
-    still = λ c j p chosen h. (c, (gone p chosen None c c refl refl, h));
     goes = λ c j p n chosen o h mine s ans pass good. go_ends c j p n.op n.task chosen o h s ans pass good;
   }
 

@@ -54,8 +54,7 @@ impl<S: Register> NewStamped<S> for Stamped<S> {
         if (last + 1) * values > MOST_VALUES {
             return Err(LayerError::BadSize);
         }
-        let layer = StampedRules { values, last };
-        Layered::over(below, layer)
+        Layered::over(below, StampedRules { values, last })
     }
 }
 

@@ -94,6 +94,7 @@ switch_lawful = record {
   begins_well = λ who o m z fits. record { holds = z; may_be_at = (refl, fits) };
   goes_well = goes_well;
   chooses_own = λ who o p choice m z r. chooses p m;
+  unused_choice = λ who o p m z r none. refl;
   reached_suits = λ who o p r. r.1;
   frames_fit = λ who o p r. omega arith;
   acts_own = λ who o p r. acts_own p;

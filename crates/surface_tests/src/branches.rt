@@ -1,6 +1,6 @@
 //! Branches: forests, charts and books.
 
-ghost use Rattle.schedule_trie.specs.Cut.{AreLimits};
+ghost use Rattle.schedule_trie.specs.Trie.{AreLimits};
 
 mod books;
 pub(crate) mod charts;

@@ -4,7 +4,7 @@
 
 ghost use Rattle.std.specs.Prelude.{◌≤◌, IfOk};
 ghost use Rattle.frames.specs.SafeBit.{safe_behaviour};
-ghost use Rattle.schedule_trie.specs.Cut.{AreLimits};
+ghost use Rattle.schedule_trie.specs.Trie.{AreLimits};
 
 use crate::desks::name;
 use checkpoints::run::Run;
@@ -53,6 +53,10 @@ impl Runnable for Square {
             Some(number) => number.checked_mul(number).ok_or(AllocError),
             None => Err(AllocError),
         }
+    }
+
+    fn run_once(self, alloc: Global) -> Result<u64, AllocError> {
+        self.run(alloc)
     }
 }
 
@@ -367,6 +371,10 @@ impl Runnable for Watched<'_> {
             self.runs.fetch_add(1, Ordering::SeqCst);
         }
         self.number.ok_or(AllocError)
+    }
+
+    fn run_once(self, alloc: Global) -> Result<u64, AllocError> {
+        self.run(alloc)
     }
 }
 

@@ -9,9 +9,9 @@ use Rattle.std.proofs.lemmas.Bool.{and_parts, and_from, ltb-true}
 use Rattle.std.proofs.lemmas.Bool.Decides.{nat_tests}
 use Rattle.frames.specs.declared.types.Step.{Step}
 use Rattle.frames.specs.declared.types.Step.TheVariants as step
-use Rattle.schedule_trie.specs.declared.limb.Limb.{Limb}
-use Rattle.schedule_trie.specs.Names.{is_letter, is_letter_or_digit, is_well_formed}
-use Rattle.schedule_trie.specs.Limbs.{is_name, is_new_name, may_share, are_lawful_after}
+use Rattle.branch_terms.specs.declared.limb.Limb.{Limb}
+use Rattle.branch_terms.specs.Names.{is_letter, is_letter_or_digit, is_well_formed}
+use Rattle.branch_terms.specs.Limbs.{is_name, is_new_name, may_share, are_lawful_after}
 use Rattle.tower_file.specs.declared.tower.TowerSpec.{TowerSpec}
 use Rattle.tower_file.specs.declared.fault.FaultKind.TheVariants.{BadBranch, BadStep, Tangled}
 use Rattle.tower_file.specs.declared.fault.FileFault.{FileFault}

@@ -5,9 +5,9 @@ use Rattle.std.specs.Cmp.Lexicographic.{pointwise}
 use Rattle.std.proofs.lemmas.Bool.{and_parts, not-true, le-leb}
 use Rattle.std.proofs.lemmas.List.{map-append}
 use Rattle.frames.specs.declared.types.Step.{Step}
-use Rattle.schedule_trie.specs.declared.limb.Limb.{Limb}
-use Rattle.schedule_trie.specs.Names.{is_well_formed}
-use Rattle.schedule_trie.specs.Limbs.{is_name, has_name, is_new_name}
+use Rattle.branch_terms.specs.declared.limb.Limb.{Limb}
+use Rattle.branch_terms.specs.Names.{is_well_formed}
+use Rattle.branch_terms.specs.Limbs.{is_name, has_name, is_new_name}
 use Rattle.tower_file.specs.BenchReading.{limb_name}
 
 any_name : (name : List ℕ) (ls : List Limb) → list_any (pointwise nat_eq name) (map limb_name ls) ≡ list_any (has_name name) ls

@@ -2,8 +2,8 @@
 use Rattle.std.specs.Prelude.{ℕ, Bool, ◌+◌, ◌==◌, ◌&&◌, ◌||◌, not, List, [], ◌∷◌, ◌++◌, Result, Ok, Err, length, if◌then◌else◌}
 use Rattle.std.specs.Option.{ok_or}
 use Rattle.frames.specs.declared.types.Step.{Step}
-use Rattle.schedule_trie.specs.declared.limb.Limb.{Limb}
-use Rattle.schedule_trie.specs.Limbs.{is_new_name, may_share}
+use Rattle.branch_terms.specs.declared.limb.Limb.{Limb}
+use Rattle.branch_terms.specs.Limbs.{is_new_name, may_share}
 use Rattle.tower_file.specs.declared.tower.TowerSpec.{TowerSpec}
 use Rattle.tower_file.specs.declared.fault.FaultKind.{FaultKind}
 use Rattle.tower_file.specs.declared.fault.FaultKind.TheVariants.{BadHeader, BadStep, BadBranch, Tangled}

@@ -1,7 +1,7 @@
 -- The one spelling of each bench file.
 use Rattle.std.specs.Prelude.{◌≡◌, ℕ, List, [], ◌∷◌, ◌++◌, None, codes, true}
 use Rattle.std.specs.List.{flat_map, join_with_byte}
-use Rattle.schedule_trie.specs.declared.limb.Limb.{Limb}
+use Rattle.branch_terms.specs.declared.limb.Limb.{Limb}
 use Rattle.words.specs.Steps.{text, step_text}
 use Rattle.tower_file.specs.declared.tower.TowerSpec.{TowerSpec}
 use Rattle.tower_file.specs.Benches.{Bench, IsLawfulBench, has_limbs, are_lawful}

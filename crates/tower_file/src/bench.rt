@@ -7,9 +7,9 @@ ghost use Rattle.tower_file.specs.Benches.{IsLawfulBench, bench_of, has_fit};
 ghost use Rattle.tower_file.specs.Towers.{fits};
 
 use crate::tower::TowerSpec;
+use branch_terms::Limbs;
+use branch_terms::limb::{Limb, are_lawful};
 use frames::types::Step;
-use schedule_trie::Limbs;
-use schedule_trie::limb::{Limb, are_lawful};
 
 /// What a bench file says: a lawful tower, and at least one limb (a branch as a file stores it).
 /// Each limb has a well-formed name that no earlier limb has. Each limb's `from` and `shared` are
@@ -31,7 +31,7 @@ impl BenchFile {
     ghost use Rattle.tower_file.specs.Said.{as_bench};
 
     /// Returns the file with this tower and these limbs. Returns `None` if the tower isn't lawful,
-    /// there is no limb, the limbs aren't lawful (`schedule_trie::limb::are_lawful`), or some limb
+    /// there is no limb, the limbs aren't lawful (`branch_terms::limb::are_lawful`), or some limb
     /// has a `from` or `shared` of 10^9 or more or a step that doesn't fit the tower.
     pub fn new(spec: TowerSpec, limbs: Vec<Limb>) -> Option<BenchFile>
         ensures { option_map as_bench result ≡ checked_bench spec limbs.items }

@@ -7,7 +7,7 @@ ghost use Rattle.tower_file.specs.Said.{as_bench};
 
 use crate::bench::BenchFile;
 use crate::writing::{push_line, push_step_line, push_tower};
-use schedule_trie::limb::Limb;
+use branch_terms::limb::Limb;
 use std::alloc::{AllocError, Global};
 use std::io::Write;
 

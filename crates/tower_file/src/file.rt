@@ -4,8 +4,8 @@ ghost use Rattle.tower_file.specs.Files.{IsLawfulFile, file_of};
 
 use crate::tower::TowerSpec;
 use crate::version::{Version, may_have_all};
+use branch_terms::limb::Steps;
 use frames::types::Step;
-use schedule_trie::limb::Steps;
 
 /// What a tower file says: a version of the file format, a lawful tower, and a schedule. The
 /// version can express each step of the schedule, and each step fits the tower.

@@ -1,14 +1,14 @@
 //! The limbs that have been read so far from a bench file.
 
 ghost use Rattle.std.specs.Prelude.{◌≡◌, ◌∷◌, [], ◌++◌, OnOk, not, true, map};
-ghost use Rattle.schedule_trie.specs.Limbs as spec;
+ghost use Rattle.branch_terms.specs.Limbs as spec;
 ghost use Rattle.tower_file.specs.Benches.{has_limbs};
 ghost use Rattle.tower_file.specs.BenchReading.{limb_name, put_step};
 
+use branch_terms::limb::{Limb, may_share};
+use branch_terms::name::Name;
 use frames::types::Step;
 use indexmap::IndexSet;
-use schedule_trie::limb::{Limb, may_share};
-use schedule_trie::name::Name;
 use std::alloc::{AllocError, Global};
 use std::marker::Model;
 
@@ -22,7 +22,7 @@ pub(crate) struct NamedLimbs {
 
 impl Model for NamedLimbs {
     ghost use Rattle.std.specs.Prelude.{◌≡◌, List, map};
-    ghost use Rattle.schedule_trie.specs.declared.limb.Limb.{Limb};
+    ghost use Rattle.branch_terms.specs.declared.limb.Limb.{Limb};
     ghost use Rattle.tower_file.specs.BenchReading.{limb_name};
 
     ghost Value = { List Limb };

@@ -4,8 +4,8 @@ ghost use Rattle.std.specs.Prelude.{◌≡◌};
 ghost use Rattle.tower_file.specs.Lines as spec;
 
 use crate::tower::TowerSpec;
-use schedule_trie::limb::{Limb, Steps};
-use schedule_trie::name::Name;
+use branch_terms::limb::{Limb, Steps};
+use branch_terms::name::Name;
 use std::alloc::Global;
 use words::number::{four_numbers, one_number, three_numbers, two_numbers};
 use words::parts::Parts;

@@ -10,7 +10,7 @@ use Rattle.tower_file.specs.declared.tower.TowerSpec.{TowerSpec}
 use Rattle.tower_file.specs.Towers.{fits}
 use Rattle.tower_file.specs.Benches.{Bench, bench_of}
 use Rattle.std.specs.Io.KnownBytes.{Appends}
-use Rattle.schedule_trie.specs.declared.limits.TheConstants.{MOST_CELLS_MADE}
+use Rattle.branch_terms.specs.declared.limits.TheConstants.{MOST_CELLS_MADE}
 use Rattle.sessions.specs.World.{World}
 use Rattle.script.specs.Answers.{answer_line}
 use Rattle.conversation.specs.declared.fault.StreamFault.{StreamFault}

@@ -4,18 +4,11 @@ use Rattle.schedule_trie.specs.Refusals.{refusal_display}
 use Rattle.tower_file.specs.Faults.{fault_display}
 use Rattle.conversation.specs.declared.fault.StreamFault.TheVariants as stream
 use Rattle.conversation.specs.Faults.{stream_fault_display}
-use Rattle.towerbench.specs.declared.tower_source.SourceFault.{SourceFault}
-use Rattle.towerbench.specs.declared.tower_source.SourceFault.TheVariants as source
+use Rattle.conversation.specs.Sources.{source_fault_display}
 use Rattle.towerbench.specs.declared.fault.Fault.{Fault}
 use Rattle.towerbench.specs.declared.fault.Fault.TheVariants as fault
 use Rattle.towerbench.specs.declared.fault.ProgramFault.{ProgramFault}
 use Rattle.towerbench.specs.declared.fault.ProgramFault.TheVariants as program
-
--- what a fault of reading a file prints
-abbrev pub source_fault_display : SourceFault → List ℕ
-source_fault_display source.Unreadable = codes "file unreadable"
-source_fault_display source.TooLong = codes "file too long"
-source_fault_display source.Memory = stream_fault_display stream.Memory
 
 -- what a fault of a run prints
 abbrev pub run_fault_display : Fault → List ℕ
@@ -29,7 +22,7 @@ run_fault_display fault.Save = codes "save failed"
 
 -- what a fault of the program prints
 abbrev pub program_fault_display : ProgramFault → List ℕ
+program_fault_display program.Memory = stream_fault_display stream.Memory
+program_fault_display program.Help = stream_fault_display stream.Write
 program_fault_display (program.Source e) = source_fault_display e
 program_fault_display (program.Run e) = run_fault_display e
-program_fault_display program.Help = stream_fault_display stream.Write
-program_fault_display program.Memory = stream_fault_display stream.Memory

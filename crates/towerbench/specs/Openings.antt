@@ -7,7 +7,7 @@ use Rattle.frames.specs.Behaviour.{Behaviour}
 use Rattle.frames.specs.Configuration.{fits_step}
 use Rattle.schedule_trie.specs.declared.limb.Limb.{Limb}
 use Rattle.schedule_trie.specs.declared.limits.Limits.{Limits}
-use Rattle.schedule_trie.specs.declared.limits.TheConstants.{MOST_CELLS_MADE}
+use Rattle.branch_terms.specs.declared.limits.TheConstants.{MOST_CELLS_MADE}
 use Rattle.sessions.specs.World.{World}
 use Rattle.conversation.specs.Moments.{Streams}
 use Rattle.tower_file.specs.declared.tower.TowerSpec.{TowerSpec}

@@ -138,13 +138,13 @@ fn answer_fill<R: Register + Send + Sync, W: Threads + Wait + Sync>(
 ) -> Result<(), AllocError>
 where
     R::Pending: Send + Sync,
+    ensures alone { IsAlone seat.old → IsAlone seat.new }
     ensures text { let w = world_at R.behaviour seat.old in IsAlone seat.old
         → OnOk result ((memory : Bool)
         × (out.new.items ≡ out.old.items
         ++ spec.fill_text memory session (index_of w.forest.branches branch.now))) }
     ensures kept { IsAlone seat.old → world_at R.behaviour seat.new
         ≡ world_at R.behaviour seat.old }
-    ensures alone { IsAlone seat.old → IsAlone seat.new }
 {
     match seat.fill(alloc, branch) {
         Ok(_) => push_filled(out, session),

@@ -16,6 +16,9 @@ use schedule_trie::refusal::Refusal;
 use std::alloc::{AllocError, Global};
 use tower_file::{BenchFile, FileFault, TowerFile, TowerSpec, is_bench, parse, parse_bench};
 
+/// The most bytes that a file may have. No saved file is ever longer.
+pub const MOST_FILE_BYTES: usize = 1 << 32;
+
 /// The tower and the branches that the bytes of `file` spell. If the first line is a bench file's
 /// header, the bytes are read as a bench file; otherwise as a tower file, whose steps become those
 /// of a branch `main`. If `file` is `None`, returns a safe bit at 0 and a branch `main` without

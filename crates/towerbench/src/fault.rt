@@ -1,11 +1,11 @@
 //! The faults with which the program, or a run of it, can end.
 
-ghost use Rattle.std.specs.Prelude.{◌≡◌};
+ghost use Rattle.std.specs.Prelude.{◌≡◌, Some};
 ghost use Rattle.towerbench.specs.Faults as spec;
 ghost use Rattle.towerbench.specs.Streams.{of_stream};
 
-use crate::tower_source::SourceFault;
 use conversation::fault::StreamFault;
+use conversation::source::SourceFault;
 use schedule_trie::refusal::Refusal;
 use std::fmt;
 use thiserror::Error;
@@ -34,9 +34,19 @@ pub enum Fault {
     Save,
 }
 
-impl fmt::Display for Fault {
-    ghost use Rattle.std.specs.Prelude.{Some};
+/// The fault of a run whose script's streams ended with this fault.
+pub(crate) fn of_stream(fault: StreamFault) -> Fault
+    ensures { result ≡ of_stream fault }
+{
+    match fault {
+        StreamFault::Read => Fault::Read,
+        StreamFault::Write => Fault::Write,
+        StreamFault::TooLong => Fault::TooLong,
+        StreamFault::Memory => Fault::Memory,
+    }
+}
 
+impl fmt::Display for Fault {
     ghost output = { λ e. Some (spec.run_fault_display e) };
 
     fn fmt<W: fmt::Write>(&self, f: &mut fmt::Formatter<W>) -> fmt::Result {
@@ -52,45 +62,31 @@ impl fmt::Display for Fault {
     }
 }
 
-/// A fault of the program: of reading its words or its file, of running its script, or of printing
-/// the help.
+/// A fault of the program: of reading its words, of printing the help, of reading its file, or of
+/// running its script.
 #[derive(Clone, Copy, Debug, PartialEq, Eq, Error)]
 pub enum ProgramFault {
+    /// Out of memory while the words were read.
+    Memory,
+    /// A write of the help failed, or took no bytes.
+    Help,
     /// The named file can't be read or is too long, or there is no memory for it. The script isn't
     /// read.
     Source(SourceFault),
     /// A fault of the program's run: of the file's contents or branches, of the script's streams,
     /// of memory or of saving.
     Run(Fault),
-    /// A write of the help failed, or took no bytes.
-    Help,
-    /// Out of memory while the words were read.
-    Memory,
 }
 
 impl fmt::Display for ProgramFault {
-    ghost use Rattle.std.specs.Prelude.{Some};
-
     ghost output = { λ e. Some (spec.program_fault_display e) };
 
     fn fmt<W: fmt::Write>(&self, f: &mut fmt::Formatter<W>) -> fmt::Result {
         match self {
+            ProgramFault::Memory => write!(f, "{}", StreamFault::Memory),
+            ProgramFault::Help => write!(f, "{}", StreamFault::Write),
             ProgramFault::Source(e) => write!(f, "{e}"),
             ProgramFault::Run(e) => write!(f, "{e}"),
-            ProgramFault::Help => write!(f, "{}", StreamFault::Write),
-            ProgramFault::Memory => write!(f, "{}", StreamFault::Memory),
         }
-    }
-}
-
-/// The fault of a run whose script's streams ended with this fault.
-pub(crate) fn of_stream(fault: StreamFault) -> Fault
-    ensures { result ≡ of_stream fault }
-{
-    match fault {
-        StreamFault::Read => Fault::Read,
-        StreamFault::Write => Fault::Write,
-        StreamFault::TooLong => Fault::TooLong,
-        StreamFault::Memory => Fault::Memory,
     }
 }

@@ -1,10 +1,12 @@
-//! A law of what pages show, for the towers that have a verdict other than stray.
+//! Laws of towers in the words of pages: verdicts that are never stray, and linearizability.
 
+ghost use Rattle.pages.specs.Linearizability.{IsLinearizable};
 ghost use Rattle.views.specs.Looks.{NeverShowsStray};
 
 use frames::register::Behaves;
-use towers::laws::{regular_is_regular, stamped_is_atomic, unary_is_regular};
-use towers::{RegularTower, StampedTower, UnaryTower};
+use pages::laws::linearizable;
+use towers::laws::{matrix_is_atomic, regular_is_regular, stamped_is_atomic, unary_is_regular};
+use towers::{MatrixTower, RegularTower, StampedTower, UnaryTower};
 use views::laws::never_shows_stray;
 
 /// If each step of each branch fits the tower, then from any initial value no page of a regular,
@@ -24,4 +26,12 @@ pub fn pages_show_no_stray(bit: &RegularTower, number: &UnaryTower, register: &S
     // for the proof: a stamped register is atomic, so it never shows a stray read
     stamped_is_atomic(register);
     never_shows_stray(register);
+}
+
+/// A matrix tower is linearizable, in Herlihy and Wing's words: no ranks are in its clause.
+pub fn matrix_is_linearizable(register: &MatrixTower)
+    ensures { IsLinearizable (⟦<MatrixTower as Behaves>⟧.behaviour register.now) }
+{
+    matrix_is_atomic(register);
+    linearizable(register);
 }

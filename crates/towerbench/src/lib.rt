@@ -14,13 +14,12 @@ mod saved_file;
 mod saving;
 mod seat;
 mod serving;
-mod tower_source;
 
 pub use command_line::Options;
+pub use conversation::source::{SourceFault, read_all};
 pub use ending::Ending;
 pub use fault::{Fault, ProgramFault};
 pub use program::tool;
 pub use running::run;
 pub use saving::run_saving;
 pub use serving::serve;
-pub use tower_source::{SourceFault, read_all};

@@ -11,14 +11,14 @@ ghost use Rattle.towerbench.specs.declared.ending.Ending.{Ending};
 ghost use Rattle.towerbench.specs.Opening.{IsUntouched, opened_bench};
 ghost use Rattle.towerbench.specs.Endings.{IsLacking, IsPrinted, IsRead, ProgramEndsBy, WorksOut, ending_of, exit_status};
 
-use crate::bench_source::open_file;
+use crate::bench_source::{MOST_FILE_BYTES, open_file};
 use crate::ending::Ending;
 use crate::fault::{Fault, ProgramFault};
 use crate::opening::{Fate, Reporting, Setup};
 use crate::running::run_setup;
 use crate::saved_file::save_at;
-use crate::tower_source::read_file;
 use command_line::{Invocation, Options, parse_words};
+use conversation::source::read_file;
 use conversation::streams::write_whole;
 use std::io;
 use std::io::{ErrorKind, Read, Write};
@@ -162,7 +162,7 @@ fn bench_at<F: Files + AllocGlobal>(
             Err(fault) => Err(ProgramFault::Run(fault)),
         };
     };
-    let bytes = match read_file(files, path) {
+    let bytes = match read_file(files, path, MOST_FILE_BYTES) {
         Ok(bytes) => bytes,
         Err(fault) => return Err(ProgramFault::Source(fault)),
     };

@@ -4,8 +4,8 @@ ghost use Rattle.std.specs.Prelude.{◌≡◌, ◌<◌, true, false, OnOk, OnErr
 ghost use Rattle.std.specs.Option.{option_map};
 ghost use Rattle.schedule_trie.specs.Limbs.{limbs};
 ghost use Rattle.tower_file.specs.Benches.{bench_of};
-ghost use Rattle.conversation.specs.Moments.{streams};
 ghost use Rattle.command_line.specs.Ranges.{AreOptionsInRange, limits_of};
+ghost use Rattle.conversation.specs.Moments.{streams};
 ghost use Rattle.towerbench.specs.Opening.{IsReported, Ran, RanInto};
 ghost use Rattle.towerbench.specs.Openings.{Builds, EndsFrom, IsOnTower, is_reported};
 ghost use Rattle.towerbench.specs.Seats.{IsAlone, world_at};

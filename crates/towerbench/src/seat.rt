@@ -3,13 +3,13 @@
 ghost use Rattle.std.specs.Prelude.{◌≡◌, ◌≤◌, Bool, Some, Ok, OnOk, IfOk, IfErr};
 ghost use Rattle.schedule_trie.specs.Forest.{IsRefused};
 ghost use Rattle.schedule_trie.specs.Limbs.{forest_of, loaded};
+ghost use Rattle.command_line.specs.Ranges.{limits_of};
+ghost use Rattle.turn.specs.Chairs.{view};
 ghost use Rattle.sessions.specs.Looks.{looked_in, shown_in};
 ghost use Rattle.sessions.specs.Saves.{IsSaved};
-ghost use Rattle.turn.specs.Chairs.{view};
 ghost use Rattle.desk.specs.Chairs.{IsChairOf};
 ghost use Rattle.desk.specs.Works.{IsPaged, NeedsBranch, answer_by};
 ghost use Rattle.script.specs.Answers.{carried_out};
-ghost use Rattle.command_line.specs.Ranges.{limits_of};
 ghost use Rattle.towerbench.specs.Openings.{CanOpen, opening_world};
 ghost use Rattle.towerbench.specs.Seats.{IsAlone, seated, world_at};
 

@@ -1,22 +1,14 @@
 -- What the program's faults print, after the word `towerbench-answers` and a colon.
-use Rattle.std.specs.Prelude.{ℕ, List, codes}
+use Rattle.std.specs.Prelude.{ℕ, List}
 use Rattle.conversation.specs.declared.fault.StreamFault.TheVariants as stream
 use Rattle.conversation.specs.Faults.{stream_fault_display}
+use Rattle.conversation.specs.Sources.{source_fault_display}
 use Rattle.answer_lines.specs.Faults.{answers_fault_display}
-use Rattle.towerbench_answers.specs.declared.source.QuestionSourceFault.{QuestionSourceFault}
-use Rattle.towerbench_answers.specs.declared.source.QuestionSourceFault.TheVariants as source
 use Rattle.towerbench_answers.specs.declared.ending.AnswersProgramFault.{AnswersProgramFault}
 use Rattle.towerbench_answers.specs.declared.ending.AnswersProgramFault.TheVariants as program
 
--- what a fault of reading a file prints
-abbrev pub question_source_display : QuestionSourceFault → List ℕ
-question_source_display source.Unreadable = codes "file unreadable"
-question_source_display source.TooLong = codes "file too long"
-question_source_display source.Memory = stream_fault_display stream.Memory
-
 -- what a fault of the program prints
 abbrev pub answers_program_display : AnswersProgramFault → List ℕ
-answers_program_display (program.Source e) = question_source_display e
-answers_program_display (program.Answer e) = answers_fault_display e
-answers_program_display program.Memory = stream_fault_display stream.Memory
+answers_program_display (program.Source e) = source_fault_display e
 answers_program_display program.Write = stream_fault_display stream.Write
+answers_program_display (program.Answer e) = answers_fault_display e

@@ -5,9 +5,7 @@
 mod asked;
 mod ending;
 mod program;
-mod source;
 
 pub use asked::{Asked, read_words};
 pub use ending::{AnswersEnding, AnswersProgramFault};
 pub use program::answers_tool;
-pub use source::QuestionSourceFault;

@@ -7,16 +7,19 @@ ghost use Rattle.towerbench_answers.specs.Words.{are_refused, answers_status, en
 
 use crate::asked::{Asked, read_words};
 use crate::ending::{AnswersEnding, AnswersProgramFault};
-use crate::source::bytes_at;
-use answer_lines::answer;
+use answer_lines::{AnswersFault, answer};
+use conversation::source::read_file;
 use conversation::streams::write_whole;
 use std::alloc::Global;
 use std::io;
 use std::io::{ErrorKind, Write};
 use std::rt::Files;
 
+/// The most bytes that a question file may have.
+const MOST_QUESTION_BYTES: usize = 1 << 20;
+
 /// The help.
-const HELP: &str = "towerbench 1.0.0
+const HELP: &str = "towerbench 1.1.0
 Lists the answers that the operations in FILE can have, each with a shortest schedule
 
 Usage: towerbench-answers FILE
@@ -114,7 +117,7 @@ fn work<F: Files + AllocGlobal, W: Write>(
     path: &str,
     writer: &mut W,
 ) -> Result<(), AnswersProgramFault> {
-    let bytes = match bytes_at(files, path) {
+    let bytes = match read_file(files, path, MOST_QUESTION_BYTES) {
         Ok(bytes) => bytes,
         Err(fault) => return Err(AnswersProgramFault::Source(fault)),
     };
@@ -130,7 +133,7 @@ fn answers_of(alloc: Global, bytes: &[u8]) -> Result<Vec<u8>, AnswersProgramFaul
     };
     match answered.text(alloc) {
         Ok(text) => Ok(text),
-        Err(_) => Err(AnswersProgramFault::Memory),
+        Err(_) => Err(AnswersProgramFault::Answer(AnswersFault::Memory)),
     }
 }
 

@@ -18,20 +18,15 @@ use Rattle.stamped.specs.declared.task.StampedTask.{StampedTask}
 use Rattle.stamped.specs.Program.{stamped_table, StampedMayBeAt}
 use Rattle.stamped.proofs.ByCount.{under, stamped_admits}
 
-pub matrix_over_stamped : {P : Type 0} (b : Behaviour P) (Keeps : Memory → Type 0) (Reaches : ℕ → Op → P → Type 0) (n V tags codes last : ℕ) (left : MatrixTask → ℕ) (stamped_left : StampedTask → ℕ)
+pub over_stamped : {P : Type 0} {b : Behaviour P} {Keeps : Memory → Type 0} {Reaches : ℕ → Op → P → Type 0} {left : MatrixTask → ℕ} {stamped_left : StampedTask → ℕ} (n V tags codes last : ℕ)
     → IsLawful b Keeps Reaches
     → IsSoundTable (stamped_table codes last) (StampedMayBeAt codes last) stamped_left → FitsBelow (stamped_table codes last) b
     → IsSoundTable (matrix_table n V tags) (MatrixMayBeAt n V tags) left → FitsBelow (matrix_table n V tags) (layered (stamped_table codes last) b)
-    → IsRegular b → IsAtomicForMany (layered (matrix_table n V tags) (layered (stamped_table codes last) b))
-matrix_over_stamped b Keeps Reaches n V tags codes last left stamped_left lawful sound_below fit_below sound fit regular =
-    matrix_over_counted (layered (stamped_table codes last) b) (LayerHolds (stamped_table codes last) b Keeps) (LayerReaches (stamped_table codes last) (StampedMayBeAt codes last) Reaches) (under last) n V tags left
-    (layer_lawful (over lawful sound_below fit_below)) sound fit (stamped_admits b Keeps Reaches codes last stamped_left lawful sound_below fit_below regular)
-
-pub rows_over_stamped : {P : Type 0} (b : Behaviour P) (Keeps : Memory → Type 0) (Reaches : ℕ → Op → P → Type 0) (n V tags codes last : ℕ) (left : MatrixTask → ℕ) (stamped_left : StampedTask → ℕ)
-    → IsLawful b Keeps Reaches
-    → IsSoundTable (stamped_table codes last) (StampedMayBeAt codes last) stamped_left → FitsBelow (stamped_table codes last) b
-    → IsSoundTable (matrix_table n V tags) (MatrixMayBeAt n V tags) left → FitsBelow (matrix_table n V tags) (layered (stamped_table codes last) b)
-    → IsRegular b → RefusesNoRow (layered (matrix_table n V tags) (layered (stamped_table codes last) b))
-rows_over_stamped b Keeps Reaches n V tags codes last left stamped_left lawful sound_below fit_below sound fit regular =
-    rows_are_whole (layered (stamped_table codes last) b) (LayerHolds (stamped_table codes last) b Keeps) (LayerReaches (stamped_table codes last) (StampedMayBeAt codes last) Reaches) (under last) n V tags left
-    (layer_lawful (over lawful sound_below fit_below)) sound fit (stamped_admits b Keeps Reaches codes last stamped_left lawful sound_below fit_below regular)
+    → IsRegular b → IsAtomicForMany (layered (matrix_table n V tags) (layered (stamped_table codes last) b)) × RefusesNoRow (layered (matrix_table n V tags) (layered (stamped_table codes last) b))
+over_stamped {b = b} {Keeps = Keeps} {Reaches = Reaches} {left = left} {stamped_left = stamped_left} n V tags codes last lawful sound_below fit_below sound fit regular =
+    let below = layered (stamped_table codes last) b in
+    let Holds = LayerHolds (stamped_table codes last) b Keeps in
+    let Reached = LayerReaches (stamped_table codes last) (StampedMayBeAt codes last) Reaches in
+    let is_lawful = layer_lawful (over lawful sound_below fit_below) in
+    let admits = stamped_admits b Keeps Reaches codes last stamped_left lawful sound_below fit_below regular in
+    (matrix_over_counted below Holds Reached (under last) n V tags left is_lawful sound fit admits, rows_are_whole below Holds Reached (under last) n V tags left is_lawful sound fit admits)

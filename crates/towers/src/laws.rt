@@ -8,14 +8,12 @@ ghost use Rattle.frames.specs.correctness.Regularity.{NeverStray};
 ghost use Rattle.frames.specs.correctness.Regularity.{IsAtomic, IsRegular, IsSafe};
 ghost use Rattle.frames.specs.correctness.ReportedActions.{ReportsActions};
 ghost use Rattle.matrix.specs.Rows.{RefusesNoRow};
-ghost use Rattle.pages.specs.Linearizability.{IsLinearizable};
 ghost use Rattle.unary_number.specs.Scans.{AlwaysFinds};
 
 use crate::{CopiesTower, MatrixTower, RegularTower, StampedTower, UnaryTower};
 use frames::laws::{never_stray, safe};
 use frames::register::{Behaves, Register};
 use matrix::Matrix;
-use pages::laws::linearizable;
 use stamped::Stamped;
 
 /// Copies of a safe bit are safe: a read that no write overlaps gives the value written last before
@@ -78,16 +76,13 @@ pub fn matrix_over_stamped<S: Register>(register: &Matrix<Stamped<S>>)
 {}
 
 /// A matrix tower is atomic for many processes, and none of its rows is refused in its midst, as
-/// `matrix_over_stamped` says. So it is linearizable, in Herlihy and Wing's words: no ranks are in
-/// that clause.
+/// `matrix_over_stamped` says.
 pub fn matrix_is_atomic(register: &MatrixTower)
     ensures atomic { IsAtomicForMany (⟦<MatrixTower as Behaves>⟧.behaviour register.now) }
-    ensures linearizable { IsLinearizable (⟦<MatrixTower as Behaves>⟧.behaviour register.now) }
     ensures rows { RefusesNoRow (⟦<MatrixTower as Behaves>⟧.behaviour register.now) }
 {
     unary_is_regular(&register.below.below);
     matrix_over_stamped(register);
-    linearizable(register);
 }
 
 /// Copies of a safe bit report their actions: an invocation changes no cell; the next action that

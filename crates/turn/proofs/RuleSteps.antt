@@ -60,17 +60,8 @@ module _ {T E : Type 0} (by : E → ℕ) (entries : T → List E) where
   same_list : (list : List E) (f f' h h' : ℕ) (owner owner' : ℕ → ℕ) (seat : ℕ) (v : V) (told : ℕ) (holds : Bool) → Knows by list f h owner seat v
       → ((share : ℕ) → has_share v.shares share ≡ true → owner' share ≡ seat) → told ≤ length list → (holds ≡ true → (f' ≡ 1) × (seat ≡ h') × (v.seen ≡ list) × HoldsSome v)
       → Knows by list f' h' owner' seat (record v { reported = told; holds = holds })
-  same_list list f f' h h' owner owner' seat v told holds k owns within turn = record {
-    below = k.below;
-    seen = k.seen;
-    owns = owns;
-    calls = k.calls;
-    saw = k.saw;
-    others = k.others;
-    reported = within;
-    holding = turn;
-    met = k.met;
-  }
+  same_list list f f' h h' owner owner' seat v told holds k owns within turn =
+      record { below = k.below; seen = k.seen; owns = owns; calls = k.calls; saw = k.saw; others = k.others; reported = within; holding = turn; met = k.met }
 
   -- another seat takes or frees the turn
   others_know : (list : List E) (f f' h h' : ℕ) (owner : ℕ → ℕ) (seat : ℕ) (v : V) → (v.holds ≡ true → ⊥) → Knows by list f h owner seat v → Knows by list f' h' owner seat v

@@ -27,7 +27,7 @@ use Rattle.frames.proofs.Pointwise.{put, put_same, put_other, put_zero, put_back
 use Rattle.layers.specs.Nested.{Program, Ends, Asks, Table, layered}
 use Rattle.layers.specs.Sound.{IsNotSpent, IsSoundTable, FitsBelow}
 use Rattle.layers.specs.laws.Over.{over}
-use Rattle.layers.proofs.LayerLaw.{Told, told_begun, told_gone, told_void, told_stop, layer_promises}
+use Rattle.layers.proofs.LayerLaw.{Told, told_begun, told_gone, told_passes, layer_promises}
 use Rattle.unary_number.specs.Program.{unary_table_with, unary_program, unary_rest, clears_below, looks_above, after_look, UnaryMayBeAt}
 use Rattle.unary_number.proofs.Beacons.{Beacon, raised, lowered, written, MayGive, MayGiveNow, Looks, beacon_more, beacon_read, looking_other, looking_mine, looked_one, looked_zero}
 use Rattle.unary_number.proofs.Phases.{lights_for, lights_put, Idle, Rising, Cleared, Falling, WriterAt, WriterSays, ReaderAt, ReaderSays, Lights, reader_map, lights_begin, lights_raised, lights_lower, lights_lowered, lights_end, idle_end, rising_begin, rising_end, falling_begin, falling_end}
@@ -376,10 +376,8 @@ module _ (not_found : Outcome) (values processes : ℕ) (two : 2 ≤ values) whe
   pub unary_kept : IsKept t (UnaryMayBeAt values processes) w opening (Told IsNotStray)
   unary_kept = record {
     initial = λ v l j ew et ep. at_first v l j et ep;
-    void = told_void IsNotStray;
-    stop = told_stop IsNotStray;
+    passes = told_passes w IsNotStray;
     begins = begins;
-    still = λ u j p chosen h. (u, (told_gone IsNotStray p chosen None u refl tt, h));
     goes = λ u j p n chosen o h mine s ans pass good. goes u j p n chosen o h mine ans pass good;
   }
 

@@ -54,8 +54,7 @@ impl<S: Register> NewUnary<S> for Unary<S> {
         if processes == 0 {
             return Err(LayerError::BadSize);
         }
-        let layer = UnaryRules { values, processes };
-        Layered::over(below, layer)
+        Layered::over(below, UnaryRules { values, processes })
     }
 }
 

@@ -2,7 +2,7 @@
 use Rattle.std.proofs.Common.{◌≡◌, ℕ, zero, suc, ◌+◌, List, [], ◌∷◌, ◌++◌, length, take, map, slice_get, Some, refl, sym, ap, ◌∙◌, arith}
 use Rattle.std.specs.Option.{option_map}
 use Rattle.schedule_trie.specs.Forest.{Branch, slots_in, name_in, index_of, AreNamedApart}
-use Rattle.schedule_trie.proofs.NamesApart.{found_apart}
+use Rattle.schedule_trie.proofs.branches.NamesApart.{found_apart}
 use Rattle.pages.specs.declared.page.branches.BranchLength.{BranchLength}
 use Rattle.pages.specs.page.Branches.{length_of}
 

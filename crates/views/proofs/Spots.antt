@@ -14,8 +14,8 @@ use Rattle.frames.specs.Configuration.{Configuration, initial_configuration, ste
 use Rattle.frames.specs.Configuration.{events_of as events_of_step}
 use Rattle.frames.specs.Equality.{SameConfiguration}
 use Rattle.schedule_trie.specs.Forest.{Forest, step_of, index_of, slots_in, path_by, len_of}
-use Rattle.schedule_trie.specs.Cut.{Cut, piece_at, slots_of, line, forest}
-use Rattle.schedule_trie.proofs.Lines.{slots_in_on}
+use Rattle.schedule_trie.specs.Trie.{TrieOf, segment_at, slots_of, line, forest}
+use Rattle.schedule_trie.proofs.branches.Lines.{slots_in_on}
 use Rattle.cutoff.specs.Fitting.{StoredRun, RunPart, RunFits, steps_at, reached, counted, part_of}
 use Rattle.cutoff.specs.Settles.{Settles, IsSettled}
 use Rattle.cutoff.specs.Charts.{Charted, keys_named}
@@ -27,7 +27,7 @@ use Rattle.views.specs.Looks.{steps_in}
 use Rattle.views.proofs.BehaviourAlone.{replayed_alone, history_alone, replayed-append, history-append, history_same}
 
 module _ {R P : Type 0} (E : R → R → Bool) (equal : IsEquivalence E) (is : R → Behaviour P) (alike : (x y : R) → E x y ≡ true → is x ≡ is y)
-    (b : Behaviour P) (old new : Cut (StoredRun R P)) where
+    (b : Behaviour P) (old new : TrieOf (StoredRun R P)) where
   -- from d, the parts reach what the steps reach from c, and record their events
   record Comes (c d : Configuration R P) (parts : List (RunPart R P)) (steps : List Step) : Type 0 where
     pub end : SameConfiguration E (parts_end is d parts) (replayed b c steps)
@@ -39,10 +39,10 @@ module _ {R P : Type 0} (E : R → R → Bool) (equal : IsEquivalence E) (is : R
 
   -- the steps of segments, one after the other
   abbrev along : List ℕ → List Step
-  along keys = map step_of (line (piece_at old.pieces) keys)
+  along keys = map step_of (line (segment_at old.segments) keys)
 
   along_more : (k : ℕ) (ks : List ℕ) → along (k ∷ ks) ≡ steps_at old k ++ along ks
-  along_more k ks = map-append step_of (slots_of (piece_at old.pieces k)) (line (piece_at old.pieces) ks)
+  along_more k ks = map-append step_of (slots_of (segment_at old.segments k)) (line (segment_at old.segments) ks)
 
   -- a part that counts n steps of its segment
   module _ (c : Configuration R P) (k n : ℕ) (part : RunPart R P) (home : is c.register ≡ b) (fits : RunFits E c (steps_at old k) part.run) (count : part.count ≡ n) where
@@ -149,12 +149,12 @@ events_more is (y ∷ runs) (suc i) x within e run =
     ∙ sym (append_assoc (part_events is (part_of y)) (parts_events is (map part_of (take i runs))) (take x.1 (arc_value x.0).events))
 
 -- the steps of a named branch are those of the segments with its keys, one after another
-pub steps_named : {R P : Type 0} (cut : Cut (StoredRun R P)) (name : List ℕ) → steps_in (forest cut) name ≡ map step_of (line (piece_at cut.pieces) (keys_named cut name))
-steps_named cut name = by (index_of (forest cut).branches name) refl
+pub steps_named : {R P : Type 0} (trie : TrieOf (StoredRun R P)) (name : List ℕ) → steps_in (forest trie) name ≡ map step_of (line (segment_at trie.segments) (keys_named trie name))
+steps_named trie name = by (index_of (forest trie).branches name) refl
   where
-    by : (o : Option ℕ) → index_of (forest cut).branches name ≡ o → steps_in (forest cut) name ≡ map step_of (line (piece_at cut.pieces) (keys_named cut name))
+    by : (o : Option ℕ) → index_of (forest trie).branches name ≡ o → steps_in (forest trie) name ≡ map step_of (line (segment_at trie.segments) (keys_named trie name))
     by None e = rw e refl
-    by (Some i) e = rw e (ap (map step_of) (slots_in_on (piece_at cut.pieces) cut.strands i))
+    by (Some i) e = rw e (ap (map step_of) (slots_in_on (segment_at trie.segments) trie.branches i))
 
 -- the length of a branch is the number of its steps
 pub length_told : (f : Forest) (name : List ℕ) (len : ℕ) → Some len ≡ len_of f name → len ≡ length (steps_in f name)
@@ -174,22 +174,22 @@ length_told f name len told = by (index_of f.branches name) refl
 
 module _ {R P : Type 0} (E : R → R → Bool) (equal : IsEquivalence E) (is : R → Behaviour P) (alike : (x y : R) → E x y ≡ true → is x ≡ is y) where
   -- the parts that a settle of a place answers are as `IsSpotOf` states
-  pub spot_of : (old new : Charted R P) (name : List ℕ) (place len : ℕ) (parts : List (RunPart R P)) (n : ℕ) → Some len ≡ len_of (forest old.cut) name
+  pub spot_of : (old new : Charted R P) (name : List ℕ) (place len : ℕ) (parts : List (RunPart R P)) (n : ℕ) → Some len ≡ len_of (forest old.trie) name
       → old.start ≡ initial_configuration (is old.start.register) old.start.register old.value
       → IsSettled E (is old.start.register) old new name place parts n
-      → IsSpotOf is old.start old.value (steps_in (forest old.cut) name) place len parts
+      → IsSpotOf is old.start old.value (steps_in (forest old.trie) name) place len parts
   spot_of old new name place len parts n told begins h =
       let b = is old.start.register in
-      let comes = settled E equal is alike b old.cut new.cut old.start old.start place (keys_named old.cut name) parts n refl
+      let comes = settled E equal is alike b old.trie new.trie old.start old.start place (keys_named old.trie name) parts n refl
       (record { register = equal.refl old.start.register; memory = refl; running = refl; stopped = refl }) h.sum h.settles in
-      let whole : List Step = map step_of (line (piece_at old.cut.pieces) (keys_named old.cut name)) in
-      let steps : whole ≡ steps_in (forest old.cut) name = sym (steps_named old.cut name) in
+      let whole : List Step = map step_of (line (segment_at old.trie.segments) (keys_named old.trie name)) in
+      let steps : whole ≡ steps_in (forest old.trie) name = sym (steps_named old.trie name) in
       let first : without_register old.start ≡ first_configuration b old.value = ap without_register begins in
       record {
-        counted = length_told (forest old.cut) name len told;
+        counted = length_told (forest old.trie) name len told;
         home = alike (parts_end is old.start parts).register (replayed b old.start (take place whole)).register comes.end.register ∙ ap is (register_kept b old.start (take place whole));
         arrives = alone_same E (parts_end is old.start parts) (replayed b old.start (take place whole)) comes.end ∙ replayed_alone b old.start (take place whole)
-            ∙ ap (λ xs. replayed b (without_register old.start) (take place xs)) steps ∙ ap (λ c. replayed b c (take place (steps_in (forest old.cut) name))) first;
+            ∙ ap (λ xs. replayed b (without_register old.start) (take place xs)) steps ∙ ap (λ c. replayed b c (take place (steps_in (forest old.trie) name))) first;
         records = comes.events ∙ history_alone b old.start (take place whole) ∙ ap (λ xs. history b (without_register old.start) (take place xs)) steps
-            ∙ ap (λ c. history b c (take place (steps_in (forest old.cut) name))) first;
+            ∙ ap (λ c. history b c (take place (steps_in (forest old.trie) name))) first;
       }

@@ -6,7 +6,7 @@ use Rattle.frames.specs.declared.types.Step.{Step}
 use Rattle.frames.specs.Behaviour.{Behaviour}
 use Rattle.schedule_trie.specs.declared.refusal.Refusal.{Refusal}
 use Rattle.schedule_trie.specs.Forest.{Forest, path_of}
-use Rattle.schedule_trie.specs.Cut.{forest}
+use Rattle.schedule_trie.specs.Trie.{forest}
 use Rattle.cutoff.specs.Charts.{Charted, StepsFit, look}
 use Rattle.pages.specs.declared.query.PlaceKind.{PlaceKind}
 use Rattle.pages.specs.declared.query.PlaceKind.TheVariants as kind
@@ -74,7 +74,7 @@ is_at_branch query = true
 -- the two charts have the same branches, limits, initial configuration and initial value; only
 -- their stored runs may differ
 pub record IsChartKept {R P : Type 0} (old new : Charted R P) : Type 0 where
-  pub branches : forest new.cut ≡ forest old.cut
-  pub limits : new.cut.limits ≡ old.cut.limits
+  pub branches : forest new.trie ≡ forest old.trie
+  pub limits : new.trie.limits ≡ old.trie.limits
   pub start : new.start ≡ old.start
   pub value : new.value ≡ old.value

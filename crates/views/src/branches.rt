@@ -2,7 +2,7 @@
 
 ghost use Rattle.std.specs.Prelude.{◌≡◌, ◌<◌, IfOk, Some, length, map, slice_get};
 ghost use Rattle.schedule_trie.specs.Forest.{Branch, AreNamedApart};
-ghost use Rattle.schedule_trie.specs.Cut.{forest};
+ghost use Rattle.schedule_trie.specs.Trie.{forest};
 ghost use Rattle.pages.specs.page.Branches as spec;
 
 use cutoff::chart::Chart;
@@ -19,7 +19,7 @@ pub fn branches_page<R: Register>(
     edits: u64,
     chart: &Chart<R>,
 ) -> Result<BranchesPage, AllocError>
-    ensures { IfOk result (λ page. page ≡ spec.branches_page edits (forest chart.now.cut)) }
+    ensures { IfOk result (λ page. page ≡ spec.branches_page edits (forest chart.now.trie)) }
 {
     let made = chart.made();
     let branches = lengths(alloc, chart)?;
@@ -32,7 +32,7 @@ pub fn branches_page<R: Register>(
 
 /// The name and the length of each branch, in the order the branches were made.
 fn lengths<R: Register>(alloc: Global, chart: &Chart<R>) -> Result<Listed<BranchLength>, AllocError>
-    ensures { IfOk result (λ all. all ≡ map spec.length_of (forest chart.now.cut).branches) }
+    ensures { IfOk result (λ all. all ≡ map spec.length_of (forest chart.now.trie).branches) }
 {
     let mut all = Vec::new(alloc);
     for index in 0..chart.branches() {
@@ -43,9 +43,9 @@ fn lengths<R: Register>(alloc: Global, chart: &Chart<R>) -> Result<Listed<Branch
 
 /// The name and the length of the branch at `index` in the order in which the branches were made.
 fn length_at<R: Register>(chart: &Chart<R>, index: u32) -> BranchLength
-    requires apart { AreNamedApart (forest chart.now.cut).branches }
-    requires within { index < length (forest chart.now.cut).branches }
-    ensures { (b : Branch) × (slice_get (forest chart.now.cut).branches index ≡ Some b)
+    requires apart { AreNamedApart (forest chart.now.trie).branches }
+    requires within { index < length (forest chart.now.trie).branches }
+    ensures { (b : Branch) × (slice_get (forest chart.now.trie).branches index ≡ Some b)
         × (result ≡ spec.length_of b) }
 {
     let Some(name) = chart.name_at(index) else {

@@ -2,7 +2,7 @@
 
 ghost use Rattle.std.specs.Prelude.{◌≡◌, ◌<◌, List, Some, None, true, false, Ok, IfOk, OnOk, IfErr, IfSome};
 ghost use Rattle.schedule_trie.specs.Forest.{IsRefused};
-ghost use Rattle.schedule_trie.specs.Cut.{forest};
+ghost use Rattle.schedule_trie.specs.Trie.{forest};
 ghost use Rattle.cutoff.specs.Fitting.{RunPart};
 ghost use Rattle.cutoff.specs.Charts.{look};
 ghost use Rattle.views.specs.Looks as spec;
@@ -73,9 +73,9 @@ impl<R: Register> Slip<R> {
     pub fn at(alloc: Global, chart: &mut Chart<R>, query: Query) -> Result<Slip<R>, Refusal>
         requires { spec.is_at_branch query ≡ true }
         ensures page { IfOk result (λ slip. Some slip.page ≡ shown_by R.behaviour chart.old query) }
-        ensures found { OnOk result (looked query (forest chart.old.cut)
-            ≡ Ok (forest chart.old.cut)) }
-        ensures err { IfErr result (IsRefused (looked query (forest chart.old.cut))) }
+        ensures found { OnOk result (looked query (forest chart.old.trie)
+            ≡ Ok (forest chart.old.trie)) }
+        ensures err { IfErr result (IsRefused (looked query (forest chart.old.trie))) }
         ensures kept { IsChartKept chart.old chart.new }
         ensures judged { IfOk result (λ slip. slip.judged ≡ Some chart.old.start.register) }
         ensures judges { IfOk result
@@ -175,9 +175,9 @@ fn place_slip<R: Register>(
     requires { JudgesFrom chart.old.value kind }
     ensures page { IfOk result
         (λ slip. slip.page ≡ page_in R.behaviour chart.old kind branch place) }
-    ensures found { OnOk result (look (forest chart.old.cut) branch place
-        ≡ Ok (forest chart.old.cut)) }
-    ensures err { IfErr result (IsRefused (look (forest chart.old.cut) branch place)) }
+    ensures found { OnOk result (look (forest chart.old.trie) branch place
+        ≡ Ok (forest chart.old.trie)) }
+    ensures err { IfErr result (IsRefused (look (forest chart.old.trie) branch place)) }
     ensures kept { IsChartKept chart.old chart.new }
     ensures judged { IfOk result (λ slip. slip.judged ≡ Some chart.old.start.register) }
     ensures judges { IfOk result (λ slip. Judges (R.behaviour chart.old.start.register) slip.page) }
@@ -201,12 +201,12 @@ fn settled<R: Register>(
     ensures spot { IfOk result (λ s. (parts : List (RunPart R R.Pending))
         × IsSpotIn R.behaviour chart.old branch.now place s.0 parts
         × Shows R.behaviour kind chart.old.start parts s.1) }
-    ensures found { OnOk result (look (forest chart.old.cut) branch.now place
-        ≡ Ok (forest chart.old.cut)) }
-    ensures err { IfErr result (IsRefused (look (forest chart.old.cut) branch.now place)) }
+    ensures found { OnOk result (look (forest chart.old.trie) branch.now place
+        ≡ Ok (forest chart.old.trie)) }
+    ensures err { IfErr result (IsRefused (look (forest chart.old.trie) branch.now place)) }
     ensures kept { IsChartKept chart.old chart.new }
     ensures fit { AllFit (R.behaviour chart.old.start.register)
-        (steps_in (forest chart.old.cut) branch.now) }
+        (steps_in (forest chart.old.trie) branch.now) }
     ensures within { chart.old.value < (R.behaviour chart.old.start.register).values }
 {
     chart.lemma_steps_fit();
@@ -253,9 +253,10 @@ fn steps_slip<R: Register>(
     chart: &Chart<R>,
     branch: Name,
 ) -> Result<Slip<R>, Refusal>
-    ensures page { IfOk result (λ slip. slip.page ≡ steps_page (forest chart.now.cut) branch) }
-    ensures found { OnOk result (look (forest chart.now.cut) branch 0 ≡ Ok (forest chart.now.cut)) }
-    ensures err { IfErr result (IsRefused (look (forest chart.now.cut) branch 0)) }
+    ensures page { IfOk result (λ slip. slip.page ≡ steps_page (forest chart.now.trie) branch) }
+    ensures found { OnOk result
+        (look (forest chart.now.trie) branch 0 ≡ Ok (forest chart.now.trie)) }
+    ensures err { IfErr result (IsRefused (look (forest chart.now.trie) branch 0)) }
     ensures judged { IfOk result (λ slip. slip.judged ≡ Some chart.now.start.register) }
     ensures judges { IfOk result (λ slip. Judges (R.behaviour chart.now.start.register) slip.page) }
 {

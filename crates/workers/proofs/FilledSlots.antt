@@ -169,37 +169,25 @@ module _ {J R : Type 0} (gives : J → R → Type 0) where
         subst (λ (xs : List (Done K R)). OneForEach named gives jobs xs) (append-nil all)
         (begins [] (subst (λ (js : List J). OneForEach named gives js []) (sym (full_end (drop k jobs) full)) tt))
 
-    -- the outcome of job k is under its job's key, so the others go on from the next job
-    one_done : (jobs : List J) (k : ℕ) (o : JobOutcome R) (job : J) (rest : List (Done K R)) → IsOutcomeAt gives jobs k o → job ≡ get_or jobs k job
-        → OneForEach named gives (drop (suc k) jobs) rest → OneForEach named gives (drop k jobs) (record { key = named job; outcome = o } ∷ rest)
-    one_done [] k o job rest of at later = absurd of
-    one_done (j ∷ jobs) zero o job rest of at later = (ap named at, of, later)
-    one_done (j ∷ jobs) (suc k) o job rest of at later = one_done jobs k o job rest of at later
+    -- `all`, with an outcome for each of the jobs `left`, are the outcomes of all jobs
+    abbrev pub GoesOn : List J → List J → List (Done K R) → Type 0
+    GoesOn jobs left all = (later : List (Done K R)) → OneForEach named gives left later → OneForEach named gives jobs (all ++ later)
 
-    -- `all` has the outcomes of the first k jobs, and all' also that of the next job
-    pub begins_done : (jobs : List J) (k k' : ℕ) (all all' : List (Done K R)) (o : JobOutcome R) (job : J) (key : K)
-        → IsOutcomeAt gives jobs k o → job ≡ get_or jobs k job → key ≡ named job → all' ≡ all ++ record { key = key; outcome = o } ∷ [] → k' ≡ k + 1
-        → Begins jobs k all → Begins jobs k' all'
-    begins_done jobs k k' all all' o job key of at named_so added next begins =
-        let d : Done K R = record { key = named job; outcome = o } in
-        let k_is : suc k ≡ k' = omega arith in
-        let all_is : all ++ d ∷ [] ≡ all' = ap (λ (x : K). all ++ record { key = x; outcome = o } ∷ []) (sym named_so) ∙ sym added in
-        let on : Begins jobs (suc k) (all ++ d ∷ []) =
-        λ rest later. subst (λ (xs : List (Done K R)). OneForEach named gives jobs xs) (sym (append_assoc all (d ∷ []) rest)) (begins (d ∷ rest) (one_done jobs k o job rest of at later)) in
-        subst (λ (n : ℕ). Begins jobs n all') k_is (subst (Begins jobs (suc k)) all_is on)
+    -- with the outcome of the next job
+    pub goes_on : (jobs items left : List J) (job : J) (all more : List (Done K R)) (o : JobOutcome R) (key : K) → items ≡ job ∷ left → key ≡ named job → IsOutcomeOf gives job o
+        → more ≡ all ++ record { key = key; outcome = o } ∷ [] → GoesOn jobs items all → GoesOn jobs left more
+    goes_on jobs items left job all more o key split named_so of added goes later rest =
+        let d : Done K R = record { key = key; outcome = o } in
+        let on : OneForEach named gives jobs (all ++ d ∷ later) = goes (d ∷ later) (subst (λ (js : List J). OneForEach named gives js (d ∷ later)) (sym split) (named_so, of, rest)) in
+        subst (λ (l : List (Done K R)). OneForEach named gives jobs (l ++ later)) (sym added)
+        (subst (λ (l : List (Done K R)). OneForEach named gives jobs l) (sym (append_assoc all (d ∷ []) later)) on)
 
-    none_later : (jobs : List J) (k : ℕ) → length jobs ≤ k → drop k jobs ≡ []
-    none_later [] zero over = refl
-    none_later [] (suc k) over = refl
-    none_later (job ∷ jobs) zero over = absurd (omega (arith, over))
-    none_later (job ∷ jobs) (suc k) over = none_later jobs k (omega (arith, over))
+    -- no job is left
+    pub goes_over : (jobs items : List J) (n : ℕ) (all : List (Done K R)) → n ≡ length items → n ≡ 0 → GoesOn jobs items all → OneForEach named gives jobs all
+    goes_over jobs [] n all len none goes = subst (λ (l : List (Done K R)). OneForEach named gives jobs l) (append-nil all) (goes [] tt)
+    goes_over jobs (job ∷ items) n all len none goes = absurd (omega arith)
 
-    pub begins_ends : (jobs : List J) (k : ℕ) (all : List (Done K R)) → length jobs ≤ k → Begins jobs k all → OneForEach named gives jobs all
-    begins_ends jobs k all over begins =
-        subst (λ (xs : List (Done K R)). OneForEach named gives jobs xs) (append-nil all)
-        (begins [] (subst (λ (js : List J). OneForEach named gives js []) (sym (none_later jobs k over)) tt))
-
-    -- the same, in the form in which a loop over the slots has it
+    -- the outcome of the next job is in the next slot
     pub begins_next : (jobs : List J) (k k' : ℕ) (all all' : List (Done K R)) (o : JobOutcome R) (items slots : List (Option (JobOutcome R))) (slot : Option (JobOutcome R)) (job : J) (key : K)
         → items ≡ slot ∷ slots → slot ≡ Some o → AreFull gives (drop k jobs) items → job ≡ get_or jobs k job → key ≡ named job → all' ≡ all ++ record { key = key; outcome = o } ∷ [] → k' ≡ k + 1
         → Begins jobs k all → Begins jobs k' all' × AreFull gives (drop k' jobs) slots

@@ -1,12 +1,11 @@
 //! A crew of the caller alone.
 
 ghost use Rattle.std.specs.Prelude.{IfOk};
-ghost use Rattle.workers.specs.Outcomes.{OneForEach};
+ghost use Rattle.workers.specs.Outcomes.{IsOutcomeOf, OneForEach};
 
 use crate::crew::Crew;
 use crate::gate::Gate;
-use crate::job::{Done, Runnable};
-use crate::thief::run_job;
+use crate::job::{Done, JobOutcome, Runnable};
 use std::alloc::{AllocError, Global};
 use std::sync::Wait;
 
@@ -29,13 +28,23 @@ impl Crew {
         J::Run: Drop,
         ensures { IfOk result (λ all. OneForEach J.named J.gives jobs.items all.items) }
     {
-        let jobs = jobs.as_slice();
         let mut all = Vec::with_capacity(alloc, jobs.len())?;
-        for index in 0..jobs.len() {
-            let outcome = run_job(rt, alloc, gate, jobs, index);
-            let key = jobs[index].key();
+        for job in jobs {
+            gate.offer(rt, all.len());
+            let key = job.key();
+            let outcome = last_outcome(alloc, job);
             all.push_reserved(Done { key, outcome });
         }
         Ok(all)
+    }
+}
+
+/// Runs a job, takes it, and returns its outcome.
+fn last_outcome<J: Runnable>(alloc: Global, job: J) -> JobOutcome<J::Run>
+    ensures { IsOutcomeOf J.gives job result }
+{
+    match job.run_once(alloc) {
+        Ok(run) => JobOutcome::Ran(run),
+        Err(AllocError) => JobOutcome::NoMemory,
     }
 }

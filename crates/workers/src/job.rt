@@ -25,6 +25,10 @@ pub trait Runnable {
     /// Runs the job.
     fn run(&self, alloc: Global) -> Result<Self::Run, AllocError>
         ensures { IfOk result (gives self.now) };
+
+    /// Runs the job, and takes it: what it gives may use the job's memory.
+    fn run_once(self, alloc: Global) -> Result<Self::Run, AllocError>
+        ensures { IfOk result (gives self) };
 }
 
 /// How a job ended: with a result, or out of memory.

@@ -26,7 +26,7 @@ const KEYS: SegKey = 8;
 
 /// The segment of a branch that follows the read that all branches share: one write, of 1 or of 0.
 #[derive(Clone, Copy)]
-struct Piece {
+struct OwnSegment {
     key: SegKey,
     is_one: bool,
 }
@@ -34,11 +34,11 @@ struct Piece {
 /// The segment that all branches share, whether a run is stored at it, and the segments of `a` and
 /// `b`.
 #[derive(Clone, Copy)]
-struct Pieces {
+struct Segments {
     shared: SegKey,
     is_settled: bool,
-    a: Option<Piece>,
-    b: Option<Piece>,
+    a: Option<OwnSegment>,
+    b: Option<OwnSegment>,
 }
 
 /// A run of a write after the read. The segment that the run was made for may be gone.
@@ -52,7 +52,7 @@ struct Old {
 #[derive(Drop)]
 struct Shelf {
     chart: Chart<Safe>,
-    pieces: Pieces,
+    segments: Segments,
     runs: Vec<Old>,
 }
 
@@ -62,17 +62,17 @@ fn write_of(is_one: bool) -> Step
     step_of(if is_one { Kind::Write1 } else { Kind::Write0 })
 }
 
-/// The expected result of installing a run of a write at `key`; `None` unless `piece` has that key.
+/// The expected result of installing a run of a write at `key`; `None` unless `segment` has that key.
 /// `is_fitting` is whether a run is stored at the shared read.
 fn reported_of(
-    piece: Option<Piece>,
+    segment: Option<OwnSegment>,
     key: SegKey,
     is_fitting: bool,
     is_one: bool,
 ) -> Option<Installation> {
-    match piece {
-        Some(piece) if piece.key != key => None,
-        Some(piece) if is_fitting && piece.is_one == is_one => Some(Installation::Installed),
+    match segment {
+        Some(segment) if segment.key != key => None,
+        Some(segment) if is_fitting && segment.is_one == is_one => Some(Installation::Installed),
         Some(_) => Some(Installation::Stale),
         None => None,
     }
@@ -81,12 +81,12 @@ fn reported_of(
 /// The expected result of installing a run of a write at a key: Gone if no segment has the key,
 /// Installed if the key's segment is that write and a run is stored at the shared read, and
 /// otherwise Stale.
-fn reported(pieces: Pieces, key: SegKey, is_one: bool) -> Installation {
-    let of_a = reported_of(pieces.a, key, pieces.is_settled, is_one);
-    let of_b = reported_of(pieces.b, key, pieces.is_settled, is_one);
+fn reported(segments: Segments, key: SegKey, is_one: bool) -> Installation {
+    let of_a = reported_of(segments.a, key, segments.is_settled, is_one);
+    let of_b = reported_of(segments.b, key, segments.is_settled, is_one);
     match (of_a, of_b) {
         (Some(reported), _) | (_, Some(reported)) => reported,
-        _ if key == pieces.shared => Installation::Stale,
+        _ if key == segments.shared => Installation::Stale,
         _ => Installation::Gone,
     }
 }
@@ -99,28 +99,32 @@ fn clone_of(run: &Arc<Run<Safe>>) -> Result<Arc<Run<Safe>>, Refusal> {
 /// Whether the install of an old run has the expected result at a key.
 fn is_reported_at(
     chart: &mut Chart<Safe>,
-    pieces: Pieces,
+    segments: Segments,
     old: &Old,
     key: SegKey,
 ) -> Result<bool, Refusal> {
     let run = clone_of(&old.run)?;
-    Ok(install(chart, key, run) == reported(pieces, key, old.is_one))
+    Ok(install(chart, key, run) == reported(segments, key, old.is_one))
 }
 
 /// Whether the install of an old run has the expected result at each key.
-fn is_reported(chart: &mut Chart<Safe>, pieces: Pieces, old: &Old) -> Result<bool, Refusal> {
+fn is_reported(chart: &mut Chart<Safe>, segments: Segments, old: &Old) -> Result<bool, Refusal> {
     let mut all = true;
     for key in 0..KEYS {
-        all &= is_reported_at(chart, pieces, old, key)?;
+        all &= is_reported_at(chart, segments, old, key)?;
     }
     Ok(all)
 }
 
 /// Whether the installs of all old runs have the expected results at each key.
-fn are_reported(chart: &mut Chart<Safe>, pieces: Pieces, runs: &[Old]) -> Result<bool, Refusal> {
+fn are_reported(
+    chart: &mut Chart<Safe>,
+    segments: Segments,
+    runs: &[Old],
+) -> Result<bool, Refusal> {
     let mut all = true;
     for old in runs {
-        all &= is_reported(chart, pieces, old)?;
+        all &= is_reported(chart, segments, old)?;
     }
     Ok(all)
 }
@@ -137,10 +141,10 @@ fn made_for(
 }
 
 /// Keeps a run of a write, and returns the write's segment.
-fn piece_of(runs: &mut Vec<Old>, is_one: bool, made: Kept<Safe>) -> Result<Piece, Refusal> {
+fn own_segment(runs: &mut Vec<Old>, is_one: bool, made: Kept<Safe>) -> Result<OwnSegment, Refusal> {
     let (key, run) = made;
     keep(runs, Old { is_one, run })?;
-    Ok(Piece { key, is_one })
+    Ok(OwnSegment { key, is_one })
 }
 
 /// Forks a branch after the read, gives it a write, and keeps a run of the write. Returns the
@@ -151,11 +155,11 @@ fn forked(
     main: &Name,
     branch: &Name,
     is_one: bool,
-) -> Result<Option<Piece>, Refusal> {
+) -> Result<Option<OwnSegment>, Refusal> {
     let write = write_of(is_one);
     fork_with(alloc, &mut shelf.chart, main, *branch, write)?;
     match made_for(alloc, &shelf.chart, branch, write)? {
-        Some(made) => Ok(Some(piece_of(&mut shelf.runs, is_one, made)?)),
+        Some(made) => Ok(Some(own_segment(&mut shelf.runs, is_one, made)?)),
         None => Ok(None),
     }
 }
@@ -199,38 +203,42 @@ fn forks(
 ) -> Result<bool, Refusal> {
     let main = name_of(rt, alloc, Branch::Main);
     let branch = branch_of(rt, alloc, is_a);
-    let piece = forked(alloc, shelf, &main, &branch, is_one)?;
-    put(&mut shelf.pieces, is_a, piece);
-    Ok(piece.is_some())
+    let segment = forked(alloc, shelf, &main, &branch, is_one)?;
+    put(&mut shelf.segments, is_a, segment);
+    Ok(segment.is_some())
 }
 
 fn branch_of(rt: &impl Abort, alloc: Global, is_a: bool) -> Name {
     name_of(rt, alloc, if is_a { Branch::A } else { Branch::B })
 }
 
-fn put(pieces: &mut Pieces, is_a: bool, piece: Option<Piece>) {
+fn put(segments: &mut Segments, is_a: bool, segment: Option<OwnSegment>) {
     if is_a {
-        pieces.a = piece;
+        segments.a = segment;
     } else {
-        pieces.b = piece;
+        segments.b = segment;
     }
 }
 
 /// Whether the page of `a`'s or `b`'s state has the expected text.
 fn shows(rt: &impl Abort, alloc: Global, shelf: &mut Shelf, is_a: bool) -> Result<bool, Refusal> {
-    let piece = if is_a { shelf.pieces.a } else { shelf.pieces.b };
-    let Some(piece) = piece else {
+    let segment = if is_a {
+        shelf.segments.a
+    } else {
+        shelf.segments.b
+    };
+    let Some(segment) = segment else {
         return Ok(false);
     };
     let text = state_text(alloc, &mut shelf.chart, branch_of(rt, alloc, is_a), 2)?;
-    Ok(text.as_slice() == state_of(is_a, piece.is_one))
+    Ok(text.as_slice() == state_of(is_a, segment.is_one))
 }
 
 /// Drops `a` or `b`.
 fn drops(rt: &impl Abort, alloc: Global, shelf: &mut Shelf, is_a: bool) -> Result<(), Refusal> {
     let branch = branch_of(rt, alloc, is_a);
     edit(alloc, &mut shelf.chart, &Edit::Drop(&branch))?;
-    put(&mut shelf.pieces, is_a, None);
+    put(&mut shelf.segments, is_a, None);
     Ok(())
 }
 
@@ -238,14 +246,14 @@ fn drops(rt: &impl Abort, alloc: Global, shelf: &mut Shelf, is_a: bool) -> Resul
 fn unsettles(alloc: Global, shelf: &mut Shelf, main: &Name) -> Result<(), Refusal> {
     let read = Edit::Replace(main, 0, step_of(Kind::Read));
     edit(alloc, &mut shelf.chart, &read)?;
-    shelf.pieces.is_settled = false;
+    shelf.segments.is_settled = false;
     Ok(())
 }
 
 /// Stores a run at the read.
 fn settles(alloc: Global, shelf: &mut Shelf, main: &Name) -> Result<(), Refusal> {
     settle(alloc, &mut shelf.chart, main, 1)?;
-    shelf.pieces.is_settled = true;
+    shelf.segments.is_settled = true;
     Ok(())
 }
 
@@ -268,7 +276,7 @@ fn goes_well(rt: &impl Abort, alloc: Global, shelf: &mut Shelf, ask: Ask) -> Res
     if !goes(rt, alloc, shelf, ask)? {
         return Ok(false);
     }
-    are_reported(&mut shelf.chart, shelf.pieces, &shelf.runs)
+    are_reported(&mut shelf.chart, shelf.segments, &shelf.runs)
 }
 
 /// The index of the first of `asks` that has a wrong result, or after which the install of an old
@@ -303,7 +311,7 @@ fn key_of(jobs: &[Job<Safe>]) -> Option<SegKey> {
 
 /// A chart of one read, without runs. Its shared segment isn't known yet.
 fn shelf_of(alloc: Global) -> Result<Shelf, Refusal> {
-    let pieces = Pieces {
+    let segments = Segments {
         shared: 0,
         is_settled: false,
         a: None,
@@ -311,7 +319,7 @@ fn shelf_of(alloc: Global) -> Result<Shelf, Refusal> {
     };
     Ok(Shelf {
         chart: Chart::new(alloc, Safe, 0, limits(), &[step_of(Kind::Read)])?,
-        pieces,
+        segments,
         runs: Vec::new(alloc),
     })
 }
@@ -328,7 +336,7 @@ fn first_wrong_from(
     let Some(shared) = first_key(alloc, &shelf.chart, &main)? else {
         return Ok(Some(0));
     };
-    shelf.pieces.shared = shared;
+    shelf.segments.shared = shared;
     first_wrong(rt, alloc, shelf, asks)
 }
 

@@ -5,7 +5,7 @@ ghost use Rattle.std.specs.Prelude.{◌≡◌, ◌<◌, true, IfOk};
 ghost use Rattle.frames.specs.Configuration.{fits_step};
 ghost use Rattle.frames.specs.SafeBit.{safe_behaviour};
 ghost use Rattle.frames.specs.Recorded.{AllFit};
-ghost use Rattle.schedule_trie.specs.Cut.{AreLimits};
+ghost use Rattle.schedule_trie.specs.Trie.{AreLimits};
 
 use super::counting::Counting;
 use super::single::{Kept, edit, fork, installs_first, is_of, jobs_of, keeps_only, settle};

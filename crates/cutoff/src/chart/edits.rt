@@ -5,7 +5,7 @@
 ghost use Rattle.std.specs.Prelude.{◌≡◌, ◌⊎◌, Some, None, true};
 ghost use Rattle.frames.specs.Configuration.{fits_step};
 ghost use Rattle.schedule_trie.specs.Forest.{len_of};
-ghost use Rattle.schedule_trie.specs.Cut.{forest};
+ghost use Rattle.schedule_trie.specs.Trie.{forest};
 ghost use Rattle.schedule_trie.specs.Edits.{edit_in, Insert, Remove, Replace, Fork, Detach, Drop};
 ghost use Rattle.cutoff.specs.Edits.{Edits, FitsEdit};
 

@@ -4,7 +4,7 @@ ghost use Rattle.std.specs.Prelude.{◌≡◌, Ok, Some, IfOk, OnOk, IfErr};
 ghost use Rattle.std.specs.Option.{option_map};
 ghost use Rattle.frames.specs.Configuration.{initial_configuration};
 ghost use Rattle.schedule_trie.specs.Forest.{IsRefused, len_of};
-ghost use Rattle.schedule_trie.specs.Cut.{forest};
+ghost use Rattle.schedule_trie.specs.Trie.{forest};
 ghost use Rattle.cutoff.specs.Fitting.{part_of};
 ghost use Rattle.cutoff.specs.Charts.{look};
 ghost use Rattle.cutoff.specs.Settles.{IsSettledLast, KeepsOrFills};
@@ -40,11 +40,11 @@ impl<R: Register> Chart<R> {
             (λ last. IsSettledLast R.PartialEq.eq (R.behaviour self.old.start.register) self.old
             self.new
             branch.now place (option_map part_of last.part) last.replayed) }
-        ensures found { OnOk result (look (forest self.old.cut) branch.now place
-            ≡ Ok (forest self.new.cut)) }
+        ensures found { OnOk result (look (forest self.old.trie) branch.now place
+            ≡ Ok (forest self.new.trie)) }
         ensures len { IfOk result (λ last.
-            len_of (forest self.old.cut) branch.now ≡ Some last.len) }
-        ensures err { IfErr result (IsRefused (look (forest self.old.cut) branch.now place)) }
+            len_of (forest self.old.trie) branch.now ≡ Some last.len) }
+        ensures err { IfErr result (IsRefused (look (forest self.old.trie) branch.now place)) }
         ensures keeps { KeepsOrFills R.PartialEq.eq R.behaviour self.old self.new branch.now place }
         ensures begins { self.old.start ≡ initial_configuration
             (R.behaviour self.old.start.register) self.old.start.register self.old.value }

@@ -4,7 +4,7 @@
 ghost use Rattle.std.specs.Prelude.{◌≡◌, ◌<◌, length, IfOk, IfErr, Ok};
 ghost use Rattle.frames.specs.Configuration.{initial_configuration};
 ghost use Rattle.schedule_trie.specs.Forest.{IsRefused};
-ghost use Rattle.schedule_trie.specs.Cut.{AreLimits, IsBlank, IsCut, forest};
+ghost use Rattle.schedule_trie.specs.Trie.{AreLimits, IsBlank, IsCut, forest};
 ghost use Rattle.schedule_trie.specs.Limbs as spec;
 ghost use Rattle.schedule_trie.specs.Limbs.{FitLimits, AreLawfulLimbs, forest_of, limbs, loaded};
 ghost use Rattle.schedule_trie.specs.Renumbering.{IsRenumbered};
@@ -43,14 +43,14 @@ impl<R: Register> Chart<R> {
         requires lawful { AreLawfulLimbs limbs.now }
         requires some { 0 < length limbs.now }
         requires fits { LimbsFit (R.behaviour register) limbs.now }
-        ensures forest { IfOk result (λ c. loaded limits limbs.now ≡ Ok (forest c.cut)) }
-        ensures again { IfOk result (λ c. spec.limbs (forest c.cut) ≡ limbs.now) }
-        ensures limits { IfOk result (λ c. c.cut.limits ≡ limits) }
+        ensures forest { IfOk result (λ c. loaded limits limbs.now ≡ Ok (forest c.trie)) }
+        ensures again { IfOk result (λ c. spec.limbs (forest c.trie) ≡ limbs.now) }
+        ensures limits { IfOk result (λ c. c.trie.limits ≡ limits) }
         ensures start { let initial = initial_configuration (R.behaviour register) register value in
             IfOk result (λ c. c.start ≡ initial) }
         ensures value { IfOk result (λ c. c.value ≡ value) }
-        ensures blank { IfOk result (λ c. IsBlank c.cut) }
-        ensures cut { IfOk result (λ c. IsCut c.cut) }
+        ensures blank { IfOk result (λ c. IsBlank c.trie) }
+        ensures cut { IfOk result (λ c. IsCut c.trie) }
         ensures err { IfErr result (IsRefused (loaded limits limbs.now)) }
     {
         let trie = Trie::load(alloc, limits, limbs)?;
@@ -65,12 +65,12 @@ impl<R: Register> Chart<R> {
     ///
     /// AllocError if memory runs out.
     pub fn limbs(&self, alloc: Global) -> Result<Vec<Limb>, AllocError>
-        ensures limbs { IfOk result (λ r. r.items ≡ limbs (forest self.now.cut)) }
-        ensures kept { let f = forest self.now.cut in
+        ensures limbs { IfOk result (λ r. r.items ≡ limbs (forest self.now.trie)) }
+        ensures kept { let f = forest self.now.trie in
             IfOk result (λ r. IsRenumbered f (forest_of r.items)) }
         ensures lawful { IfOk result (λ r. AreLawfulLimbs r.items) }
         ensures some { IfOk result (λ r. 0 < length r.items) }
-        ensures near { IfOk result (λ r. FitLimits self.now.cut.limits r.items) }
+        ensures near { IfOk result (λ r. FitLimits self.now.trie.limits r.items) }
         ensures fit { let b = R.behaviour self.now.start.register in
             IfOk result (λ r. LimbsFit b r.items) }
     {

@@ -20,10 +20,11 @@ use Rattle.frames.specs.contracts.safe.SafePointPartialEq.TheImpl as points
 use Rattle.frames.specs.declared.safe.SafePoint.{SafePoint}
 use Rattle.frames.specs.declared.safe.SafePoint.TheVariants as at
 use Rattle.frames.specs.declared.types.Outcome.{Outcome}
+use Rattle.frames.specs.declared.types.Outcome.TheVariants.{Value}
 use Rattle.frames.specs.declared.types.Next.TheVariants.{Pending, Done}
 use Rattle.frames.specs.declared.types.Frame.{Frame}
 use Rattle.frames.specs.declared.types.FrameLayer.TheVariants as layer
-use Rattle.frames.specs.Behaviour.{IsLawful, GoesOn}
+use Rattle.frames.specs.Behaviour.{IsLawful, GoesOn, Moved}
 use Rattle.frames.specs.Flat.{ended, left_frames, outermost, Lands, HasFramesFrom, FramesGivePoint}
 use Rattle.frames.specs.SafeBit.{safe_behaviour, SafeReaches, safe_suits, safe_begins, safe_goes, safe_acts, safe_frame, point_at, safe_point, bit_of, value_of}
 
@@ -58,6 +59,24 @@ goes who _ _ choice m z r = absurd r
 chooses : (p : SafePoint) (choice : Bool) (m : Memory) → MatchOption (safe_goes p choice m).chosen ⊤ (λ bit. bit.0 < 1)
 chooses at.ReadEnd choice m = hit_bit (cell_at 0 m).hit (read_gives choice (cell_at 0 m))
 chooses _ choice m = tt
+
+-- the effect of a read's end action on a bit with this value; `hit`: whether the read was hit
+abbrev read_ends : Bool → Bool → Bool → Memory → Moved SafePoint
+read_ends hit value choice after = record {
+  next = Done (Value (value_of (if hit then choice else value)));
+  chosen = if hit then Some (0, if hit then choice else value) else None;
+  memory = after;
+}
+
+unhit : (hit value : Bool) (after : Memory) → (read_ends hit value false after).chosen ≡ None → read_ends hit value true after ≡ read_ends hit value false after
+unhit false value after none = refl
+unhit true value after none = cc
+
+unused : (p : SafePoint) (m : Memory) → (safe_goes p false m).chosen ≡ None → safe_goes p true m ≡ safe_goes p false m
+unused (at.WriteStart b) m none = refl
+unused (at.WriteEnd b) m none = refl
+unused at.ReadStart m none = refl
+unused at.ReadEnd m none = unhit (cell_at 0 m).hit (cell_at 0 m).value (on_cell 0 end_read m) none
 
 suited : (who : ℕ) (o : Op) (p : SafePoint) → SafeReaches who o p → safe_suits who o ≡ true
 suited who (op.Write v) (at.WriteStart b) r = let zero = r.0 in let low = r.1 in grind (arith, nat_tests)
@@ -113,6 +132,7 @@ safe_lawful = record {
   begins_well = begins;
   goes_well = goes;
   chooses_own = λ who o p choice m z r. chooses p choice m;
+  unused_choice = λ who o p m z r none. unused p m none;
   reached_suits = suited;
   frames_fit = λ who o p r. omega arith;
   acts_own = λ who o p r. acts p;

@@ -1,7 +1,7 @@
 -- The page that lists all branches.
 use Rattle.std.specs.Prelude.{ℕ, List, ◌++◌, codes, length, map}
 use Rattle.std.specs.Fmt.{decimal}
-use Rattle.schedule_trie.specs.Forest.{Forest, Branch}
+use Rattle.branch_terms.specs.Forest.{Forest, Branch}
 use Rattle.pages.specs.declared.page.branches.BranchLength.{BranchLength}
 use Rattle.pages.specs.declared.page.branches.BranchesPage.{BranchesPage}
 use Rattle.pages.specs.Numbered.{numbered_lines}

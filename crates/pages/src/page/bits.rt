@@ -6,10 +6,10 @@ ghost use Rattle.pages.specs.page.Bits as spec;
 use crate::page::head::{Head, push_head};
 use crate::page::lines::push_lines;
 use crate::page::memory::push_words;
+use branch_terms::listed::Listed;
 use frames::config::Config;
 use frames::register::Register;
 use safe_bit::Cell;
-use schedule_trie::listed::Listed;
 use std::alloc::{AllocError, Global};
 use words::text::Pushed;
 

@@ -6,8 +6,8 @@ ghost use Rattle.pages.specs.page.Head.{line_end};
 
 use crate::page::head::push_pair;
 use crate::page::lines::{Line, push_lines};
-use schedule_trie::listed::Listed;
-use schedule_trie::name::Name;
+use branch_terms::listed::Listed;
+use branch_terms::name::Name;
 use std::alloc::AllocError;
 use words::text::{Pushed, push_bytes, push_labelled, push_number, push_text};
 

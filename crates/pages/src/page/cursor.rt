@@ -6,8 +6,8 @@ ghost use Rattle.pages.specs.page.Cursor as spec;
 use crate::breakpoint::Break;
 use crate::page::head::{push_pair, push_title};
 use crate::page::lines::{Line, push_lines};
-use schedule_trie::listed::Listed;
-use schedule_trie::name::Name;
+use branch_terms::listed::Listed;
+use branch_terms::name::Name;
 use std::alloc::{AllocError, Global};
 use words::text::{Pushed, push_labelled, push_text};
 

@@ -3,7 +3,7 @@
 ghost use Rattle.std.specs.Prelude.{◌≡◌, ◌++◌, OnOk, decimal};
 ghost use Rattle.pages.specs.page.Head as spec;
 
-use schedule_trie::name::Name;
+use branch_terms::name::Name;
 use words::text::{Pushed, push_bytes, push_labelled, push_number, push_text};
 
 /// The place that a page shows: after the first `place` steps of a branch that has `len` steps.

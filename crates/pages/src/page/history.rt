@@ -10,8 +10,8 @@ use crate::page::lines::{Line, push_lines_or_none};
 use crate::page::memory::bit_name;
 use crate::page::names::{layer_name, reason_name};
 use crate::page::process::push_op;
+use branch_terms::listed::Listed;
 use frames::types::{Event, Op};
-use schedule_trie::listed::Listed;
 use words::text::{Pushed, push_labelled, push_text};
 
 /// A page that shows the events of the steps before a place, each with the index of its step.

@@ -5,8 +5,8 @@ ghost use Rattle.std.specs.List.{flat_map};
 ghost use Rattle.pages.specs.page.Memory as spec;
 
 use crate::page::lines::Line;
+use branch_terms::listed::Listed;
 use safe_bit::Cell;
-use schedule_trie::listed::Listed;
 use std::alloc::{AllocError, Global};
 use words::text::{Pushed, push_labelled, push_text, push_word};
 

@@ -7,10 +7,10 @@ use crate::page::head::{Head, push_head};
 use crate::page::lines::{Line, push_lines};
 use crate::page::names::push_frame_name;
 use crate::page::process::{push_idle, push_name, stopped_text};
+use branch_terms::listed::Listed;
 use frames::config::Config;
 use frames::register::Register;
 use frames::types::{Frame, FrameLayer, Op};
-use schedule_trie::listed::Listed;
 use std::alloc::{AllocError, Global};
 use words::text::{Pushed, push_labelled, push_text};
 

@@ -8,10 +8,10 @@ ghost use Rattle.pages.specs.page.Process as spec;
 use crate::page::head::{Head, push_head};
 use crate::page::lines::Line;
 use crate::page::names::kind_name;
+use branch_terms::listed::Listed;
 use frames::config::Config;
 use frames::register::Register;
 use frames::types::{Action, Op};
-use schedule_trie::listed::Listed;
 use std::alloc::{AllocError, Global};
 use words::text::{Pushed, push_labelled, push_text};
 

@@ -7,9 +7,9 @@ use crate::page::head::{Head, push_head};
 use crate::page::lines::push_lines;
 use crate::page::memory::{bits, push_bits, push_words};
 use crate::page::process::{ProcessStatus, statuses};
+use branch_terms::listed::Listed;
 use frames::config::Config;
 use frames::register::Register;
-use schedule_trie::listed::Listed;
 use std::alloc::{AllocError, Global};
 use words::text::Pushed;
 

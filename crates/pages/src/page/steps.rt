@@ -5,9 +5,9 @@ ghost use Rattle.pages.specs.page.Steps as spec;
 
 use crate::page::head::push_title;
 use crate::page::lines::{Line, push_lines};
+use branch_terms::listed::Listed;
+use branch_terms::name::Name;
 use frames::types::Step;
-use schedule_trie::listed::Listed;
-use schedule_trie::name::Name;
 use std::alloc::{AllocError, Global};
 use words::step::append_step;
 use words::text::{Pushed, push_labelled, push_number, push_text};

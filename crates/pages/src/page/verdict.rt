@@ -7,9 +7,9 @@ use crate::page::head::{Head, push_head};
 use crate::page::lines::{Line, push_lines_or_none};
 use crate::page::names::verdict_name;
 use crate::verdict::verdicts;
+use branch_terms::listed::Listed;
 use frames::types::Event;
 use frames::verdict::ReadVerdict;
-use schedule_trie::listed::Listed;
 use std::alloc::{AllocError, Global};
 use words::text::{Pushed, push_labelled, push_text, push_word};
 

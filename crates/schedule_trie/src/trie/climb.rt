@@ -3,14 +3,14 @@
 ghost use Rattle.std.specs.Prelude.{ℕ, List, ◌≡◌, ◌≤◌, ◌<◌, ◌++◌, ◌∷◌, length, Some, None, IfSome, IfNone};
 ghost use Rattle.std.specs.List.{position};
 ghost use Rattle.lineage.specs.Family.{last_of};
-ghost use Rattle.schedule_trie.specs.Forest.{is_cell, slots_in};
-ghost use Rattle.schedule_trie.specs.Cut.{forest, piece_at, slots_of, keys_in, line, IsSpotInPath, LiesInPath, IsWhole};
+ghost use Rattle.branch_terms.specs.Forest.{is_cell, slots_in};
+ghost use Rattle.schedule_trie.specs.Trie.{forest, segment_at, slots_of, keys_in, line, IsSpotInPath, LiesInPath, IsWhole};
 ghost use Rattle.schedule_trie.specs.Climbs.{keys_to, HasClimbedTo};
 
 use super::Trie;
 use super::lengths::kept_length;
 use crate::segment::SegKey;
-use crate::slot::Slot;
+use branch_terms::slot::Slot;
 use lineage::lineage::Above;
 
 impl<T: Drop> Trie<T> {
@@ -54,9 +54,9 @@ impl<T: Drop> Trie<T> {
     /// The number of cells of the branch at `index` down to the end of its segment `last`; 0 if
     /// `last` is `None`.
     fn len_to(&self, index: usize, last: Above) -> u32
-        requires { HasClimbedTo (keys_in self.now.strands index) last }
-        ensures { result ≡ length (line (piece_at self.now.pieces)
-            (keys_to (keys_in self.now.strands index) last)) }
+        requires { HasClimbedTo (keys_in self.now.branches index) last }
+        ensures { result ≡ length (line (segment_at self.now.segments)
+            (keys_to (keys_in self.now.branches index) last)) }
     {
         self.lemma_invariant();
         let mut len = 0;
@@ -73,10 +73,10 @@ impl<T: Drop> Trie<T> {
     /// offset in that segment. The place is this offset plus the number of cells in all segments
     /// above. `None` if the branch has no cell there.
     pub fn find_cell(&self, index: usize, place: u32) -> Option<(SegKey, usize)>
-        ensures found { IfSome result (IsSpotInPath (piece_at self.now.pieces)
-            (keys_in self.now.strands index) place) }
-        ensures lies { IfSome result (LiesInPath (piece_at self.now.pieces)
-            (keys_in self.now.strands index) place) }
+        ensures found { IfSome result (IsSpotInPath (segment_at self.now.segments)
+            (keys_in self.now.branches index) place) }
+        ensures lies { IfSome result (LiesInPath (segment_at self.now.segments)
+            (keys_in self.now.branches index) place) }
         ensures none { IfNone result (length (slots_in (forest self.now).branches index) ≤ place) }
     {
         let len = self.len_at(index);
@@ -120,12 +120,12 @@ impl<T: Drop> Trie<T> {
     #[inline(always)]
     fn slots_up(&self, at: Above) -> Option<(SegKey, &[Slot], Above)>
         ensures key { IfSome result (λ s. at ≡ Some s.0) }
-        ensures slots { IfSome result (λ s. s.1.now ≡ slots_of (piece_at self.now.pieces s.0)) }
+        ensures slots { IfSome result (λ s. s.1.now ≡ slots_of (segment_at self.now.segments s.0)) }
         ensures whole { IsWhole self.now }
         ensures each { IfSome result (λ s. (i : ℕ) (front back : List ℕ)
-            → keys_in self.now.strands i ≡ front ++ s.0 ∷ back → s.2 ≡ last_of front) }
+            → keys_in self.now.branches i ≡ front ++ s.0 ∷ back → s.2 ≡ last_of front) }
         ensures end { IfNone result
-            ((i : ℕ) → HasClimbedTo (keys_in self.now.strands i) at → at ≡ None) }
+            ((i : ℕ) → HasClimbedTo (keys_in self.now.branches i) at → at ≡ None) }
     {
         match self.segments.climb(at) {
             Some((key, segment, above)) => Some((key, segment.slots.as_slice(), above)),

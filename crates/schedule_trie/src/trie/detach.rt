@@ -2,14 +2,14 @@
 
 ghost use Rattle.std.specs.Prelude.{◌≡◌, ◌<◌, ◌≤◌, ◌+◌, length, Ok, OnOk, IfOk, IfErr, OnErr};
 ghost use Rattle.schedule_trie.specs.Edits.{Detach, IsEdited, IsUnedited};
-ghost use Rattle.schedule_trie.specs.Forest.{slots_in};
-ghost use Rattle.schedule_trie.specs.Cut.{forest, piece_at, keys_in};
-ghost use Rattle.schedule_trie.specs.Copies.{AreCopies, IsDetached};
+ghost use Rattle.branch_terms.specs.Forest.{slots_in};
+ghost use Rattle.schedule_trie.specs.Trie.{forest, segment_at, keys_in};
+ghost use Rattle.schedule_trie.specs.changes.Copies.{AreCopies, IsDetached};
 
 use super::Trie;
-use crate::name::Name;
-use crate::refusal::Refusal;
 use crate::segment::Segment;
+use branch_terms::name::Name;
+use branch_terms::refusal::Refusal;
 use std::alloc::{AllocError, Global};
 
 impl<T: Drop> Trie<T> {
@@ -37,7 +37,7 @@ impl<T: Drop> Trie<T> {
     /// Replaces the cells of the branch at an index by new cells. The limit of cells has to allow
     /// them.
     fn detach_at(&mut self, alloc: Global, index: usize) -> Result<(), AllocError>
-        requires index { index < length self.old.strands }
+        requires index { index < length self.old.branches }
         requires room { self.old.made + length (slots_in (forest self.old).branches index)
             ≤ self.old.limits.cells }
         ensures ok { OnOk result (IsDetached self.old self.new index) }
@@ -57,8 +57,8 @@ impl<T: Drop> Trie<T> {
         requires { self.now.made + length (slots_in (forest self.now).branches index)
             ≤ self.now.limits.cells }
         ensures { IfOk result
-            (λ copies. AreCopies (piece_at self.now.pieces) self.now.made
-            (keys_in self.now.strands index) copies.items) }
+            (λ copies. AreCopies (segment_at self.now.segments) self.now.made
+            (keys_in self.now.branches index) copies.items) }
     {
         let keys = self.keys_at(alloc, index)?;
         let mut copies = Vec::with_capacity(alloc, keys.len())?;

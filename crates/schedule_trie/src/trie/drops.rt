@@ -2,11 +2,11 @@
 
 ghost use Rattle.std.specs.Prelude.{◌<◌, length, Ok, Err, OnOk, IfErr};
 ghost use Rattle.schedule_trie.specs.Edits.{Drop, IsEdited, IsUnedited};
-ghost use Rattle.schedule_trie.specs.Releases.{IsDropped};
+ghost use Rattle.schedule_trie.specs.changes.Releases.{IsDropped};
 
 use super::Trie;
-use crate::name::Name;
-use crate::refusal::Refusal;
+use branch_terms::name::Name;
+use branch_terms::refusal::Refusal;
 
 impl<T: Drop> Trie<T> {
     /// Drops a branch, and the segments that no other branch has. All other segments keep their
@@ -32,8 +32,8 @@ impl<T: Drop> Trie<T> {
 
     /// Drops the branch at an index. There has to be another branch.
     fn drop_at(&mut self, index: usize)
-        requires index { index < length self.old.strands }
-        requires several { 1 < length self.old.strands }
+        requires index { index < length self.old.branches }
+        requires several { 1 < length self.old.branches }
         ensures { IsDropped self.old self.new index }
     {
         self.branches.shift_remove_index(index);

@@ -4,17 +4,17 @@ ghost use Rattle.std.specs.Prelude.{ℕ, ◌≡◌, ◌+◌, ◌<◌, ◌≤◌,
 ghost use Rattle.std.specs.Cmp.Lexicographic.{pointwise};
 ghost use Rattle.indexmap.specs.IndexMap.{insert_entry, spare};
 ghost use Rattle.schedule_trie.specs.Edits.{Fork, IsEdited, IsUnedited};
-ghost use Rattle.schedule_trie.specs.Forest.{index_of, slots_in};
-ghost use Rattle.schedule_trie.specs.Limbs.{is_name};
-ghost use Rattle.schedule_trie.specs.Cut.{forest, has, keys_in, line, piece_at, slots_of};
+ghost use Rattle.branch_terms.specs.Forest.{index_of, slots_in};
+ghost use Rattle.branch_terms.specs.Limbs.{is_name};
+ghost use Rattle.schedule_trie.specs.Trie.{forest, has, keys_in, line, segment_at, slots_of};
 ghost use Rattle.schedule_trie.specs.Climbs.{keys_to, HasClimbedTo};
-ghost use Rattle.schedule_trie.specs.Forks.{IsBranchForked, IsForkedWhole, CutsNoneAtEnd};
+ghost use Rattle.schedule_trie.specs.changes.Forks.{IsBranchForked, IsForkedWhole, CutsNoneAtEnd};
 
 use super::Trie;
-use crate::name::Name;
-use crate::refusal::Refusal;
 use crate::segment::{SegKey, Segment};
-use crate::slot::Slot;
+use branch_terms::name::Name;
+use branch_terms::refusal::Refusal;
+use branch_terms::slot::Slot;
 use indexmap::IndexMap;
 use std::alloc::{AllocError, Global};
 
@@ -78,7 +78,7 @@ impl<T: Drop> Trie<T> {
         requires place { place ≤ length (slots_in (forest self.old).branches index) }
         requires name { index_of (forest self.old).branches name ≡ None }
         requires form { is_name name ≡ true }
-        requires room { length self.old.strands < self.old.limits.branches }
+        requires room { length self.old.branches < self.old.limits.branches }
         ensures ok { OnOk result (IsBranchForked self.old self.new index place name) }
         ensures end { OnOk result (place ≡ length (slots_in (forest self.old).branches index)
             → IsForkedWhole self.old self.new index name) }
@@ -107,15 +107,15 @@ impl<T: Drop> Trie<T> {
         last: Option<SegKey>,
         name: Name,
     ) -> Result<(), AllocError>
-        requires last { HasClimbedTo (keys_in self.old.strands index) last }
+        requires last { HasClimbedTo (keys_in self.old.branches index) last }
         requires name { index_of (forest self.old).branches name ≡ None }
         requires form { is_name name ≡ true }
-        requires room { length self.old.strands < self.old.limits.branches }
+        requires room { length self.old.branches < self.old.limits.branches }
         ensures ok { OnOk result (IsBranchForked self.old self.new index
-            (length (line (piece_at self.old.pieces)
-            (keys_to (keys_in self.old.strands index) last))) name) }
+            (length (line (segment_at self.old.segments)
+            (keys_to (keys_in self.old.branches index) last))) name) }
         ensures end { OnOk result
-            (keys_to (keys_in self.old.strands index) last ≡ keys_in self.old.strands index
+            (keys_to (keys_in self.old.branches index) last ≡ keys_in self.old.branches index
             → IsForkedWhole self.old self.new index name) }
         ensures err { OnErr result (self.new ≡ self.old) }
     {
@@ -136,15 +136,15 @@ impl<T: Drop> Trie<T> {
         count: usize,
         name: Name,
     ) -> Result<(), AllocError>
-        requires key { has key (keys_in self.old.strands index) ≡ true }
+        requires key { has key (keys_in self.old.branches index) ≡ true }
         requires some { 0 < count }
-        requires inside { count < length (slots_of (piece_at self.old.pieces key)) }
+        requires inside { count < length (slots_of (segment_at self.old.segments key)) }
         requires name { index_of (forest self.old).branches name ≡ None }
         requires form { is_name name ≡ true }
-        requires room { length self.old.strands < self.old.limits.branches }
-        ensures ok { (front back : List ℕ) → keys_in self.old.strands index ≡ front ++ key ∷ back
+        requires room { length self.old.branches < self.old.limits.branches }
+        ensures ok { (front back : List ℕ) → keys_in self.old.branches index ≡ front ++ key ∷ back
             → OnOk result (IsBranchForked self.old self.new index
-            (length (line (piece_at self.old.pieces) front) + count) name) }
+            (length (line (segment_at self.old.segments) front) + count) name) }
         ensures err { OnErr result (self.new ≡ self.old) }
     {
         let (above, below) = parts_at(alloc, self.slots_at(key), count)?;

@@ -3,15 +3,15 @@
 ghost use Rattle.std.specs.Prelude.{◌≡◌, ◌<◌, ◌≤◌, ◌++◌, length, Ok, OnOk, IfOk, IfErr, OnErr};
 ghost use Rattle.std.specs.List.{insert as inserted_at};
 ghost use Rattle.schedule_trie.specs.Edits.{Insert, IsEdited, IsUnedited};
-ghost use Rattle.schedule_trie.specs.Forest.{slots_in};
-ghost use Rattle.schedule_trie.specs.Cut.{forest, piece_at, slots_of, IsPutBefore, IsInserted};
+ghost use Rattle.branch_terms.specs.Forest.{slots_in};
+ghost use Rattle.schedule_trie.specs.Trie.{forest, segment_at, slots_of, IsPutBefore, IsInserted};
 
 use super::Trie;
 use super::lengths::forget_lengths;
-use crate::name::Name;
-use crate::refusal::Refusal;
 use crate::segment::{MOST_SLOTS, SegKey, Segment};
-use crate::slot::Slot;
+use branch_terms::name::Name;
+use branch_terms::refusal::Refusal;
+use branch_terms::slot::Slot;
 use schedule_steps::types::Step;
 use std::alloc::{AllocError, Global};
 
@@ -61,7 +61,7 @@ impl<T: Drop> Trie<T> {
         place: u32,
         step: Step,
     ) -> Result<(), AllocError>
-        requires index { index < length self.old.strands }
+        requires index { index < length self.old.branches }
         requires place { place ≤ length (slots_in (forest self.old).branches index) }
         requires room { self.old.made < self.old.limits.cells }
         ensures ok { OnOk result (IsInserted self.old self.new index place step) }
@@ -82,7 +82,7 @@ impl<T: Drop> Trie<T> {
         offset: usize,
         step: Step,
     ) -> Result<(), AllocError>
-        requires offset { offset < length (slots_of (piece_at self.old.pieces key)) }
+        requires offset { offset < length (slots_of (segment_at self.old.segments key)) }
         requires room { self.old.made < self.old.limits.cells }
         ensures ok { OnOk result (IsPutBefore self.old self.new key offset step) }
         ensures err { OnErr result (self.new ≡ self.old) }
@@ -108,8 +108,8 @@ impl<T: Drop> Trie<T> {
 
     /// Inserts a new cell before the cell at an offset of a segment that isn't full.
     fn put_in(&mut self, key: SegKey, offset: usize, step: Step) -> Result<(), AllocError>
-        requires offset { offset < length (slots_of (piece_at self.old.pieces key)) }
-        requires few { length (slots_of (piece_at self.old.pieces key)) < 128 }
+        requires offset { offset < length (slots_of (segment_at self.old.segments key)) }
+        requires few { length (slots_of (segment_at self.old.segments key)) < 128 }
         requires room { self.old.made < self.old.limits.cells }
         ensures ok { OnOk result (IsPutBefore self.old self.new key offset step) }
         ensures err { OnErr result (self.new ≡ self.old) }

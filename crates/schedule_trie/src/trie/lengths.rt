@@ -3,19 +3,19 @@
 ghost use Rattle.std.specs.Prelude.{ℕ, ◌≡◌, ◌<◌, None, length, slice_get};
 ghost use Rattle.std.specs.Map.{keys_of};
 ghost use Rattle.indexmap.specs.IndexMap.{index_map_len, set_value_at};
-ghost use Rattle.schedule_trie.specs.Forest.{slots_in};
-ghost use Rattle.schedule_trie.specs.Cut.{forest, IsWhole};
-ghost use Rattle.schedule_trie.specs.Tries.{kept_in};
+ghost use Rattle.branch_terms.specs.Forest.{slots_in};
+ghost use Rattle.schedule_trie.specs.Trie.{forest, IsWhole};
+ghost use Rattle.schedule_trie.specs.TrieFields.{kept_in};
 
 use super::Trie;
-use crate::name::Name;
+use branch_terms::name::Name;
 use indexmap::IndexMap;
 
 impl<T: Drop> Trie<T> {
     /// Returns the number of cells of the branch at an index, and caches it. There has to be such a
     /// branch. Contracts don't see the cache.
     pub(super) fn learn_len(&mut self, index: usize) -> u32
-        requires { index < length self.old.strands }
+        requires { index < length self.old.branches }
         ensures len { result ≡ length (slots_in (forest self.old).branches index) }
         ensures whole { IsWhole self.old }
         ensures same { self.new ≡ self.old }
@@ -28,7 +28,7 @@ impl<T: Drop> Trie<T> {
     /// Caches `len`, which has to be the number of cells of the branch at an index. Contracts don't
     /// see the cache.
     pub(super) fn keep_len(&mut self, index: usize, len: u32)
-        requires index { index < length self.old.strands }
+        requires index { index < length self.old.branches }
         requires len { len ≡ length (slots_in (forest self.old).branches index) }
         ensures { self.new ≡ self.old }
     {

@@ -1,17 +1,17 @@
 //! The limbs of a trie: its branches as a file stores them.
 
 ghost use Rattle.std.specs.Prelude.{◌≡◌, ◌<◌, ◌≤◌, ◌+◌, ◌^◌, ℕ, length, map, take, Some, true, IsSome, IfOk, OnOk, slice_get};
-ghost use Rattle.schedule_trie.specs.Forest.{name_in, step_of};
-ghost use Rattle.schedule_trie.specs.Cut.{forest, has, keys_in, line, piece_at, IsWhole, Once};
-ghost use Rattle.schedule_trie.specs.Limbs.{FitLimits, AreLawfulLimbs, forest_of, limb_of, limbs};
-ghost use Rattle.schedule_trie.specs.Renumbering.{IsRenumbered};
+ghost use Rattle.branch_terms.specs.Forest.{name_in, step_of};
+ghost use Rattle.schedule_trie.specs.Trie.{forest, has, keys_in, line, segment_at, IsWhole, Once};
+ghost use Rattle.branch_terms.specs.Limbs.{FitLimits, AreLawfulLimbs, forest_of, limb_of, limbs};
+ghost use Rattle.branch_terms.specs.Renumbering.{IsRenumbered};
 ghost use Rattle.schedule_trie.specs.Marks.{HasPlaces, IsOwnPart, AreMarked, MarksFirst};
 
 use super::Trie;
-use crate::limb::{Limb, Steps};
 use crate::mark::Mark;
-use crate::name::Name;
 use crate::segment::SegKey;
+use branch_terms::limb::{Limb, Steps};
+use branch_terms::name::Name;
 use std::alloc::{AllocError, Global};
 
 impl<T: Drop> Trie<T> {
@@ -93,7 +93,7 @@ impl<T: Drop> Trie<T> {
     ) -> Result<(Mark, Vec<SegKey>), AllocError>
         requires { HasPlaces self.now marks.now }
         ensures own { IfOk result
-            (λ r. IsOwnPart marks.now (keys_in self.now.strands index) r.0 r.1.items) }
+            (λ r. IsOwnPart marks.now (keys_in self.now.branches index) r.0 r.1.items) }
         ensures whole { IsWhole self.now }
     {
         let mut own = Vec::new(alloc);
@@ -119,8 +119,8 @@ impl<T: Drop> Trie<T> {
     fn mark_all(&self, marks: &mut Vec<Option<Mark>>, keys: &[SegKey], branch: u32, above: u32)
         requires places { (k : ℕ) → has k keys.now ≡ true → k < length marks.old.items }
         requires once { Once keys.now }
-        requires few { above + length (line (piece_at self.now.pieces) keys.now) < 2 ^ 32 }
-        ensures { AreMarked (piece_at self.now.pieces) marks.old.items marks.new.items keys.now
+        requires few { above + length (line (segment_at self.now.segments) keys.now) < 2 ^ 32 }
+        ensures { AreMarked (segment_at self.now.segments) marks.old.items marks.new.items keys.now
             branch above }
     {
         let mut cells = above;

@@ -1,16 +1,16 @@
 //! Tries made from limbs.
 
-ghost use Rattle.std.specs.Prelude.{◌≡◌, ◌<◌, ◌≤◌, length, Ok, OnOk, IfOk, IfErr};
-ghost use Rattle.schedule_trie.specs.Forest.{IsRefused};
-ghost use Rattle.schedule_trie.specs.Cut.{AreLimits, forest, IsBlank, IsCut};
-ghost use Rattle.schedule_trie.specs.Limbs as spec;
-ghost use Rattle.schedule_trie.specs.Limbs.{AreLawfulLimbs, cells_of, forest_of, loaded};
-ghost use Rattle.schedule_trie.specs.Loads.{CanGrow, IsGrown};
+ghost use Rattle.std.specs.Prelude.{◌≡◌, ◌<◌, ◌≤◌, length, nat_lt, Ok, OnOk, IfOk, IfErr};
+ghost use Rattle.branch_terms.specs.Forest.{IsRefused};
+ghost use Rattle.schedule_trie.specs.Trie.{AreLimits, forest, IsBlank, IsCut};
+ghost use Rattle.branch_terms.specs.Limbs as spec;
+ghost use Rattle.branch_terms.specs.Limbs.{AreLawfulLimbs, cells_of, forest_of, loaded};
+ghost use Rattle.schedule_trie.specs.changes.Loads.{CanGrow, IsGrown};
 
 use super::Trie;
-use crate::limb::{Limb, bring_more};
-use crate::limits::Limits;
-use crate::refusal::Refusal;
+use branch_terms::limb::Limb;
+use branch_terms::limits::Limits;
+use branch_terms::refusal::Refusal;
 use std::alloc::{AllocError, Global};
 
 impl<T: Drop> Trie<T> {
@@ -87,4 +87,20 @@ impl<T: Drop> Trie<T> {
         self.keep_len(index, limb.shared + steps.len() as u32);
         Ok(())
     }
+}
+
+/// Whether these limbs have more than `most` own cells in total. A limb has an own cell for each of
+/// its steps.
+fn bring_more(limbs: &[Limb], most: u32) -> bool
+    ensures { result ≡ nat_lt most (spec.cells_of limbs.now) }
+{
+    let mut room = most as usize;
+    for limb in limbs {
+        let count = limb.steps.as_slice().len();
+        if room < count {
+            return true;
+        }
+        room -= count;
+    }
+    false
 }

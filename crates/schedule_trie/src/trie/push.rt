@@ -1,12 +1,12 @@
 //! Adding a new cell at the end of a branch.
 
 ghost use Rattle.std.specs.Prelude.{◌≡◌, ◌<◌, ◌≤◌, ◌+◌, length, IfSome, OnOk, OnErr};
-ghost use Rattle.schedule_trie.specs.Cut.{IsOwnEnd, IsPushed, ArePushed};
+ghost use Rattle.schedule_trie.specs.Trie.{IsOwnEnd, IsPushed, ArePushed};
 
 use super::Trie;
 use super::lengths::set_length;
 use crate::segment::{MOST_SLOTS, SegKey, Segment};
-use crate::slot::Slot;
+use branch_terms::slot::Slot;
 use schedule_steps::types::Step;
 use std::alloc::{AllocError, Global};
 
@@ -19,7 +19,7 @@ impl<T: Drop> Trie<T> {
         index: usize,
         step: Step,
     ) -> Result<(), AllocError>
-        requires index { index < length self.old.strands }
+        requires index { index < length self.old.branches }
         requires room { self.old.made < self.old.limits.cells }
         ensures ok { OnOk result (IsPushed self.old self.new index step) }
         ensures err { OnErr result (self.new ≡ self.old) }
@@ -39,7 +39,7 @@ impl<T: Drop> Trie<T> {
         index: usize,
         steps: &[Step],
     ) -> Result<(), AllocError>
-        requires index { index < length self.old.strands }
+        requires index { index < length self.old.branches }
         requires room { self.old.made + length steps.now ≤ self.old.limits.cells }
         ensures { OnOk result (ArePushed self.old self.new index steps.now) }
     {
@@ -51,7 +51,7 @@ impl<T: Drop> Trie<T> {
 
     /// Adds a new cell to the last segment of a branch. No other branch has that segment.
     fn push_in(&mut self, index: usize, key: SegKey, step: Step) -> Result<(), AllocError>
-        requires index { index < length self.old.strands }
+        requires index { index < length self.old.branches }
         requires end { IsOwnEnd self.old index key }
         requires room { self.old.made < self.old.limits.cells }
         ensures ok { OnOk result (IsPushed self.old self.new index step) }
@@ -69,7 +69,7 @@ impl<T: Drop> Trie<T> {
 
     /// Adds a new cell at the end of a branch, in a new segment.
     fn push_segment(&mut self, alloc: Global, index: usize, step: Step) -> Result<(), AllocError>
-        requires index { index < length self.old.strands }
+        requires index { index < length self.old.branches }
         requires room { self.old.made < self.old.limits.cells }
         ensures ok { OnOk result (IsPushed self.old self.new index step) }
         ensures err { OnErr result (self.new ≡ self.old) }

@@ -2,13 +2,13 @@
 
 ghost use Rattle.std.specs.Prelude.{◌≡◌, ◌<◌, length, Ok, Err, OnOk, IfErr};
 ghost use Rattle.schedule_trie.specs.Edits.{Remove, IsEdited, IsUnedited};
-ghost use Rattle.schedule_trie.specs.Cut.{piece_at, slots_of, IsRemoved};
+ghost use Rattle.schedule_trie.specs.Trie.{segment_at, slots_of, IsRemoved};
 
-use crate::name::Name;
-use crate::refusal::Refusal;
 use crate::segment::SegKey;
 use crate::trie::Trie;
 use crate::trie::lengths::forget_lengths;
+use branch_terms::name::Name;
+use branch_terms::refusal::Refusal;
 
 impl<T: Drop> Trie<T> {
     /// Removes the cell at a place of a branch from each branch that has the cell. Clears the note
@@ -37,7 +37,7 @@ impl<T: Drop> Trie<T> {
     /// Removes a cell from a segment. If the segment has no other cell, removes the segment from
     /// each branch.
     fn remove_slot(&mut self, key: SegKey, offset: usize)
-        requires { offset < length (slots_of (piece_at self.old.pieces key)) }
+        requires { offset < length (slots_of (segment_at self.old.segments key)) }
         ensures { IsRemoved self.old self.new key offset }
     {
         if self.slots_at(key).len() > 1 {
@@ -49,8 +49,8 @@ impl<T: Drop> Trie<T> {
 
     /// Removes a cell from a segment that has other cells, and clears the segment's note.
     fn remove_within(&mut self, key: SegKey, offset: usize)
-        requires offset { offset < length (slots_of (piece_at self.old.pieces key)) }
-        requires more { 1 < length (slots_of (piece_at self.old.pieces key)) }
+        requires offset { offset < length (slots_of (segment_at self.old.segments key)) }
+        requires more { 1 < length (slots_of (segment_at self.old.segments key)) }
         ensures { IsRemoved self.old self.new key offset }
     {
         self.segments.item_mut(key).remove(offset);
@@ -59,7 +59,7 @@ impl<T: Drop> Trie<T> {
 
     /// Removes a segment of one cell from each branch.
     fn remove_segment(&mut self, key: SegKey)
-        requires { length (slots_of (piece_at self.old.pieces key)) ≡ 1 }
+        requires { length (slots_of (segment_at self.old.segments key)) ≡ 1 }
         ensures { IsRemoved self.old self.new key 0 }
     {
         self.segments.take_out(key);

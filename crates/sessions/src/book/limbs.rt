@@ -2,7 +2,7 @@
 
 ghost use Rattle.std.specs.Prelude.{◌≡◌, ◌<◌, Ok, OnOk, IfOk, IfErr, [], length};
 ghost use Rattle.schedule_trie.specs.Forest.{IsRefused};
-ghost use Rattle.schedule_trie.specs.Cut.{AreLimits};
+ghost use Rattle.schedule_trie.specs.Trie.{AreLimits};
 ghost use Rattle.schedule_trie.specs.Limbs.{AreLawfulLimbs, forest_of, loaded};
 ghost use Rattle.cutoff.specs.Charts.{LimbsFit};
 ghost use Rattle.sessions.specs.World.{opening};

@@ -1,7 +1,7 @@
 //! The commands that begin or end a session, move its cursor, or change its breaks.
 
 ghost use Rattle.std.specs.Prelude.{◌≡◌, ℕ, ◌<◌, IfOk, length};
-ghost use Rattle.schedule_trie.specs.Cut.{forest};
+ghost use Rattle.schedule_trie.specs.Trie.{forest};
 ghost use Rattle.sessions.specs.Cursors as spec;
 ghost use Rattle.sessions.specs.Books.{Does, IsCarriedOut, seek_command, stored, world_of};
 ghost use Rattle.sessions.specs.Bounds.{CanAct};
@@ -148,7 +148,7 @@ impl<R: Register> Workspace<R> {
 
 /// A cursor at the beginning of the first branch; `None` if there is no branch.
 fn first_cursor<R: Register>(chart: &Chart<R>) -> Option<Cursor>
-    ensures { result ≡ spec.first_cursor (forest chart.now.cut) }
+    ensures { result ≡ spec.first_cursor (forest chart.now.trie) }
 {
     chart.name_at(0).map(|branch| Cursor { branch, place: 0 })
 }
@@ -162,7 +162,7 @@ fn hit_from<R: Register>(
     way: Way,
 ) -> Result<Option<Cursor>, AllocError>
     ensures hit { let all = hits (R.behaviour chart.old.start.register) chart.old.value
-        (steps_in (forest chart.old.cut) cursor.now.branch) breaks.now in
+        (steps_in (forest chart.old.trie) cursor.now.branch) breaks.now in
         IfOk result (λ hit. hit ≡ option_map (spec.cursor cursor.now.branch)
         (next_place way cursor.now.place all)) }
     ensures kept { IsChartKept chart.old chart.new }

@@ -7,7 +7,7 @@ ghost use Rattle.sessions.specs.Cursors as spec;
 ghost use Rattle.sessions.specs.Edits.{edit_of, is_held_up, moved_by};
 ghost use Rattle.sessions.specs.Books.{Does, stored};
 ghost use Rattle.sessions.specs.declared.command.Command.{Command};
-ghost use Rattle.schedule_trie.specs.Cut.{forest};
+ghost use Rattle.schedule_trie.specs.Trie.{forest};
 ghost use Rattle.schedule_trie.specs.Edits.{Drop, edit_in};
 ghost use Rattle.schedule_trie.specs.Forest.{Forest};
 
@@ -53,12 +53,12 @@ fn change_and_move<R: Register>(
 ) -> Result<(), Refusal>
     requires fits { FitsEdit (R.behaviour chart.old.start.register) (edit_in edit.now) }
     requires within { AreWithin cursors.old }
-    ensures held_up { is_held_up (edit_in edit.now) (forest chart.old.cut) cursors.old ≡ true
+    ensures held_up { is_held_up (edit_in edit.now) (forest chart.old.trie) cursors.old ≡ true
         → result ≡ Err Refusal.Occupied }
-    ensures chart { is_held_up (edit_in edit.now) (forest chart.old.cut) cursors.old ≡ false
+    ensures chart { is_held_up (edit_in edit.now) (forest chart.old.trie) cursors.old ≡ false
         → Edits chart.old chart.new (edit_in edit.now) result }
     ensures moved { OnOk result
-        (cursors.new ≡ moved_by (edit_in edit.now) (forest chart.old.cut) cursors.old) }
+        (cursors.new ≡ moved_by (edit_in edit.now) (forest chart.old.trie) cursors.old) }
     ensures kept { OnErr result ((chart.new ≡ chart.old) × (cursors.new ≡ cursors.old)) }
 {
     match *edit {
@@ -75,7 +75,7 @@ fn change_and_move<R: Register>(
 
 /// Whether a branch exists and isn't the only one, but has a cursor on it.
 fn holds_up<R: Register>(chart: &Chart<R>, cursors: &[Option<Cursor>], branch: &Name) -> bool
-    ensures { result ≡ is_held_up (Drop branch.now) (forest chart.now.cut) cursors.now }
+    ensures { result ≡ is_held_up (Drop branch.now) (forest chart.now.trie) cursors.now }
 {
     chart.len(branch).is_some() && chart.branches() > 1 && is_occupied(cursors, branch)
 }
@@ -97,7 +97,7 @@ fn change_and_shift<R: Register>(
         ≡ spec.each_cursor (spec.shifted at.2 f at.0.now at.1) old }
     ensures chart { Edits chart.old chart.new (edit_in edit.now) result }
     ensures moved { OnOk result
-        (cursors.new ≡ moved_by (edit_in edit.now) (forest chart.old.cut) cursors.old) }
+        (cursors.new ≡ moved_by (edit_in edit.now) (forest chart.old.trie) cursors.old) }
     ensures kept { OnErr result (cursors.new ≡ cursors.old) }
 {
     let (branch, place, shift) = at;

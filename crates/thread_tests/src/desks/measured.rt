@@ -6,7 +6,7 @@ ghost use Rattle.turn.specs.Shares.{every_share};
 ghost use Rattle.turn.specs.Chairs.{view};
 ghost use Rattle.std.specs.Prelude.{◌≡◌, IfOk};
 ghost use Rattle.desk.specs.Chairs.{IsChairOf};
-ghost use Rattle.schedule_trie.specs.Cut.{AreLimits};
+ghost use Rattle.schedule_trie.specs.Trie.{AreLimits};
 
 use super::threads::inserted_by_two;
 use super::{Room, insert_at};

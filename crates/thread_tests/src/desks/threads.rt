@@ -6,6 +6,7 @@ ghost use Rattle.frames.specs.SafeBit.{safe_behaviour};
 ghost use Rattle.turn.specs.Shares.{every_share};
 ghost use Rattle.turn.specs.Chairs.{view};
 ghost use Rattle.desk.specs.Chairs.{IsChairOf};
+ghost use Rattle.thread_tests.specs.Chairs.{AreChairsOf};
 
 use super::openings::opened;
 use super::side_by_side::Work;
@@ -201,8 +202,7 @@ fn rounds_of_two<R: Abort + Threads + Wait + Sync>(
     chairs: Two,
     sessions: (u32, u32),
 ) -> (Chair<Safe>, bool)
-    requires { IsChairOf (λ _. safe_behaviour) room.now.desk.now chairs.0
-        × IsChairOf (λ _. safe_behaviour) room.now.desk.now chairs.1 }
+    requires { AreChairsOf room.now.desk.now chairs }
     ensures { IsChairOf (λ _. safe_behaviour) room.now.desk.now result.0 }
 {
     room.side_by_side(
@@ -220,24 +220,20 @@ fn rounds_of_four<R: Abort + Threads + Wait + Sync>(
     one: Two,
     other: Two,
 ) -> Option<Log>
-    requires one { IsChairOf (λ _. safe_behaviour) desk one.0
-        × IsChairOf (λ _. safe_behaviour) desk one.1 }
-    requires other { IsChairOf (λ _. safe_behaviour) desk other.0
-        × IsChairOf (λ _. safe_behaviour) desk other.1 }
+    requires one { AreChairsOf desk one }
+    requires other { AreChairsOf desk other }
 {
     let shared = &desk;
     let ((chair, fine), (last, well)) = thread::join(
         rt,
         move || -> (Chair<Safe>, bool)
             requires sync { IsSync R.row }
-            requires chairs { IsChairOf (λ _. safe_behaviour) shared.now one.0
-                × IsChairOf (λ _. safe_behaviour) shared.now one.1 }
+            requires chairs { AreChairsOf shared.now one }
             ensures { IsChairOf (λ _. safe_behaviour) shared.entry.now result.0 }
         { rounds_of_two(&Room::new(rt, alloc, shared), one, (0, 1)) },
         move || -> (Chair<Safe>, bool)
             requires sync { IsSync R.row }
-            requires chairs { IsChairOf (λ _. safe_behaviour) shared.now other.0
-                × IsChairOf (λ _. safe_behaviour) shared.now other.1 }
+            requires chairs { AreChairsOf shared.now other }
             ensures { IsChairOf (λ _. safe_behaviour) shared.entry.now result.0 }
         { rounds_of_two(&Room::new(rt, alloc, shared), other, (2, 3)) },
     );
@@ -248,8 +244,7 @@ fn rounds_of_four<R: Abort + Threads + Wait + Sync>(
 /// Splits a chair into two, each with half its shares; `None` if the chair has only one share.
 fn halved(desk: &Desk<Safe>, mut chair: Chair<Safe>) -> Option<Two>
     requires { IsChairOf (λ _. safe_behaviour) desk.now chair }
-    ensures { IfSome result (λ r. IsChairOf (λ _. safe_behaviour) desk.now r.0
-        × IsChairOf (λ _. safe_behaviour) desk.now r.1) }
+    ensures { IfSome result (AreChairsOf desk.now) }
 {
     let half = chair.shares() / 2;
     let other = part(desk, &mut chair, half)?;
@@ -260,10 +255,8 @@ fn halved(desk: &Desk<Safe>, mut chair: Chair<Safe>) -> Option<Two>
 /// four shares.
 fn quarters(desk: &Desk<Safe>, chair: Chair<Safe>) -> Option<(Two, Two)>
     requires { IsChairOf (λ _. safe_behaviour) desk.now chair }
-    ensures one { IfSome result (λ r. IsChairOf (λ _. safe_behaviour) desk.now r.0.0
-        × IsChairOf (λ _. safe_behaviour) desk.now r.0.1) }
-    ensures other { IfSome result (λ r. IsChairOf (λ _. safe_behaviour) desk.now r.1.0
-        × IsChairOf (λ _. safe_behaviour) desk.now r.1.1) }
+    ensures one { IfSome result (λ r. AreChairsOf desk.now r.0) }
+    ensures other { IfSome result (λ r. AreChairsOf desk.now r.1) }
 {
     let (one, other) = halved(desk, chair)?;
     let one = halved(desk, one)?;

@@ -1,11 +1,12 @@
-use Rattle.std.proofs.Common.{arith}
-use Rattle.breadth_first.proofs.Serving.{labels_none, labels_at, labels_more, labels_all}
+use Rattle.std.proofs.Common.{◌+◌, arith}
+use Rattle.breadth_first.proofs.Serving.{labels_none, labels_at, labels_more, labels_again, labels_all}
 use Rattle.breadth_first.proofs.reach.serve.Goals as goal
 
 pub loop-label-init : goal.loop-label-init
 loop-label-init g c = record {
   met = labels_none (g.G.Graph.shape c.args.graph.now) g.G.Node.PartialEq.eq (g.G.Graph.Holds c.args.graph.now) c.args.node.now c.args.at
       c.args.search.now.reached.keys.keys c.args.search.now.reached.goals.items c.args.search.now.reached.marks.items c.args.search.now.queue.items c.requires.searching;
+  again = λ e. cc;
   fits = c.requires.fits;
 }
 
@@ -15,14 +16,28 @@ follow-requires-clause-searching g c =
     c.loop-label.search.reached.keys.keys c.loop-label.search.reached.goals.items c.loop-label.search.reached.marks.items c.loop-label.search.queue.items
     c.loop-label.label c.loop-label.invariant.met
 
-pub loop-label-preserved : goal.loop-label-preserved
-loop-label-preserved g c = record {
-  met = labels_more (g.G.Graph.shape c.args.graph.now) g.G.Node.PartialEq.eq (g.G.Graph.Holds c.args.graph.now) c.args.node.now c.args.at
-      c.loop-label.search.reached.keys.keys c.loop-label.search.reached.goals.items c.loop-label.search.reached.marks.items c.loop-label.search.queue.items
-      c.loop-label.label c.loop-label.invariant.met
-      c.follow.new.search.reached.keys.keys c.follow.new.search.reached.goals.items c.follow.new.search.reached.marks.items c.follow.new.search.queue.items c.in_default.ensures.followed;
-  fits = c.in_default.ensures.fits;
+pub loop-label-preserved-then-again : goal.loop-label-preserved-then-again
+loop-label-preserved-then-again g c = record {
+  met = c.loop-label.invariant.again c.if-again.true;
+  again = λ e. cc;
+  fits = c.loop-label.invariant.fits;
 }
+
+pub loop-label-preserved : goal.loop-label-preserved
+loop-label-preserved g c =
+    let shape = g.G.Graph.shape c.args.graph.now in
+    let reached = c.follow.new.search.reached in
+    let more = labels_more shape g.G.Node.PartialEq.eq (g.G.Graph.Holds c.args.graph.now) c.args.node.now c.args.at
+    c.loop-label.search.reached.keys.keys c.loop-label.search.reached.goals.items c.loop-label.search.reached.marks.items c.loop-label.search.queue.items
+    c.loop-label.label c.loop-label.invariant.met
+    reached.keys.keys reached.goals.items reached.marks.items c.follow.new.search.queue.items c.in-Ok.ensures.followed in
+    record {
+      met = more;
+      again = λ e. labels_again shape g.G.Node.PartialEq.eq (g.G.Graph.Holds c.args.graph.now) c.args.node.now c.args.at
+          reached.keys.keys reached.goals.items reached.marks.items c.follow.new.search.queue.items
+          (c.loop-label.label + 1) more c.loop-label.label (omega arith) (c.in-Ok.ensures.again e);
+      fits = c.in-Ok.ensures.fits;
+    }
 
 pub returns-clause-served : goal.returns-clause-served
 returns-clause-served g c =

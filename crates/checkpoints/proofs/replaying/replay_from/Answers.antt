@@ -2,8 +2,8 @@ use Rattle.std.proofs.Common.{◌≡◌, ◌∙◌, ◌+◌, ◌∷◌, ◌++◌
 use Rattle.frames.specs.Configuration.{fits_step, stepped, events_of, replayed, history}
 use Rattle.checkpoints.specs.Kept.{kept_events}
 use Rattle.checkpoints.specs.Reports.{reported_events}
-use Rattle.checkpoints.proofs.Replays.{left_at, none_left, step_fits, rest_fits, step_kept, step_replayed, step_told}
-use Rattle.checkpoints.proofs.MarkedEvents.{told_more}
+use Rattle.checkpoints.proofs.Replays.{left_at, none_left, step_fits, rest_fits, step_kept, step_replayed, step_reported}
+use Rattle.checkpoints.proofs.MarkedEvents.{reported_more}
 use Rattle.checkpoints.proofs.replaying.replay_from.Goals as goal
 
 pub step-reported-requires : goal.step-reported-requires
@@ -35,15 +35,15 @@ loop-item-preserved g c =
     let one = c.step-reported.result in
     let after : behind ≡ stepped b before step = c.step-reported.ensures.after ∙ ap (λ r. stepped (is r) before step) so_far.register in
     let events : one ≡ events_of b before step = c.step-reported.ensures.events ∙ ap (λ r. events_of (is r) before step) so_far.register in
-    let more = told_more at.steps.items c.push_reserved.new.self.items at.marks.items c.push_reported.new.marks.items (kept_events at.events.items) (kept_events c.push_reported.new.events.items) step one
-    so_far.are_told c.push_reserved.ensures.items c.in_ok-push_reported.ensures.added in
+    let more = reported_more at.steps.items c.push_reserved.new.self.items at.marks.items c.push_reported.new.marks.items (kept_events at.events.items) (kept_events c.push_reported.new.events.items) step one
+    so_far.are_reported c.push_reserved.ensures.items c.in_ok-push_reported.ensures.added in
     record {
       register = ap (λ d. d.register) c.step-reported.ensures.after ∙ so_far.register;
       fit = rest_fits step left rest first b so_far.fit;
       steps = step_kept step left rest first at.steps.items c.push_reserved.new.self.items c.push_reserved.ensures.items ∙ so_far.steps;
       config = step_replayed b before behind step left rest first after ∙ so_far.config;
-      are_told = more.kept;
-      events = step_told b before behind step left rest first after (reported_events at.steps.items at.marks.items (kept_events at.events.items))
+      are_reported = more.kept;
+      events = step_reported b before behind step left rest first after (reported_events at.steps.items at.marks.items (kept_events at.events.items))
           (reported_events c.push_reserved.new.self.items c.push_reported.new.marks.items (kept_events c.push_reported.new.events.items)) one events more.reports ∙ so_far.events;
       steps_room = c.push_reserved.ensures.capacity ∙ so_far.steps_room;
       made = c.push_reserved.ensures.len ∙ ap (λ n. n + 1) so_far.made;

@@ -17,7 +17,7 @@ invariant-loop-item g l =
       fit : AllFit b left;
       steps : l.steps.items ++ left ≡ all;
       config : replayed b l.config left ≡ replayed b l.fn.entry all;
-      are_told : IsTold l.steps.items l.marks.items (kept_events l.events.items);
+      are_reported : IsTold l.steps.items l.marks.items (kept_events l.events.items);
       events : reported_events l.steps.items l.marks.items (kept_events l.events.items) ++ history b l.config left ≡ history b l.fn.entry all;
       steps_room : vec_capacity l.steps ≡ length l.items;
       made : vec_len l.steps ≡ l.item-index;

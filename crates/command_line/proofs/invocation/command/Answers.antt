@@ -6,7 +6,7 @@ use Rattle.std.specs.Prelude.{pos}
 use Rattle.clap.specs.declared.builder.arg.Arg.{Arg}
 use Rattle.clap.specs.declared.builder.value_parser.ValueParser.{ValueParser}
 use Rattle.clap.specs.declared.builder.value_parser.ValueParser.TheVariants as value_parser
-use Rattle.schedule_trie.specs.declared.limits.TheConstants.{MOST_CELLS_MADE}
+use Rattle.branch_terms.specs.declared.limits.TheConstants.{MOST_CELLS_MADE}
 use Rattle.command_line.specs.CommandLine.{branches_rule, cells_rule, file_rule, number_rule, option_rule, workers_rule}
 use Rattle.command_line.proofs.invocation.command.Goals as goal
 

@@ -1,8 +1,8 @@
 use Rattle.std.proofs.Common.{◌≡◌, ℕ, true, Some, None, slice_get, length, refl, sym, ap, subst, ◌∙◌, true≢false, arith}
 use Rattle.std.specs.Option.{option_copied}
-use Rattle.schedule_trie.specs.Cut.{keys_in, note_of, piece_at}
+use Rattle.schedule_trie.specs.Trie.{keys_in, note_of, segment_at}
 use Rattle.schedule_trie.specs.Climbs.{keys_to, HasClimbedTo}
-use Rattle.schedule_trie.proofs.Climbs.{IsStepUp, step_up}
+use Rattle.schedule_trie.proofs.climbs.Climbs.{IsStepUp, step_up}
 use Rattle.cutoff.specs.Fitting.{steps_at}
 use Rattle.cutoff.specs.Links.{without_register, run_checked}
 use Rattle.cutoff.specs.Plans.{FitsDownTo}
@@ -17,7 +17,7 @@ pub returns-in_default-note : goal.returns-in_default-note
 returns-in_default-note g c = λ i h. (
   (λ e. absurd (true≢false (sym e))),
   (λ d.
-      absurd (climb_noted g.R.PartialEq.eq (g.R.Behaves.behaviour c.args.start.now.register) c.args.trie.now c.in-Some.key c.loop.entry.now c.args.start.now (keys_in c.args.trie.now.strands i) c.loop.at
+      absurd (climb_noted g.R.PartialEq.eq (g.R.Behaves.behaviour c.args.start.now.register) c.args.trie.now c.in-Some.key c.loop.entry.now c.args.start.now (keys_in c.args.trie.now.branches i) c.loop.at
       c.in-Some.is (c.loop.invariant.reached i h) (sym c.step_up-above.ensures.note ∙ ap option_copied c.in_default-note.is) (c.loop.invariant.down i h d))),
 )
 
@@ -38,7 +38,7 @@ returns-then-not-ends g c = λ i h. (
   (λ d.
       let E = g.R.PartialEq.eq in
       let b = g.R.Behaves.behaviour c.args.start.now.register in
-      let keys = keys_in c.args.trie.now.strands i in
+      let keys = keys_in c.args.trie.now.branches i in
       let here = subst (λ o. FitsDownTo E b c.args.trie.now c.args.start.now (keys_to keys o) c.loop.entry.now) c.in-Some.is (c.loop.invariant.down i h d) in
       let there = subst (HasClimbedTo keys) c.in-Some.is (c.loop.invariant.reached i h) in
       let same = climb_ends E g.met.R.PartialEq.laws g.R.Behaves.behaviour g.met.R.Register.alike c.args.trie.now c.args.start.now c.loop.entry.now keys c.in-Some.key c.in-Some-note.stored.now
@@ -53,28 +53,28 @@ loop-preserved g c =
     let trie = c.args.trie.now in
     let start = c.args.start.now in
     let s = c.in-Some-note.stored.now in
-    let noted : note_of (piece_at trie.pieces c.in-Some.key) ≡ Some s = sym c.step_up-above.ensures.note ∙ ap option_copied c.in-Some-note.is in
+    let noted : note_of (segment_at trie.segments c.in-Some.key) ≡ Some s = sym c.step_up-above.ensures.note ∙ ap option_copied c.in-Some-note.is in
     let was = c.loop.invariant in
     let begun = c.entry-begun.ensures.entry in
-    let step : (i : ℕ) → HasClimbedTo (keys_in trie.strands i) c.args.last → IsStepUp (keys_in trie.strands i) c.in-Some.key c.step_up-above.result.1 =
-    λ i h. step_up (keys_in trie.strands i) c.in-Some.key c.step_up-above.result.1 (path_once trie c.requires.cut i)
-    (subst (HasClimbedTo (keys_in trie.strands i)) c.in-Some.is (was.reached i h)) (λ front back e. c.step_up-above.ensures.each i front back e) in
+    let step : (i : ℕ) → HasClimbedTo (keys_in trie.branches i) c.args.last → IsStepUp (keys_in trie.branches i) c.in-Some.key c.step_up-above.result.1 =
+    λ i h. step_up (keys_in trie.branches i) c.in-Some.key c.step_up-above.result.1 (path_once trie c.requires.cut i)
+    (subst (HasClimbedTo (keys_in trie.branches i)) c.in-Some.is (was.reached i h)) (λ front back e. c.step_up-above.ensures.each i front back e) in
     record {
       reached = λ i h. (step i h).reached;
       short = λ i h.
-          let keys = keys_in trie.strands i in
+          let keys = keys_in trie.branches i in
           let up = shorter keys c.in-Some.key c.step_up-above.result.1 (step i h) in
           let at = ap (λ o. length (keys_to keys o)) c.in-Some.is in
           let old = was.short i h in
           omega (arith, up, at, old);
       down = λ i h d.
-          let keys = keys_in trie.strands i in
+          let keys = keys_in trie.branches i in
           let here = subst (λ o. FitsDownTo E b trie start (keys_to keys o) c.loop.entry.now) c.in-Some.is (was.down i h d) in
           subst (FitsDownTo E b trie start (keys_to keys c.step_up-above.result.1)) (sym begun)
           (climb_down E g.met.R.PartialEq.laws g.R.Behaves.behaviour g.met.R.Register.alike trie start c.loop.entry.now keys c.in-Some.key s noted c.entry-begun.ensures.kept
           c.step_up-above.result.1 (step i h) here);
       runs = λ i h d.
-          let keys = keys_in trie.strands i in
+          let keys = keys_in trie.branches i in
           let told = c.requires.linked.1 in
           let covers = (stored_at E start.register told.exits trie c.in-Some.key s (told.each c.in-Some.key) noted).covers in
           let to = up_new E g.met.R.PartialEq.laws g.R.Behaves.behaviour g.met.R.Register.alike trie c.in-Some.key s noted c.entry-begun.ensures.kept covers start keys
@@ -96,15 +96,15 @@ returns-then-is_from g c = λ i h. (
       let b = g.R.Behaves.behaviour c.args.start.now.register in
       let trie = c.args.trie.now in
       let start = c.args.start.now in
-      let keys = keys_in trie.strands i in
+      let keys = keys_in trie.branches i in
       let s = c.in-Some-note.stored.now in
-      let noted : note_of (piece_at trie.pieces c.in-Some.key) ≡ Some s = sym c.step_up-above.ensures.note ∙ ap option_copied c.in-Some-note.is in
+      let noted : note_of (segment_at trie.segments c.in-Some.key) ≡ Some s = sym c.step_up-above.ensures.note ∙ ap option_copied c.in-Some-note.is in
       let told = c.requires.linked.1 in
       let covers = (stored_at E start.register told.exits trie c.in-Some.key s (told.each c.in-Some.key) noted).covers in
       let there = subst (HasClimbedTo keys) c.in-Some.is (c.loop.invariant.reached i h) in
       let step = step_up keys c.in-Some.key c.step_up-above.result.1 (path_once trie c.requires.cut i) there (λ front back e. c.step_up-above.ensures.each i front back e) in
       let late = c.is_from.ensures.0 c.if-is_from.true in
-      let number : run_checked (note_of (piece_at trie.pieces c.in-Some.key)) ≡ Some late.0 = ap run_checked noted ∙ sym c.checked.ensures ∙ late.2 in
+      let number : run_checked (note_of (segment_at trie.segments c.in-Some.key)) ≡ Some late.0 = ap run_checked noted ∙ sym c.checked.ensures ∙ late.2 in
       let marked = subst (AreFresh E g.R.Behaves.behaviour trie start) late.3 c.requires.fresh c.in-Some.key late.0 number late.4 in
       c.loop.invariant.runs i h (subst (λ o. RunsDown E g.R.Behaves.behaviour trie b start (keys_to keys o) c.loop.entry.now) (sym c.in-Some.is)
       (up_same E g.met.R.PartialEq.laws g.R.Behaves.behaviour g.met.R.Register.alike trie c.in-Some.key s noted c.entry-begun.ensures.kept covers start keys
@@ -117,13 +117,13 @@ returns g c = λ i h.
     let E = g.R.PartialEq.eq in
     let b = g.R.Behaves.behaviour c.args.start.now.register in
     let trie = c.args.trie.now in
-    let keys = keys_in trie.strands i in
+    let keys = keys_in trie.branches i in
     let was = c.loop.invariant in
     let first = c.requires.reached in
     let end : c.loop.at ≡ None =
     elim c.loop-test.branch [
       | else-loop-test w ↦
-          past_all (keys_in trie.strands first.0) c.args.last c.loop.at c.loop.counter c.made-end.result first.1 (c.made-end.ensures.few first.0) (was.reached first.0 first.1)
+          past_all (keys_in trie.branches first.0) c.args.last c.loop.at c.loop.counter c.made-end.result first.1 (c.made-end.ensures.few first.0) (was.reached first.0 first.1)
           (was.short first.0 first.1) w.loop-test.false
       | then-loop-test+in_default w ↦ w.in_default.is
     ] in (

@@ -1,5 +1,5 @@
 use Rattle.std.proofs.Common.{◌≡◌, ◌+◌, ◌≤◌, ℕ, true, Some, None, length, slice_get}
-use Rattle.schedule_trie.specs.Cut.{keys_in}
+use Rattle.schedule_trie.specs.Trie.{keys_in}
 use Rattle.schedule_trie.specs.Climbs.{keys_to, HasClimbedTo}
 use Rattle.cutoff.specs.Links.{IsLinked, without_register}
 use Rattle.cutoff.specs.Plans.{FitsDownTo}
@@ -10,7 +10,7 @@ abbrev pub invariant-loop : goal.invariant-loop
 invariant-loop g l =
     let E = g.R.PartialEq.eq in
     let b = g.R.Behaves.behaviour l.start.register in
-    let keys = keys_in l.trie.strands in
+    let keys = keys_in l.trie.branches in
     record {
       reached : (i : ℕ) → HasClimbedTo (keys i) l.fn.last → HasClimbedTo (keys i) l.at;
       short : (i : ℕ) → HasClimbedTo (keys i) l.fn.last → l.counter + length (keys_to (keys i) l.at) ≤ length (keys_to (keys i) l.fn.last);

@@ -1,5 +1,5 @@
 use Rattle.std.proofs.Common.{refl, sym, subst, ◌∙◌, true≢false}
-use Rattle.schedule_trie.specs.Cut.{keys_in}
+use Rattle.schedule_trie.specs.Trie.{keys_in}
 use Rattle.schedule_trie.specs.Climbs.{keys_to}
 use Rattle.cutoff.specs.Links.{without_register, IsLinked}
 use Rattle.cutoff.specs.Plans.{FitsDownTo}
@@ -26,7 +26,7 @@ pub returns-then-not-has_steps-clause-fits : goal.returns-then-not-has_steps-cla
 returns-then-not-has_steps-clause-fits g c = λ i h. (
   (λ e. absurd (true≢false (sym e))),
   (λ f.
-      let steps = down_steps g.R.PartialEq.eq (g.R.Behaves.behaviour c.args.start.now.register) c.args.trie.now c.args.key c.args.run.now c.args.start.now (keys_in c.args.trie.now.strands i) f in
+      let steps = down_steps g.R.PartialEq.eq (g.R.Behaves.behaviour c.args.start.now.register) c.args.trie.now c.args.key c.args.run.now c.args.start.now (keys_in c.args.trie.now.branches i) f in
       absurd (true≢false (sym (c.has_steps.ensures.1 (c.steps.ensures.steps ∙ steps)) ∙ c.if-not-has_steps.true))),
 )
 
@@ -40,7 +40,7 @@ returns-then-not-comes_down-clause-fits g c = λ i h. (
       c.above-above.ensures.each c.args.run.now i h f in
       let step = above_step E g.met.R.PartialEq.laws g.R.Behaves.behaviour g.met.R.Register.alike trie c.requires.cut c.args.start.now c.args.key c.above-above.result
       c.above-above.ensures.each i h in
-      let down = subst (FitsDownTo E (g.R.Behaves.behaviour c.args.start.now.register) trie c.args.start.now (keys_to (keys_in trie.strands i) c.above-above.result)) (sym c.entry.ensures.entry) parts.1 in
+      let down = subst (FitsDownTo E (g.R.Behaves.behaviour c.args.start.now.register) trie c.args.start.now (keys_to (keys_in trie.branches i) c.above-above.result)) (sym c.entry.ensures.entry) parts.1 in
       absurd (true≢false (sym ((c.comes_down.ensures i step.reached).1 down) ∙ c.if-not-comes_down.true))),
 )
 
@@ -51,9 +51,9 @@ returns-clause-fits g c = λ i h. (
       let trie = c.args.trie.now in
       let step = above_step E g.met.R.PartialEq.laws g.R.Behaves.behaviour g.met.R.Register.alike trie c.requires.cut c.args.start.now c.args.key c.above-above.result
       c.above-above.ensures.each i h in
-      let down = subst (FitsDownTo E (g.R.Behaves.behaviour c.args.start.now.register) trie c.args.start.now (keys_to (keys_in trie.strands i) c.above-above.result)) c.entry.ensures.entry
+      let down = subst (FitsDownTo E (g.R.Behaves.behaviour c.args.start.now.register) trie c.args.start.now (keys_to (keys_in trie.branches i) c.above-above.result)) c.entry.ensures.entry
       (runs_come E g.met.R.PartialEq.laws g.R.Behaves.behaviour g.met.R.Register.alike trie (g.R.Behaves.behaviour c.args.start.now.register) c.args.start.now
-      (keys_to (keys_in trie.strands i) c.above-above.result) c.entry.result.now ((c.comes_down.ensures i step.reached).0 c.if-not-comes_down.false)) in
+      (keys_to (keys_in trie.branches i) c.above-above.result) c.entry.result.now ((c.comes_down.ensures i step.reached).0 c.if-not-comes_down.false)) in
       fits_whole E g.met.R.PartialEq.laws g.R.Behaves.behaviour g.met.R.Register.alike trie c.requires.cut c.args.start.now c.args.key c.above-above.result
       c.above-above.ensures.each c.args.run.now i h (sym c.steps.ensures.steps ∙ c.has_steps.ensures.0 c.if-not-has_steps.false) down),
   (λ f. refl),
@@ -66,11 +66,11 @@ returns-clause-moved g c = λ e next linked.
     let live = c.requires.cut.live c.args.key c.requires.there in
     let step = above_step E g.met.R.PartialEq.laws g.R.Behaves.behaviour g.met.R.Register.alike trie c.requires.cut c.args.start.now c.args.key c.above-above.result
     c.above-above.ensures.each live.0 live.1 in
-    let down = subst (FitsDownTo E (g.R.Behaves.behaviour c.args.start.now.register) trie c.args.start.now (keys_to (keys_in trie.strands live.0) c.above-above.result)) c.entry.ensures.entry
+    let down = subst (FitsDownTo E (g.R.Behaves.behaviour c.args.start.now.register) trie c.args.start.now (keys_to (keys_in trie.branches live.0) c.above-above.result)) c.entry.ensures.entry
     (runs_come E g.met.R.PartialEq.laws g.R.Behaves.behaviour g.met.R.Register.alike trie (g.R.Behaves.behaviour c.args.start.now.register) c.args.start.now
-    (keys_to (keys_in trie.strands live.0) c.above-above.result) c.entry.result.now ((c.comes_down.ensures live.0 step.reached).0 c.if-not-comes_down.false)) in
+    (keys_to (keys_in trie.branches live.0) c.above-above.result) c.entry.result.now ((c.comes_down.ensures live.0 step.reached).0 c.if-not-comes_down.false)) in
     subst (λ n. IsLinked E c.args.start.now.register next n (without_register c.args.run.now.entry) trie) (sym c.entry_below-number.ensures.number)
-    (number_came E g.met.R.PartialEq.laws g.R.Behaves.behaviour g.met.R.Register.alike trie c.args.start.now c.args.run.now.entry (keys_in trie.strands live.0) c.above-above.result next _
+    (number_came E g.met.R.PartialEq.laws g.R.Behaves.behaviour g.met.R.Register.alike trie c.args.start.now c.args.run.now.entry (keys_in trie.branches live.0) c.above-above.result next _
     step.reached (sym c.stored_at.ensures) c.entry_below-number.ensures.kept down linked)
 
 pub returns-clause-runs : goal.returns-clause-runs
@@ -78,7 +78,7 @@ returns-clause-runs g c = λ e i h.
     let E = g.R.PartialEq.eq in
     let b = g.R.Behaves.behaviour c.args.start.now.register in
     let trie = c.args.trie.now in
-    let above = keys_to (keys_in trie.strands i) c.above-above.result in
+    let above = keys_to (keys_in trie.branches i) c.above-above.result in
     let step = above_step E g.met.R.PartialEq.laws g.R.Behaves.behaviour g.met.R.Register.alike trie c.requires.cut c.args.start.now c.args.key c.above-above.result
     c.above-above.ensures.each i h in (
       above,

@@ -2,7 +2,7 @@ use Rattle.std.proofs.Common.{None, refl, sym, subst, ◌∙◌}
 use Rattle.std.specs.Arc.{arc_value}
 use Rattle.frames.specs.Recorded.{AllFit}
 use Rattle.checkpoints.specs.Segment.{IsRun}
-use Rattle.schedule_trie.proofs.PushSteps.{on_err}
+use Rattle.schedule_trie.proofs.edits.PushSteps.{on_err}
 use Rattle.cutoff.specs.Fitting.{Fits, steps_at}
 use Rattle.cutoff.specs.Links.{without_register}
 use Rattle.cutoff.proofs.Links.{linked_none}

@@ -1,6 +1,6 @@
 use Rattle.std.proofs.Common.{◌≡◌, ◌+◌, ◌++◌, [], Some, true, drop, get_or, refl, sym, ap, subst, ◌∙◌, arith, append-nil}
 use Rattle.cutoff.specs.Prefixes.{Hangs, note_named, exit_or_start}
-use Rattle.schedule_trie.specs.Cut.{has, keys_in}
+use Rattle.schedule_trie.specs.Trie.{has, keys_in}
 use Rattle.cutoff.proofs.SameBranches.{cut_kept, keeps_still}
 use Rattle.cutoff.proofs.RestWalks.{IsGoing, going_starts, going_past, going_next, kept_next, noted_next, ends_at, going_settles, small_next, fits_next}
 use Rattle.cutoff.proofs.LeftToSettle.{again_left, hangs_next, kept_settles, early_settles}
@@ -17,7 +17,7 @@ loop-segment-init g c = (
         let on = going_starts g.R.PartialEq.eq g.met.R.Eq.laws g.met.R.PartialEq.laws g.R.Behaves.behaviour g.met.R.Register.alike
         trie start c.args.rest.now.front (c.args.rest.now.keys.items ++ left.hanging.below) c.args.key count place i c.requires.cut left.rest in (
           on.0,
-          subst (λ l. IsGoing g.R.PartialEq.eq g.R.Behaves.behaviour trie trie start c.args.key count (keys_in trie.strands i) (l ++ left.hanging.below) on.0 place 0 c.args.rest.now.front)
+          subst (λ l. IsGoing g.R.PartialEq.eq g.R.Behaves.behaviour trie trie start c.args.key count (keys_in trie.branches i) (l ++ left.hanging.below) on.0 place 0 c.args.rest.now.front)
               (sym c.deref-segment-items.ensures.value) on.1,
         );
     kept = λ none. refl;
@@ -105,7 +105,7 @@ pub keys_down_to-requires-clause-there : goal.keys_down_to-requires-clause-there
 keys_down_to-requires-clause-there g c =
     let r = c.requires.left in
     let on = c.loop-segment.invariant.1.going r.0 r.1 r.2 r.3 in
-    (r.0, subst (λ s. has c.args.key (keys_in s r.0) ≡ true) (sym on.1.walk.keeps.strands) r.3.rest.lies.there)
+    (r.0, subst (λ s. has c.args.key (keys_in s r.0) ≡ true) (sym on.1.walk.keeps.branches) r.3.rest.lies.there)
 
 pub returns-in_err-hanging-clause-keeps : goal.returns-in_err-hanging-clause-keeps
 returns-in_err-hanging-clause-keeps g c = λ i count place left. (c.loop-segment.invariant.1.going i count place left).1.walk.keeps
@@ -123,15 +123,15 @@ loop-below-init g c =
             let on = c.loop-segment.invariant.1.going i count place left in
             let past = going_past E g.met.R.Eq.laws g.met.R.PartialEq.laws is g.met.R.Register.alike c.deref-segment-items.result.now c.loop-segment.segment-index left.hanging.below on.1
             c.loop-segment-test.false in
-            let same = again_left E is trie c.loop-segment.trie c.args.rest.now.hung c.args.key i c.in_ok-hanging.field-0-0 c.in_ok-hanging.hanging.items on.1.walk.keeps.strands left.hanging
+            let same = again_left E is trie c.loop-segment.trie c.args.rest.now.hung c.args.key i c.in_ok-hanging.field-0-0 c.in_ok-hanging.hanging.items on.1.walk.keeps.branches left.hanging
             left.rest.lies.there c.in_ok-hanging.ensures.following c.in_ok-hanging.ensures.stops in (
               on.0,
-              subst (λ l. IsGoing E is trie c.loop-segment.trie start c.args.key count (keys_in trie.strands i) l on.0 place c.loop-segment.replayed c.loop-segment.invariant.0)
+              subst (λ l. IsGoing E is trie c.loop-segment.trie start c.args.key count (keys_in trie.branches i) l on.0 place c.loop-segment.replayed c.loop-segment.invariant.0)
                   (same ∙ sym c.deref-below-items.ensures.value ∙ sym (append-nil c.deref-below-items.result.now)) past,
             );
         hangs = λ i count place left.
             let on = c.loop-segment.invariant.1.going i count place left in
-            let same = again_left E is trie c.loop-segment.trie c.args.rest.now.hung c.args.key i c.in_ok-hanging.field-0-0 c.in_ok-hanging.hanging.items on.1.walk.keeps.strands left.hanging
+            let same = again_left E is trie c.loop-segment.trie c.args.rest.now.hung c.args.key i c.in_ok-hanging.field-0-0 c.in_ok-hanging.hanging.items on.1.walk.keeps.branches left.hanging
             left.rest.lies.there c.in_ok-hanging.ensures.following c.in_ok-hanging.ensures.stops in
             (exit_or_start trie start (Some c.args.rest.now.hung), subst (Hangs E is trie (exit_or_start trie start (Some c.args.rest.now.hung))) (same ∙ sym c.deref-below-items.ensures.value) (left.hanging.hangs start));
         linked = c.loop-segment.invariant.1.linked;

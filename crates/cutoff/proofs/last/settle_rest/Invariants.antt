@@ -1,5 +1,5 @@
 use Rattle.std.proofs.Common.{◌≡◌, ◌++◌, [], ℕ, List, Option, None, drop}
-use Rattle.schedule_trie.specs.Cut.{keys_in}
+use Rattle.schedule_trie.specs.Trie.{keys_in}
 use Rattle.frames.specs.Configuration.{Configuration}
 use Rattle.cutoff.specs.Links.{IsLinkedAt}
 use Rattle.cutoff.specs.Prefixes.{Hangs, IsLeft, note_named, run_named}
@@ -13,7 +13,7 @@ invariant-loop-segment g l =
     (key : Option ℕ) × record {
       noted : note_named l.trie key ≡ l.above;
       going : (i count place : ℕ) (left : IsLeft E is l.fn.trie l.start l.rest.front l.rest.keys.items l.rest.hung l.key count place i)
-          → (back : List ℕ) × IsGoing E is l.fn.trie l.trie l.start l.key count (keys_in l.fn.trie.strands i) (drop l.segment-index l.segment-items ++ left.hanging.below) back place l.replayed key;
+          → (back : List ℕ) × IsGoing E is l.fn.trie l.trie l.start l.key count (keys_in l.fn.trie.branches i) (drop l.segment-index l.segment-items ++ left.hanging.below) back place l.replayed key;
       kept : l.last ≡ 0 → run_named l.trie key ≡ run_named l.fn.trie key;
       linked : IsLinkedAt E l.start l.next None l.trie;
     }
@@ -25,7 +25,7 @@ invariant-loop-below g l =
     (key : Option ℕ) × record {
       noted : note_named l.trie key ≡ l.above;
       going : (i count place : ℕ) → IsLeft E is l.fn.trie l.start l.rest.front l.rest.keys.items l.rest.hung l.key count place i
-          → (back : List ℕ) × IsGoing E is l.fn.trie l.trie l.start l.key count (keys_in l.fn.trie.strands i) (drop l.below-index l.below-items ++ []) back place l.replayed key;
+          → (back : List ℕ) × IsGoing E is l.fn.trie l.trie l.start l.key count (keys_in l.fn.trie.branches i) (drop l.below-index l.below-items ++ []) back place l.replayed key;
       hangs : (i count place : ℕ) → IsLeft E is l.fn.trie l.start l.rest.front l.rest.keys.items l.rest.hung l.key count place i
           → (c : Configuration _ _) × Hangs E is l.fn.trie c (drop l.below-index l.below-items);
       linked : IsLinkedAt E l.start l.next None l.trie;

@@ -1,6 +1,7 @@
 use Rattle.std.proofs.Common.{List, subst}
 use Rattle.cutoff.specs.Plans.{Planned}
 use Rattle.cutoff.specs.Sights.{HasDescendedAbove, IsSight}
+use Rattle.cutoff.proofs.Paths.{above_shared}
 use Rattle.cutoff.proofs.Sights.{visit_unfit, seen_unfit, visit_below, seen_below}
 use Rattle.cutoff.proofs.plan.visit.Goals as goal
 
@@ -8,7 +9,7 @@ pub returns-then-not-above_fits-clause-seen : goal.returns-then-not-above_fits-c
 returns-then-not-above_fits-clause-seen g c =
     let E = g.R.PartialEq.eq in
     let is = g.R.Behaves.behaviour in
-    seen_unfit E g.met.R.PartialEq.laws is g.met.R.Register.alike c.args.base.now.trie.now c.args.base.now.start.now c.requires.cut c.args.key c.above-above.result (λ i front back e. c.above-above.ensures.each i front back e)
+    seen_unfit E g.met.R.PartialEq.laws is g.met.R.Register.alike c.args.base.now.trie.now c.args.base.now.start.now c.requires.cut c.args.key (c.requires.cut.shares.above c.args.key) (above_shared c.args.base.now.trie.now c.args.key c.requires.cut)
     c.args.planning.now.jobs.items c.args.planning.now.seen.items c.see.new.seen.items c.requires.seen c.in_ok-see.ensures.here c.in_ok-see.ensures.others
     (subst (λ fits. (old : List (Planned _ _)) × HasDescendedAbove E is c.args.base.now.trie.now c.args.base.now.start.now old c.args.planning.now.jobs.items c.args.key fits) c.if-not-above_fits.true c.requires.arrives)
 
@@ -16,7 +17,7 @@ pub returns-then-not-above_fits-clause-arrives : goal.returns-then-not-above_fit
 returns-then-not-above_fits-clause-arrives g c = λ old comes.
     let E = g.R.PartialEq.eq in
     let is = g.R.Behaves.behaviour in
-    visit_unfit E g.met.R.PartialEq.laws is g.met.R.Register.alike c.args.base.now.trie.now c.args.base.now.start.now c.requires.cut c.args.key c.above-above.result (λ i front back e. c.above-above.ensures.each i front back e)
+    visit_unfit E g.met.R.PartialEq.laws is g.met.R.Register.alike c.args.base.now.trie.now c.args.base.now.start.now c.requires.cut c.args.key (c.requires.cut.shares.above c.args.key) (above_shared c.args.base.now.trie.now c.args.key c.requires.cut)
     c.args.planning.now.jobs.items old (subst (HasDescendedAbove E is c.args.base.now.trie.now c.args.base.now.start.now old c.args.planning.now.jobs.items c.args.key) c.if-not-above_fits.true comes)
 
 pub returns-clause-seen : goal.returns-clause-seen

@@ -1,11 +1,11 @@
 use Rattle.std.proofs.Common.{◌≡◌, ◌+◌, ◌++◌, ◌≤◌, ℕ, true, Some, length, reverse}
-use Rattle.schedule_trie.specs.Cut.{has, keys_in}
+use Rattle.schedule_trie.specs.Trie.{has, keys_in}
 use Rattle.schedule_trie.specs.Climbs.{keys_to, keys_up_to, HasClimbedTo}
 use Rattle.cutoff.proofs.prefix.keys_down_to.Given as goal
 
 abbrev pub invariant-loop : goal.invariant-loop
 invariant-loop g l =
-    let keys = keys_in l.trie.strands in
+    let keys = keys_in l.trie.branches in
     record {
       reached : (i : ℕ) → has l.fn.key (keys i) ≡ true → HasClimbedTo (keys i) l.at;
       path : (i : ℕ) → has l.fn.key (keys i) ≡ true → keys_up_to l.fn.key (keys i) ≡ keys_to (keys i) l.at ++ reverse l.keys.items;

@@ -1,6 +1,14 @@
 use Rattle.std.proofs.Common.{◌≡◌, ℕ, true}
-use Rattle.schedule_trie.specs.Cut.{has, keys_in}
+use Rattle.std.specs.Option.{option_copied}
+use Rattle.schedule_trie.specs.Trie.{has, keys_in}
+use Rattle.cutoff.specs.Prefixes.{IsHung, IsTop}
 use Rattle.cutoff.proofs.prefix.known_prefix.Given as goal
 
 abbrev pub invariant-loop : goal.invariant-loop
-invariant-loop g l = (i : ℕ) → has l.fn.key (keys_in l.trie.strands i) ≡ true → has l.front (keys_in l.trie.strands i) ≡ true
+invariant-loop g l =
+    let keys = keys_in l.trie.branches in
+    record {
+      there : (i : ℕ) → has l.fn.first.key (keys i) ≡ true → has l.front (keys i) ≡ true;
+      hung : (i : ℕ) → has l.fn.first.key (keys i) ≡ true → IsHung g.R.PartialEq.eq g.R.Behaves.behaviour l.trie l.top.key l.front i;
+      top : IsTop l.trie l.top.key (option_copied l.top.stored) l.top.above;
+    }

@@ -3,8 +3,8 @@ use Rattle.std.proofs.lemmas.List.{length-map}
 use Rattle.std.specs.Arc.{arc_value}
 use Rattle.schedule_trie.specs.Forest.{step_of}
 use Rattle.checkpoints.specs.Segment.{IsRun}
-use Rattle.schedule_trie.specs.Cut.{piece_at, slots_of, IsNoted}
-use Rattle.schedule_trie.proofs.PushSteps.{on_err}
+use Rattle.schedule_trie.specs.Trie.{segment_at, slots_of, IsNoted}
+use Rattle.schedule_trie.proofs.edits.PushSteps.{on_err}
 use Rattle.cutoff.specs.Fitting.{steps_at}
 use Rattle.cutoff.specs.Links.{without_register}
 use Rattle.cutoff.proofs.Links.{linked_none}
@@ -29,7 +29,7 @@ returns-clause-settled g c =
           (noted g c) g.met.R.Eq.laws
           (ap (λ r. r.steps) made ∙ c.in_ok-made.ensures.steps ∙ ap (map step_of) c.segment_cells-cells.ensures) (ap (λ r. r.entry) made ∙ c.in_ok-made.ensures.entry)
           c.requires.misses (length c.segment_cells-cells.result.now)
-          (ap length c.segment_cells-cells.ensures ∙ sym (length-map (slots_of (piece_at c.args.trie.now.pieces c.args.key)) step_of)),
+          (ap length c.segment_cells-cells.ensures ∙ sym (length-map (slots_of (segment_at c.args.trie.now.segments c.args.key)) step_of)),
       subst (λ r. IsRun (g.R.Behaves.behaviour r.entry.register) r) (sym made) c.steps-steps.ensures.kept,
     )
 
@@ -54,5 +54,5 @@ few_fit n m same few = omega arith
 pub overflow_cast-replayed : goal.overflow_cast-replayed
 overflow_cast-replayed g c =
     let same : length c.segment_cells-cells.result.now ≡ length (steps_at c.args.trie.now c.args.key) =
-    ap length c.segment_cells-cells.ensures ∙ sym (length-map (slots_of (piece_at c.args.trie.now.pieces c.args.key)) step_of) in
+    ap length c.segment_cells-cells.ensures ∙ sym (length-map (slots_of (segment_at c.args.trie.now.segments c.args.key)) step_of) in
     record { fits = few_fit _ _ same c.requires.short }

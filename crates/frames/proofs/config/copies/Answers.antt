@@ -10,14 +10,10 @@ loop-process-preserved c =
     let p = c.process-item.result in
     let same : c.copy.result ≡ get_or ps i p = c.copy.ensures ∙ c.process-item.is in
     record {
-      copied = c.push_reserved.ensures.items
-          ∙ (λ j. was.copied j ++ same j ∷ [])
-          ∙ sym (take_more ps i p c.loop-process-test.true);
+      copied = c.push_reserved.ensures.items ∙ (λ j. was.copied j ++ same j ∷ []) ∙ sym (take_more ps i p c.loop-process-test.true);
       taken = c.push_reserved.ensures.len ∙ ap (λ n. n + 1) was.taken;
       room = c.push_reserved.ensures.capacity ∙ was.room;
     }
 
 pub returns : goal.returns
-returns c =
-    c.loop-process.invariant.copied
-    ∙ take_all c.loop-process.process-index c.args.processes.now c.loop-process-test.false
+returns c = c.loop-process.invariant.copied ∙ take_all c.loop-process.process-index c.args.processes.now c.loop-process-test.false

@@ -2,8 +2,8 @@ use Rattle.std.proofs.Common.{◌≡◌, ℕ, ◌+◌, ◌<◌, ◌≤◌, List,
 use Rattle.std.proofs.lemmas.List.{at_drop_more, at_drop_all}
 use Rattle.std.proofs.lemmas.Result.{IfOk-from_err}
 use Rattle.schedule_steps.specs.declared.types.Step.{Step}
-use Rattle.schedule_trie.specs.declared.slot.Slot.{Slot}
-use Rattle.schedule_trie.specs.Forest.{step_of}
+use Rattle.branch_terms.specs.declared.slot.Slot.{Slot}
+use Rattle.branch_terms.specs.Forest.{step_of}
 use Rattle.schedule_trie.proofs.trie.push_steps.Goals as goal
 
 -- the steps so far

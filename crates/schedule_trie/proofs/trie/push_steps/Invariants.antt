@@ -1,5 +1,5 @@
 use Rattle.std.proofs.Common.{◌≡◌, ◌++◌, drop, map}
-use Rattle.schedule_trie.specs.Forest.{step_of}
+use Rattle.branch_terms.specs.Forest.{step_of}
 use Rattle.schedule_trie.proofs.trie.push_steps.Given as goal
 
 abbrev pub invariant-loop-slot : goal.invariant-loop-slot

@@ -2,7 +2,7 @@ use Rattle.std.proofs.Common.{◌≡◌, ◌∙◌, ◌<◌, ◌+◌, ◌++◌, 
 use Rattle.std.proofs.lemmas.List.{length-set, map_more, take_all, take_more_set}
 use Rattle.std.specs.Prelude.{slice_set}
 use Rattle.std.specs.Option.{option_map}
-use Rattle.schedule_trie.specs.Cut.{forest}
+use Rattle.schedule_trie.specs.Trie.{forest}
 use Rattle.sessions.specs.Cursors as spec
 use Rattle.sessions.proofs.cursor.shifted.Goals as goal
 
@@ -14,7 +14,7 @@ maps_more f xs ys i x y front one here short long =
 
 pub returns : goal.returns
 returns g c =
-    let one = option_map (spec.shifted c.args.shift (forest c.args.chart.now.cut) c.args.branch.now c.args.place) in
+    let one = option_map (spec.shifted c.args.shift (forest c.args.chart.now.trie) c.args.branch.now c.args.place) in
     sym (take_all c.loop-i.i c.loop-i.moved (omega arith)) ∙ c.loop-i.invariant.front ∙ ap (map one) (take_all c.loop-i.i c.args.cursors.now (omega arith))
 
 pub loop-i-preserved : goal.loop-i-preserved
@@ -22,7 +22,7 @@ loop-i-preserved g c =
     let l = c.loop-i in
     record {
       long = length-set l.moved l.i c.shifted_one.result ∙ l.invariant.long;
-      front = maps_more (option_map (spec.shifted c.args.shift (forest c.args.chart.now.cut) c.args.branch.now c.args.place))
+      front = maps_more (option_map (spec.shifted c.args.shift (forest c.args.chart.now.trie) c.args.branch.now c.args.place))
           c.args.cursors.now l.moved l.i c.index-cursors-i.result c.shifted_one.result l.invariant.front c.shifted_one.ensures
           c.index-cursors-i.is (omega (arith, l.invariant.long, c.loop-i-test.true)) (omega (arith, c.requires.sessions, c.loop-i-test.true));
     }

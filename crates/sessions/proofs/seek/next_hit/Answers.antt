@@ -1,6 +1,6 @@
 use Rattle.std.proofs.Common.{◌≡◌, ◌∙◌, ◌+◌, ℕ, Bool, sym, ap, subst, map, length}
 use Rattle.std.proofs.lemmas.Result.{IfOk-weaker}
-use Rattle.schedule_trie.specs.Cut.{forest}
+use Rattle.schedule_trie.specs.Trie.{forest}
 use Rattle.cutoff.specs.Fitting.{counted, part_of}
 use Rattle.pages.specs.Breaks.{is_met}
 use Rattle.views.specs.Looks.{steps_in}
@@ -16,7 +16,7 @@ found g c =
     let old = c.args.chart.now in
     let b = is old.start.register in
     let breaks = c.args.search.now.breaks.now in
-    let steps = steps_in (forest old.cut) c.args.branch.now in
+    let steps = steps_in (forest old.trie) c.args.branch.now in
     let kept = c.in_ok-runs.ensures.kept in
     let memory : c.in_ok-first.first.memory ≡ b.initial old.value =
     ap (λ d. d.memory) (c.in_ok-first.ensures ∙ c.initial.ensures.initial) ∙ λ i. (is (kept.start i).register).initial (kept.value i) in
@@ -37,7 +37,7 @@ returns-clause-hit g c = found g c
 pub returns-clause-met : goal.returns-clause-met
 returns-clause-met g c =
     let old = c.args.chart.now in
-    let steps = steps_in (forest old.cut) c.args.branch.now in
+    let steps = steps_in (forest old.trie) c.args.branch.now in
     let test = is_hit (g.R.Behaves.behaviour old.start.register) old.value steps c.args.search.now.breaks.now in
     IfOk-weaker c.along_runs.result
     (λ place. place ≡ next_place c.args.search.now.way c.args.search.now.from (places_with test (length steps + 1)))

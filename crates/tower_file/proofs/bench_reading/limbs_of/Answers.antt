@@ -1,5 +1,5 @@
 use Rattle.std.proofs.Common.{rules, ◌≡◌, [], true, false, length, List, Result, Some, sym, ap, subst, ◌∙◌, arith}
-use Rattle.schedule_trie.specs.declared.limb.Limb.{Limb}
+use Rattle.branch_terms.specs.declared.limb.Limb.{Limb}
 use Rattle.words.specs.Words.{words, next, after_next, is_end}
 use Rattle.words.specs.Steps.{step_of_words}
 use Rattle.tower_file.specs.declared.fault.FileFault.{FileFault}

@@ -1,5 +1,5 @@
 use Rattle.std.proofs.Common.{◌≡◌, Ok, sym, subst}
-use Rattle.schedule_trie.specs.Cut.{forest}
+use Rattle.schedule_trie.specs.Trie.{forest}
 use Rattle.cutoff.proofs.LimbFits.{loaded_fits}
 use Rattle.schedule_trie.specs.Limbs.{limbs, loaded}
 use Rattle.cutoff.proofs.chart.Chart.load.Goals as goal

@@ -1,7 +1,7 @@
 use Rattle.std.proofs.Common.{◌≡◌, ◌+◌, Some, None, Ok, length, sym, ap, subst, ◌∙◌, arith}
 use Rattle.std.specs.Option.{option_map}
 use Rattle.schedule_trie.specs.Forest.{IsRefused, len_of}
-use Rattle.schedule_trie.specs.Cut.{line, piece_at, keys_in, forest}
+use Rattle.schedule_trie.specs.Trie.{line, segment_at, keys_in, forest}
 use Rattle.cutoff.specs.Fitting.{part_of}
 use Rattle.cutoff.specs.Charts.{look}
 use Rattle.cutoff.specs.Settles.{IsSettledLast}
@@ -17,7 +17,7 @@ pub settle_to-requires-clause-there : goal.settle_to-requires-clause-there
 settle_to-requires-clause-there g c =
     let found = c.in_ok-index.ensures in
     let index = c.in_ok-index.index in
-    let few : length (line (piece_at c.self.inside.trie.pieces) (keys_in c.self.inside.trie.strands index)) ≡ c.in_ok-index.len =
+    let few : length (line (segment_at c.self.inside.trie.segments) (keys_in c.self.inside.trie.branches index)) ≡ c.in_ok-index.len =
     len_there (g.R.Behaves.behaviour c.self.inside.start.register) c.self.inside.trie c.args.branch.now index c.in_ok-index.len found.index found.long in
     (index, c.in-Some.offset + 1, c.args.place, place_found c.self.inside.trie index c.args.place c.in-Some.key c.in-Some.offset c.in-Some.ensures.lies c.if-place-eq0.false, omega (arith, few))
 
@@ -33,7 +33,7 @@ invariant_of-self-2 g c =
     let index = c.in_ok-index.index in
     let lies = place_found c.self.inside.trie index c.args.place c.in-Some.key c.in-Some.offset c.in-Some.ensures.lies c.if-place-eq0.false in
     let keeps = c.settle_to.ensures.keeps index (c.in-Some.offset + 1) c.args.place lies in
-    let marked = marked_now g.R.PartialEq.eq g.R.Behaves.behaviour c.self.inside.trie c.settle_to.new.trie c.self.inside.start c.in-Some.key (c.in-Some.offset + 1) c.in_ok-stored.replayed lies.some lies.few keeps.strands
+    let marked = marked_now g.R.PartialEq.eq g.R.Behaves.behaviour c.self.inside.trie c.settle_to.new.trie c.self.inside.start c.in-Some.key (c.in-Some.offset + 1) c.in_ok-stored.replayed lies.some lies.few keeps.branches
     c.in_ok-stored.ensures.settles in
     rw c.none-self-inside.ensures (charted_marked g.R.PartialEq.eq g.R.Behaves.behaviour c.settle_to.new.next None None None (Some c.in-Some.key) _ tt marked
     (charted_kept g.R.PartialEq.eq g.R.Behaves.behaviour c.self.inside.next c.settle_to.new.next c.self.inside.fresh c.self.inside.mark _ c.settle_to.new.trie _ keeps c.settle_to.ensures.linked c.self.invariant))
@@ -42,10 +42,10 @@ pub returns-clause-ok : goal.returns-clause-ok
 returns-clause-ok g c =
     let index = c.in_ok-index.index in
     let lies = place_found c.self.inside.trie index c.args.place c.in-Some.key c.in-Some.offset c.in-Some.ensures.lies c.if-place-eq0.false in
-    subst (λ v. IsSettledLast g.R.PartialEq.eq (g.R.Behaves.behaviour v.start.register) v (record { cut = c.settle_to.new.trie; start = c.self.inside.start; value = c.self.inside.value }) c.args.branch.now c.args.place
+    subst (λ v. IsSettledLast g.R.PartialEq.eq (g.R.Behaves.behaviour v.start.register) v (record { trie = c.settle_to.new.trie; start = c.self.inside.start; value = c.self.inside.value }) c.args.branch.now c.args.place
     (option_map part_of c.counted-part.result) c.in_ok-stored.replayed) c.self.view_is
-    (subst (λ o. IsSettledLast g.R.PartialEq.eq (g.R.Behaves.behaviour c.self.inside.start.register) (record { cut = c.self.inside.trie; start = c.self.inside.start; value = c.self.inside.value })
-    (record { cut = c.settle_to.new.trie; start = c.self.inside.start; value = c.self.inside.value }) c.args.branch.now c.args.place o c.in_ok-stored.replayed) (sym c.counted-part.ensures)
+    (subst (λ o. IsSettledLast g.R.PartialEq.eq (g.R.Behaves.behaviour c.self.inside.start.register) (record { trie = c.self.inside.trie; start = c.self.inside.start; value = c.self.inside.value })
+    (record { trie = c.settle_to.new.trie; start = c.self.inside.start; value = c.self.inside.value }) c.args.branch.now c.args.place o c.in_ok-stored.replayed) (sym c.counted-part.ensures)
     (last_settled g.R.PartialEq.eq g.R.Behaves.behaviour _ _ c.args.branch.now c.args.place c.in-Some.key (c.in-Some.offset + 1) index c.in_ok-stored.replayed c.in_ok-stored.stored c.in_ok-index.ensures.index
     (c.in_ok-stored.ensures.settles index (c.in-Some.offset + 1) c.args.place lies) c.in_ok-stored.ensures.stored))
 
@@ -56,7 +56,7 @@ returns-clause-found g c =
     let lies = place_found c.self.inside.trie index c.args.place c.in-Some.key c.in-Some.offset c.in-Some.ensures.lies c.if-place-eq0.false in
     let keeps = c.settle_to.ensures.keeps index (c.in-Some.offset + 1) c.args.place lies in
     let there = look_there (g.R.Behaves.behaviour c.self.inside.start.register) c.self.inside.trie c.args.branch.now index c.in_ok-index.len found.index found.long c.args.place found.within in
-    subst (λ v. look (forest v.cut) c.args.branch.now c.args.place ≡ Ok (forest c.settle_to.new.trie)) c.self.view_is (there ∙ ap Ok (sym keeps.forest_kept))
+    subst (λ v. look (forest v.trie) c.args.branch.now c.args.place ≡ Ok (forest c.settle_to.new.trie)) c.self.view_is (there ∙ ap Ok (sym keeps.forest_kept))
 
 pub returns-clause-keeps : goal.returns-clause-keeps
 returns-clause-keeps g c =
@@ -67,13 +67,13 @@ returns-clause-keeps g c =
 
 pub returns-in_err-index-clause-err : goal.returns-in_err-index-clause-err
 returns-in_err-index-clause-err g c =
-    refused_still c.from_residual.result (subst (λ v. IsRefused (look (forest v.cut) c.args.branch.now c.args.place) c.in_err-index.field-0.0) c.self.view_is c.in_err-index.ensures.err) c.from_residual.ensures.1
+    refused_still c.from_residual.result (subst (λ v. IsRefused (look (forest v.trie) c.args.branch.now c.args.place) c.in_err-index.field-0.0) c.self.view_is c.in_err-index.ensures.err) c.from_residual.ensures.1
 
 pub returns-in_err-stored-clause-err : goal.returns-in_err-stored-clause-err
 returns-in_err-stored-clause-err g c =
     let found = c.in_ok-index.ensures in
     let there = look_there (g.R.Behaves.behaviour c.self.inside.start.register) c.self.inside.trie c.args.branch.now c.in_ok-index.index c.in_ok-index.len found.index found.long c.args.place found.within in
-    out_of_memory c.from_residual-in_err-stored.result (ap (λ v. look (forest v.cut) c.args.branch.now c.args.place) (sym c.self.view_is) ∙ there) c.from_residual-in_err-stored.ensures.1
+    out_of_memory c.from_residual-in_err-stored.result (ap (λ v. look (forest v.trie) c.args.branch.now c.args.place) (sym c.self.view_is) ∙ there) c.from_residual-in_err-stored.ensures.1
 
 pub returns-clause-begins : goal.returns-clause-begins
 returns-clause-begins g c = seen_begins c.self.view_is g.R.PartialEq.eq g.R.Behaves.behaviour c.self.inside.next c.self.inside.fresh c.self.inside.mark c.self.invariant
@@ -82,10 +82,10 @@ pub returns-in_err-stored-clause-begins : goal.returns-in_err-stored-clause-begi
 returns-in_err-stored-clause-begins g c = seen_begins c.self.view_is g.R.PartialEq.eq g.R.Behaves.behaviour c.self.inside.next c.self.inside.fresh c.self.inside.mark c.self.invariant
 
 pub returns-then-place-eq0-clause-keeps : goal.returns-then-place-eq0-clause-keeps
-returns-then-place-eq0-clause-keeps g c = all_kept c.args.self.now.cut _
+returns-then-place-eq0-clause-keeps g c = all_kept c.args.self.now.trie _
 
 pub returns-clause-len : goal.returns-clause-len
-returns-clause-len g c = subst (λ v. len_of (forest v.cut) c.args.branch.now ≡ Some c.in_ok-index.len) c.self.view_is c.in_ok-index.ensures.len
+returns-clause-len g c = subst (λ v. len_of (forest v.trie) c.args.branch.now ≡ Some c.in_ok-index.len) c.self.view_is c.in_ok-index.ensures.len
 
 pub overflow_cast-offset : goal.overflow_cast-offset
 overflow_cast-offset g c = record {

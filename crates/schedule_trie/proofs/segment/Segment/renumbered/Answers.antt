@@ -1,6 +1,6 @@
 use Rattle.std.proofs.Common.{arith}
 use Rattle.std.proofs.lemmas.Result.{IfOk-from_err}
-use Rattle.schedule_trie.proofs.Renumbered.{renumbered_more, renumbered_all}
+use Rattle.schedule_trie.proofs.detaches.Renumbered.{renumbered_more, renumbered_all}
 use Rattle.schedule_trie.proofs.segment.Segment.renumbered.Goals as goal
 
 pub loop-slot-preserved : goal.loop-slot-preserved

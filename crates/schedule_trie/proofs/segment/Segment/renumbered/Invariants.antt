@@ -1,5 +1,5 @@
 use Rattle.std.proofs.Common.{◌≡◌, ◌+◌, ◌++◌, drop, map}
-use Rattle.schedule_trie.specs.Forest.{numbered, renumbered, step_of}
+use Rattle.branch_terms.specs.Forest.{numbered, renumbered, step_of}
 use Rattle.schedule_trie.proofs.segment.Segment.renumbered.Given as goal
 
 abbrev pub invariant-loop-slot : goal.invariant-loop-slot

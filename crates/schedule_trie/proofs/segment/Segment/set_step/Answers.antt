@@ -1,7 +1,7 @@
 use Rattle.std.proofs.Common.{ap, ◌∙◌}
 use Rattle.std.specs.List.{slice_set}
-use Rattle.schedule_trie.specs.Forest.{slot}
-use Rattle.schedule_trie.proofs.Changes.{set_step-write}
+use Rattle.branch_terms.specs.Forest.{slot}
+use Rattle.schedule_trie.proofs.segments.Changes.{set_step-write}
 use Rattle.schedule_trie.proofs.segment.Segment.set_step.Goals as goal
 
 pub returns-clause-slots : goal.returns-clause-slots

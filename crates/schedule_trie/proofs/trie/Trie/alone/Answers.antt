@@ -1,8 +1,8 @@
 use Rattle.std.proofs.Common.{refl, sym, subst, ◌∙◌, []}
-use Rattle.schedule_trie.specs.Tries.{AreNames}
-use Rattle.schedule_trie.proofs.NamesKept.{names_more}
-use Rattle.schedule_trie.proofs.Openings.{one_name, one_path, first_held, first_forest, first_cut}
-use Rattle.schedule_trie.proofs.Lengths.{first_lengths}
+use Rattle.schedule_trie.specs.TrieFields.{AreNames}
+use Rattle.schedule_trie.proofs.branches.NamesKept.{names_more}
+use Rattle.schedule_trie.proofs.branches.Openings.{one_name, one_path, first_held, first_forest, first_cut}
+use Rattle.schedule_trie.proofs.lengths.Lengths.{first_lengths}
 use Rattle.schedule_trie.proofs.trie.Trie.alone.Goals as goal
 
 pub invariant_of-result : goal.invariant_of-result

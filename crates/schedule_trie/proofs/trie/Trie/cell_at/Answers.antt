@@ -1,6 +1,6 @@
 use Rattle.std.proofs.Common.{◌<◌, length, sym, ap, subst, ◌∙◌, slice_get, Some}
 use Rattle.std.proofs.lemmas.Option.{slice_get-get_or}
-use Rattle.schedule_trie.proofs.CellHolders.{cell_found}
+use Rattle.schedule_trie.proofs.segments.CellHolders.{cell_found}
 use Rattle.schedule_trie.proofs.trie.Trie.cell_at.Goals as goal
 
 pub returns : goal.returns

@@ -1,9 +1,9 @@
 use Rattle.std.proofs.Common.{◌+◌, ◌≤◌, Ok, Err, length, cond, sym, ap, subst, ◌∙◌, arith}
 use Rattle.std.proofs.lemmas.Bool.{le-ltb}
-use Rattle.schedule_trie.specs.declared.refusal.Refusal.TheVariants.{Full}
-use Rattle.schedule_trie.specs.Copies.{IsDetached}
-use Rattle.schedule_trie.specs.Cut.{forest}
-use Rattle.schedule_trie.specs.Forest.{detach_at, on_found, slots_in}
+use Rattle.branch_terms.specs.declared.refusal.Refusal.TheVariants.{Full}
+use Rattle.schedule_trie.specs.changes.Copies.{IsDetached}
+use Rattle.schedule_trie.specs.Trie.{forest}
+use Rattle.branch_terms.specs.Forest.{detach_at, on_found, slots_in}
 use Rattle.schedule_trie.proofs.trie.Trie.detach.Goals as goal
 
 pub returns-clause-ok : goal.returns-clause-ok

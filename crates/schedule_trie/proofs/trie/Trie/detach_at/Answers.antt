@@ -1,17 +1,17 @@
-use Rattle.schedule_trie.specs.Tries.{cut_of}
+use Rattle.schedule_trie.specs.TrieFields.{trie_of}
 use Rattle.std.proofs.Common.{◌≡◌, ◌+◌, ◌<◌, ◌≤◌, length, refl, sym, subst}
-use Rattle.schedule_trie.specs.Forest.{slots_in}
-use Rattle.schedule_trie.specs.Cut.{forest, piece_at, keys_in}
-use Rattle.schedule_trie.specs.Copies.{AreCopies}
-use Rattle.schedule_trie.proofs.Detaches.{detach_held, detach_told}
-use Rattle.schedule_trie.proofs.Lines.{path_within}
-use Rattle.schedule_trie.proofs.LengthSteps.{detached_lengths}
-use Rattle.schedule_trie.proofs.PushSteps.{roomed_held, roomed_err}
+use Rattle.branch_terms.specs.Forest.{slots_in}
+use Rattle.schedule_trie.specs.Trie.{forest, segment_at, keys_in}
+use Rattle.schedule_trie.specs.changes.Copies.{AreCopies}
+use Rattle.schedule_trie.proofs.detaches.Detaches.{detach_held, detach_told}
+use Rattle.schedule_trie.proofs.branches.Lines.{path_within}
+use Rattle.schedule_trie.proofs.lengths.LengthSteps.{detached_lengths}
+use Rattle.schedule_trie.proofs.edits.PushSteps.{roomed_held, roomed_err}
 use Rattle.schedule_trie.proofs.trie.Trie.detach_at.Goals as goal
 
 pub replace_path-requires : goal.replace_path-requires
 replace_path-requires g c =
-    path_within c.self.inside c.self.invariant.held c.args.index (subst (λ z. c.args.index < length z.strands) (sym c.self.view_is) c.requires.index)
+    path_within c.self.inside c.self.invariant.held c.args.index (subst (λ z. c.args.index < length z.branches) (sym c.self.view_is) c.requires.index)
 
 pub invariant_of-self : goal.invariant_of-self
 invariant_of-self g c =
@@ -32,13 +32,13 @@ invariant_of-self-2 g c =
     let u = record t { segments = c.replace_path.new.self; made = t.made + c.len_at-len.result } in
     record {
       held = detach_held t (record t { segments = c.replace_path.new.self; made = t.made + c.len_at-len.result }) c.args.index c.len_at-len.result c.in_ok-copies.copies.items c.self.invariant.held
-          (subst (λ z. c.args.index < length z.strands) (sym view) c.requires.index)
-          (subst (λ z. AreCopies (piece_at z.pieces) z.made (keys_in z.strands c.args.index) c.in_ok-copies.copies.items) (sym view) c.in_ok-copies.ensures)
+          (subst (λ z. c.args.index < length z.branches) (sym view) c.requires.index)
+          (subst (λ z. AreCopies (segment_at z.segments) z.made (keys_in z.branches c.args.index) c.in_ok-copies.copies.items) (sym view) c.in_ok-copies.ensures)
           c.in_ok-replace_path.ensures.ok c.lemma_invariant.ensures refl refl refl size (subst (λ n. t.made + n ≤ t.limits.cells) (sym size) room);
-      lengths = detached_lengths (cut_of t) (cut_of u) t.branches.entries c.self.invariant.lengths c.args.index
+      lengths = detached_lengths (trie_of t) (trie_of u) t.branches.entries c.self.invariant.lengths c.args.index
           (detach_told t u c.args.index c.len_at-len.result c.in_ok-copies.copies.items c.self.invariant.held
-          (subst (λ z. c.args.index < length z.strands) (sym view) c.requires.index)
-          (subst (λ z. AreCopies (piece_at z.pieces) z.made (keys_in z.strands c.args.index) c.in_ok-copies.copies.items) (sym view) c.in_ok-copies.ensures)
+          (subst (λ z. c.args.index < length z.branches) (sym view) c.requires.index)
+          (subst (λ z. AreCopies (segment_at z.segments) z.made (keys_in z.branches c.args.index) c.in_ok-copies.copies.items) (sym view) c.in_ok-copies.ensures)
           c.in_ok-replace_path.ensures.ok c.lemma_invariant.ensures refl refl refl size);
       names = c.self.invariant.names;
     }
@@ -50,6 +50,6 @@ returns-clause-ok g c =
     let size = subst (λ z. c.len_at-len.result ≡ length (slots_in (forest z).branches c.args.index)) (sym view) c.len_at-len.ensures.len in
     rw (← c.self.view_is)
     (detach_told t (record t { segments = c.replace_path.new.self; made = t.made + c.len_at-len.result }) c.args.index c.len_at-len.result c.in_ok-copies.copies.items c.self.invariant.held
-    (subst (λ z. c.args.index < length z.strands) (sym view) c.requires.index)
-    (subst (λ z. AreCopies (piece_at z.pieces) z.made (keys_in z.strands c.args.index) c.in_ok-copies.copies.items) (sym view) c.in_ok-copies.ensures)
+    (subst (λ z. c.args.index < length z.branches) (sym view) c.requires.index)
+    (subst (λ z. AreCopies (segment_at z.segments) z.made (keys_in z.branches c.args.index) c.in_ok-copies.copies.items) (sym view) c.in_ok-copies.ensures)
     c.in_ok-replace_path.ensures.ok c.lemma_invariant.ensures refl refl refl size)

@@ -1,18 +1,18 @@
 use Rattle.std.proofs.Common.{◌≤◌, ◌-◌, length, ap, ◌∙◌, arith, subst}
 use Rattle.std.specs.Bool.{FalseIff}
-use Rattle.schedule_trie.specs.Cut.{piece_at, keys_in, line}
+use Rattle.schedule_trie.specs.Trie.{segment_at, keys_in, line}
 use Rattle.schedule_trie.specs.Climbs.{keys_to}
-use Rattle.schedule_trie.proofs.Climbs.{lies_here, stands_here}
-use Rattle.schedule_trie.proofs.ClimbSteps.{path_last, turn}
-use Rattle.schedule_trie.proofs.Lines.{slots_in_on}
+use Rattle.schedule_trie.proofs.climbs.Climbs.{lies_here, stands_here}
+use Rattle.schedule_trie.proofs.climbs.ClimbSteps.{path_last, turn}
+use Rattle.schedule_trie.proofs.branches.Lines.{slots_in_on}
 use Rattle.schedule_trie.proofs.trie.Trie.find_cell.Goals as goal
 
 pub loop-up-init : goal.loop-up-init
 loop-up-init g c =
     let now = c.args.self.now in
     let l = path_last c.self.inside now c.self.view_is c.self.invariant.held c.args.index c.tip-at.result c.tip-at.ensures in
-    let all = ap (λ ks. length (line (piece_at now.pieces) ks)) l.all in
-    let len = c.len_at-len.ensures.len ∙ ap length (slots_in_on (piece_at now.pieces) now.strands c.args.index) in
+    let all = ap (λ ks. length (line (segment_at now.segments) ks)) l.all in
+    let len = c.len_at-len.ensures.len ∙ ap length (slots_in_on (segment_at now.segments) now.branches c.args.index) in
     record { reached = l.reached; cells = omega (arith, all, len, c.if-len-place.false) }
 
 pub returns-then-is_here-clause-lies : goal.returns-then-is_here-clause-lies
@@ -23,13 +23,13 @@ returns-then-is_here-clause-lies g c =
     let len = ap length up.slots in
     let here = subst (λ b. FalseIff b (length c.in-Some.up.1.now ≤ c.loop-up.following)) c.if-is_here.true c.overflowing_sub-left.ensures.overflow in
     let left = c.overflowing_sub-left.ensures.value in
-    lies_here (piece_at now.pieces) (keys_in now.strands c.args.index) c.loop-up.at c.in-Some.up.0 c.args.place
+    lies_here (segment_at now.segments) (keys_in now.branches c.args.index) c.loop-up.at c.in-Some.up.0 c.args.place
     (18446744073709551615 - c.overflowing_sub-left.result.0) was.reached up.key
     (omega (arith, len, was.cells, left, here)) (omega (arith, len, left, here))
 
 pub returns-then-is_here-clause-found : goal.returns-then-is_here-clause-found
 returns-then-is_here-clause-found g c =
-    stands_here (piece_at c.args.self.now.pieces) (keys_in c.args.self.now.strands c.args.index) c.args.place
+    stands_here (segment_at c.args.self.now.segments) (keys_in c.args.self.now.branches c.args.index) c.args.place
     (c.in-Some.up.0, 18446744073709551615 - c.overflowing_sub-left.result.0) (returns-then-is_here-clause-lies g c)
 
 pub loop-up-smaller : goal.loop-up-smaller
@@ -50,5 +50,5 @@ pub returns-clause-none : goal.returns-clause-none
 returns-clause-none g c =
     let now = c.args.self.now in
     let was = c.loop-up.invariant in
-    let none = ap (λ o. length (line (piece_at now.pieces) (keys_to (keys_in now.strands c.args.index) o))) (c.in_default.ensures.end c.args.index was.reached) in
+    let none = ap (λ o. length (line (segment_at now.segments) (keys_to (keys_in now.branches c.args.index) o))) (c.in_default.ensures.end c.args.index was.reached) in
     omega (arith, none, was.cells)

@@ -2,12 +2,12 @@ use Rattle.std.proofs.Common.{◌≡◌, ◌≤◌, nat_le, None, Some, length, 
 use Rattle.std.proofs.lemmas.Bool.{and_from, le-leb}
 use Rattle.std.proofs.lemmas.Result.{IfOk-from_err, err_from_is_err_and}
 use Rattle.schedule_trie.specs.Edits.{Fork, IsEdited}
-use Rattle.schedule_trie.specs.Names.{is_well_formed}
-use Rattle.schedule_trie.specs.Forest.{index_of, slots_in}
-use Rattle.schedule_trie.specs.Cut.{forest}
-use Rattle.schedule_trie.specs.Forks.{IsBranchForked, IsForkedWhole}
-use Rattle.schedule_trie.proofs.ForkAnswers.{name_taken, bad_name, no_place, too_many, is_forked, memory_alone, none_from}
-use Rattle.schedule_trie.proofs.LengthsAfter.{branch_count, fork_last, fork_long}
+use Rattle.branch_terms.specs.Names.{is_well_formed}
+use Rattle.branch_terms.specs.Forest.{index_of, slots_in}
+use Rattle.schedule_trie.specs.Trie.{forest}
+use Rattle.schedule_trie.specs.changes.Forks.{IsBranchForked, IsForkedWhole}
+use Rattle.schedule_trie.proofs.forks.ForkAnswers.{name_taken, bad_name, no_place, too_many, is_forked, memory_alone, none_from}
+use Rattle.schedule_trie.proofs.lengths.LengthsAfter.{branch_count, fork_last, fork_long}
 use Rattle.schedule_trie.proofs.trie.Trie.fork.Goals as goal
 
 pub returns-in_default-clause-ok : goal.returns-in_default-clause-ok

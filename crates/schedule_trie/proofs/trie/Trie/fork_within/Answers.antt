@@ -3,17 +3,17 @@ use Rattle.std.proofs.lemmas.Result.{IfOk-from_err}
 use Rattle.std.specs.Cmp.Lexicographic.{pointwise}
 use Rattle.indexmap.specs.IndexMap.{insert_entry}
 use Rattle.lineage.specs.Family.{with_item}
-use Rattle.schedule_trie.specs.Forest.{index_of}
-use Rattle.schedule_trie.specs.Cut.{forest, keys_in, line, piece_at, slots_of, has}
-use Rattle.schedule_trie.specs.Forks.{IsBranchForked}
-use Rattle.schedule_trie.specs.Tries.{cut_of, IsHeldCut}
-use Rattle.schedule_trie.proofs.DivisionSteps.{still_there}
-use Rattle.schedule_trie.proofs.ForkCutSteps.{cut_fork}
-use Rattle.schedule_trie.proofs.KeyPositions.{parting}
-use Rattle.schedule_trie.proofs.PushSteps.{roomed_held, roomed_err}
-use Rattle.schedule_trie.proofs.StepSet.{held_there}
-use Rattle.schedule_trie.proofs.LengthSteps.{forked_lengths}
-use Rattle.schedule_trie.proofs.NamesKept.{forked_names}
+use Rattle.branch_terms.specs.Forest.{index_of}
+use Rattle.schedule_trie.specs.Trie.{forest, keys_in, line, segment_at, slots_of, has}
+use Rattle.schedule_trie.specs.changes.Forks.{IsBranchForked}
+use Rattle.schedule_trie.specs.TrieFields.{trie_of, IsHeldTrie}
+use Rattle.schedule_trie.proofs.forks.DivisionSteps.{still_there}
+use Rattle.schedule_trie.proofs.forks.ForkCutSteps.{cut_fork}
+use Rattle.schedule_trie.proofs.lists.KeyPositions.{parting}
+use Rattle.schedule_trie.proofs.edits.PushSteps.{roomed_held, roomed_err}
+use Rattle.schedule_trie.proofs.segments.StepSet.{held_there}
+use Rattle.schedule_trie.proofs.lengths.LengthSteps.{forked_lengths}
+use Rattle.schedule_trie.proofs.branches.NamesKept.{forked_names}
 use Rattle.schedule_trie.proofs.trie.Trie.fork_within.Given.{Over}
 use Rattle.schedule_trie.proofs.trie.Trie.fork_within.Goals as goal
 
@@ -59,18 +59,18 @@ item_mut-requires g c =
 entered : (g : Over) (c : goal.After-insert_reserved g) → c.insert_reserved.new.branches.entries ≡ insert_entry (pointwise nat_eq) c.self.inside.branches.entries c.args.name None
 entered g c = c.insert_reserved.ensures ∙ ap (λ es. insert_entry (pointwise nat_eq) es c.args.name None) c.in_ok-reserve.ensures.entries
 
-forked : (g : Over) (c : goal.After-insert_reserved g) (front back : List ℕ) → keys_in (cut_of c.self.inside).strands c.args.index ≡ front ++ c.args.key ∷ back
-    → IsHeldCut (record c.self.inside { segments = with_item c.fork_above.new.self c.args.key c.set_slots.new.self; branches = c.insert_reserved.new.branches })
-    × IsBranchForked (cut_of c.self.inside) (cut_of (record c.self.inside { segments = with_item c.fork_above.new.self c.args.key c.set_slots.new.self; branches = c.insert_reserved.new.branches }))
-    c.args.index (length (line (piece_at (cut_of c.self.inside).pieces) front) + c.args.count) c.args.name
+forked : (g : Over) (c : goal.After-insert_reserved g) (front back : List ℕ) → keys_in (trie_of c.self.inside).branches c.args.index ≡ front ++ c.args.key ∷ back
+    → IsHeldTrie (record c.self.inside { segments = with_item c.fork_above.new.self c.args.key c.set_slots.new.self; branches = c.insert_reserved.new.branches })
+    × IsBranchForked (trie_of c.self.inside) (trie_of (record c.self.inside { segments = with_item c.fork_above.new.self c.args.key c.set_slots.new.self; branches = c.insert_reserved.new.branches }))
+    c.args.index (length (line (segment_at (trie_of c.self.inside).segments) front) + c.args.count) c.args.name
 forked g c front back path =
     let t = c.self.inside in
     let view = sym c.self.view_is in
-    let slots = c.slots_at.ensures ∙ ap (λ z. slots_of (piece_at z.pieces c.args.key)) view in
+    let slots = c.slots_at.ensures ∙ ap (λ z. slots_of (segment_at z.segments c.args.key)) view in
     cut_fork t (record c.self.inside { segments = with_item c.fork_above.new.self c.args.key c.set_slots.new.self; branches = c.insert_reserved.new.branches }) c.fork_above.new.self
     c.args.name c.args.index c.args.key _ c.args.count front back c.in_ok-above.above c.in_ok-above.below c.item_mut.result.now c.set_slots.new.self None c.self.invariant.held
-    (subst (λ z. length z.strands < z.limits.branches) view c.requires.room) (subst (λ z. index_of (forest z).branches c.args.name ≡ None) view c.requires.name) refl refl
-    path c.requires.some (subst (λ z. c.args.count < length (slots_of (piece_at z.pieces c.args.key))) view c.requires.inside)
+    (subst (λ z. length z.branches < z.limits.branches) view c.requires.room) (subst (λ z. index_of (forest z).branches c.args.name ≡ None) view c.requires.name) refl refl
+    path c.requires.some (subst (λ z. c.args.count < length (slots_of (segment_at z.segments c.args.key))) view c.requires.inside)
     c.in_ok-fork_above.ensures.ok c.item_mut.ensures.value refl c.set_slots.ensures.slots c.set_slots.ensures.note refl
     (c.in_ok-above.ensures.first ∙ ap (take c.args.count) slots) (c.in_ok-above.ensures.rest ∙ ap (drop c.args.count) slots) (entered g c)
 
@@ -78,15 +78,15 @@ pub invariant_of-self-2 : goal.invariant_of-self-2
 invariant_of-self-2 g c =
     let t = c.self.inside in
     let view = sym c.self.view_is in
-    let p = parting (keys_in (cut_of t).strands c.args.index) c.args.key (subst (λ z. has c.args.key (keys_in z.strands c.args.index) ≡ true) view c.requires.key) in
+    let p = parting (keys_in (trie_of t).branches c.args.index) c.args.key (subst (λ z. has c.args.key (keys_in z.branches c.args.index) ≡ true) view c.requires.key) in
     let u = record c.self.inside { segments = with_item c.fork_above.new.self c.args.key c.set_slots.new.self; branches = c.insert_reserved.new.branches } in
     let f = forked g c p.front p.back p.is in
     let free = subst (λ z. index_of (forest z).branches c.args.name ≡ None) view c.requires.name in
     record {
       held = f.0;
-      lengths = forked_lengths t (cut_of u) u.branches.entries c.args.index _ c.args.name c.self.invariant.lengths free (entered g c) f.1;
+      lengths = forked_lengths t (trie_of u) u.branches.entries c.args.index _ c.args.name c.self.invariant.lengths free (entered g c) f.1;
       names = forked_names t u.branches.entries c.args.name c.self.invariant.names c.requires.form free (entered g c);
     }
 
 pub returns-clause-ok : goal.returns-clause-ok
-returns-clause-ok g c front back e = rw (← c.self.view_is) (forked g c front back (ap (λ z. keys_in z.strands c.args.index) c.self.view_is ∙ e)).1
+returns-clause-ok g c front back e = rw (← c.self.view_is) (forked g c front back (ap (λ z. keys_in z.branches c.args.index) c.self.view_is ∙ e)).1

@@ -1,7 +1,7 @@
 use Rattle.std.proofs.Common.{length, sym, subst, arith, ap}
-use Rattle.schedule_trie.specs.Loads.{IsGrown}
-use Rattle.schedule_trie.proofs.LoadSteps.{grown_small, grown_long, is_grown}
-use Rattle.schedule_trie.proofs.LengthsAfter.{branch_count, fork_last}
+use Rattle.schedule_trie.specs.changes.Loads.{IsGrown}
+use Rattle.schedule_trie.proofs.limbs.LoadSteps.{grown_small, grown_long, is_grown}
+use Rattle.schedule_trie.proofs.lengths.LengthsAfter.{branch_count, fork_last}
 use Rattle.schedule_trie.proofs.trie.Trie.grow.Goals as goal
 
 pub push_all-requires-clause-index : goal.push_all-requires-clause-index

@@ -1,8 +1,8 @@
 use Rattle.std.proofs.Common.{◌+◌, sym, ap, subst, ◌∙◌, arith}
 use Rattle.schedule_trie.specs.Edits.{Insert, IsEdited}
-use Rattle.schedule_trie.specs.Cut.{forest, IsInserted}
-use Rattle.schedule_trie.proofs.InsertAnswers.{is_inserted}
-use Rattle.schedule_trie.proofs.LengthsAfter.{cells_few, longer, still_inserted}
+use Rattle.schedule_trie.specs.Trie.{forest, IsInserted}
+use Rattle.schedule_trie.proofs.edits.InsertAnswers.{is_inserted}
+use Rattle.schedule_trie.proofs.lengths.LengthsAfter.{cells_few, longer, still_inserted}
 use Rattle.schedule_trie.proofs.trie.Trie.insert.Goals as goal
 
 pub overflow_add-len : goal.overflow_add-len

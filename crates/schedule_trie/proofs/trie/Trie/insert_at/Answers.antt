@@ -1,6 +1,6 @@
 use Rattle.std.specs.Result.{OnOk}
 use Rattle.std.proofs.Common.{Result, Ok, Err, arith}
-use Rattle.schedule_trie.proofs.InsertSteps.{inserted_before, inserted_last}
+use Rattle.schedule_trie.proofs.edits.InsertSteps.{inserted_before, inserted_last}
 use Rattle.schedule_trie.proofs.trie.Trie.insert_at.Goals as goal
 
 on_ok : {A E : Type 0} (r : Result A E) (P Q : Type 0) → (P → Q) → OnOk r P → OnOk r Q

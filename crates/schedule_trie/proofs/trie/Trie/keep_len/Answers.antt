@@ -1,10 +1,10 @@
 use Rattle.std.proofs.Common.{◌≡◌, Some, length, refl, sym, ap, subst, ◌∙◌}
 use Rattle.std.specs.Map.{keys_of}
-use Rattle.schedule_trie.specs.Forest.{slots_in}
-use Rattle.schedule_trie.specs.Cut.{forest}
-use Rattle.schedule_trie.specs.Tries.{cut_of}
-use Rattle.schedule_trie.proofs.Lengths.{names_set, relength_seen, one_kept}
-use Rattle.schedule_trie.proofs.LengthSteps.{entry_within, one_held}
+use Rattle.branch_terms.specs.Forest.{slots_in}
+use Rattle.schedule_trie.specs.Trie.{forest}
+use Rattle.schedule_trie.specs.TrieFields.{trie_of}
+use Rattle.schedule_trie.proofs.lengths.Lengths.{names_set, relength_seen, one_kept}
+use Rattle.schedule_trie.proofs.lengths.LengthSteps.{entry_within, one_held}
 use Rattle.schedule_trie.proofs.trie.Trie.keep_len.Goals as goal
 
 pub set_length-requires : goal.set_length-requires
@@ -16,7 +16,7 @@ invariant_of-self g c =
     let names = ap keys_of c.set_length.ensures ∙ names_set t.branches.entries c.args.index (Some c.args.len) in
     let len = subst (λ z. c.args.len ≡ length (slots_in (forest z).branches c.args.index)) (sym c.self.view_is) c.requires.len in
     one_held t (record t { branches = c.set_length.new.branches; learnt = c.args.index }) names refl refl refl _ c.self.invariant.held c.self.invariant.names
-    (one_kept t.branches.entries (forest (cut_of t)).branches c.args.index c.args.len len c.self.invariant.lengths) c.set_length.ensures
+    (one_kept t.branches.entries (forest (trie_of t)).branches c.args.index c.args.len len c.self.invariant.lengths) c.set_length.ensures
 
 pub returns : goal.returns
 returns g c =

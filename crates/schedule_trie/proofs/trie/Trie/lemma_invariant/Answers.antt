@@ -1,7 +1,7 @@
-use Rattle.schedule_trie.proofs.Shared.{is_forest}
-use Rattle.schedule_trie.proofs.NamesKept.{have_names}
+use Rattle.schedule_trie.proofs.branches.Shared.{is_forest}
+use Rattle.schedule_trie.proofs.branches.NamesKept.{have_names}
 use Rattle.std.proofs.Common.{subst}
-use Rattle.schedule_trie.specs.Cut.{IsWhole}
+use Rattle.schedule_trie.specs.Trie.{IsWhole}
 use Rattle.schedule_trie.proofs.trie.Trie.lemma_invariant.Goals as goal
 
 pub returns-clause-forest : goal.returns-clause-forest

@@ -1,30 +1,30 @@
 use Rattle.std.proofs.Common.{length, ap, arith}
-use Rattle.schedule_trie.specs.Cut.{piece_at, keys_in, line}
+use Rattle.schedule_trie.specs.Trie.{segment_at, keys_in, line}
 use Rattle.schedule_trie.specs.Climbs.{keys_to}
-use Rattle.schedule_trie.proofs.Climbs.{cells_own, cells_within}
-use Rattle.schedule_trie.proofs.ClimbSteps.{branch_short, turn}
+use Rattle.schedule_trie.proofs.climbs.Climbs.{cells_own, cells_within}
+use Rattle.schedule_trie.proofs.climbs.ClimbSteps.{branch_short, turn}
 use Rattle.schedule_trie.proofs.trie.Trie.len_to.Goals as goal
 
 pub overflow_cast-len : goal.overflow_cast-len
 overflow_cast-len g c =
     let now = c.args.self.now in
-    let keys = keys_in now.strands c.args.index in
+    let keys = keys_in now.branches c.args.index in
     let up = c.in-Some.ensures in
-    let own = cells_own (piece_at now.pieces) keys c.loop-up.at c.in-Some.up.0 c.loop-up.invariant.reached up.key in
+    let own = cells_own (segment_at now.segments) keys c.loop-up.at c.in-Some.up.0 c.loop-up.invariant.reached up.key in
     let len = ap length up.slots in
-    let within = cells_within (piece_at now.pieces) keys c.loop-up.at c.loop-up.invariant.reached in
+    let within = cells_within (segment_at now.segments) keys c.loop-up.at c.loop-up.invariant.reached in
     let short = branch_short now up.whole c.args.index in
     omega (arith, own, len, within, short)
 
 pub overflow_add-len : goal.overflow_add-len
 overflow_add-len g c =
     let now = c.args.self.now in
-    let keys = keys_in now.strands c.args.index in
+    let keys = keys_in now.branches c.args.index in
     let was = c.loop-up.invariant in
     let up = c.in-Some.ensures in
-    let own = cells_own (piece_at now.pieces) keys c.loop-up.at c.in-Some.up.0 was.reached up.key in
+    let own = cells_own (segment_at now.segments) keys c.loop-up.at c.in-Some.up.0 was.reached up.key in
     let len = ap length up.slots in
-    let within = cells_within (piece_at now.pieces) keys c.args.last c.requires in
+    let within = cells_within (segment_at now.segments) keys c.args.last c.requires in
     let short = branch_short now up.whole c.args.index in
     omega (arith, own, len, within, short, was.sum)
 
@@ -43,5 +43,5 @@ pub returns : goal.returns
 returns g c =
     let now = c.args.self.now in
     let was = c.loop-up.invariant in
-    let none = ap (λ o. length (line (piece_at now.pieces) (keys_to (keys_in now.strands c.args.index) o))) (c.in_default.ensures.end c.args.index was.reached) in
+    let none = ap (λ o. length (line (segment_at now.segments) (keys_to (keys_in now.branches c.args.index) o))) (c.in_default.ensures.end c.args.index was.reached) in
     omega (arith, none, was.sum)

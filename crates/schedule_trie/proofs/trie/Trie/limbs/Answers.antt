@@ -1,14 +1,14 @@
 use Rattle.std.proofs.Common.{◌≡◌, ◌≤◌, ℕ, map, ◌<◌, ◌++◌, ◌∷◌, [], length, sym, ap, subst, ◌∙◌, arith}
 use Rattle.std.proofs.lemmas.List.{length-map}
-use Rattle.schedule_trie.specs.Cut.{forest}
-use Rattle.schedule_trie.specs.Forest.{Forest, name_of}
-use Rattle.schedule_trie.specs.Limbs.{FitLimits, AreLawfulLimbs, forest_of, limbs}
-use Rattle.schedule_trie.specs.Renumbering.{IsRenumbered}
-use Rattle.schedule_trie.proofs.LimbsKept.{limbs_kept}
-use Rattle.schedule_trie.proofs.LimbsLawful.{limbs_lawful}
-use Rattle.schedule_trie.proofs.LimbLimits.{limbs_near}
-use Rattle.schedule_trie.proofs.LimbsSaved.{length-limbs, taken_next}
-use Rattle.schedule_trie.proofs.Lists.{slice_get_some, taken_whole}
+use Rattle.schedule_trie.specs.Trie.{forest}
+use Rattle.branch_terms.specs.Forest.{Forest, name_of}
+use Rattle.branch_terms.specs.Limbs.{FitLimits, AreLawfulLimbs, forest_of, limbs}
+use Rattle.branch_terms.specs.Renumbering.{IsRenumbered}
+use Rattle.branch_terms.proofs.LimbsKept.{limbs_kept}
+use Rattle.branch_terms.proofs.LimbsLawful.{limbs_lawful}
+use Rattle.schedule_trie.proofs.limbs.LimbLimits.{limbs_near}
+use Rattle.schedule_trie.proofs.limbs.LimbsSaved.{length-limbs, taken_next}
+use Rattle.branch_terms.proofs.Lists.{slice_get_some, taken_whole}
 use Rattle.schedule_trie.proofs.trie.Trie.limbs.Goals as goal
 
 past_all : (f : Forest) {count i : ℕ} → count ≡ length f.branches → count ≤ i → length (limbs f) ≤ i

@@ -1,6 +1,6 @@
 use Rattle.std.proofs.Common.{◌≡◌, take}
-use Rattle.schedule_trie.specs.Cut.{forest}
-use Rattle.schedule_trie.specs.Limbs.{limbs}
+use Rattle.schedule_trie.specs.Trie.{forest}
+use Rattle.branch_terms.specs.Limbs.{limbs}
 use Rattle.schedule_trie.specs.Marks.{MarksFirst}
 use Rattle.schedule_trie.proofs.trie.Trie.limbs.Given as goal
 

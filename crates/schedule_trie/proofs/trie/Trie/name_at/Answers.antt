@@ -1,6 +1,6 @@
 use Rattle.std.proofs.Common.{ap, sym, ◌∙◌}
 use Rattle.std.specs.Option.{option_map}
-use Rattle.schedule_trie.proofs.Lines.{name_is}
+use Rattle.schedule_trie.proofs.branches.Lines.{name_is}
 use Rattle.schedule_trie.proofs.trie.Trie.name_at.Goals as goal
 
 pub returns : goal.returns

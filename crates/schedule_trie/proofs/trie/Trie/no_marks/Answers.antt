@@ -1,7 +1,7 @@
 use Rattle.std.proofs.Common.{◌+◌, None, length, ap, ◌∙◌, arith}
 use Rattle.std.proofs.lemmas.List.{length_push}
 use Rattle.schedule_trie.specs.Marks.{mark_at}
-use Rattle.schedule_trie.proofs.LimbsSaved.{empty_more, no_marks_first}
+use Rattle.schedule_trie.proofs.limbs.LimbsSaved.{empty_more, no_marks_first}
 use Rattle.schedule_trie.proofs.trie.Trie.no_marks.Goals as goal
 
 pub loop-init : goal.loop-init

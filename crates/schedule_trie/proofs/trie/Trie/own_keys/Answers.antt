@@ -1,22 +1,22 @@
 use Rattle.std.proofs.Common.{◌≡◌, ◌<◌, length, Some, None, sym, subst, slice_index_or, refl}
-use Rattle.schedule_trie.specs.Cut.{keys_in, piece_at}
+use Rattle.schedule_trie.specs.Trie.{keys_in, segment_at}
 use Rattle.schedule_trie.specs.Climbs.{keys_to, HasClimbedTo}
 use Rattle.schedule_trie.specs.Marks.{IsMarkOf}
-use Rattle.schedule_trie.proofs.Climbs.{shorter_up}
-use Rattle.schedule_trie.proofs.ClimbSteps.{path_last, path_up}
-use Rattle.schedule_trie.proofs.OwnParts.{climbing_first, climbing_up, own_part, IsUnmarked}
+use Rattle.schedule_trie.proofs.climbs.Climbs.{shorter_up}
+use Rattle.schedule_trie.proofs.climbs.ClimbSteps.{path_last, path_up}
+use Rattle.schedule_trie.proofs.limbs.OwnParts.{climbing_first, climbing_up, own_part, IsUnmarked}
 use Rattle.schedule_trie.proofs.trie.Trie.own_keys.Goals as goal
 
 pub loop-at-init : goal.loop-at-init
 loop-at-init g c =
     let l = path_last c.self.inside c.args.self.now c.self.view_is c.self.invariant.held c.args.index c.last-at.result c.last-at.ensures in
-    let keys = keys_in c.args.self.now.strands c.args.index in
+    let keys = keys_in c.args.self.now.branches c.args.index in
     rw c.new-own.ensures.items (record { climbing = climbing_first (IsUnmarked c.args.marks.now) keys c.last-at.result l })
 
 pub returns-in-Some-marks-clause-own : goal.returns-in-Some-marks-clause-own
 returns-in-Some-marks-clause-own g c =
     let marks = c.args.marks.now in
-    let keys = keys_in c.args.self.now.strands c.args.index in
+    let keys = keys_in c.args.self.now.branches c.args.index in
     let at = c.loop-at.invariant.climbing in
     let read : slice_index_or marks c.in-Some.key None ≡ Some c.in-Some-marks.mark = c.in-Some-marks.is in
     own_part marks keys c.loop-at.at c.loop-at.own.items c.reverse.new.self.items c.in-Some-marks.mark at
@@ -24,16 +24,16 @@ returns-in-Some-marks-clause-own g c =
 
 pub loop-at-smaller : goal.loop-at-smaller
 loop-at-smaller g c =
-    let keys = keys_in c.args.self.now.strands c.args.index in
+    let keys = keys_in c.args.self.now.branches c.args.index in
     let s = path_up c.self.inside c.args.self.now c.self.view_is c.self.invariant.held c.args.index c.in-Some.key c.above-at.result
     (subst (HasClimbedTo keys) c.in-Some.is c.loop-at.invariant.climbing.reached) c.above-at.ensures.each in
     subst (λ o. length (keys_to keys c.above-at.result) < length (keys_to keys o)) (sym c.in-Some.is)
-    (shorter_up (piece_at c.args.self.now.pieces) keys c.in-Some.key c.above-at.result s)
+    (shorter_up (segment_at c.args.self.now.segments) keys c.in-Some.key c.above-at.result s)
 
 pub loop-at-preserved : goal.loop-at-preserved
 loop-at-preserved g c =
     let marks = c.args.marks.now in
-    let keys = keys_in c.args.self.now.strands c.args.index in
+    let keys = keys_in c.args.self.now.branches c.args.index in
     let at = c.loop-at.invariant.climbing in
     let s = path_up c.self.inside c.args.self.now c.self.view_is c.self.invariant.held c.args.index c.in-Some.key c.above-at.result
     (subst (HasClimbedTo keys) c.in-Some.is at.reached) c.above-at.ensures.each in
@@ -43,6 +43,6 @@ loop-at-preserved g c =
 pub returns-clause-own : goal.returns-clause-own
 returns-clause-own g c =
     let marks = c.args.marks.now in
-    let keys = keys_in c.args.self.now.strands c.args.index in
+    let keys = keys_in c.args.self.now.branches c.args.index in
     own_part marks keys c.loop-at.at c.loop-at.own.items c.reverse-2.new.self.items _ c.loop-at.invariant.climbing
     (subst (λ o. IsMarkOf marks o _) (sym c.in_default.is) refl) c.reverse-2.ensures.items

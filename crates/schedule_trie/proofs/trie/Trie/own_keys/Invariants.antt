@@ -1,11 +1,11 @@
 use Rattle.std.proofs.Common.{length}
-use Rattle.schedule_trie.specs.Cut.{keys_in}
+use Rattle.schedule_trie.specs.Trie.{keys_in}
 use Rattle.schedule_trie.specs.Climbs.{keys_to}
-use Rattle.schedule_trie.proofs.OwnParts.{IsClimbing, IsUnmarked}
+use Rattle.schedule_trie.proofs.limbs.OwnParts.{IsClimbing, IsUnmarked}
 use Rattle.schedule_trie.proofs.trie.Trie.own_keys.Given as goal
 
 abbrev pub invariant-loop-at : goal.invariant-loop-at
-invariant-loop-at g l = record { climbing : IsClimbing (IsUnmarked l.marks) (keys_in l.self.strands l.index) l.at l.own.items }
+invariant-loop-at g l = record { climbing : IsClimbing (IsUnmarked l.marks) (keys_in l.self.branches l.index) l.at l.own.items }
 
 abbrev pub decreases-loop-at : goal.decreases-loop-at
-decreases-loop-at g l = length (keys_to (keys_in l.self.strands l.index) l.at)
+decreases-loop-at g l = length (keys_to (keys_in l.self.branches l.index) l.at)

@@ -1,11 +1,11 @@
 use Rattle.std.specs.Map.{keys_of}
 use Rattle.lineage.specs.Family.{with_item}
-use Rattle.schedule_trie.specs.Tries.{cut_of}
+use Rattle.schedule_trie.specs.TrieFields.{trie_of}
 use Rattle.std.proofs.Common.{sym, subst, ap, refl, None, ◌∙◌, ◌+◌, ◌<◌, length}
-use Rattle.schedule_trie.specs.Cut.{IsOwnEnd, IsPushed}
-use Rattle.schedule_trie.proofs.PushSteps.{on_err, kept_held, own_there, cut_kept, in_held, in_pushed}
-use Rattle.schedule_trie.proofs.Lengths.{names_set, relength_seen}
-use Rattle.schedule_trie.proofs.LengthSteps.{entry_within, one_held, pushed_lengths}
+use Rattle.schedule_trie.specs.Trie.{IsOwnEnd, IsPushed}
+use Rattle.schedule_trie.proofs.edits.PushSteps.{on_err, kept_held, own_there, cut_kept, in_held, in_pushed}
+use Rattle.schedule_trie.proofs.lengths.Lengths.{names_set, relength_seen}
+use Rattle.schedule_trie.proofs.lengths.LengthSteps.{entry_within, one_held, pushed_lengths}
 use Rattle.schedule_trie.proofs.trie.Trie.push_in.Goals as goal
 
 pub item_mut-requires : goal.item_mut-requires
@@ -31,7 +31,7 @@ pub invariant_of-self-2 : goal.invariant_of-self-2
 invariant_of-self-2 g c =
     let t = c.self.inside in
     let end = subst (λ z. IsOwnEnd z c.args.index c.args.key) (sym c.self.view_is) c.requires.end in
-    let index_in = subst (λ z. c.args.index < length z.strands) (sym c.self.view_is) c.requires.index in
+    let index_in = subst (λ z. c.args.index < length z.branches) (sym c.self.view_is) c.requires.index in
     let room = subst (λ z. z.made < z.limits.cells) (sym c.self.view_is) c.requires.room in
     let p = record t { segments = with_item t.segments c.args.key c.push.new.self; made = t.made + 1 } in
     let names = ap keys_of c.set_length.ensures ∙ names_set t.branches.entries c.args.index None in
@@ -39,7 +39,7 @@ invariant_of-self-2 g c =
     (in_held t c.args.index c.args.key c.self.invariant.held end c.item_mut.result.now c.push.new.self c.item_mut.ensures.value c.args.step index_in room
     c.in_ok-push.ensures.slots c.in_ok-push.ensures.note)
     c.self.invariant.names
-    (pushed_lengths (cut_of t) (cut_of p) t.branches.entries c.self.invariant.lengths c.args.index c.args.step
+    (pushed_lengths (trie_of t) (trie_of p) t.branches.entries c.self.invariant.lengths c.args.index c.args.step
     (in_pushed t c.args.index c.args.key c.self.invariant.held end c.item_mut.result.now c.push.new.self c.item_mut.ensures.value c.args.step index_in room
     c.in_ok-push.ensures.slots c.in_ok-push.ensures.note)) c.set_length.ensures
 
@@ -50,8 +50,8 @@ returns-clause-ok g c =
     let p = record t { segments = with_item t.segments c.args.key c.push.new.self; made = t.made + 1 } in
     let names = ap keys_of c.set_length.ensures ∙ names_set t.branches.entries c.args.index None in
     rw (← c.self.view_is)
-    (subst (λ z. IsPushed (cut_of t) z c.args.index c.args.step) (sym (relength_seen p (record p { branches = c.set_length.new.branches }) names refl refl refl))
+    (subst (λ z. IsPushed (trie_of t) z c.args.index c.args.step) (sym (relength_seen p (record p { branches = c.set_length.new.branches }) names refl refl refl))
     (in_pushed t c.args.index c.args.key c.self.invariant.held end c.item_mut.result.now c.push.new.self c.item_mut.ensures.value c.args.step
-    (subst (λ z. c.args.index < length z.strands) (sym c.self.view_is) c.requires.index)
+    (subst (λ z. c.args.index < length z.branches) (sym c.self.view_is) c.requires.index)
     (subst (λ z. z.made < z.limits.cells) (sym c.self.view_is) c.requires.room)
     c.in_ok-push.ensures.slots c.in_ok-push.ensures.note))

@@ -1,16 +1,16 @@
 use Rattle.std.specs.Map.{keys_of}
-use Rattle.schedule_trie.specs.Cut.{IsPushed}
-use Rattle.schedule_trie.specs.Tries.{cut_of}
+use Rattle.schedule_trie.specs.Trie.{IsPushed}
+use Rattle.schedule_trie.specs.TrieFields.{trie_of}
 use Rattle.std.proofs.Common.{◌+◌, ◌<◌, ◌∙◌, None, ap, length, refl, sym, subst}
-use Rattle.schedule_trie.proofs.Lines.{path_within}
-use Rattle.schedule_trie.proofs.PushFresh.{segment_held, segment_pushed}
-use Rattle.schedule_trie.proofs.Lengths.{names_set, relength_seen}
-use Rattle.schedule_trie.proofs.LengthSteps.{entry_within, one_held, pushed_lengths}
+use Rattle.schedule_trie.proofs.branches.Lines.{path_within}
+use Rattle.schedule_trie.proofs.edits.PushFresh.{segment_held, segment_pushed}
+use Rattle.schedule_trie.proofs.lengths.Lengths.{names_set, relength_seen}
+use Rattle.schedule_trie.proofs.lengths.LengthSteps.{entry_within, one_held, pushed_lengths}
 use Rattle.schedule_trie.proofs.trie.Trie.push_segment.Goals as goal
 
 pub push-requires : goal.push-requires
 push-requires g c =
-    path_within c.self.inside c.self.invariant.held c.args.index (subst (λ z. c.args.index < length z.strands) (sym c.self.view_is) c.requires.index)
+    path_within c.self.inside c.self.invariant.held c.args.index (subst (λ z. c.args.index < length z.branches) (sym c.self.view_is) c.requires.index)
 
 pub set_length-requires : goal.set_length-requires
 set_length-requires g c = entry_within c.self.inside c.args.self.now c.args.index c.self.view_is c.requires.index
@@ -18,7 +18,7 @@ set_length-requires g c = entry_within c.self.inside c.args.self.now c.args.inde
 pub invariant_of-self-2 : goal.invariant_of-self-2
 invariant_of-self-2 g c =
     let t = c.self.inside in
-    let index_in = subst (λ z. c.args.index < length z.strands) (sym c.self.view_is) c.requires.index in
+    let index_in = subst (λ z. c.args.index < length z.branches) (sym c.self.view_is) c.requires.index in
     let room = subst (λ z. z.made < z.limits.cells) (sym c.self.view_is) c.requires.room in
     let p = record t { segments = c.push.new.self; made = t.made + 1 } in
     let names = ap keys_of c.set_length.ensures ∙ names_set t.branches.entries c.args.index None in
@@ -26,18 +26,18 @@ invariant_of-self-2 g c =
     (segment_held t p c.args.index _ c.in_ok-segment.segment c.args.step c.self.invariant.held index_in room
     c.in_ok-push.ensures.item c.in_ok-push.ensures.paths refl refl refl c.in_ok-segment.ensures.slots c.in_ok-segment.ensures.note)
     c.self.invariant.names
-    (pushed_lengths (cut_of t) (cut_of p) t.branches.entries c.self.invariant.lengths c.args.index c.args.step
+    (pushed_lengths (trie_of t) (trie_of p) t.branches.entries c.self.invariant.lengths c.args.index c.args.step
     (segment_pushed t p c.args.index _ c.in_ok-segment.segment c.args.step c.self.invariant.held index_in room
     c.in_ok-push.ensures.item c.in_ok-push.ensures.paths refl refl refl c.in_ok-segment.ensures.slots c.in_ok-segment.ensures.note)) c.set_length.ensures
 
 pub returns-clause-ok : goal.returns-clause-ok
 returns-clause-ok g c =
     let t = c.self.inside in
-    let index_in = subst (λ z. c.args.index < length z.strands) (sym c.self.view_is) c.requires.index in
+    let index_in = subst (λ z. c.args.index < length z.branches) (sym c.self.view_is) c.requires.index in
     let room = subst (λ z. z.made < z.limits.cells) (sym c.self.view_is) c.requires.room in
     let p = record t { segments = c.push.new.self; made = t.made + 1 } in
     let names = ap keys_of c.set_length.ensures ∙ names_set t.branches.entries c.args.index None in
     rw (← c.self.view_is)
-    (subst (λ z. IsPushed (cut_of t) z c.args.index c.args.step) (sym (relength_seen p (record p { branches = c.set_length.new.branches }) names refl refl refl))
+    (subst (λ z. IsPushed (trie_of t) z c.args.index c.args.step) (sym (relength_seen p (record p { branches = c.set_length.new.branches }) names refl refl refl))
     (segment_pushed t p c.args.index _ c.in_ok-segment.segment c.args.step c.self.invariant.held index_in room
     c.in_ok-push.ensures.item c.in_ok-push.ensures.paths refl refl refl c.in_ok-segment.ensures.slots c.in_ok-segment.ensures.note))

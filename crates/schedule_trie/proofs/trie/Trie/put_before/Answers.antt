@@ -1,12 +1,12 @@
-use Rattle.schedule_trie.specs.Cut.{IsPutBefore}
-use Rattle.schedule_trie.specs.Tries.{cut_of, IsHeldCut}
+use Rattle.schedule_trie.specs.Trie.{IsPutBefore}
+use Rattle.schedule_trie.specs.TrieFields.{trie_of, IsHeldTrie}
 use Rattle.std.proofs.Common.{◌+◌, refl, sym, subst, ◌≤◌, length}
 use Rattle.lineage.specs.Family.{with_item}
-use Rattle.schedule_trie.proofs.InsertSteps.{divided}
-use Rattle.schedule_trie.proofs.Lengths.{relength_seen}
-use Rattle.schedule_trie.proofs.LengthSteps.{none_held}
-use Rattle.schedule_trie.proofs.DivisionSteps.{still_there}
-use Rattle.schedule_trie.proofs.StepSet.{held_there}
+use Rattle.schedule_trie.proofs.edits.InsertSteps.{divided}
+use Rattle.schedule_trie.proofs.lengths.Lengths.{relength_seen}
+use Rattle.schedule_trie.proofs.lengths.LengthSteps.{none_held}
+use Rattle.schedule_trie.proofs.forks.DivisionSteps.{still_there}
+use Rattle.schedule_trie.proofs.segments.StepSet.{held_there}
 use Rattle.schedule_trie.proofs.trie.Trie.put_before.Given.{Over}
 use Rattle.schedule_trie.proofs.trie.Trie.put_before.Goals as goal
 
@@ -20,8 +20,8 @@ item_mut-requires g c =
 
 -- the fields before the lengths are forgotten
 put : (g : Over) (c : goal.After-self-2-1 g)
-    → IsHeldCut (record c.self.inside { segments = with_item c.divide.new.self c.args.key c.set_slots.new.self; made = c.self.inside.made + 1 })
-    × IsPutBefore (cut_of c.self.inside) (cut_of (record c.self.inside { segments = with_item c.divide.new.self c.args.key c.set_slots.new.self; made = c.self.inside.made + 1 }))
+    → IsHeldTrie (record c.self.inside { segments = with_item c.divide.new.self c.args.key c.set_slots.new.self; made = c.self.inside.made + 1 })
+    × IsPutBefore (trie_of c.self.inside) (trie_of (record c.self.inside { segments = with_item c.divide.new.self c.args.key c.set_slots.new.self; made = c.self.inside.made + 1 }))
     c.args.key c.args.offset c.args.step
 put g c =
     divided c.self.inside (record c.self.inside { segments = with_item c.divide.new.self c.args.key c.set_slots.new.self; made = c.self.inside.made + 1 })
@@ -39,5 +39,5 @@ pub returns-clause-ok : goal.returns-clause-ok
 returns-clause-ok g c =
     let p = record c.self.inside { segments = with_item c.divide.new.self c.args.key c.set_slots.new.self; made = c.self.inside.made + 1 } in
     rw (← c.self.view_is)
-    (subst (λ z. IsPutBefore (cut_of c.self.inside) z c.args.key c.args.offset c.args.step)
+    (subst (λ z. IsPutBefore (trie_of c.self.inside) z c.args.key c.args.offset c.args.step)
     (sym (relength_seen p (record p { branches = c.forget_lengths.new.branches }) c.forget_lengths.ensures.names refl refl refl)) (put g c).1)

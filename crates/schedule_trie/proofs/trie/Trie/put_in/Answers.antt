@@ -1,12 +1,12 @@
 use Rattle.lineage.specs.Family.{with_item}
-use Rattle.schedule_trie.specs.Cut.{IsPutBefore}
-use Rattle.schedule_trie.specs.Tries.{cut_of}
+use Rattle.schedule_trie.specs.Trie.{IsPutBefore}
+use Rattle.schedule_trie.specs.TrieFields.{trie_of}
 use Rattle.std.proofs.Common.{sym, subst, refl, ◌∙◌, ◌+◌, ◌<◌, length, arith}
-use Rattle.schedule_trie.proofs.PushSteps.{on_err, kept_held, cut_written}
-use Rattle.schedule_trie.proofs.StepSet.{held_there, inside_from}
-use Rattle.schedule_trie.proofs.InsertSteps.{slots_seen, put_held, put_told}
-use Rattle.schedule_trie.proofs.Lengths.{relength_seen}
-use Rattle.schedule_trie.proofs.LengthSteps.{none_held}
+use Rattle.schedule_trie.proofs.edits.PushSteps.{on_err, kept_held, cut_written}
+use Rattle.schedule_trie.proofs.segments.StepSet.{held_there, inside_from}
+use Rattle.schedule_trie.proofs.edits.InsertSteps.{slots_seen, put_held, put_told}
+use Rattle.schedule_trie.proofs.lengths.Lengths.{relength_seen}
+use Rattle.schedule_trie.proofs.lengths.LengthSteps.{none_held}
 use Rattle.schedule_trie.proofs.trie.Trie.put_in.Goals as goal
 
 pub item_mut-requires : goal.item_mut-requires
@@ -43,7 +43,7 @@ returns-clause-ok g c =
     let t = c.self.inside in
     let p = record t { segments = with_item t.segments c.args.key c.insert.new.self; made = t.made + 1 } in
     rw (← c.self.view_is)
-    (subst (λ z. IsPutBefore (cut_of t) z c.args.key c.args.offset c.args.step)
+    (subst (λ z. IsPutBefore (trie_of t) z c.args.key c.args.offset c.args.step)
     (sym (relength_seen p (record p { branches = c.forget_lengths.new.branches }) c.forget_lengths.ensures.names refl refl refl))
     (put_told c.self.inside c.args.key c.args.offset c.args.step c.item_mut.result.now c.insert.new.self c.self.invariant.held c.item_mut.ensures.value
     (inside_from c.self.inside c.args.key c.args.offset c.item_mut.result.now c.args.self.now c.self.view_is c.item_mut.ensures.value c.requires.offset)

@@ -1,10 +1,10 @@
 use Rattle.std.proofs.Common.{◌≡◌, ◌<◌, Some, length, sym, subst, arith}
-use Rattle.schedule_trie.specs.Forest.{index_of, slots_in}
-use Rattle.schedule_trie.specs.Cut.{forest, IsWhole}
+use Rattle.branch_terms.specs.Forest.{index_of, slots_in}
+use Rattle.schedule_trie.specs.Trie.{forest, IsWhole}
 use Rattle.schedule_trie.specs.Edits.{Remove, IsEdited}
-use Rattle.schedule_trie.proofs.LengthsAfter.{place_inside, shorter, still_removed}
-use Rattle.schedule_trie.proofs.RemoveSteps.{remove_ok}
-use Rattle.schedule_trie.proofs.CellHolders.{notes_here}
+use Rattle.schedule_trie.proofs.lengths.LengthsAfter.{place_inside, shorter, still_removed}
+use Rattle.schedule_trie.proofs.edits.RemoveSteps.{remove_ok}
+use Rattle.schedule_trie.proofs.segments.CellHolders.{notes_here}
 use Rattle.schedule_trie.proofs.trie.Trie.remove.Goals as goal
 
 pub overflow_sub-len : goal.overflow_sub-len
@@ -15,14 +15,14 @@ overflow_sub-len g c =
 
 pub keep_len-requires-clause-index : goal.keep_len-requires-clause-index
 keep_len-requires-clause-index g c =
-    still_removed c.learn_len-len.new.self c.remove_slot.new.self (subst IsWhole (sym c.learn_len-len.ensures.same) c.learn_len-len.ensures.whole) c.in-Some.index (subst (λ z. c.in-Some.index < length z.strands) (sym c.learn_len-len.ensures.same) c.in-Some.ensures.within)
+    still_removed c.learn_len-len.new.self c.remove_slot.new.self (subst IsWhole (sym c.learn_len-len.ensures.same) c.learn_len-len.ensures.whole) c.in-Some.index (subst (λ z. c.in-Some.index < length z.branches) (sym c.learn_len-len.ensures.same) c.in-Some.ensures.within)
     c.in-Some-find_cell.key c.in-Some-find_cell.offset c.in-Some-find_cell.ensures.found.within c.remove_slot.ensures
 
 pub keep_len-requires-clause-len : goal.keep_len-requires-clause-len
 keep_len-requires-clause-len g c =
     let less = place_inside c.learn_len-len.new.self c.in-Some.index c.args.place _ c.in-Some-find_cell.ensures.found in
     let len = subst (λ z. c.learn_len-len.result ≡ length (slots_in (forest z).branches c.in-Some.index)) (sym c.learn_len-len.ensures.same) c.learn_len-len.ensures.len in
-    let one = shorter c.learn_len-len.new.self c.remove_slot.new.self (subst IsWhole (sym c.learn_len-len.ensures.same) c.learn_len-len.ensures.whole) c.in-Some.index (subst (λ z. c.in-Some.index < length z.strands) (sym c.learn_len-len.ensures.same) c.in-Some.ensures.within)
+    let one = shorter c.learn_len-len.new.self c.remove_slot.new.self (subst IsWhole (sym c.learn_len-len.ensures.same) c.learn_len-len.ensures.whole) c.in-Some.index (subst (λ z. c.in-Some.index < length z.branches) (sym c.learn_len-len.ensures.same) c.in-Some.ensures.within)
     c.args.place c.in-Some-find_cell.key c.in-Some-find_cell.offset c.in-Some-find_cell.ensures.found c.remove_slot.ensures less in
     omega (arith, one, len)
 

@@ -1,9 +1,9 @@
 use Rattle.std.proofs.Common.{◌≡◌, Some, sym, subst}
-use Rattle.schedule_trie.specs.Forest.{index_of}
-use Rattle.schedule_trie.specs.Cut.{forest, IsWhole}
+use Rattle.branch_terms.specs.Forest.{index_of}
+use Rattle.schedule_trie.specs.Trie.{forest, IsWhole}
 use Rattle.schedule_trie.specs.Edits.{Replace, IsEdited}
-use Rattle.schedule_trie.proofs.StepSet.{replace_ok}
-use Rattle.schedule_trie.proofs.CellHolders.{notes_here}
+use Rattle.schedule_trie.proofs.segments.StepSet.{replace_ok}
+use Rattle.schedule_trie.proofs.segments.CellHolders.{notes_here}
 use Rattle.schedule_trie.proofs.trie.Trie.replace.Goals as goal
 
 pub returns-clause-ok : goal.returns-clause-ok

@@ -1,8 +1,8 @@
 use Rattle.std.proofs.Common.{sym, ap, ◌∙◌}
-use Rattle.schedule_trie.specs.Cut.{slots_of}
-use Rattle.schedule_trie.specs.Tries.{piece_of}
-use Rattle.schedule_trie.proofs.ClimbSteps.{each_up, ends_up}
-use Rattle.schedule_trie.proofs.StepSet.{piece_seen}
+use Rattle.schedule_trie.specs.Trie.{slots_of}
+use Rattle.schedule_trie.specs.TrieFields.{segment_of}
+use Rattle.schedule_trie.proofs.climbs.ClimbSteps.{each_up, ends_up}
+use Rattle.schedule_trie.proofs.segments.StepSet.{segment_seen}
 use Rattle.schedule_trie.proofs.trie.Trie.slots_up.Goals as goal
 
 pub returns-in-Some-clause-each : goal.returns-in-Some-clause-each
@@ -17,4 +17,4 @@ pub returns-in-Some-clause-slots : goal.returns-in-Some-clause-slots
 returns-in-Some-clause-slots g c =
     rw (← c.self.view_is)
     (c.as_slice.ensures.value
-    ∙ sym (ap slots_of (piece_seen c.self.inside c.in-Some.key ∙ ap piece_of c.in-Some.ensures.item)))
+    ∙ sym (ap slots_of (segment_seen c.self.inside c.in-Some.key ∙ ap segment_of c.in-Some.ensures.item)))

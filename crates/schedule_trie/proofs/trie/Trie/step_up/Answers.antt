@@ -1,5 +1,5 @@
 use Rattle.std.proofs.Common.{None, sym, refl}
-use Rattle.schedule_trie.proofs.ClimbSteps.{each_up, none_up, first_up}
+use Rattle.schedule_trie.proofs.climbs.ClimbSteps.{each_up, none_up, first_up}
 use Rattle.schedule_trie.proofs.trie.Trie.step_up.Goals as goal
 
 pub returns-in-Some-clause-first : goal.returns-in-Some-clause-first

@@ -1,7 +1,7 @@
 use Rattle.std.proofs.Common.{IsSome, sym, ◌∙◌, subst}
-use Rattle.schedule_trie.specs.Cut.{piece_at}
-use Rattle.schedule_trie.proofs.ClimbSteps.{each_up, first_up}
-use Rattle.schedule_trie.proofs.StepSet.{item_there}
+use Rattle.schedule_trie.specs.Trie.{segment_at}
+use Rattle.schedule_trie.proofs.climbs.ClimbSteps.{each_up, first_up}
+use Rattle.schedule_trie.proofs.segments.StepSet.{item_there}
 use Rattle.schedule_trie.proofs.trie.Trie.step_up_from.Goals as goal
 
 pub returns-clause-each : goal.returns-clause-each
@@ -17,4 +17,4 @@ returns-clause-first g c =
 
 pub step_up_from-above-requires : goal.step_up_from-above-requires
 step_up_from-above-requires g c =
-    item_there c.self.inside c.args.key (subst (λ z. IsSome (piece_at z.pieces c.args.key)) (sym c.self.view_is) c.requires)
+    item_there c.self.inside c.args.key (subst (λ z. IsSome (segment_at z.segments c.args.key)) (sym c.self.view_is) c.requires)

@@ -1,9 +1,9 @@
 use Rattle.std.proofs.Common.{◌≡◌, length, sym, subst, ◌∙◌}
 use Rattle.std.specs.Option.{IfSome}
-use Rattle.schedule_trie.specs.Forest.{slots_in}
-use Rattle.schedule_trie.specs.Cut.{forest}
-use Rattle.schedule_trie.proofs.LengthSteps.{same_len}
-use Rattle.schedule_trie.proofs.Lists.{same_key}
+use Rattle.branch_terms.specs.Forest.{slots_in}
+use Rattle.schedule_trie.specs.Trie.{forest}
+use Rattle.schedule_trie.proofs.lengths.LengthSteps.{same_len}
+use Rattle.branch_terms.proofs.Lists.{same_key}
 use Rattle.schedule_trie.proofs.trie.Trie.twin_len.Goals as goal
 
 pub returns-then-eq : goal.returns-then-eq

@@ -1,9 +1,9 @@
 use Rattle.std.proofs.Common.{◌+◌, ◌≤◌, ◌≡◌, length, take, sym, subst, arith, ◌∙◌, ap}
-use Rattle.schedule_trie.specs.Forest.{lone_branch}
-use Rattle.schedule_trie.specs.Cut.{forest}
-use Rattle.schedule_trie.specs.Limbs.{cells_of, forest_of}
-use Rattle.schedule_trie.proofs.Lists.{taken_whole, item_of_rest, rest_ends}
-use Rattle.schedule_trie.proofs.LoadSteps.{first_grown, can_grow, grown_next}
+use Rattle.branch_terms.specs.Forest.{lone_branch}
+use Rattle.schedule_trie.specs.Trie.{forest}
+use Rattle.branch_terms.specs.Limbs.{cells_of, forest_of}
+use Rattle.branch_terms.proofs.Lists.{taken_whole, item_of_rest, rest_ends}
+use Rattle.schedule_trie.proofs.limbs.LoadSteps.{first_grown, can_grow, grown_next}
 use Rattle.schedule_trie.proofs.trie.Trie.with_limbs.Goals as goal
 
 pub loop-limb-init : goal.loop-limb-init

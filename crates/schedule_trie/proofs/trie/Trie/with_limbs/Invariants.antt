@@ -1,6 +1,6 @@
 use Rattle.std.proofs.Common.{◌≡◌, ◌+◌, take}
-use Rattle.schedule_trie.specs.Cut.{forest, IsBlank, IsCut}
-use Rattle.schedule_trie.specs.Limbs.{forest_of}
+use Rattle.schedule_trie.specs.Trie.{forest, IsBlank, IsCut}
+use Rattle.branch_terms.specs.Limbs.{forest_of}
 use Rattle.schedule_trie.proofs.trie.Trie.with_limbs.Given as goal
 
 abbrev pub invariant-loop-limb : goal.invariant-loop-limb

@@ -1,5 +1,5 @@
 use Rattle.std.proofs.Common.{sym, subst}
-use Rattle.schedule_trie.specs.Cut.{IsBlank, IsCut}
+use Rattle.schedule_trie.specs.Trie.{IsBlank, IsCut}
 use Rattle.schedule_trie.proofs.trie.Trie.with_steps.Goals as goal
 
 pub alone-requires-clause-limits : goal.alone-requires-clause-limits

@@ -1,5 +1,5 @@
 use Rattle.std.proofs.Common.{◌∙◌}
-use Rattle.schedule_trie.proofs.ForkCutSteps.{rest_of}
+use Rattle.schedule_trie.proofs.forks.ForkCutSteps.{rest_of}
 use Rattle.schedule_trie.proofs.trie.fork.parts_at.Goals as goal
 
 pub returns-clause-rest : goal.returns-clause-rest

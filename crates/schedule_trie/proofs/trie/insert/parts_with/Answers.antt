@@ -2,9 +2,9 @@ use Rattle.std.proofs.Common.{◌++◌, ◌-◌, ◌∙◌, length, take, drop, 
 use Rattle.std.specs.List.{insert}
 use Rattle.std.proofs.lemmas.List.{length-take, length-drop, take_all, length-take-le}
 use Rattle.std.proofs.lemmas.List.Edits.{length-insert}
-use Rattle.schedule_trie.proofs.InsertSteps.{insert-front, insert-back}
+use Rattle.schedule_trie.proofs.edits.InsertSteps.{insert-front, insert-back}
 use Rattle.schedule_trie.proofs.trie.insert.parts_with.Goals as goal
-use Rattle.schedule_trie.specs.declared.slot.Slot.{Slot}
+use Rattle.branch_terms.specs.declared.slot.Slot.{Slot}
 
 pub slice_bounds-front-end : goal.slice_bounds-front-end
 slice_bounds-front-end c = omega (arith, length-take 64 c.args.slots.now, c.requires.full)

@@ -1,7 +1,7 @@
 use Rattle.std.proofs.Common.{length, ap, ◌∙◌, None, slice_get, arith}
 use Rattle.std.specs.Map.{keys_of}
-use Rattle.schedule_trie.specs.Tries.{kept_in}
-use Rattle.schedule_trie.proofs.Lengths.{names_set, count_set, one_more_gone, all_gone}
+use Rattle.schedule_trie.specs.TrieFields.{kept_in}
+use Rattle.schedule_trie.proofs.lengths.Lengths.{names_set, count_set, one_more_gone, all_gone}
 use Rattle.schedule_trie.proofs.trie.lengths.forget_lengths.Goals as goal
 
 pub loop-index-preserved : goal.loop-index-preserved

@@ -1,6 +1,6 @@
 use Rattle.std.proofs.Common.{ℕ, ◌≡◌, ◌<◌, None, length, slice_get}
 use Rattle.std.specs.Map.{keys_of}
-use Rattle.schedule_trie.specs.Tries.{kept_in}
+use Rattle.schedule_trie.specs.TrieFields.{kept_in}
 use Rattle.schedule_trie.proofs.trie.lengths.forget_lengths.Given as goal
 
 abbrev pub invariant-loop-index : goal.invariant-loop-index

@@ -1,6 +1,6 @@
 use Rattle.std.proofs.Common.{◌≤◌, ◌∙◌, length, inl, sym, ap, arith}
-use Rattle.schedule_trie.specs.declared.limits.TheConstants.{MOST_CELLS_MADE}
-use Rattle.schedule_trie.specs.Cut.{forest}
+use Rattle.branch_terms.specs.declared.limits.TheConstants.{MOST_CELLS_MADE}
+use Rattle.schedule_trie.specs.Trie.{forest}
 use Rattle.sessions.specs.Logs.{entry}
 use Rattle.sessions.specs.Books.{opening_of}
 use Rattle.sessions.proofs.Books.{book_kept, book_more, done_acts, opens_kept, opens_more, unlacking}
@@ -11,9 +11,9 @@ pub answer-requires : goal.answer-requires
 answer-requires g c =
     let s = c.self.inside.workspace in
     let sound = c.self.invariant.sound in
-    let few : (forest s.chart.cut).made ≤ MOST_CELLS_MADE = omega (arith, sound.few_cells, sound.in_range.most_cells) in
+    let few : (forest s.chart.trie).made ≤ MOST_CELLS_MADE = omega (arith, sound.few_cells, sound.in_range.most_cells) in
     record {
-      within = are_within (forest s.chart.cut) s.cursors c.lemma_invariant.ensures.forest few sound.all_placed;
+      within = are_within (forest s.chart.trie) s.cursors c.lemma_invariant.ensures.forest few sound.all_placed;
       breaks = sound.breaks;
       few_edits = omega (arith, sound.few_edits, c.self.invariant.held.few, c.self.invariant.held.most_log);
     }

@@ -1,12 +1,12 @@
 use Rattle.std.proofs.Common.{subst}
-use Rattle.schedule_trie.specs.Cut.{IsCut}
+use Rattle.schedule_trie.specs.Trie.{IsCut}
 use Rattle.sessions.specs.Books.{BeginsAtOpening}
 use Rattle.sessions.specs.Books.{book_of}
 use Rattle.sessions.proofs.Openings.{begins_so}
 use Rattle.sessions.proofs.book.Book.lemma_invariant.Goals as goal
 
 pub returns-clause-cut : goal.returns-clause-cut
-returns-clause-cut g c = subst (λ h. IsCut h.now.chart.cut) c.self.view_is c.lemma_invariant.ensures.cut
+returns-clause-cut g c = subst (λ h. IsCut h.now.chart.trie) c.self.view_is c.lemma_invariant.ensures.cut
 
 pub returns-clause-begins : goal.returns-clause-begins
 returns-clause-begins g c =

@@ -1,7 +1,7 @@
 use Rattle.std.proofs.Common.{◌≡◌, ◌∙◌, [], None, Some, Ok, Err, if◌then◌else◌, inl, sym, ap, subst, arith}
 use Rattle.std.proofs.lemmas.List.{get_or_default}
 use Rattle.schedule_trie.specs.declared.refusal.Refusal.TheVariants.{NoSession}
-use Rattle.schedule_trie.specs.Cut.{forest}
+use Rattle.schedule_trie.specs.Trie.{forest}
 use Rattle.schedule_trie.specs.Forest.{IsRefused}
 use Rattle.pages.specs.Strays.{ShowsNoStray}
 use Rattle.pages.specs.declared.query.Query.TheVariants.{Cursor}
@@ -30,7 +30,7 @@ returns-clause-found g c =
     let s = c.self.inside.workspace in
     let after = c.self.invariant.held.after ∙ ap (λ h. world_after (opening_of g.R.Behaves.behaviour h) h.log) c.self.view_is in
     subst (λ w. looked_in w (Cursor c.args.who) ≡ Ok w.forest) after
-    (ap (λ b. if b then Err NoSession else Ok (forest s.chart.cut))
+    (ap (λ b. if b then Err NoSession else Ok (forest s.chart.trie))
     (lacks_so s.cursors c.args.who _ (Some c.in-Some.cursor) c.self.invariant.sound.cursors c.if-index-ge-SESSIONS.false c.in-Some.is))
 
 pub returns-clause-no_stray : goal.returns-clause-no_stray
@@ -42,4 +42,4 @@ returns-in_default-clause-err g c =
     let after = c.self.invariant.held.after ∙ ap (λ h. world_after (opening_of g.R.Behaves.behaviour h) h.log) c.self.view_is in
     let none = sym (lacks_some _ c.in_default.not-Some) in
     subst (λ w. IsRefused (looked_in w (Cursor c.args.who)) NoSession) after
-    (inl (ap (λ b. if b then Err NoSession else Ok (forest s.chart.cut)) (lacks_so s.cursors c.args.who _ None c.self.invariant.sound.cursors c.if-index-ge-SESSIONS.false none)))
+    (inl (ap (λ b. if b then Err NoSession else Ok (forest s.chart.trie)) (lacks_so s.cursors c.args.who _ None c.self.invariant.sound.cursors c.if-index-ge-SESSIONS.false none)))

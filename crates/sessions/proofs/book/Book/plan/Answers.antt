@@ -1,6 +1,6 @@
 use Rattle.std.proofs.Common.{ap, subst, IfOk, OnOk, IsSome}
 use Rattle.schedule_trie.specs.Forest.{index_of}
-use Rattle.schedule_trie.specs.Cut.{forest}
+use Rattle.schedule_trie.specs.Trie.{forest}
 use Rattle.cutoff.specs.Plans.{IsPlan}
 use Rattle.sessions.proofs.book.Book.plan.Goals as goal
 
@@ -11,4 +11,4 @@ returns-clause-ok g c =
 
 pub returns-clause-found : goal.returns-clause-found
 returns-clause-found g c =
-    subst (λ chart. OnOk c.plan.result (IsSome (index_of (forest chart.cut).branches c.args.branch.now))) (ap (λ h. h.now.chart) c.self.view_is) c.plan.ensures.found
+    subst (λ chart. OnOk c.plan.result (IsSome (index_of (forest chart.trie).branches c.args.branch.now))) (ap (λ h. h.now.chart) c.self.view_is) c.plan.ensures.found

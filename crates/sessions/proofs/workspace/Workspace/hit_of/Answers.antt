@@ -2,7 +2,7 @@ use Rattle.std.proofs.Common.{◌≡◌, ◌∙◌, sym, ap, Some}
 use Rattle.std.specs.Prelude.{option_and_then}
 use Rattle.std.specs.Option.{option_map}
 use Rattle.std.proofs.lemmas.Result.{IfOk-weaker}
-use Rattle.schedule_trie.specs.Cut.{forest}
+use Rattle.schedule_trie.specs.Trie.{forest}
 use Rattle.views.specs.Looks.{steps_in}
 use Rattle.sessions.specs.Acts.{hit_from}
 use Rattle.sessions.specs.BreakLists.{breaks_at}
@@ -23,10 +23,10 @@ returns-in-Some-clause-hit g c = λ n.
     let breaks : c.breaks_of-breaks.result.now ≡ breaks_at s.breaks.items who = c.breaks_of-breaks.ensures ∙ ap (λ l. breaks_at l who) c.deref.ensures.value in
     let found : cursor_at s.cursors who ≡ Some here = sym c.cursor_of-cursor.ensures ∙ c.in-Some.is in
     IfOk-weaker c.hit_from.result
-    (λ hit. hit ≡ option_map (cursor here.branch) (next_place way here.place (hits (is s.chart.start.register) s.chart.value (steps_in (forest s.chart.cut) here.branch) c.breaks_of-breaks.result.now)))
+    (λ hit. hit ≡ option_map (cursor here.branch) (next_place way here.place (hits (is s.chart.start.register) s.chart.value (steps_in (forest s.chart.trie) here.branch) c.breaks_of-breaks.result.now)))
     _
     (λ hit h.
-    h ∙ ap (λ bs. option_map (cursor here.branch) (next_place way here.place (hits (is s.chart.start.register) s.chart.value (steps_in (forest s.chart.cut) here.branch) bs))) breaks
+    h ∙ ap (λ bs. option_map (cursor here.branch) (next_place way here.place (hits (is s.chart.start.register) s.chart.value (steps_in (forest s.chart.trie) here.branch) bs))) breaks
     ∙ sym (ap (option_and_then (hit_from way w (breaks_at w.breaks who))) found))
     c.hit_from.ensures.hit
 

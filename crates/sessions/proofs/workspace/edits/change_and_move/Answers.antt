@@ -1,5 +1,5 @@
 use Rattle.std.proofs.Common.{Result, Ok, Err, OnOk, refl}
-use Rattle.schedule_trie.specs.Cut.{forest}
+use Rattle.schedule_trie.specs.Trie.{forest}
 use Rattle.schedule_trie.specs.Edits.{edit_in}
 use Rattle.sessions.specs.declared.cursor.Shift.TheVariants.{Up, Down}
 use Rattle.sessions.proofs.UnmovedCursors.{unmoved, unmoved_other}
@@ -13,7 +13,7 @@ on_ok (Err e) p = tt
 pub returns-in_default-clause-moved : goal.returns-in_default-clause-moved
 returns-in_default-clause-moved g c =
     let edit = edit_in c.args.edit.now in
-    let f = forest c.args.chart.now.cut in
+    let f = forest c.args.chart.now.trie in
     on_ok c.edit.result
     (elim c.in_default.branch [
       | in_default-via-in-Insert+else-any_after w ↦ unmoved edit w.in-Insert.branch.now w.in-Insert.place Up c.args.cursors.now (λ f old. rw w.in-Insert.is refl) w.if-any_after.ensures f

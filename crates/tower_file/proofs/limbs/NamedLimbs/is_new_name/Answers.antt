@@ -1,6 +1,6 @@
 use Rattle.std.proofs.Common.{rules, ◌≡◌, true, ap, ◌∙◌}
-use Rattle.schedule_trie.specs.Names.{is_well_formed}
-use Rattle.schedule_trie.specs.Limbs.{is_new_name}
+use Rattle.branch_terms.specs.Names.{is_well_formed}
+use Rattle.branch_terms.specs.Limbs.{is_new_name}
 use Rattle.tower_file.proofs.LimbNames.{new_name_is}
 use Rattle.tower_file.proofs.limbs.NamedLimbs.is_new_name.Goals as goal
 

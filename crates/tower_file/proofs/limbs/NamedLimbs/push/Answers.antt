@@ -1,5 +1,5 @@
 use Rattle.std.proofs.Common.{rules, ◌≡◌, true, ◌∷◌, ◌++◌, [], sym, subst}
-use Rattle.schedule_trie.specs.Limbs.{is_new_name}
+use Rattle.branch_terms.specs.Limbs.{is_new_name}
 use Rattle.tower_file.proofs.LimbNames.{named_more}
 use Rattle.tower_file.proofs.limbs.NamedLimbs.push.Goals as goal
 

@@ -1,20 +1,31 @@
-use Rattle.std.proofs.Common.{subst, arith, rules}
-use Rattle.workers.specs.Outcomes.{OneForEach}
-use Rattle.workers.proofs.FilledSlots.{begins_done, begins_ends}
+use Rattle.std.proofs.Common.{ap, arith, length}
+use Rattle.workers.proofs.FilledSlots.{goes_on, goes_over}
 use Rattle.workers.proofs.crew.Crew.run_alone.Goals as goal
 
-pub loop-index-preserved : goal.loop-index-preserved
-loop-index-preserved g c =
-    let was = c.loop-index.invariant in
+pub push_reserved-requires : goal.push_reserved-requires
+push_reserved-requires g c =
+    let was = c.loop-job.invariant in
+    let room = was.room in
+    let len = was.len in
+    let short = ap length c.in-Some.ensures.steps.0 in
+    omega arith
+
+pub loop-job-preserved : goal.loop-job-preserved
+loop-job-preserved g c =
+    let was = c.loop-job.invariant in
+    let steps = c.in-Some.ensures.steps in
     let pushed = c.push_reserved.ensures in
+    let len = was.len in
+    let gone = steps.1 in
+    let short = ap length steps.0 in
+    let more = pushed.len in
+    let room = was.room in
+    let same = pushed.capacity in
     record {
-      begins = begins_done g.J.Runnable.gives g.J.Runnable.named c.as_slice-jobs.result.now c.loop-index.index _ c.loop-index.all.items _ c.run_job-outcome.result c.index-jobs-index.result c.key-key.result
-          c.run_job-outcome.ensures c.index-jobs-index.is c.key-key.ensures pushed.items (omega arith) was.begins;
-      len = let len = was.len in let more = pushed.len in omega arith;
-      room = search rules;
+      begins = goes_on g.J.Runnable.gives g.J.Runnable.named _ _ _ c.in-Some.job _ _ c.last_outcome-outcome.result _ steps.0 c.key-key.ensures c.last_outcome-outcome.ensures pushed.items was.begins;
+      len = omega arith;
+      room = omega arith;
     }
 
 pub returns : goal.returns
-returns g c =
-    subst (λ jobs. OneForEach g.J.Runnable.named g.J.Runnable.gives jobs c.loop-index.all.items) c.as_slice-jobs.ensures.value
-    (begins_ends g.J.Runnable.gives g.J.Runnable.named c.as_slice-jobs.result.now c.loop-index.index c.loop-index.all.items (omega (arith, c.loop-index-test.false, c.loop-index.auto.index-end)) c.loop-index.invariant.begins)
+returns g c = goes_over g.J.Runnable.gives g.J.Runnable.named _ _ _ _ c.loop-job.invariant.len c.in-None.ensures.steps.0 c.loop-job.invariant.begins

@@ -1,10 +1,12 @@
-use Rattle.std.proofs.Common.{◌≡◌, ◌≤◌, length, vec_capacity, vec_len}
-use Rattle.workers.proofs.FilledSlots.{Begins}
+use Rattle.std.proofs.Common.{◌≡◌, ◌≤◌, ◌+◌, length, vec_capacity, vec_len}
+use Rattle.std.specs.Vec.Iter.{into_iter_items, into_iter_len}
+use Rattle.workers.proofs.FilledSlots.{GoesOn}
 use Rattle.workers.proofs.crew.Crew.run_alone.Given as goal
 
-abbrev pub invariant-loop-index : goal.invariant-loop-index
-invariant-loop-index g l = record {
-  begins : Begins g.J.Runnable.gives g.J.Runnable.named l.jobs l.index l.all.items;
-  len : vec_len l.all ≡ l.index;
-  room : length l.jobs ≤ vec_capacity l.all;
+-- the outcomes so far, with one for each job that is left, are those of all jobs
+abbrev pub invariant-loop-job : goal.invariant-loop-job
+invariant-loop-job g l = record {
+  begins : GoesOn g.J.Runnable.gives g.J.Runnable.named l.fn.jobs.items (into_iter_items l.job-iterator) l.all.items;
+  len : into_iter_len l.job-iterator ≡ length (into_iter_items l.job-iterator);
+  room : vec_len l.all + into_iter_len l.job-iterator ≤ vec_capacity l.all;
 }

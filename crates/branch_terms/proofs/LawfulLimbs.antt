@@ -1,0 +1,45 @@
+-- Limbs judged one after the other.
+use Rattle.std.proofs.Common.{◌≡◌, ℕ, ◌+◌, ◌<◌, ◌≤◌, Bool, true, false, not, ◌&&◌, List, [], ◌∷◌, ◌++◌, length, take, drop, get_or, refl, sym, ap, ◌∙◌}
+use Rattle.std.specs.List.{list_any}
+use Rattle.std.proofs.lemmas.Bool.{le-leb}
+use Rattle.std.proofs.lemmas.List.{take_more, drop_more, drop_all}
+use Rattle.branch_terms.specs.declared.limb.Limb.{Limb}
+use Rattle.branch_terms.specs.Names.{is_well_formed}
+use Rattle.branch_terms.specs.Limbs.{is_name, has_name, is_new_name, may_share, are_lawful_after}
+
+-- a well-formed name of at most 16 bytes is new exactly if no limb has it
+pub new_if_free : (ls : List Limb) (name : List ℕ) (taken : Bool) → length name ≤ 16 → is_well_formed name ≡ true → taken ≡ list_any (has_name name) ls
+    → not taken ≡ is_new_name ls name
+new_if_free ls name taken short formed is =
+    let form : is_name name ≡ true = ap (λ b. b && is_well_formed name) (le-leb (length name) 16 short) ∙ formed in
+    ap not is ∙ sym (ap (λ b. b && not (list_any (has_name name) ls)) form)
+
+-- limb i of a list decides whether it and the limbs after it are lawful, or leaves that to those
+module _ (ls : List Limb) (i : ℕ) (l : Limb) (less : i < length ls) (at : get_or ls i l ≡ l) where
+  next : are_lawful_after (take i ls) (drop i ls) ≡ (is_new_name (take i ls) l.name && (may_share (take i ls) l && are_lawful_after (take (i + 1) ls) (drop (i + 1) ls)))
+  next =
+      ap (are_lawful_after (take i ls)) (drop_more ls i l less ∙ ap (λ x. x ∷ drop (i + 1) ls) at)
+      ∙ ap (λ earlier. is_new_name (take i ls) l.name && (may_share (take i ls) l && are_lawful_after earlier (drop (i + 1) ls)))
+      (sym (take_more ls i l less ∙ ap (λ x. take i ls ++ x ∷ []) at))
+
+  by : (new may later : Bool) → (new && may) ≡ true → (new && (may && later)) ≡ later
+  by true true later h = refl
+  by true false later h = cc
+  by false may later h = cc
+
+  not_by : (new may later : Bool) → (new && may) ≡ false → (new && (may && later)) ≡ false
+  not_by true true later h = cc
+  not_by true false later h = refl
+  not_by false may later h = refl
+
+  pub goes_on : are_lawful_after (take i ls) (drop i ls) ≡ are_lawful_after [] ls → (is_new_name (take i ls) l.name && may_share (take i ls) l) ≡ true
+      → are_lawful_after (take (i + 1) ls) (drop (i + 1) ls) ≡ are_lawful_after [] ls
+  goes_on whole follows = sym (by (is_new_name (take i ls) l.name) (may_share (take i ls) l) (are_lawful_after (take (i + 1) ls) (drop (i + 1) ls)) follows) ∙ sym next ∙ whole
+
+  pub ends_here : are_lawful_after (take i ls) (drop i ls) ≡ are_lawful_after [] ls → (is_new_name (take i ls) l.name && may_share (take i ls) l) ≡ false
+      → false ≡ are_lawful_after [] ls
+  ends_here whole follows = sym (not_by (is_new_name (take i ls) l.name) (may_share (take i ls) l) (are_lawful_after (take (i + 1) ls) (drop (i + 1) ls)) follows) ∙ sym next ∙ whole
+
+-- if no limb is left, all are lawful
+pub all_lawful : (ls : List Limb) (i : ℕ) → length ls ≤ i → are_lawful_after (take i ls) (drop i ls) ≡ are_lawful_after [] ls → true ≡ are_lawful_after [] ls
+all_lawful ls i end whole = sym (ap (are_lawful_after (take i ls)) (drop_all i ls end)) ∙ whole

@@ -1,0 +1,6 @@
+pub mod Lists
+pub mod LimbLists
+pub mod LimbLaws
+pub mod LimbsLawful
+pub mod LimbsKept
+pub mod LawfulLimbs

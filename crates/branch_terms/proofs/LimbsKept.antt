@@ -1,0 +1,348 @@
+-- The forest of a forest's limbs is that forest, except for the numbers of its cells.
+use Rattle.std.proofs.Common.{◌≡◌, ℕ, zero, suc, ◌+◌, ◌-◌, ◌<◌, ◌≤◌, Bool, true, false, nat_eq, nat_lt, List, [], ◌∷◌, ◌++◌, length, map, take, drop, slice_get, Some, cond, ◌&&◌, refl, sym, ap, subst, ◌∙◌, true≢false, arith, append_assoc, append-nil}
+use Rattle.std.specs.List.{list_all, prefix_len, position_or_len}
+use Rattle.std.proofs.lemmas.Bool.Decides.{nat_tests}
+use Rattle.std.proofs.lemmas.List.{length-append, length-map, map-append, take-append-drop, take-map, length-take-le}
+use Rattle.std.proofs.lemmas.List.Sums.{prefix_len-le-length}
+use Rattle.schedule_steps.specs.declared.types.Step.{Step}
+use Rattle.branch_terms.specs.declared.slot.Slot.{Slot}
+use Rattle.branch_terms.specs.declared.limb.Limb.{Limb}
+use Rattle.branch_terms.specs.Forest.{Forest, Branch, branch, numbered, slots_in, step_of, cell_in, name_of, IsForest}
+use Rattle.branch_terms.specs.Limbs.{has_slot, holds, is_in_branches, shared_with, first_with, limb_of, limbs_after, limbs, slots_on, grown, grow, no_branches, forest_of}
+use Rattle.branch_terms.specs.Renumbering.{IsRenumbered, is_one_cell}
+use Rattle.branch_terms.proofs.LimbLists.{slots_in-front, slots_in-last, slots_in-past, any_from, IsFirst, first_has, all_in, has_taken, cell_in-has, cell_in-taken, steps-numbered}
+use Rattle.branch_terms.proofs.LimbLaws.{HasGrown, grown_none, short, grown_more, limbs_after-put}
+use Rattle.branch_terms.proofs.LimbsLawful.{AreSameUpTo, slots_in-left, slots_in-next, place_of_cell, passes_at, limb_may_share}
+use Rattle.branch_terms.proofs.Lists.{by_order, cell_in_at, slice_get_some, turned, alike}
+use Rattle.branch_terms.proofs.LimbLists.{length-numbered}
+use Rattle.std.proofs.lemmas.Option.{slice_get_within}
+
+-- equal steps mean equal numbers of cells
+same_length : (xs ys : List Slot) → map step_of xs ≡ map step_of ys → length xs ≡ length ys
+same_length xs ys e = sym (length-map xs step_of) ∙ ap length e ∙ length-map ys step_of
+
+-- a branch that has a cell is one of the branches
+branch_within : (bs : List Branch) (i k : ℕ) → k < length (slots_in bs i) → i < length bs
+branch_within [] i k h = absurd (omega arith)
+branch_within (b ∷ bs) zero k h = omega arith
+branch_within (b ∷ bs) (suc i) k h = let r = branch_within bs i k h in omega arith
+
+-- the count of first cells that pass is at least n, if the first n pass
+passes_least : {X : Type 0} (test : X → Bool) (n : ℕ) (xs : List X) → list_all test (take n xs) ≡ true → n ≤ length xs → n ≤ prefix_len test xs
+passes_least test zero xs all few = omega arith
+passes_least test (suc n) [] all few = absurd (omega arith)
+passes_least test (suc n) (x ∷ xs) all few = by (passes_least test n xs) (test x) all
+  where
+    by : (list_all test (take n xs) ≡ true → n ≤ length xs → n ≤ prefix_len test xs) → (c : Bool) → (c && list_all test (take n xs)) ≡ true
+        → suc n ≤ cond c (1 + prefix_len test xs) 0
+    by rest true h = let r = rest h (omega arith) in omega arith
+    by rest false h = absurd (true≢false (sym h))
+
+-- new cells are numbered one by one
+cell_in-numbered : (made d : ℕ) (steps : List Step) → d < length steps → cell_in (numbered made steps) d ≡ made + d
+cell_in-numbered made d [] less = absurd (omega arith)
+cell_in-numbered made zero (s ∷ ss) less = omega arith
+cell_in-numbered made (suc d) (s ∷ ss) less = cell_in-numbered (suc made) d ss (omega arith) ∙ omega arith
+
+-- also after some shared ones
+cell_in-new : (xs : List Slot) (n made d k : ℕ) (steps : List Step) → n ≤ length xs → d < length steps → k ≡ n + d
+    → cell_in (take n xs ++ numbered made steps) k ≡ made + d
+cell_in-new xs zero made d k steps few less place =
+    let same : k ≡ d = omega arith in ap (cell_in (numbered made steps)) same ∙ cell_in-numbered made d steps less
+cell_in-new [] (suc n) made d k steps few less place = absurd (omega arith)
+cell_in-new (x ∷ xs) (suc n) made d zero steps few less place = absurd (omega arith)
+cell_in-new (x ∷ xs) (suc n) made d (suc k) steps few less place = cell_in-new xs n made d k steps (omega arith) less (omega arith)
+
+-- one of the first cells
+cell_in-first : (xs : List Slot) (n k : ℕ) → k < n → cell_in xs k ≡ cell_in (take n xs) k
+cell_in-first xs zero k less = absurd (omega arith)
+cell_in-first [] (suc n) k less = refl
+cell_in-first (x ∷ xs) (suc n) zero less = refl
+cell_in-first (x ∷ xs) (suc n) (suc k) less = cell_in-first xs n k (omega arith)
+
+-- two lists of cells that are equal up to each common
+-- cell are equal up to places with the same cell
+module _ (xs ys : List Slot) (agree : AreSameUpTo xs ys) (k m : ℕ) (inside : k < length xs) (within : m < length ys)
+    (same : cell_in xs k ≡ cell_in ys m) where
+  same_up_to : take (suc k) xs ≡ take (suc m) ys
+  same_up_to =
+      let s = slice_get_some xs k inside in
+      let t = slice_get_some ys m within in
+      agree k m s.0 t.0 s.1 t.1 (sym (cell_in_at xs k s.0 s.1) ∙ same ∙ cell_in_at ys m t.0 t.1)
+
+  -- and these are the same places
+  same_place : k ≡ m
+  same_place =
+      let left : length (take (suc k) xs) ≡ suc k = length-take-le (suc k) xs (omega arith) in
+      let right : length (take (suc m) ys) ≡ suc m = length-take-le (suc m) ys (omega arith) in
+      let up : length (take (suc k) xs) ≡ length (take (suc m) ys) = ap length same_up_to in
+      omega arith
+
+-- a branch after others, with each of which it shares all up to each common cell
+module _ (earlier : List Branch) (b : Branch) (agree : (j : ℕ) → j < length earlier → AreSameUpTo b.slots (slots_in earlier j)) where
+  -- the number of first cells that it shares, and the first branch that has the last of them
+  abbrev common : ℕ
+  common = shared_with earlier b.slots
+
+  abbrev stem : ℕ
+  stem = first_with earlier b.slots common
+
+  -- it shares at most the cells that it has
+  common_few : common ≤ length b.slots
+  common_few = prefix_len-le-length (is_in_branches earlier) b.slots
+
+  -- up to a shared cell it has the cells of the first branch that has that one
+  front_of : (k : ℕ) → k < common → (s : Slot) → slice_get b.slots k ≡ Some s
+      → take (suc k) b.slots ≡ take (suc k) (slots_in earlier (position_or_len (holds s.cell) earlier))
+  front_of k less s here =
+      let few = common_few in
+      let first : IsFirst earlier s.cell (position_or_len (holds s.cell) earlier) = first_has earlier s.cell (passes_at (is_in_branches earlier) b.slots k s here less) in
+      let ys = slots_in earlier (position_or_len (holds s.cell) earlier) in
+      let p = place_of_cell s.cell ys first.has_it in
+      let inside : p.0 < length ys = slice_get_within ys p.0 p.1 p.2 in
+      let same : cell_in b.slots k ≡ cell_in ys p.0 = cell_in_at b.slots k s here ∙ sym p.3 ∙ sym (cell_in_at ys p.0 p.1 p.2) in
+      let up = agree (position_or_len (holds s.cell) earlier) first.within in
+      subst (λ n. take (suc k) b.slots ≡ take (suc n) ys) (sym (same_place b.slots ys up k p.0 (omega arith) inside same))
+      (same_up_to b.slots ys up k p.0 (omega arith) inside same)
+
+  -- the first k shared cells are those of the first branch that has the last of them
+  front_by : (k : ℕ) → k ≤ common → take k b.slots ≡ take k (slots_in earlier (first_with earlier b.slots k))
+  front_by zero few = refl
+  front_by (suc k) few =
+      let most = common_few in
+      let s = slice_get_some b.slots k (omega arith) in
+      subst (λ x. take (suc k) b.slots ≡ take (suc k) (slots_in earlier (position_or_len (holds x) earlier))) (sym (cell_in_at b.slots k s.0 s.1))
+      (front_of k (omega arith) s.0 s.1)
+
+  -- the shared cells are the first ones of the branch that it is from
+  front_is : take common b.slots ≡ take common (slots_in earlier stem)
+  front_is = front_by common (omega arith)
+
+  -- no earlier branch has a cell after the shared ones
+  own_apart : (k j m : ℕ) → common ≤ k → k < length b.slots → m < length (slots_in earlier j) → cell_in b.slots k ≡ cell_in (slots_in earlier j) m → ⊥
+  own_apart k j m more inside within same =
+      let up : take (suc k) b.slots ≡ take (suc m) (slots_in earlier j) =
+      same_up_to b.slots (slots_in earlier j) (agree j (branch_within earlier j m within)) k m inside within same in
+      let all : list_all (is_in_branches earlier) (take (suc k) b.slots) ≡ true =
+      all_in earlier (take (suc k) b.slots)
+      (λ x e. any_from earlier j x (has_taken (suc m) x (slots_in earlier j) (subst (λ l. has_slot x l ≡ true) up e))) in
+      let least = passes_least (is_in_branches earlier) (suc k) b.slots all (omega arith) in
+      omega arith
+
+-- the front of a forest: its first branches
+abbrev front : List Branch → Forest
+front branches = record { branches = branches; made = 0 }
+
+-- one more branch on one side, and its limb on the other
+module _ (earlier : List Branch) (b : Branch) (agree : (j : ℕ) → j < length earlier → AreSameUpTo b.slots (slots_in earlier j))
+    (once : AreSameUpTo b.slots b.slots)
+    (g : Forest) (has_grown : HasGrown (limbs_after [] earlier) g) (kept : IsRenumbered (front earlier) g) where
+  -- the branch's limb, and the cells of its branch
+  abbrev l : Limb
+  l = limb_of earlier b
+
+  abbrev new : List Slot
+  new = slots_on g l
+
+  -- the branches including that one, on each side
+  abbrev before : List Branch
+  before = earlier ++ b ∷ []
+
+  abbrev after : List Branch
+  after = g.branches ++ branch b.name new ∷ []
+
+  -- the branch that the limb is from
+  abbrev origin : List Slot
+  origin = slots_in g.branches l.from
+
+  -- it has the cells that the limb shares
+  enough : l.shared ≤ length origin
+  enough = short (limbs_after [] earlier) g l has_grown (limb_may_share earlier b agree)
+
+  -- both sides have the same number of branches, and
+  -- each branch has the same number of cells on both
+  count : length earlier ≡ length g.branches
+  count = sym (length-map earlier name_of) ∙ ap length kept.names ∙ length-map g.branches name_of
+
+  lengths : (i : ℕ) → length (slots_in earlier i) ≡ length (slots_in g.branches i)
+  lengths i = same_length (slots_in earlier i) (slots_in g.branches i) (kept.steps i)
+
+  -- the new branch has the same steps
+  steps_new : map step_of b.slots ≡ map step_of new
+  steps_new =
+      let own = drop l.shared b.slots in
+      ap (map step_of) (sym (take-append-drop l.shared b.slots))
+      ∙ map-append step_of (take l.shared b.slots) own
+      ∙ ap (λ xs. map step_of xs ++ map step_of own) (front_is earlier b agree)
+      ∙ ap (λ ss. ss ++ map step_of own)
+      (sym (take-map step_of l.shared (slots_in earlier l.from)) ∙ ap (take l.shared) (kept.steps l.from) ∙ take-map step_of l.shared origin)
+      ∙ ap (λ ss. map step_of (take l.shared origin) ++ ss) (sym (steps-numbered g.made l.steps))
+      ∙ sym (map-append step_of (take l.shared origin) (numbered g.made l.steps))
+
+  -- the names stay equal on both sides
+  names_more : map name_of before ≡ map name_of after
+  names_more =
+      map-append name_of earlier (b ∷ []) ∙ ap (λ ns. ns ++ b.name ∷ []) kept.names ∙ sym (map-append name_of g.branches (branch b.name new ∷ []))
+
+  -- the branches before and after: the earlier ones unchanged, and the last one
+  before_front : (i : ℕ) → i < length earlier → slots_in before i ≡ slots_in earlier i
+  before_front i less = slots_in-front earlier b i less
+
+  after_front : (i : ℕ) → i < length earlier → slots_in after i ≡ slots_in g.branches i
+  after_front i less = slots_in-front g.branches (branch b.name new) i (omega (arith, count))
+
+  before_last : (i : ℕ) → i ≡ length earlier → slots_in before i ≡ b.slots
+  before_last i e = ap (slots_in before) e ∙ slots_in-last earlier b
+
+  after_last : (i : ℕ) → i ≡ length earlier → slots_in after i ≡ new
+  after_last i e = ap (slots_in after) (e ∙ count) ∙ slots_in-last g.branches (branch b.name new)
+
+  before_past : (i : ℕ) → length earlier < i → slots_in before i ≡ []
+  before_past i more = slots_in-past before i (omega (arith, length-append earlier (b ∷ [])))
+
+  after_past : (i : ℕ) → length earlier < i → slots_in after i ≡ []
+  after_past i more = slots_in-past after i (omega (arith, count, length-append g.branches (branch b.name new ∷ [])))
+
+  -- each branch has the same steps on both sides
+  steps_more : (i : ℕ) → map step_of (slots_in before i) ≡ map step_of (slots_in after i)
+  steps_more i =
+      by_order i (length earlier) (map step_of (slots_in before i) ≡ map step_of (slots_in after i))
+      (λ less. ap (map step_of) (before_front i less) ∙ kept.steps i ∙ ap (map step_of) (sym (after_front i less)))
+      (λ e. ap (map step_of) (before_last i e) ∙ steps_new ∙ ap (map step_of) (sym (after_last i e)))
+      (λ more. ap (map step_of) (before_past i more ∙ sym (after_past i more)))
+
+  -- a place whose cell is on an earlier branch on both sides, at the same place there
+  record IsOld (i k : ℕ) : Type 0 where
+    j : ℕ
+    within : k < length (slots_in earlier j)
+    left : cell_in (slots_in before i) k ≡ cell_in (slots_in earlier j) k
+    right : cell_in (slots_in after i) k ≡ cell_in (slots_in g.branches j) k
+
+  -- a place of the last branch, after the shared ones
+  record IsOwn (i k : ℕ) : Type 0 where
+    d : ℕ
+    place : k ≡ l.shared + d
+    within : k < length b.slots
+    left : cell_in (slots_in before i) k ≡ cell_in b.slots k
+    right : cell_in (slots_in after i) k ≡ g.made + d
+
+  -- a place of an earlier branch
+  old_front : (i k : ℕ) → i < length earlier → k < length (slots_in before i) → IsOld i k
+  old_front i k less within = record {
+    j = i;
+    within = subst (λ xs. k < length xs) (before_front i less) within;
+    left = ap (λ xs. cell_in xs k) (before_front i less);
+    right = ap (λ xs. cell_in xs k) (after_front i less);
+  }
+
+  -- a shared place of the last one
+  old_last : (i k : ℕ) → i ≡ length earlier → k < l.shared → IsOld i k
+  old_last i k e less =
+      let few = common_few earlier b agree in
+      let long = enough in
+      let size = lengths l.from in
+      let front_cell : cell_in b.slots k ≡ cell_in (take l.shared b.slots) k = cell_in-first b.slots l.shared k less in
+      record {
+        j = l.from;
+        within = omega arith;
+        left =
+            ap (λ xs. cell_in xs k) (before_last i e) ∙ front_cell ∙ ap (λ xs. cell_in xs k) (front_is earlier b agree)
+            ∙ sym (cell_in-first (slots_in earlier l.from) l.shared k less);
+        right = ap (λ xs. cell_in xs k) (after_last i e) ∙ cell_in-taken origin (numbered g.made l.steps) l.shared k less long;
+      }
+
+  -- a place of the last one after these
+  own_last : (i k d : ℕ) → i ≡ length earlier → k ≡ l.shared + d → k < length b.slots → IsOwn i k
+  own_last i k d e place inside =
+      let size : length b.slots ≡ l.shared + length l.steps =
+      same_length b.slots new steps_new ∙ length-append (take l.shared origin) (numbered g.made l.steps)
+      ∙ (λ z. length-take-le l.shared origin enough z + length-numbered g.made l.steps z) in
+      record {
+        d = d;
+        place = place;
+        within = inside;
+        left = ap (λ xs. cell_in xs k) (before_last i e);
+        right = ap (λ xs. cell_in xs k) (after_last i e) ∙ cell_in-new origin l.shared g.made d k l.steps enough (omega arith) place;
+      }
+
+  -- a place of the last one is shared or after the shared ones
+  last_place : (i k : ℕ) (P : Type 0) → i ≡ length earlier → k < length (slots_in before i) → (IsOld i k → P) → (IsOwn i k → P) → P
+  last_place i k P e within old own = by (nat_lt k l.shared) refl
+    where
+      by : (x : Bool) → nat_lt k l.shared ≡ x → P
+      by true f = old (old_last i k e (grind (arith, nat_tests)))
+      by false f =
+          let more : l.shared ≤ k = grind (arith, nat_tests) in
+          own (own_last i k (k - l.shared) e (omega arith) (subst (λ xs. k < length xs) (before_last i e) within))
+
+  -- each place is one of these
+  places : (i k : ℕ) (P : Type 0) → k < length (slots_in before i) → (IsOld i k → P) → (IsOwn i k → P) → P
+  places i k P within old own =
+      by_order i (length earlier) P
+      (λ less. old (old_front i k less within))
+      (λ e. last_place i k P e within old own)
+      (λ more. let none : length (slots_in before i) ≡ 0 = ap length (before_past i more) in absurd (omega arith))
+
+  -- a cell of an earlier branch has a number that was given out
+  old_below : (i k : ℕ) → IsOld i k → cell_in (slots_in after i) k < g.made
+  old_below i k p =
+      let xs = slots_in g.branches p.j in
+      subst (λ x. x < g.made) (sym p.right) (has_grown.given p.j (cell_in xs k) (cell_in-has xs k (omega (arith, p.within, lengths p.j))))
+
+  -- at places of earlier branches nothing changes
+  cells_old : (i k j m : ℕ) → IsOld i k → IsOld j m → is_one_cell before i k j m ≡ is_one_cell after i k j m
+  cells_old i k j m p q = (λ z. nat_eq (p.left z) (q.left z)) ∙ kept.cells p.j k q.j m p.within q.within ∙ sym (λ z. nat_eq (p.right z) (q.right z))
+
+  -- a cell of its own is on no earlier branch, on both sides
+  cells_apart : (i k j m : ℕ) → IsOwn i k → IsOld j m → is_one_cell before i k j m ≡ is_one_cell after i k j m
+  cells_apart i k j m p q =
+      alike (cell_in (slots_in before i) k) (cell_in (slots_in before j) m) (cell_in (slots_in after i) k) (cell_in (slots_in after j) m)
+      (λ e. absurd (own_apart earlier b agree k q.j m (omega (arith, p.place)) p.within q.within (sym p.left ∙ e ∙ q.left)))
+      (λ e. absurd (omega (arith, e, p.right, old_below j m q)))
+
+  -- two own cells are the same just at the same place, on both sides
+  cells_own : (i k j m : ℕ) → IsOwn i k → IsOwn j m → is_one_cell before i k j m ≡ is_one_cell after i k j m
+  cells_own i k j m p q =
+      alike (cell_in (slots_in before i) k) (cell_in (slots_in before j) m) (cell_in (slots_in after i) k) (cell_in (slots_in after j) m)
+      (λ e. let one = same_place b.slots b.slots once k m p.within q.within (sym p.left ∙ e ∙ q.left) in omega (arith, one, p.place, q.place, p.right, q.right))
+      (λ e. let one : k ≡ m = omega (arith, e, p.place, q.place, p.right, q.right) in p.left ∙ ap (cell_in b.slots) one ∙ sym q.left)
+
+  -- two places have the same cell on one side just if they do on the other
+  cells_more : (i k j m : ℕ) → k < length (slots_in before i) → m < length (slots_in before j) → is_one_cell before i k j m ≡ is_one_cell after i k j m
+  cells_more i k j m inside within =
+      let P = is_one_cell before i k j m ≡ is_one_cell after i k j m in
+      places i k P inside
+      (λ p. places j m P within (cells_old i k j m p)
+      (λ q. turned (cell_in (slots_in before i) k) (cell_in (slots_in before j) m) ∙ cells_apart j m i k q p
+      ∙ turned (cell_in (slots_in after j) m) (cell_in (slots_in after i) k)))
+      (λ p. places j m P within (cells_apart i k j m p) (cells_own i k j m p))
+
+  -- after one more branch, both sides are still equal except for numbers
+  kept_more : IsRenumbered (front before) (grown g l)
+  kept_more = record { names = names_more; steps = steps_more; cells = cells_more }
+
+-- along the branches: a front of them and the forest of their limbs are equal except for numbers
+kept_from : (f : Forest) → IsForest f → (earlier rest : List Branch) → f.branches ≡ earlier ++ rest → (g : Forest)
+    → HasGrown (limbs_after [] earlier) g → IsRenumbered (front earlier) g → IsRenumbered (front f.branches) (grow g (limbs_after earlier rest))
+kept_from f h earlier [] e g has_grown kept = subst (λ bs. IsRenumbered (front bs) g) (sym (append-nil earlier) ∙ sym e) kept
+kept_from f h earlier (b ∷ bs) e g has_grown kept =
+    let here : slots_in f.branches (length earlier) ≡ b.slots = ap (λ l. slots_in l (length earlier)) e ∙ slots_in-next earlier bs b in
+    let agree : (j : ℕ) → j < length earlier → AreSameUpTo b.slots (slots_in earlier j) = λ j less.
+    subst (λ xs. AreSameUpTo xs (slots_in earlier j)) here
+    (subst (λ ys. AreSameUpTo (slots_in f.branches (length earlier)) ys) (ap (λ l. slots_in l j) e ∙ slots_in-left earlier (b ∷ bs) j less) (h.shared (length earlier) j)) in
+    let once : AreSameUpTo b.slots b.slots = subst (λ xs. AreSameUpTo xs xs) here (h.shared (length earlier) (length earlier)) in
+    let next : HasGrown (limbs_after [] (earlier ++ b ∷ [])) (grown g (limb_of earlier b)) =
+    subst (λ ls. HasGrown ls (grown g (limb_of earlier b))) (sym (limbs_after-put [] earlier b))
+    (grown_more (limbs_after [] earlier) g (limb_of earlier b) has_grown (limb_may_share earlier b agree)) in
+    kept_from f h (earlier ++ b ∷ []) bs (e ∙ sym (append_assoc earlier (b ∷ []) bs)) (grown g (limb_of earlier b)) next
+    (kept_more earlier b agree once g has_grown kept)
+
+-- two forests with no branches are equal
+kept_none : IsRenumbered (front []) no_branches
+kept_none = record { names = refl; steps = λ i. refl; cells = λ i k j m inside within. refl }
+
+-- saving and loading keeps a forest, except for the numbers of its cells
+pub limbs_kept : (f : Forest) → IsForest f → IsRenumbered f (forest_of (limbs f))
+limbs_kept f h =
+    let r = kept_from f h [] f.branches refl no_branches grown_none kept_none in
+    record { names = r.names; steps = r.steps; cells = r.cells }

@@ -1,0 +1,85 @@
+-- Numbers, keys, and lists of any items or of cells.
+use Rattle.std.proofs.Common.{◌≡◌, ℕ, zero, suc, ◌+◌, ◌-◌, ◌<◌, ◌≤◌, Bool, true, false, nat_eq, List, [], ◌∷◌, ◌++◌, length, take, drop, get_or, slice_get, Option, Some, None, Result, Ok, Err, IfOk, refl, sym, ap, subst, ◌∙◌, arith, eq-eqb, inl, inr}
+use Rattle.std.specs.Option.{option_eq}
+use Rattle.std.proofs.lemmas.Bool.{cases_order, eqb-true, eqb-false, ne_eqb}
+use Rattle.branch_terms.specs.declared.slot.Slot.{Slot}
+use Rattle.branch_terms.specs.Forest.{cell_of, cell_in}
+
+pub by_order : (i n : ℕ) (P : Type 0) → (i < n → P) → (i ≡ n → P) → (n < i → P) → P
+by_order i n P below same above = elim (cases_order i n) [ inl e ↦ same e | inr (inl h) ↦ below h | inr (inr h) ↦ above h ]
+
+-- two tests of numbers agree if either equality implies the other
+pub alike : (a b c d : ℕ) → (a ≡ b → c ≡ d) → (c ≡ d → a ≡ b) → nat_eq a b ≡ nat_eq c d
+alike a b c d there back = by (nat_eq a b) refl
+  where
+    by : (x : Bool) → nat_eq a b ≡ x → nat_eq a b ≡ nat_eq c d
+    by true e = e ∙ sym (eq-eqb c d (there (eqb-true a b e)))
+    by false e = e ∙ sym (ne_eqb c d (λ g. eqb-false a b e (back g)))
+
+pub turned : (x y : ℕ) → nat_eq x y ≡ nat_eq y x
+turned x y = alike x y y x (λ e. sym e) (λ e. sym e)
+
+-- two keys that compare equal are the same, and so are two of None
+pub same_key : (a b : Option ℕ) → option_eq nat_eq a b ≡ true → a ≡ b
+same_key None None e = refl
+same_key None (Some k) e = cc
+same_key (Some j) None e = cc
+same_key (Some j) (Some k) e = ap Some (eqb-true j k e)
+
+pub slice_get_some : {X : Type 0} (xs : List X) (i : ℕ) → i < length xs → (x : X) × (slice_get xs i ≡ Some x)
+slice_get_some [] i h = absurd (omega arith)
+slice_get_some (x ∷ xs) zero h = (x, refl)
+slice_get_some (x ∷ xs) (suc i) h = slice_get_some xs i (omega arith)
+
+-- an item of two joined lists is one of the first list, or one of the second
+pub slice_get_left : {X : Type 0} (xs ys : List X) (i : ℕ) → i < length xs → slice_get (xs ++ ys) i ≡ slice_get xs i
+slice_get_left [] ys i h = absurd (omega arith)
+slice_get_left (x ∷ xs) ys zero h = refl
+slice_get_left (x ∷ xs) ys (suc i) h = slice_get_left xs ys i (omega arith)
+
+pub slice_get_right : {X : Type 0} (xs ys : List X) (i j : ℕ) → length xs + j ≡ i → slice_get (xs ++ ys) i ≡ slice_get ys j
+slice_get_right [] ys i j e = ap (slice_get ys) (omega arith)
+slice_get_right (x ∷ xs) ys zero j e = absurd (omega arith)
+slice_get_right (x ∷ xs) ys (suc i) j e = slice_get_right xs ys i j (omega arith)
+
+pub slice_get-last : {X : Type 0} (xs : List X) (x : X) → slice_get (xs ++ x ∷ []) (length xs) ≡ Some x
+slice_get-last [] x = refl
+slice_get-last (y ∷ ys) x = slice_get-last ys x
+
+pub taken_whole : {X : Type 0} (i : ℕ) (xs : List X) → length xs ≤ i → take i xs ≡ xs
+taken_whole zero [] h = refl
+taken_whole zero (x ∷ xs) h = absurd (omega arith)
+taken_whole (suc i) [] h = refl
+taken_whole (suc i) (x ∷ xs) h = ap (λ l. x ∷ l) (taken_whole i xs (omega arith))
+
+rest_item : {X : Type 0} (x : X) (xs : List X) (m i : ℕ) (d : X) → length xs ≤ m → i < length (take m xs) → d ≡ get_or (take m xs) i d
+    → (i + 1 < length (x ∷ xs)) × (get_or (x ∷ xs) (i + 1) d ≡ d)
+rest_item x xs m i d most less at =
+    let whole = taken_whole m xs most in
+    let inside : i < length xs = subst (λ l. i < length l) whole less in
+    let here : get_or xs i d ≡ d = sym (subst (λ l. d ≡ get_or l i d) whole at) in
+    (omega (arith, inside), subst (λ n. get_or (x ∷ xs) n d ≡ d) (next i) here)
+  where
+    next : (i : ℕ) → suc i ≡ i + 1
+    next i = omega arith
+
+pub item_of_rest : {X : Type 0} (all : List X) (i : ℕ) (d : X) → 0 < length all → i < length (take (length all - 1) (drop 1 all)) → d ≡ get_or (take (length all - 1) (drop 1 all)) i d
+    → (i + 1 < length all) × (get_or all (i + 1) d ≡ d)
+item_of_rest [] i d some less at = absurd (omega arith)
+item_of_rest (x ∷ all) i d some less at = rest_item x all (suc (length all) - 1) i d (omega arith) less at
+
+pub rest_ends : {X : Type 0} (all : List X) (i : ℕ) → 0 < length all → length (take (length all - 1) (drop 1 all)) ≤ i → length all ≤ i + 1
+rest_ends [] i some end = omega arith
+rest_ends (x ∷ all) i some end =
+    let whole = taken_whole (suc (length all) - 1) all (omega arith) in
+    let len = subst (λ l. length l ≤ i) whole end in omega arith
+
+pub cell_in_at : (slots : List Slot) (k : ℕ) (s : Slot) → slice_get slots k ≡ Some s → cell_in slots k ≡ s.cell
+cell_in_at [] k s e = absurd (cc)
+cell_in_at (z ∷ zs) zero s e = let same : z ≡ s = cc in ap cell_of same
+cell_in_at (z ∷ zs) (suc k) s e = cell_in_at zs k s e
+
+-- if one property of a value implies another, an Ok result that has the first has the other too
+pub if_ok : {A E : Type 0} (r : Result A E) (P Q : A → Type 0) → ((a : A) → P a → Q a) → IfOk r P → IfOk r Q
+if_ok (Ok a) P Q f h = f a h
+if_ok (Err e) P Q f h = tt

@@ -1,0 +1,7 @@
+use Rattle.std.proofs.Common.{◌≡◌, [], take, drop}
+use Rattle.branch_terms.specs.Limbs.{are_lawful_after}
+use Rattle.branch_terms.proofs.limb.are_lawful.Given as goal
+
+-- the limbs so far don't decide whether all are lawful; the remaining ones do
+abbrev pub invariant-loop-index : goal.invariant-loop-index
+invariant-loop-index l = are_lawful_after (take l.index l.limbs) (drop l.index l.limbs) ≡ are_lawful_after [] l.limbs

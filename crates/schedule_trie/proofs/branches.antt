@@ -1,0 +1,7 @@
+pub mod KeyedBranches
+pub mod Lines
+pub mod Whole
+pub mod NamesApart
+pub mod NamesKept
+pub mod Shared
+pub mod Openings

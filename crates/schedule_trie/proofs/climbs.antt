@@ -1,0 +1,3 @@
+pub mod CellPlaces
+pub mod Climbs
+pub mod ClimbSteps

@@ -1,0 +1,9 @@
+pub mod Pushes
+pub mod PushSteps
+pub mod PushFresh
+pub mod PushedAll
+pub mod Insertion
+pub mod InsertSteps
+pub mod InsertAnswers
+pub mod Removals
+pub mod RemoveSteps

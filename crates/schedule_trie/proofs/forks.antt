@@ -1,0 +1,8 @@
+pub mod Division
+pub mod DivisionSteps
+pub mod Forks
+pub mod ForkSteps
+pub mod ForkCuts
+pub mod ForkCutSteps
+pub mod ForkEnds
+pub mod ForkAnswers

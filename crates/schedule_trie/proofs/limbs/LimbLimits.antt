@@ -1,0 +1,47 @@
+-- The numbers of branches and of cells in a trie's limbs are within the trie's limits.
+use Rattle.std.proofs.Common.{◌≡◌, ℕ, zero, suc, ◌+◌, ◌<◌, ◌≤◌, Bool, true, false, List, [], ◌∷◌, ◌++◌, length, refl, ap, arith}
+use Rattle.std.specs.List.{position_or_len}
+use Rattle.std.proofs.lemmas.List.{length-append, length-map}
+use Rattle.std.proofs.lemmas.List.Elements.{All-nil, All-cons}
+use Rattle.std.proofs.lemmas.List.Sums.{prefix_len-le-length}
+use Rattle.branch_terms.specs.declared.limits.Limits.{Limits}
+use Rattle.branch_terms.specs.declared.slot.Slot.{Slot}
+use Rattle.branch_terms.specs.Forest.{Branch, cell_in, slots_in}
+use Rattle.schedule_trie.specs.Trie.{TrieOf, forest, segment_at, branch_on, IsWhole}
+use Rattle.branch_terms.specs.Limbs.{FitLimits, holds, is_in_branches, shared_with, first_with, limb_of, limbs_after, limbs}
+use Rattle.schedule_trie.proofs.branches.Lines.{slots_in_on, sound_short}
+
+position-short : {X : Type 0} (p : X → Bool) (xs : List X) → position_or_len p xs ≤ length xs
+position-short p [] = omega arith
+position-short p (x ∷ xs) = by (p x) refl (position-short p xs)
+  where
+    by : (b : Bool) → p x ≡ b → position_or_len p xs ≤ length xs → position_or_len p (x ∷ xs) ≤ suc (length xs)
+    by true e less = rw e (omega arith)
+    by false e less = rw e (omega arith)
+
+first-near : (earlier : List Branch) (slots : List Slot) (k most : ℕ) → length earlier < most → first_with earlier slots k < most
+first-near earlier slots zero most few = omega arith
+first-near earlier slots (suc k) most few = let less = position-short (holds (cell_in slots k)) earlier in omega arith
+
+after-near : (limits : Limits) (earlier bs : List Branch) → length earlier + length bs ≤ limits.branches
+    → ((i : ℕ) → length (slots_in bs i) ≤ limits.cells) → FitLimits limits (limbs_after earlier bs)
+after-near limits earlier [] few short = All-nil (λ l. (l.from < limits.branches) × (l.shared ≤ limits.cells))
+after-near limits earlier (b ∷ bs) few short =
+    let less = prefix_len-le-length (is_in_branches earlier) b.slots in
+    let here = short 0 in
+    let more = length-append earlier (b ∷ []) in
+    All-cons (λ l. (l.from < limits.branches) × (l.shared ≤ limits.cells)) (limb_of earlier b) (limbs_after (earlier ++ b ∷ []) bs)
+    (first-near earlier b.slots (shared_with earlier b.slots) limits.branches (omega arith), omega arith)
+    (after-near limits (earlier ++ b ∷ []) bs (omega arith) (λ i. short (suc i)))
+
+pub limbs_near : {T : Type 0} (c : TrieOf T) → IsWhole c → FitLimits c.limits (limbs (forest c))
+limbs_near c whole =
+    let count = length-map c.branches (branch_on (segment_at c.segments)) in
+    let fit = whole.within.branches_fit in
+    after-near c.limits [] (forest c).branches (omega arith) short
+  where
+    short : (i : ℕ) → length (slots_in (forest c).branches i) ≤ c.limits.cells
+    short i =
+        let most = sound_short (segment_at c.segments) c.branches c.made whole.sound i in
+        let same = ap length (slots_in_on (segment_at c.segments) c.branches i) in
+        let cells = whole.within.cells in omega arith

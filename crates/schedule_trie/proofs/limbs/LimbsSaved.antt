@@ -1,0 +1,54 @@
+-- Limbs one by one, and marks before the first.
+use Rattle.std.proofs.Common.{◌≡◌, ℕ, zero, suc, ◌+◌, ◌<◌, ◌≤◌, Bool, true, false, nat_lt, List, [], ◌∷◌, ◌++◌, length, take, slice_get, Option, Some, None, IsSome, refl, sym, ap, subst, ◌∙◌, arith}
+use Rattle.std.specs.Option.{IfSome}
+use Rattle.std.proofs.lemmas.Bool.Decides.{nat_tests}
+use Rattle.lineage.specs.Family.{item_at}
+use Rattle.schedule_trie.specs.declared.mark.Mark.{Mark}
+use Rattle.schedule_trie.specs.declared.trie.Trie.TheInside.{Inside}
+use Rattle.branch_terms.specs.Forest.{Forest, Branch}
+use Rattle.schedule_trie.specs.Trie.{TrieOf, segment_at}
+use Rattle.schedule_trie.specs.TrieFields.{trie_of}
+use Rattle.branch_terms.specs.Limbs.{limbs_after, limbs}
+use Rattle.schedule_trie.specs.Marks.{mark_at, IsMark, MarksFirst}
+use Rattle.schedule_trie.proofs.branches.Shared.{take_more}
+use Rattle.schedule_trie.proofs.segments.StepSet.{item_there}
+
+length-limbs_after : (earlier bs : List Branch) → length (limbs_after earlier bs) ≡ length bs
+length-limbs_after earlier [] = refl
+length-limbs_after earlier (b ∷ bs) = ap suc (length-limbs_after (earlier ++ b ∷ []) bs)
+
+pub length-limbs : (f : Forest) → length (limbs f) ≡ length f.branches
+length-limbs f = length-limbs_after [] f.branches
+
+-- taking one more item adds the item at that index
+pub taken_next : {X : Type 0} (xs : List X) (i : ℕ) (x : X) → slice_get xs i ≡ Some x → take (i + 1) xs ≡ take i xs ++ x ∷ []
+taken_next xs i x e =
+    let next : i + 1 ≡ suc i = omega arith in
+    ap (λ n. take n xs) next ∙ take_more xs i x e
+
+-- a list of places with no mark has none after one more such place
+pub empty_more : (marks : List (Option Mark)) → ((k : ℕ) → mark_at marks k ≡ None) → (k : ℕ) → mark_at (marks ++ None ∷ []) k ≡ None
+empty_more [] h zero = refl
+empty_more [] h (suc k) = refl
+empty_more (m ∷ marks) h zero = h 0
+empty_more (m ∷ marks) h (suc k) = empty_more marks (λ j. h (suc j)) k
+
+pub no_marks_first : {T : Type 0} (t : Inside T) (c : TrieOf T) (room : ℕ) (marks : List (Option Mark)) → trie_of t ≡ c
+    → ((k : ℕ) → room ≤ k → item_at t.segments k ≡ None) → room ≤ length marks → ((k : ℕ) → mark_at marks k ≡ None) → MarksFirst c 0 marks
+no_marks_first t c room marks view past long empty =
+    subst (λ z. MarksFirst z 0 marks) view
+    (record {
+      places = λ k h. place k (item_there t k h) (nat_lt k room) refl;
+      right = λ k. subst (λ o. IfSome o (IsMark (segment_at (trie_of t).segments) (trie_of t).branches 0 k)) (sym (empty k)) tt;
+      none = λ j k e less. absurd (omega arith);
+    })
+  where
+    place : (k : ℕ) → IsSome (item_at t.segments k) → (b : Bool) → nat_lt k room ≡ b → k < length marks
+    place k there true e = let inside : k < room = grind (arith, nat_tests) in omega arith
+    place k there false e =
+        let beyond : room ≤ k = grind (arith, nat_tests) in
+        absurd (none_some (item_at t.segments k) (past k beyond) there)
+      where
+        none_some : {X : Type 0} (o : Option X) → o ≡ None → IsSome o → ⊥
+        none_some None e h = cc
+        none_some (Some x) e h = cc

@@ -1,0 +1,4 @@
+pub mod NoRepeats
+pub mod KeyPositions
+pub mod Positions
+pub mod PathsWithout

@@ -1,0 +1,5 @@
+pub mod Changes
+pub mod Notes
+pub mod CellHolders
+pub mod TouchedSegments
+pub mod StepSet

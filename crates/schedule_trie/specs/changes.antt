@@ -1,0 +1,4 @@
+pub mod Copies
+pub mod Forks
+pub mod Releases
+pub mod Loads

@@ -1,0 +1,25 @@
+-- Adding a limb to a trie.
+use Rattle.std.specs.Prelude.{◌≡◌, ◌<◌, ◌≤◌, ◌+◌, true, None, length}
+use Rattle.branch_terms.specs.declared.limb.Limb.{Limb}
+use Rattle.branch_terms.specs.Forest.{index_of, slots_in}
+use Rattle.schedule_trie.specs.Trie.{TrieOf, forest, IsBlank, IsCut}
+use Rattle.branch_terms.specs.Limbs.{is_name, grown}
+
+-- a limb's branch can be added to a trie: there is a branch at index `l.from`, with at least
+-- `l.shared` cells; the limb's name has the form of a branch's name, and no branch has this name;
+-- and the limits allow one more branch and the limb's own cells
+pub record CanGrow {T : Type 0} (c : TrieOf T) (l : Limb) : Type 0 where
+  pub from : l.from < length c.branches
+  pub place : l.shared ≤ length (slots_in (forest c).branches l.from)
+  pub free : index_of (forest c).branches l.name ≡ None
+  pub form : is_name l.name ≡ true
+  pub room : length c.branches < c.limits.branches
+  pub cells : c.made + length l.steps ≤ c.limits.cells
+
+-- from trie `old` to trie `new`, the limb's branch is added at the end of the list of branches; if
+-- `old` has no note, `new` has none
+pub record IsGrown {T : Type 0} (old new : TrieOf T) (l : Limb) : Type 0 where
+  pub forest_is : forest new ≡ grown (forest old) l
+  pub limits : new.limits ≡ old.limits
+  pub blank : IsBlank old → IsBlank new
+  pub cut : IsCut new
