@@ -16,7 +16,7 @@ ghost use Rattle.answers.specs.Gathered.{AreTooManyStates, IsBuilding, IsGathere
 use crate::fits::fits;
 use crate::found::{Found, Possible, Unfound};
 use crate::key::StateKey;
-use crate::moves::{Moves, copies, step_by};
+use crate::moves::{KINDS, Moves, copies, step_by};
 use crate::outcomes::{Outcomes, no_answers};
 use crate::question::Question;
 use crate::state::State;
@@ -58,8 +58,8 @@ fn step_at<'q, R: Register>(moves: &Moves<'q, R>, state: &State<R>, mark: Mark) 
     step_by(
         moves.question,
         &state.answers,
-        (mark.label / 4) as u32,
-        mark.label % 4,
+        (mark.label / KINDS) as u32,
+        mark.label % KINDS,
     )
 }
 

@@ -17,6 +17,9 @@ use frames::register::Register;
 use frames::types::{Event, Op, Outcome, Step, StepEvents};
 use std::alloc::{AllocError, Global};
 
+/// How many kinds of step `step_by` has for each process.
+pub(crate) const KINDS: usize = 4;
+
 /// The moves of a question on a register. A state is followed by a state for each step that some
 /// process may make: a bit action with either choice, its next invocation, or a stop.
 #[derive(Drop)]
@@ -39,7 +42,7 @@ impl<'q, R: Register> Graph for Moves<'q, R> {
     ghost Holds = { λ g. IsStateOf (R.behaviour g.register) (R.Holds g.register) (R.Reaches g.register) g.register };
 
     fn count(&self) -> usize {
-        self.register.processes() as usize * 4
+        self.register.processes() as usize * KINDS
     }
 
     fn next(
@@ -50,8 +53,8 @@ impl<'q, R: Register> Graph for Moves<'q, R> {
     ) -> Result<Option<Arrival<State<R>>>, AllocError> {
         // for the proof: reading a field opens the model, so what its invariant says is known
         let _count = self.register.processes();
-        let process = (label / 4) as u32;
-        let Some(step) = step_by(self.question, &node.answers, process, label % 4) else {
+        let process = (label / KINDS) as u32;
+        let Some(step) = step_by(self.question, &node.answers, process, label % KINDS) else {
             return Ok(None);
         };
         if !node.config.fits(step) || !is_enabled(&node.config, step) {
@@ -61,7 +64,7 @@ impl<'q, R: Register> Graph for Moves<'q, R> {
             return Err(AllocError);
         };
         // the next label is the same action with choice 1, which then has the same effect
-        let again = label % 4 == 0 && !has_choice(events);
+        let again = label % KINDS == 0 && !has_choice(events);
         Ok(Some(Arrival { node: state, again }))
     }
 

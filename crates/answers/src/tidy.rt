@@ -15,7 +15,7 @@ ghost use Rattle.answers.specs.laws.StateLaws.{answers_eq};
 use crate::done::is_done;
 use crate::draft::{Draft, first_draft, replayed, step_after};
 use crate::found::Possible;
-use crate::moves::Moves;
+use crate::moves::{KINDS, Moves};
 use crate::outcomes::Outcomes;
 use crate::state::State;
 use frames::register::Register;
@@ -72,7 +72,7 @@ fn keep_longer<'q, R: Register>(
     kept: &mut Vec<Draft<R>>,
 ) -> Result<(), AllocError> {
     for p in 0..moves.register.processes() {
-        for kind in 0..4 {
+        for kind in 0..KINDS {
             let Some(step) = step_after(moves, draft, p, kind) else {
                 continue;
             };

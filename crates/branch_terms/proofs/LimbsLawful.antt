@@ -5,6 +5,7 @@ use Rattle.std.specs.Option.{IfSome}
 use Rattle.std.specs.Cmp.Lexicographic.{pointwise}
 use Rattle.std.proofs.lemmas.Bool.Decides.{nat_tests}
 use Rattle.std.proofs.lemmas.Bool.{or_right, and_parts, and_from}
+use Rattle.std.proofs.lemmas.Option.{slice_get_within}
 use Rattle.std.proofs.lemmas.List.{length-map, map-append, length-take-le}
 use Rattle.branch_terms.specs.declared.slot.Slot.{Slot}
 use Rattle.branch_terms.specs.Forest.{Forest, Branch, slots_in, step_of, cell_in, name_of, name_in, AreNamedApart, IsForest}
@@ -96,12 +97,7 @@ module _ (earlier : List Branch) (b : Branch) (agree : (j : ℕ) → j < length 
           (λ e. omega arith)
 
       within : suc k ≤ length c.slots
-      within = inside c.slots k t at
-        where
-          inside : (xs : List Slot) (i : ℕ) (x : Slot) → slice_get xs i ≡ Some x → suc i ≤ length xs
-          inside [] i x e = cc
-          inside (y ∷ ys) zero x e = omega arith
-          inside (y ∷ ys) (suc i) x e = let r = inside ys i x e in omega arith
+      within = slice_get_within c.slots k t at
 
       is_own : is_own_of (slice_get (limbs_after [] earlier) stem) (suc k) ≡ true
       is_own =
@@ -120,14 +116,9 @@ module _ (earlier : List Branch) (b : Branch) (agree : (j : ℕ) → j < length 
         let up : take (suc k) b.slots ≡ take (suc p.0) c.0.slots = subst (λ xs. AreSameUpTo b.slots xs) slots (agree stem first.within) k p.0 s p.1 here p.2 (sym p.3) in
         let most = prefix_most (is_in_branches earlier) b.slots in
         let left : length (take (suc k) b.slots) ≡ suc k = length-take-le (suc k) b.slots (omega arith) in
-        let right : length (take (suc p.0) c.0.slots) ≡ suc p.0 = length-take-le (suc p.0) c.0.slots (inside c.0.slots p.0 p.1 p.2) in
+        let right : length (take (suc p.0) c.0.slots) ≡ suc p.0 = length-take-le (suc p.0) c.0.slots (slice_get_within c.0.slots p.0 p.1 p.2) in
         let places : p.0 ≡ k = let e : length (take (suc k) b.slots) ≡ length (take (suc p.0) c.0.slots) = ap length up in omega arith in
         is_own c.0 c.1 p.1 (subst (λ n. slice_get c.0.slots n ≡ Some p.1) places p.2) p.3
-      where
-        inside : (xs : List Slot) (i : ℕ) (x : Slot) → slice_get xs i ≡ Some x → suc i ≤ length xs
-        inside [] i x e = cc
-        inside (y ∷ ys) zero x e = omega arith
-        inside (y ∷ ys) (suc i) x e = let r = inside ys i x e in omega arith
 
   shares_at : (k : ℕ) → k ≡ shared_with earlier b.slots
       → ((nat_eq (first_with earlier b.slots k) 0 && nat_eq k 0) || is_own_of (slice_get (limbs_after [] earlier) (first_with earlier b.slots k)) k) ≡ true

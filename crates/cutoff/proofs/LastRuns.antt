@@ -6,7 +6,7 @@ use Rattle.frames.specs.Behaviour.{Behaviour}
 use Rattle.frames.specs.Configuration.{Configuration}
 use Rattle.frames.specs.Recorded.{AllFit}
 use Rattle.schedule_trie.specs.Forest.{step_of, index_of}
-use Rattle.schedule_trie.specs.Trie.{TrieOf, segment_at, slots_of, line, has, keys_in, forest, LiesInPath}
+use Rattle.schedule_trie.specs.Trie.{TrieOf, segment_at, slots_of, line, has, keys_in, forest, SpotIsAt}
 use Rattle.schedule_trie.specs.Climbs.{keys_up_to, keys_to}
 use Rattle.schedule_trie.proofs.climbs.Climbs.{up_to-here}
 use Rattle.schedule_trie.proofs.branches.Lines.{slots_in_on}
@@ -64,7 +64,7 @@ marked_now E is trie new start key count n some few same settles i h =
 
 -- if the last of the first `place` cells is at `offset` in the segment `key`, the first `place`
 -- cells end with the first offset + 1 cells of that segment
-pub place_found : {T : Type 0} (trie : TrieOf T) (i place key offset : ℕ) → LiesInPath (segment_at trie.segments) (keys_in trie.branches i) (place - 1) (key, offset) → (place ≡ 0 → ⊥)
+pub place_found : {T : Type 0} (trie : TrieOf T) (i place key offset : ℕ) → SpotIsAt (segment_at trie.segments) (keys_in trie.branches i) (place - 1) (key, offset) → (place ≡ 0 → ⊥)
     → IsPlaceIn trie key (offset + 1) place i
 place_found trie i place key offset lies positive = record {
   there = ap (has key) lies.is ∙ has-in key lies.front lies.back;
@@ -82,7 +82,7 @@ place_found trie i place key offset lies positive = record {
     some_more (suc n) positive b = omega (arith, b)
 
 -- the offset of that cell is below each number that the place is below
-pub found_fits : {T : Type 0} (trie : TrieOf T) (i place key offset n : ℕ) → LiesInPath (segment_at trie.segments) (keys_in trie.branches i) (place - 1) (key, offset) → (place ≡ 0 → ⊥)
+pub found_fits : {T : Type 0} (trie : TrieOf T) (i place key offset n : ℕ) → SpotIsAt (segment_at trie.segments) (keys_in trie.branches i) (place - 1) (key, offset) → (place ≡ 0 → ⊥)
     → place < n → (offset < n) × (offset + 1 < n)
 found_fits trie i place key offset n lies positive small = let sum = (place_found trie i place key offset lies positive).ends.sum in (omega arith, omega arith)
 

@@ -103,8 +103,8 @@ impl<R: Register> Chart<R> {
         requires fits { StepsFit (R.behaviour register) (forest trie) }
         requires cut { IsCut trie }
         requires blank { IsBlank trie }
-        ensures cut { IfOk result (λ c. c.trie ≡ trie) }
-        ensures whole { IfOk result (λ c. IsCut c.trie) }
+        ensures trie { IfOk result (λ c. c.trie ≡ trie) }
+        ensures cut { IfOk result (λ c. IsCut c.trie) }
         ensures blank { IfOk result (λ c. IsBlank c.trie) }
         ensures start { let initial = initial_configuration (R.behaviour register) register value in
             IfOk result (λ c. c.start ≡ initial) }

@@ -14,7 +14,7 @@ ghost use Rattle.cutoff.specs.Prefixes.{IsMarked, exit_or_start};
 ghost use Rattle.cutoff.specs.Sights.{AreSeen, HasDescendedAbove, HasDescended, IsUnseenPart, LooksBelow, sight_at, unseen};
 
 use crate::settle::{fitting, segment_cells};
-use crate::sight::{Sight, known, see};
+use crate::sight::{Sight, known, record_fit};
 use crate::stored::{Stored, entry_below, shared_entry, stored_at};
 use frames::config::Config;
 use frames::register::Register;
@@ -192,12 +192,12 @@ fn visit<R: Register>(
         fits) }
 {
     if !above_fits {
-        see(&mut planning.seen, key, false)?;
+        record_fit(&mut planning.seen, key, false)?;
         return Ok(false);
     }
     let above = base.trie.above(key);
     let fits = look_below(base, above, key, &mut planning.jobs)?;
-    see(&mut planning.seen, key, fits)?;
+    record_fit(&mut planning.seen, key, fits)?;
     Ok(fits)
 }
 

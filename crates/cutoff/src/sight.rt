@@ -52,7 +52,7 @@ pub(crate) fn known(mark: Option<SegKey>, seen: &[Sight], key: SegKey) -> Option
 }
 
 /// Records whether stored runs fit down to the segment `key`, and changes no other key's record.
-pub(crate) fn see(seen: &mut Vec<Sight>, key: SegKey, fits: bool) -> Result<(), AllocError>
+pub(crate) fn record_fit(seen: &mut Vec<Sight>, key: SegKey, fits: bool) -> Result<(), AllocError>
     ensures here { OnOk result (spec.sight_at seen.new.items key ≡ spec.sight_of fits) }
     ensures others { OnOk result ((k : ℕ) → (k ≡ key → ⊥)
         → spec.sight_at seen.new.items k ≡ spec.sight_at seen.old.items k) }

@@ -27,6 +27,7 @@ use Rattle.frames.specs.correctness.Ranks.{Ranking, at_first, HasRank, after_ran
 use Rattle.frames.specs.correctness.ReportedActions.{MakesItsAction}
 use Rattle.frames.proofs.Pointwise.{put, put_same, put_other}
 use Rattle.std.proofs.lemmas.Bool.{cases_eq}
+use Rattle.std.proofs.lemmas.Option.{none-some}
 use Rattle.frames.specs.Voids.{IsVoid}
 
 abbrev start : Configuration ⊤ SafePoint
@@ -68,9 +69,6 @@ Ranked-holds = (Some 1, ((omega arith, refl), (None, (tt, (Some 1, ((omega arith
 HasRanks-holds : HasRanks 0 ((0, Invoke 0 (Write 1)) ∷ (1, Invoke 1 Read) ∷ (2, Got 1 1) ∷ (3, Wrote 0) ∷ [])
 HasRanks-holds = (0, Ranked-holds)
 
-no_value : (v : ℕ) → None ≡ Some v → ⊥
-no_value v e = cc
-
 abbrev some : ℕ → Option ℕ
 some v = Some v
 
@@ -87,7 +85,7 @@ within first m = put m (Some 1) (before first)
 before_is_zero : (first n v : ℕ) → before first n ≡ Some v → (n ≡ first) × (some 0 ≡ some v)
 before_is_zero first n v e = elim (cases_eq n first) [
   | inl same ↦ (same, sym (ap (before first) same ∙ put_same first (Some 0) (λ k. None)) ∙ e)
-  | inr other ↦ absurd (no_value v (sym (put_other first n (Some 0) (λ k. None) other) ∙ e))
+  | inr other ↦ absurd (none-some v (sym (put_other first n (Some 0) (λ k. None) other) ∙ e))
 ]
 
 gives_one : (first m n : ℕ) → within first m n ≡ Some 1 → n ≡ m
@@ -155,7 +153,7 @@ refused_was_read-fails h = write h.1.0 h.1.1
         read : (m : ℕ) (a : Option ℕ) → HasRank (after_rank (after_rank (at_first h.0 0) (Invoke 0 (Write 1)) (Some m)) (Invoke 1 Read) None) (Got 1 1) a
             × Ranked (after_rank (after_rank (after_rank (at_first h.0 0) (Invoke 0 (Write 1)) (Some m)) (Invoke 1 Read) None) (Got 1 1) a) ((3, Refused 0 Matrix) ∷ []) → ⊥
         read m None j = j.0
-        read m (Some a) j = no_value m (sym j.1.1.0)
+        read m (Some a) j = none-some m (sym j.1.1.0)
     write None k = read k.1.1.1.0 k.1.1.1.1.0
       where
         read : (a : Option ℕ) → HasRank (after_rank (at_first h.0 0) (Invoke 0 (Write 1)) None) (Got 1 1) a → ⊥
@@ -187,7 +185,7 @@ lost_write-fails h = write h.1.0 h.1.1
 
     lost : (b : Option ℕ) → HasRank (begun None) (Wrote 0) b → ⊥
     lost None j = j
-    lost (Some b) j = no_value b j
+    lost (Some b) j = none-some b j
 
     write : (n : Option ℕ) → HasRank (at_first h.0 0) (Invoke 0 (Write 1)) n × Ranked (begun n) ((1, Wrote 0) ∷ later) → ⊥
     write None k = lost k.1.0 k.1.1.0

@@ -79,7 +79,7 @@ module _ {Task P : Type 0} (l : LayerOver Task P) (at : Place) where
   stops_there task next inner given front left before after lands h aim e =
       subst (λ a. Lands (layered l.table l.below).frames at a.next a.memory front before given left after) e (stops task next inner given front left before after lands h)
 
-  -- the effect of the rest of the work, after a first stretch of it, is the effect of the whole
+  -- the effect of the rest of the work, after its first part, is the effect of the whole
   pub again : (m : Memory) → LayerLies l.table l.below l.Holds at m → (mid m1 : Memory) → m1 ≡ with_part at mid m → LayerHolds l.table l.below l.Holds mid
       → (r aim : Begun (Nested Task P)) → r ≡ aim → LayerHolds l.table l.below l.Holds r.memory → (front : List Frame) (given : Option Outcome) (left : List Frame) (m2 : Memory)
       → Lands (layered l.table l.below).frames at r.next r.memory front m1 given left m2 → Lands (layered l.table l.below).frames at aim.next aim.memory front m given left m2

@@ -7,10 +7,11 @@ use Rattle.frames.proofs.Pointwise.{put, put_same, put_other}
 
 -- `top` is the greatest code of an operation that has returned, at first the initial value. Of each
 -- process, `count` is how many writes it has invoked; `floor` what `top` was when it invoked its
--- last operation; `value` the value of its last write; and `code` gives each of its writes, by
--- number, the code that it has taken, if any; and `writing` whether it is in a write. `held` is the code that it last wrote to its whole
--- row, `rows` how often it has written its whole row (and `limit` says after how many writes a part takes
--- one more), and `snap` what `held` was, for every process, when it invoked its last operation.
+-- last operation; `value` the value of its last write; `code` gives each of its writes, by number,
+-- the code that it has taken, if any; and `writing` says whether it is in a write. `held` is the
+-- code that it last wrote to its whole row, and `rows` how often it has written its whole row
+-- (`limit` says after how many writes a part takes one more); `snap` is what `held` was, for every
+-- process, when it invoked its last operation.
 pub record Coded : Type 0 where
   pub initial : ℕ
   pub top : ℕ
@@ -29,11 +30,11 @@ abbrev pub Known : Coded → ℕ → Type 0
 Known c x = (x ≡ c.initial) ⊎ ((q : ℕ) × ((k : ℕ) × (c.code q k ≡ Some x)))
 
 -- x is what a column has given so far: 0 before its first read
-abbrev pub Heard : Coded → ℕ → Type 0
-Heard c x = (x ≡ 0) ⊎ Known c x
+abbrev pub IsGreatestSoFar : Coded → ℕ → Type 0
+IsGreatestSoFar c x = (x ≡ 0) ⊎ Known c x
 
-pub heard_more : (c : Coded) (g x : ℕ) → Heard c g → Known c x → Known c (max g x)
-heard_more c g x h k = elim (cases_lt x g) [
+pub greatest_so_far_known : (c : Coded) (g x : ℕ) → IsGreatestSoFar c g → Known c x → Known c (max g x)
+greatest_so_far_known c g x h k = elim (cases_lt x g) [
   | inr le ↦ subst (Known c) (let e : x ≡ max g x = omega (arith, le) in e) k
   | inl lt ↦ elim h [
     | inl e ↦ absurd (omega (arith, lt, e))

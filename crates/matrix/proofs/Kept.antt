@@ -45,7 +45,7 @@ use Rattle.matrix.proofs.PhaseSteps.{column_asked, column_given, row_asked, row_
 use Rattle.matrix.proofs.Moves.{returned, row_done, invoked, invokes, read_chosen, closed, refused, took_code, write_chosen, code_new, code_above, floor_found}
 use Rattle.matrix.proofs.Ledger.{Counts, Fresh, Takes, Steps, uncoded}
 use Rattle.frames.specs.correctness.Ranks.{IsAtomicForMany}
-use Rattle.matrix.proofs.Extract.{ranked_from_first}
+use Rattle.matrix.proofs.RanksFromCodes.{ranked_from_first}
 
 abbrev pub at_task : MatrixTask → Phase
 at_task (Column who o j g) = Looks o j g
@@ -282,7 +282,7 @@ module _ (L : ℕ → Bool) (n V last : ℕ) (some : 2 ≤ n) (values : 0 < V) w
           let low : c.floor p ≤ g = floor_found n p g c (Write v) wk in
           let new : Fresh V c d = record {
             process = p;
-            it = x;
+            code_taken = x;
             after = refl;
             none = wk.free.0;
             writes = wk.free.2;

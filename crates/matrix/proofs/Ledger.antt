@@ -10,36 +10,36 @@ use Rattle.matrix.proofs.Moves.{returned, invoked, closed, took_code}
 -- a read returns x with code n, a write with the code that it has taken; a refused write has taken
 -- none
 abbrev pub Counts : ℕ → Option Event → Coded → Coded → Type 0
-Counts V None c z = z ≡ c
-Counts V (Some (Invoke p o)) c z = z ≡ invoked p o c
-Counts V (Some (Got p x)) c z = (n : ℕ) × (Known c n × ((x ≡ n % V) × ((c.floor p ≤ n) × ((c.writing p ≡ false) × (z ≡ returned p n c)))))
-Counts V (Some (Wrote p)) c z = (n : ℕ) × ((c.code p (c.count p) ≡ Some n) × ((c.writing p ≡ true) × (z ≡ returned p n c)))
-Counts V (Some (Refused p layer)) c z = ((c.writing p ≡ false) ⊎ ((c.code p (c.count p) ≡ None) × (c.writing p ≡ true))) × (z ≡ closed p c)
-Counts V _ c z = z ≡ c
+Counts values None c z = z ≡ c
+Counts values (Some (Invoke p o)) c z = z ≡ invoked p o c
+Counts values (Some (Got p x)) c z = (n : ℕ) × (Known c n × ((x ≡ n % values) × ((c.floor p ≤ n) × ((c.writing p ≡ false) × (z ≡ returned p n c)))))
+Counts values (Some (Wrote p)) c z = (n : ℕ) × ((c.code p (c.count p) ≡ Some n) × ((c.writing p ≡ true) × (z ≡ returned p n c)))
+Counts values (Some (Refused p layer)) c z = ((c.writing p ≡ false) ⊎ ((c.code p (c.count p) ≡ None) × (c.writing p ≡ true))) × (z ≡ closed p c)
+Counts values _ c z = z ≡ c
 
--- p's write takes code z, which is new
-pub record Fresh (V : ℕ) (c d : Coded) : Type 0 where
+-- a process's write takes a code, which is new
+pub record Fresh (values : ℕ) (c d : Coded) : Type 0 where
   pub process : ℕ
-  pub it : ℕ
-  pub after : d ≡ took_code process it c
+  pub code_taken : ℕ
+  pub after : d ≡ took_code process code_taken c
   pub none : c.code process (c.count process) ≡ None
   pub writes : c.writing process ≡ true
-  pub above : c.floor process < it
-  pub new : (q k : ℕ) → c.code q k ≡ Some it → ⊥
-  pub value : it % V ≡ c.value process
+  pub above : c.floor process < code_taken
+  pub new : (q k : ℕ) → c.code q k ≡ Some code_taken → ⊥
+  pub value : code_taken % values ≡ c.value process
 
 abbrev pub Takes : ℕ → Coded → Coded → Type 0
-Takes V c d = (d ≡ c) ⊎ Fresh V c d
+Takes values c d = (d ≡ c) ⊎ Fresh values c d
 
 -- what one step does: codes may be taken before each of its events
-pub record Steps (V : ℕ) (c : Coded) (e : StepEvents) (z : Coded) : Type 0 where
+pub record Steps (values : ℕ) (c : Coded) (e : StepEvents) (z : Coded) : Type 0 where
   pub taken : Coded
-  pub takes : Takes V c taken
+  pub takes : Takes values c taken
   pub mid : Coded
-  pub first : Counts V e.first taken mid
+  pub first : Counts values e.first taken mid
   pub later : Coded
-  pub retakes : Takes V mid later
-  pub second : Counts V e.second later z
+  pub retakes : Takes values mid later
+  pub second : Counts values e.second later z
 
 -- what is known at first
 abbrev pub uncoded : (ℕ → Bool) → ℕ → Coded

@@ -3,5 +3,5 @@ pub mod Phases
 pub mod PhaseSteps
 pub mod Moves
 pub mod Ledger
-pub mod Extract
+pub mod RanksFromCodes
 pub mod Kept

@@ -9,7 +9,7 @@ use Rattle.frames.specs.correctness.Regularity.{in_progress}
 use Rattle.frames.proofs.Seen.{Seen, among, sees, now_last, IsNotStray}
 use Rattle.frames.proofs.VerdictFacts.{not_stray_is}
 use Rattle.frames.proofs.Pointwise.{put, put_same, put_other, put_all}
-use Rattle.matrix.proofs.Codes.{Coded, Known, heard_more, writer_of, cells_apart}
+use Rattle.matrix.proofs.Codes.{Coded, Known, greatest_so_far_known, writer_of, cells_apart}
 use Rattle.matrix.proofs.Phases.{Phase, Rests, Climbs, Looks, Holds, Puts, row_last, row_writing, row_count, PartShows, InRow, Open, Took, Climbing, Looking, Rowing, Works, Invariant, Later, later_same, More, more_same, works_later}
 
 -- the codes that p's writes have taken name p, and p has written each to its row, or writes it
@@ -164,7 +164,7 @@ column_given n V p c o j g x f parts lp is h good =
         | inl e ↦ (let s : c.snap p a ≡ c.snap p j = ap (c.snap p) e in omega (arith, s, seen))
         | inr ne ↦ (let s : c.snap p a ≤ g = w.0.climbed a (omega (arith, la, ne)) in omega (arith, s))
       ];
-      heard = inr (heard_more c g x (elim (w.0.heard) [ inl z ↦ inl z.1 | inr k ↦ inr k ]) u.1);
+      heard = inr (greatest_so_far_known c g x (elim (w.0.heard) [ inl z ↦ inl z.1 | inr k ↦ inr k ]) u.1);
       free = w.0.free;
     })) (same_codes n V p c f parts lp h)
   where

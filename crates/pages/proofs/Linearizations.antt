@@ -3,6 +3,7 @@
 use Rattle.std.proofs.Common.{◌≡◌, ℕ, zero, suc, ◌+◌, ◌<◌, ◌≤◌, ◌==◌, Bool, true, false, List, [], ◌∷◌, length, Option, Some, None, is_some, unwrap_or, max, ◌⊎◌, inl, inr, refl, sym, ap, subst, ◌∙◌, true≢false, arith, eq-eqb}
 use Rattle.std.specs.Prelude.{if◌then◌else◌}
 use Rattle.std.proofs.lemmas.Bool.{eqb-true, cases_lt, cases_eq}
+use Rattle.std.proofs.lemmas.Option.{none-some}
 use Rattle.frames.specs.declared.types.Op.{Op}
 use Rattle.frames.specs.declared.types.Op.TheVariants as op
 use Rattle.frames.specs.declared.types.Layer.{Layer}
@@ -64,12 +65,9 @@ top_grows r (Void p reason) n h = omega arith
 top_grows r (Stop p) n h = omega arith
 top_grows r (Chosen p bit v) n h = omega arith
 
-no_value : (v : ℕ) → None ≡ Some v → ⊥
-no_value v e = cc
-
 pub value_stays : (r : Ranking) (e : Event) (n : Option ℕ) (m v : ℕ) → HasRank r e n → r.values m ≡ Some v → (after_rank r e n).values m ≡ Some v
 value_stays r (Invoke p (op.Write u)) (Some n) m v h is = elim (cases_eq m n) [
-  | inl same ↦ absurd (no_value v (sym h.1 ∙ sym (ap r.values same) ∙ is))
+  | inl same ↦ absurd (none-some v (sym h.1 ∙ sym (ap r.values same) ∙ is))
   | inr other ↦ put_other n m (Some u) r.values other ∙ is
 ]
 value_stays r (Invoke p (op.Write u)) None m v h is = is
@@ -251,7 +249,7 @@ module _ (initial : ℕ) (history : List (ℕ × Event)) (ranks : HasRanks initi
           let now : Some initial ≡ Some v = sym (put_same first (Some initial) (λ k. None)) ∙ sym (ap (put first (Some initial) (λ k. None)) same) ∙ sym (ap (λ (r : Ranking). r.values n) at_start) ∙ is in
           sym (ap (λ (o : Option ℕ). unwrap_or o initial) now)),
     )
-    | inr other ↦ absurd (no_value v (sym (put_other first n (Some initial) (λ k. None) other) ∙ sym (ap (λ (r : Ranking). r.values n) at_start) ∙ is))
+    | inr other ↦ absurd (none-some v (sym (put_other first n (Some initial) (λ k. None) other) ∙ sym (ap (λ (r : Ranking). r.values n) at_start) ∙ is))
   ]
   origin (suc j) n v is = by (origin j n v) (event_at history j) refl
     where
@@ -276,7 +274,7 @@ module _ (initial : ℕ) (history : List (ℕ × Event)) (ranks : HasRanks initi
       record { above = done.0.0; new = done.0.1; value = ap (λ (r : Ranking). r.values n) done.1 ∙ put_same n (Some v) (state i).values }
 
   not_again : (i j n u v : ℕ) → i < j → IsWriteAt i n u → IsWriteAt j n v → ⊥
-  not_again i j n u v less a b = no_value u (sym b.new ∙ value_kept (suc i) j n u (omega (arith, less)) a.value)
+  not_again i j n u v less a b = none-some u (sym b.new ∙ value_kept (suc i) j n u (omega (arith, less)) a.value)
 
   one_write : (i j n u v : ℕ) → IsWriteAt i n u → IsWriteAt j n v → i ≡ j
   one_write i j n u v a b = elim (cases_lt i j) as (λ _. i ≡ j) [

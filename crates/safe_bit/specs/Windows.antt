@@ -1,4 +1,4 @@
--- A stretch of a list, and a list with a stretch replaced.
+-- A window of a list, and a list with a window replaced.
 use Rattle.std.proofs.Common.{ℕ, ◌+◌, List, ◌++◌, length, take, drop}
 
 -- the n items from index i on

@@ -4,7 +4,7 @@ use Rattle.std.proofs.lemmas.Bool.{eqb-true}
 use Rattle.schedule_steps.specs.declared.types.Step.{Step}
 use Rattle.schedule_steps.specs.declared.types.Step.TheVariants.{Write, Read}
 use Rattle.branch_terms.specs.Forest.{slot, step_of}
-use Rattle.schedule_trie.specs.Trie.{TrieOf, SegmentOf, KeyedBranch, keyed_branch, segment, segment_at, slots_of, note_of, line, has, has_cell, keys_in, Linked, SharesAbove, IsSegment, IsSoundTrie, LiesInPath, IsCut, AreGone, KeepsNotes, HoldsCellAt, HoldsCellBefore, KeepsAllNotes}
+use Rattle.schedule_trie.specs.Trie.{TrieOf, SegmentOf, KeyedBranch, keyed_branch, segment, segment_at, slots_of, note_of, line, has, has_cell, keys_in, Linked, SharesAbove, IsSegment, IsSoundTrie, SpotIsAt, IsCut, AreGone, KeepsNotes, HoldsCellAt, HoldsCellBefore, KeepsAllNotes}
 
 abbrev cut : List KeyedBranch → List (Option (SegmentOf ℕ)) → TrieOf ℕ
 cut branches segments = record { branches = branches; segments = segments; made = 2; limits = record { cells = 9; branches = 9; log = 9 } }
@@ -123,12 +123,12 @@ IsCut-fails : IsCut with_lost_segment → ⊥
 IsCut-fails h = lost (h.live 1 refl).0 (h.live 1 refl).1
 
 -- the first cell of the second segment is at place 1
-LiesInPath-holds : LiesInPath (segment_at two_segments) (0 ∷ 1 ∷ []) 1 (1, 0)
-LiesInPath-holds = record { front = 0 ∷ []; back = []; is = refl; first = refl; before = refl; within = omega arith }
+SpotIsAt-holds : SpotIsAt (segment_at two_segments) (0 ∷ 1 ∷ []) 1 (1, 0)
+SpotIsAt-holds = record { front = 0 ∷ []; back = []; is = refl; first = refl; before = refl; within = omega arith }
 
 -- and not at place 0
-LiesInPath-fails : LiesInPath (segment_at two_segments) (0 ∷ 1 ∷ []) 0 (1, 0) → ⊥
-LiesInPath-fails h = by h.front h.back h.is h.before
+SpotIsAt-fails : SpotIsAt (segment_at two_segments) (0 ∷ 1 ∷ []) 0 (1, 0) → ⊥
+SpotIsAt-fails h = by h.front h.back h.is h.before
   where
     by : (front back : List ℕ) → 0 ∷ 1 ∷ [] ≡ front ++ 1 ∷ back → length (line (segment_at two_segments) front) + 0 ≡ 0 → ⊥
     by [] back e before = let same : 0 ≡ 1 = ap (λ keys. slice_index_or keys 0 5) e in omega (arith, same)

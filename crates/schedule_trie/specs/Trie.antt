@@ -35,14 +35,14 @@ keyed_branch name keys = record { name = name; keys = keys }
 -- the keys of the segments of the branch at an index; no keys if there is no such branch
 abbrev pub keys_in : List KeyedBranch → ℕ → List ℕ
 keys_in [] i = []
-keys_in (s ∷ ss) zero = s.keys
-keys_in (s ∷ ss) (suc i) = keys_in ss i
+keys_in (first ∷ rest) zero = first.keys
+keys_in (first ∷ rest) (suc i) = keys_in rest i
 
 -- these branches, except that the branch at an index has the given keys
 abbrev pub set_keys : List KeyedBranch → ℕ → List ℕ → List KeyedBranch
 set_keys [] i keys = []
-set_keys (s ∷ ss) zero keys = keyed_branch s.name keys ∷ ss
-set_keys (s ∷ ss) (suc i) keys = s ∷ set_keys ss i keys
+set_keys (first ∷ rest) zero keys = keyed_branch first.name keys ∷ rest
+set_keys (first ∷ rest) (suc i) keys = first ∷ set_keys rest i keys
 
 module _ {T : Type 0} where
   -- the segment with these cells and this note
@@ -56,7 +56,7 @@ module _ {T : Type 0} where
   -- the cells of a segment; no cells if there is no segment
   abbrev pub slots_of : Option (SegmentOf T) → List Slot
   slots_of None = []
-  slots_of (Some p) = p.slots
+  slots_of (Some this) = this.slots
 
   -- the cells of the segments at these keys, one segment after the other
   abbrev pub line : (ℕ → Option (SegmentOf T)) → List ℕ → List Slot
@@ -65,7 +65,7 @@ module _ {T : Type 0} where
 
   -- a branch with its cells, which are those of the segments at its keys
   abbrev pub branch_on : (ℕ → Option (SegmentOf T)) → KeyedBranch → Branch
-  branch_on at s = branch s.name (line at s.keys)
+  branch_on at keyed = branch keyed.name (line at keyed.keys)
 
   -- these branches with their cells, which are those of the segments at their keys
   abbrev pub branches_on : (ℕ → Option (SegmentOf T)) → List KeyedBranch → List Branch
@@ -74,7 +74,7 @@ module _ {T : Type 0} where
   -- the forest that a trie cuts into segments: all branches with their cells, and the number of
   -- cells ever made
   abbrev pub forest : TrieOf T → Forest
-  forest c = record { branches = branches_on (segment_at c.segments) c.branches; made = c.made }
+  forest trie = record { branches = branches_on (segment_at trie.segments) trie.branches; made = trie.made }
 
 -- no number is twice in the list
 abbrev pub Once : List ℕ → Type 0
@@ -98,11 +98,11 @@ pub record SharesAbove (branches : List KeyedBranch) : Type 0 where
   pub linked : (i : ℕ) → Linked above None (keys_in branches i)
 
 -- a segment has 1 to 128 cells, no two cells have the same number, and each number is below `made`
-pub record IsSegment {T : Type 0} (made : ℕ) (p : SegmentOf T) : Type 0 where
-  pub some : 0 < length p.slots
-  pub few : length p.slots ≤ 128
-  pub once : Once (map cell_of p.slots)
-  pub given : (x : ℕ) → has_cell x p.slots ≡ true → x < made
+pub record IsSegment {T : Type 0} (made : ℕ) (this : SegmentOf T) : Type 0 where
+  pub some : 0 < length this.slots
+  pub few : length this.slots ≤ 128
+  pub once : Once (map cell_of this.slots)
+  pub given : (x : ℕ) → has_cell x this.slots ≡ true → x < made
 
 -- a correct trie: there is a segment at each key of a branch, and each segment is on a branch; a
 -- segment has 1 to 128 cells, with numbers below `made`; no cell is twice in the segments; and
@@ -116,40 +116,40 @@ pub record IsSoundTrie {T : Type 0} (at : ℕ → Option (SegmentOf T)) (branche
 
 -- `made`, the number of cells ever made, is at most the limit of cells; the number of branches is 1
 -- to the limit of branches; and these limits are at most 2^28 cells and 1,024 branches
-pub record IsWithin (l : Limits) (made branches : ℕ) : Type 0 where
-  pub cells : made ≤ l.cells
-  pub branches_fit : branches ≤ l.branches
+pub record IsWithin (limits : Limits) (made branches : ℕ) : Type 0 where
+  pub cells : made ≤ limits.cells
+  pub branches_fit : branches ≤ limits.branches
   pub some : 0 < branches
-  pub most_cells : l.cells ≤ MOST_CELLS_MADE
-  pub most_branches : l.branches ≤ 1024
+  pub most_cells : limits.cells ≤ MOST_CELLS_MADE
+  pub most_branches : limits.branches ≤ 1024
 
 -- a correct trie (each segment has 1 to 128 cells, which no other segment has, and is on a branch;
 -- branches that share a segment share all segments above it), with at least one branch, and within
 -- its limits of cells and branches
-pub record IsWhole {T : Type 0} (c : TrieOf T) : Type 0 where
-  pub sound : IsSoundTrie (segment_at c.segments) c.branches c.made
-  pub within : IsWithin c.limits c.made (length c.branches)
+pub record IsWhole {T : Type 0} (trie : TrieOf T) : Type 0 where
+  pub sound : IsSoundTrie (segment_at trie.segments) trie.branches trie.made
+  pub within : IsWithin trie.limits trie.made (length trie.branches)
 
 -- the limits are in their ranges: 1 to 2^28 cells, 1 to 1,024 branches, and 1 to 2^20 logged
 -- commands
-pub record AreLimits (l : Limits) : Type 0 where
-  pub some_cells : 0 < l.cells
-  pub most_cells : l.cells ≤ MOST_CELLS_MADE
-  pub some_branches : 0 < l.branches
-  pub most_branches : l.branches ≤ 1024
-  pub some_log : 0 < l.log
-  pub most_log : l.log ≤ 1048576
+pub record AreLimits (limits : Limits) : Type 0 where
+  pub some_cells : 0 < limits.cells
+  pub most_cells : limits.cells ≤ MOST_CELLS_MADE
+  pub some_branches : 0 < limits.branches
+  pub most_branches : limits.branches ≤ 1024
+  pub some_log : 0 < limits.log
+  pub most_log : limits.log ≤ 1048576
 
 -- `spot` is a key of a path and an offset in the key's segment, and the cell at this offset is the
 -- cell at `place` of the path
-pub record IsSpotInPath {T : Type 0} (at : ℕ → Option (SegmentOf T)) (keys : List ℕ) (place : ℕ) (spot : ℕ × ℕ) : Type 0 where
+pub record SpotHasCellAt {T : Type 0} (at : ℕ → Option (SegmentOf T)) (keys : List ℕ) (place : ℕ) (spot : ℕ × ℕ) : Type 0 where
   pub member : has spot.0 keys ≡ true
   pub within : spot.1 < length (slots_of (at spot.0))
   pub same : slice_get (slots_of (at spot.0)) spot.1 ≡ slice_get (line at keys) place
 
 -- `spot` is a key of a path and an offset in the key's segment, and this offset plus the number of
 -- cells in the path's earlier segments is `place`
-pub record LiesInPath {T : Type 0} (at : ℕ → Option (SegmentOf T)) (keys : List ℕ) (place : ℕ) (spot : ℕ × ℕ) : Type 0 where
+pub record SpotIsAt {T : Type 0} (at : ℕ → Option (SegmentOf T)) (keys : List ℕ) (place : ℕ) (spot : ℕ × ℕ) : Type 0 where
   pub front : List ℕ
   pub back : List ℕ
   pub is : keys ≡ front ++ spot.0 ∷ back
@@ -159,24 +159,24 @@ pub record LiesInPath {T : Type 0} (at : ℕ → Option (SegmentOf T)) (keys : L
 
 -- how a forest is cut into segments: there is a segment at each key of a branch, each segment has 1
 -- to 128 cells and is on a branch, and branches that share a segment share all segments above it
-pub record IsCut {T : Type 0} (c : TrieOf T) : Type 0 where
-  pub held : (i k : ℕ) → has k (keys_in c.branches i) ≡ true → IsSome (segment_at c.segments k)
-  pub sizes : (k : ℕ) → IfSome (segment_at c.segments k) (λ p. (0 < length p.slots) × (length p.slots ≤ 128))
-  pub live : (k : ℕ) → IsSome (segment_at c.segments k) → (i : ℕ) × (has k (keys_in c.branches i) ≡ true)
-  pub shares : SharesAbove c.branches
+pub record IsCut {T : Type 0} (trie : TrieOf T) : Type 0 where
+  pub held : (i k : ℕ) → has k (keys_in trie.branches i) ≡ true → IsSome (segment_at trie.segments k)
+  pub sizes : (k : ℕ) → IfSome (segment_at trie.segments k) (λ this. (0 < length this.slots) × (length this.slots ≤ 128))
+  pub live : (k : ℕ) → IsSome (segment_at trie.segments k) → (i : ℕ) × (has k (keys_in trie.branches i) ≡ true)
+  pub shares : SharesAbove trie.branches
 
 -- the note of a segment; None if there is no segment, or if it has no note
 abbrev pub note_of : {T : Type 0} → Option (SegmentOf T) → Option T
 note_of None = None
-note_of (Some p) = p.note
+note_of (Some this) = this.note
 
 -- no segment has a note
 abbrev pub IsBlank : {T : Type 0} → TrieOf T → Type 0
-IsBlank c = (k : ℕ) → note_of (segment_at c.segments k) ≡ None
+IsBlank trie = (k : ℕ) → note_of (segment_at trie.segments k) ≡ None
 
 -- the cells of a segment; None if there is no segment
 abbrev pub slots_by : {T : Type 0} → Option (SegmentOf T) → Option (List Slot)
-slots_by o = option_map (λ p. p.slots) o
+slots_by o = option_map (λ this. this.slots) o
 
 -- from trie `old` to trie `new`, each segment whose cells don't change keeps its note
 abbrev pub KeepsUnchanged : {T : Type 0} → TrieOf T → TrieOf T → Type 0
@@ -220,22 +220,22 @@ abbrev pub Nowhere : ℕ → Type 0
 Nowhere k = ⊥
 
 -- the segment at `key` has the cell that is at `place` of the branch with this name
-pub record HoldsCellAt {T : Type 0} (c : TrieOf T) (name : List ℕ) (place key : ℕ) : Type 0 where
+pub record HoldsCellAt {T : Type 0} (trie : TrieOf T) (name : List ℕ) (place key : ℕ) : Type 0 where
   pub cell : ℕ
-  pub there : cell_on_branch (forest c) name place ≡ Some cell
-  pub held : has_cell cell (slots_of (segment_at c.segments key)) ≡ true
+  pub there : cell_on_branch (forest trie) name place ≡ Some cell
+  pub held : has_cell cell (slots_of (segment_at trie.segments key)) ≡ true
 
 -- the segment at `key` has the cell that is right before `place` of the branch with this name
-pub record HoldsCellBefore {T : Type 0} (c : TrieOf T) (name : List ℕ) (place key : ℕ) : Type 0 where
+pub record HoldsCellBefore {T : Type 0} (trie : TrieOf T) (name : List ℕ) (place key : ℕ) : Type 0 where
   pub before : ℕ
   pub next : before + 1 ≡ place
-  pub holds : HoldsCellAt c name before key
+  pub holds : HoldsCellAt trie name before key
 
 -- the segment at `key` has the cell at `place` of the branch with this name, and also the cell
 -- right before it; so a fork at `place` cuts the segment
-pub record IsParted {T : Type 0} (c : TrieOf T) (name : List ℕ) (place key : ℕ) : Type 0 where
-  pub above : HoldsCellBefore c name place key
-  pub below : HoldsCellAt c name place key
+pub record IsParted {T : Type 0} (trie : TrieOf T) (name : List ℕ) (place key : ℕ) : Type 0 where
+  pub above : HoldsCellBefore trie name place key
+  pub below : HoldsCellAt trie name place key
 
 -- from trie `old` to trie `new`, the segment at `key` gets a new cell with this step after its
 -- other cells, which stay as they were
@@ -281,17 +281,17 @@ LackedByOthers branches index key = (j : ℕ) → (j ≡ index → ⊥) → has 
 
 -- the segment at `key` is the last of the branch at `index`, no other branch has it, and it has
 -- fewer than 128 cells
-pub record IsOwnEnd {T : Type 0} (c : TrieOf T) (index key : ℕ) : Type 0 where
+pub record IsOwnEnd {T : Type 0} (trie : TrieOf T) (index key : ℕ) : Type 0 where
   pub front : List ℕ
-  pub last : keys_in c.branches index ≡ front ++ key ∷ []
-  pub own : LackedByOthers c.branches index key
-  pub room : length (slots_of (segment_at c.segments key)) < 128
+  pub last : keys_in trie.branches index ≡ front ++ key ∷ []
+  pub own : LackedByOthers trie.branches index key
+  pub room : length (slots_of (segment_at trie.segments key)) < 128
 
 -- the segment at `key` is the last of the branch at `index`, and it has cells
-pub record IsEnd {T : Type 0} (c : TrieOf T) (index key : ℕ) : Type 0 where
+pub record IsEnd {T : Type 0} (trie : TrieOf T) (index key : ℕ) : Type 0 where
   pub front : List ℕ
-  pub last : keys_in c.branches index ≡ front ++ key ∷ []
-  pub some : 0 < length (slots_of (segment_at c.segments key))
+  pub last : keys_in trie.branches index ≡ front ++ key ∷ []
+  pub some : 0 < length (slots_of (segment_at trie.segments key))
 
 -- the segment at `key` is the last of the branch at `index` in trie `old`, and gets a new cell with
 -- this step in trie `new`, after its other cells, which stay as they were
@@ -356,7 +356,7 @@ if_lacks (Some x) = Memory
 
 -- a segment with the given note instead of its own, or with no note if None is given
 abbrev pub with_note : {T : Type 0} → Option T → SegmentOf T → SegmentOf T
-with_note note p = segment p.slots note
+with_note note this = segment this.slots note
 
 -- from trie `old` to trie `new`, the segment at `key`, if there is one, gets this note, or has none
 -- if `note` is None; nothing else changes
@@ -376,12 +376,12 @@ before_key key up (k ∷ ks) = if nat_eq key k then up else before_key key (Some
 -- that branch, or if no branch has it
 abbrev pub above_of : List KeyedBranch → ℕ → Option ℕ
 above_of [] key = None
-above_of (s ∷ ss) key = if has key s.keys then before_key key None s.keys else above_of ss key
+above_of (first ∷ rest) key = if has key first.keys then before_key key None first.keys else above_of rest key
 
 -- a branch in which the key `new` is put right above `key`; the same branch if it lacks `key`
 abbrev pub divided_branch : ℕ → ℕ → KeyedBranch → KeyedBranch
-divided_branch key new s = keyed_branch s.name (divided_keys key new s.keys)
+divided_branch key new keyed = keyed_branch keyed.name (divided_keys key new keyed.keys)
 
 -- a branch without `key`
 abbrev pub branch_without : ℕ → KeyedBranch → KeyedBranch
-branch_without key s = keyed_branch s.name (keys_without key s.keys)
+branch_without key keyed = keyed_branch keyed.name (keys_without key keyed.keys)

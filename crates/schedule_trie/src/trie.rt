@@ -7,7 +7,7 @@ ghost use Rattle.std.specs.List.{position};
 ghost use Rattle.branch_terms.specs.Forest.{path_of, step_of, cell_on_branch, place_of, is_cell, opened, opening_forest, lone_branch, IsRefused, index_of, slots_in, name_in, len_of, AreNamedApart, IsForest};
 ghost use Rattle.schedule_trie.specs.Edits.{Replace, IsEdited, IsUnedited};
 ghost use Rattle.branch_terms.specs.Limbs.{is_name, HaveNames};
-ghost use Rattle.schedule_trie.specs.Trie.{IsBlank, IsNoted, IsWhole, above_of, before_key, keys_by, if_lacks, note_of, AreLimits, has, IsOwnEnd, IsPushed, LackedByOthers, forest, IsCut, IsStepSet, segment_at, slots_of, keys_in, line, IsSpotInPath};
+ghost use Rattle.schedule_trie.specs.Trie.{IsBlank, IsNoted, IsWhole, above_of, before_key, keys_by, if_lacks, note_of, AreLimits, has, IsOwnEnd, IsPushed, LackedByOthers, forest, IsCut, IsStepSet, segment_at, slots_of, keys_in, line, SpotHasCellAt};
 ghost use Rattle.branch_terms.specs.declared.limits.TheConstants.{MOST_CELLS_MADE};
 
 mod climb;

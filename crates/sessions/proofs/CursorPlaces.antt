@@ -27,7 +27,7 @@ use Rattle.schedule_trie.specs.Forest as forests
 use Rattle.schedule_trie.specs.Forest.{Forest, Branch, IsForest, AreNamedApart, index_of, slots_in, name_in, name_of, everywhere, only_in, put_before, put_last, without, is_cell, cell_in, cell_of, cell_on_branch, cell_by, place_of, place_by, len_of}
 use Rattle.cutoff.specs.Charts.{looked_at}
 use Rattle.views.specs.Looks.{steps_in}
-use Rattle.views.proofs.Spots.{length_told}
+use Rattle.views.proofs.Spots.{len_is_step_count}
 use Rattle.sessions.specs.declared.cursor.Cursor.{Cursor}
 use Rattle.sessions.specs.declared.cursor.Shift.{Shift}
 use Rattle.sessions.specs.declared.cursor.Shift.TheVariants as shift
@@ -597,5 +597,5 @@ hit_stands f c place h within =
     let p = looked f c.place (index_of f.branches c.branch) h in
     let n = length (slots_in f.branches p.0) in
     let len : len_of f c.branch ≡ Some n = ap (option_map (λ i. length (slots_in f.branches i))) p.1 in
-    let long = length_told f c.branch n (sym len) in
+    let long = len_is_step_count f c.branch n (sym len) in
     goes_within f c place n h len (omega (arith, long, within))

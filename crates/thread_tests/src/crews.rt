@@ -55,7 +55,7 @@ impl Runnable for Square {
         }
     }
 
-    fn run_once(self, alloc: Global) -> Result<u64, AllocError> {
+    fn into_run(self, alloc: Global) -> Result<u64, AllocError> {
         self.run(alloc)
     }
 }
@@ -373,7 +373,7 @@ impl Runnable for Watched<'_> {
         self.number.ok_or(AllocError)
     }
 
-    fn run_once(self, alloc: Global) -> Result<u64, AllocError> {
+    fn into_run(self, alloc: Global) -> Result<u64, AllocError> {
         self.run(alloc)
     }
 }

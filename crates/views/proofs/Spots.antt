@@ -29,38 +29,38 @@ use Rattle.views.proofs.BehaviourAlone.{replayed_alone, history_alone, replayed-
 module _ {R P : Type 0} (E : R → R → Bool) (equal : IsEquivalence E) (is : R → Behaviour P) (alike : (x y : R) → E x y ≡ true → is x ≡ is y)
     (b : Behaviour P) (old new : TrieOf (StoredRun R P)) where
   -- from d, the parts reach what the steps reach from c, and record their events
-  record Comes (c d : Configuration R P) (parts : List (RunPart R P)) (steps : List Step) : Type 0 where
+  record ReplaysAs (c d : Configuration R P) (parts : List (RunPart R P)) (steps : List Step) : Type 0 where
     pub end : SameConfiguration E (parts_end is d parts) (replayed b c steps)
     pub events : parts_events is parts ≡ history b c steps
 
-  nothing : (c d : Configuration R P) (parts : List (RunPart R P)) (place : ℕ) (steps : List Step) → SameConfiguration E d c → parts ≡ [] → place ≡ 0 → Comes c d parts (take place steps)
-  nothing c d parts place steps same none e =
-      subst (λ n. Comes c d parts (take n steps)) (sym e) (subst (λ ps. Comes c d ps []) (sym none) (record { end = same; events = refl }))
+  no_parts_replay : (c d : Configuration R P) (parts : List (RunPart R P)) (place : ℕ) (steps : List Step) → SameConfiguration E d c → parts ≡ [] → place ≡ 0 → ReplaysAs c d parts (take place steps)
+  no_parts_replay c d parts place steps same none e =
+      subst (λ n. ReplaysAs c d parts (take n steps)) (sym e) (subst (λ ps. ReplaysAs c d ps []) (sym none) (record { end = same; events = refl }))
 
   -- the steps of segments, one after the other
-  abbrev along : List ℕ → List Step
-  along keys = map step_of (line (segment_at old.segments) keys)
+  abbrev steps_along : List ℕ → List Step
+  steps_along keys = map step_of (line (segment_at old.segments) keys)
 
-  along_more : (k : ℕ) (ks : List ℕ) → along (k ∷ ks) ≡ steps_at old k ++ along ks
-  along_more k ks = map-append step_of (slots_of (segment_at old.segments k)) (line (segment_at old.segments) ks)
+  steps_along_more : (k : ℕ) (ks : List ℕ) → steps_along (k ∷ ks) ≡ steps_at old k ++ steps_along ks
+  steps_along_more k ks = map-append step_of (slots_of (segment_at old.segments k)) (line (segment_at old.segments) ks)
 
   -- a part that counts n steps of its segment
   module _ (c : Configuration R P) (k n : ℕ) (part : RunPart R P) (home : is c.register ≡ b) (fits : RunFits E c (steps_at old k) part.run) (count : part.count ≡ n) where
-    own : is part.run.entry.register ≡ b
-    own = alike part.run.entry.register c.register fits.entry.register ∙ home
+    own_behaviour : is part.run.entry.register ≡ b
+    own_behaviour = alike part.run.entry.register c.register fits.entry.register ∙ home
 
-    counts : take part.count part.run.steps ≡ take n (steps_at old k)
-    counts = ap (λ m. take m part.run.steps) count ∙ ap (take n) fits.steps
+    counted_steps : take part.count part.run.steps ≡ take n (steps_at old k)
+    counted_steps = ap (λ m. take m part.run.steps) count ∙ ap (take n) fits.steps
 
-    part_comes : SameConfiguration E (part_end is part) (replayed b c (take n (steps_at old k)))
-    part_comes =
-        subst (λ x. SameConfiguration E (replayed x part.run.entry (take part.count part.run.steps)) (replayed b c (take n (steps_at old k)))) (sym own)
-        (subst (λ xs. SameConfiguration E (replayed b part.run.entry xs) (replayed b c (take n (steps_at old k)))) (sym counts)
+    part_reaches : SameConfiguration E (part_end is part) (replayed b c (take n (steps_at old k)))
+    part_reaches =
+        subst (λ x. SameConfiguration E (replayed x part.run.entry (take part.count part.run.steps)) (replayed b c (take n (steps_at old k)))) (sym own_behaviour)
+        (subst (λ xs. SameConfiguration E (replayed b part.run.entry xs) (replayed b c (take n (steps_at old k)))) (sym counted_steps)
         (replayed_same E b part.run.entry c (take n (steps_at old k)) fits.entry))
 
-    part_records : part_events is part ≡ history b c (take n (steps_at old k))
-    part_records =
-        ap (λ x. history x part.run.entry (take part.count part.run.steps)) own ∙ ap (history b part.run.entry) counts
+    part_events_are : part_events is part ≡ history b c (take n (steps_at old k))
+    part_events_are =
+        ap (λ x. history x part.run.entry (take part.count part.run.steps)) own_behaviour ∙ ap (history b part.run.entry) counted_steps
         ∙ history_same b E part.run.entry c (take n (steps_at old k)) fits.entry
 
   none_reached : (c : Configuration R P) (place : ℕ) (ks : List ℕ) (parts : List (RunPart R P)) (n : ℕ) → place ≡ 0
@@ -69,15 +69,15 @@ module _ {R P : Type 0} (E : R → R → Bool) (equal : IsEquivalence E) (is : R
   none_reached c place (k ∷ ks) parts n e h =
       (subst (λ (t : Bool). Settles E b old new c place (cond t [] (k ∷ reached old (place - length (steps_at old k)) ks)) parts n) (ap (λ m. nat_eq m 0) e) h).0
 
-  settled : (c d : Configuration R P) (place : ℕ) (keys : List ℕ) (parts : List (RunPart R P)) (n : ℕ) → is c.register ≡ b → SameConfiguration E d c → counted parts ≡ place
-      → Settles E b old new c place (reached old place keys) parts n → Comes c d parts (take place (along keys))
-  settled c d place [] parts n home same sum h = nothing c d parts place [] same h.0 (sym sum ∙ ap counted h.0)
-  settled c d place (k ∷ ks) parts n home same sum h = by (λ c' d' place' parts' n'. settled c' d' place' ks parts' n') (nat_eq place 0) refl parts sum h
+  settled_parts_replay : (c d : Configuration R P) (place : ℕ) (keys : List ℕ) (parts : List (RunPart R P)) (n : ℕ) → is c.register ≡ b → SameConfiguration E d c → counted parts ≡ place
+      → Settles E b old new c place (reached old place keys) parts n → ReplaysAs c d parts (take place (steps_along keys))
+  settled_parts_replay c d place [] parts n home same sum h = no_parts_replay c d parts place [] same h.0 (sym sum ∙ ap counted h.0)
+  settled_parts_replay c d place (k ∷ ks) parts n home same sum h = by (λ c' d' place' parts' n'. settled_parts_replay c' d' place' ks parts' n') (nat_eq place 0) refl parts sum h
     where
       -- the same of the segments after this one
       Later : Type 0
       Later = (c' d' : Configuration R P) (place' : ℕ) (parts' : List (RunPart R P)) (n' : ℕ) → is c'.register ≡ b → SameConfiguration E d' c' → counted parts' ≡ place'
-          → Settles E b old new c' place' (reached old place' ks) parts' n' → Comes c' d' parts' (take place' (along ks))
+          → Settles E b old new c' place' (reached old place' ks) parts' n' → ReplaysAs c' d' parts' (take place' (steps_along ks))
 
       len : ℕ
       len = length (steps_at old k)
@@ -85,52 +85,52 @@ module _ {R P : Type 0} (E : R → R → Bool) (equal : IsEquivalence E) (is : R
       next : Configuration R P
       next = replayed b c (steps_at old k)
 
-      whole : (part : RunPart R P) (rest : List (RunPart R P)) → RunFits E c (steps_at old k) part.run → part.count ≡ len → len ≤ place
-          → Comes next (part_end is part) rest (take (place - len) (along ks)) → Comes c d (part ∷ rest) (take place (along (k ∷ ks)))
-      whole part rest fits count h later =
-          let behind : place ≡ len + (place - len) = omega (arith, h) in
-          let all : take place (along (k ∷ ks)) ≡ steps_at old k ++ take (place - len) (along ks) =
-          ap (take place) (along_more k ks) ∙ ap (λ m. take m (steps_at old k ++ along ks)) behind ∙ take-append-add (steps_at old k) (along ks) (place - len) in
+      whole_part : (part : RunPart R P) (rest : List (RunPart R P)) → RunFits E c (steps_at old k) part.run → part.count ≡ len → len ≤ place
+          → ReplaysAs next (part_end is part) rest (take (place - len) (steps_along ks)) → ReplaysAs c d (part ∷ rest) (take place (steps_along (k ∷ ks)))
+      whole_part part rest fits count h later =
+          let sum_is : place ≡ len + (place - len) = omega (arith, h) in
+          let all : take place (steps_along (k ∷ ks)) ≡ steps_at old k ++ take (place - len) (steps_along ks) =
+          ap (take place) (steps_along_more k ks) ∙ ap (λ m. take m (steps_at old k ++ steps_along ks)) sum_is ∙ take-append-add (steps_at old k) (steps_along ks) (place - len) in
           let every : take len (steps_at old k) ≡ steps_at old k = take_all len (steps_at old k) (omega arith) in
-          subst (Comes c d (part ∷ rest)) (sym all)
+          subst (ReplaysAs c d (part ∷ rest)) (sym all)
           (record {
-            end = subst (SameConfiguration E (parts_end is (part_end is part) rest)) (sym (replayed-append b c (steps_at old k) (take (place - len) (along ks)))) later.end;
-            events = ap (λ es. es ++ parts_events is rest) (part_records c k len part home fits count ∙ ap (history b c) every)
-                ∙ ap (λ es. history b c (steps_at old k) ++ es) later.events ∙ sym (history-append b c (steps_at old k) (take (place - len) (along ks)));
+            end = subst (SameConfiguration E (parts_end is (part_end is part) rest)) (sym (replayed-append b c (steps_at old k) (take (place - len) (steps_along ks)))) later.end;
+            events = ap (λ es. es ++ parts_events is rest) (part_events_are c k len part home fits count ∙ ap (history b c) every)
+                ∙ ap (λ es. history b c (steps_at old k) ++ es) later.events ∙ sym (history-append b c (steps_at old k) (take (place - len) (steps_along ks)));
           })
 
-      last : (part : RunPart R P) (rest : List (RunPart R P)) → RunFits E c (steps_at old k) part.run → part.count ≡ place → place < len → rest ≡ []
-          → Comes c d (part ∷ rest) (take place (along (k ∷ ks)))
-      last part rest fits count h none =
-          let all : take place (along (k ∷ ks)) ≡ take place (steps_at old k) =
-          ap (take place) (along_more k ks) ∙ take-append-le place (steps_at old k) (along ks) (omega (arith, h)) in
-          subst (Comes c d (part ∷ rest)) (sym all)
-          (subst (λ ps. Comes c d (part ∷ ps) (take place (steps_at old k))) (sym none)
+      last_part : (part : RunPart R P) (rest : List (RunPart R P)) → RunFits E c (steps_at old k) part.run → part.count ≡ place → place < len → rest ≡ []
+          → ReplaysAs c d (part ∷ rest) (take place (steps_along (k ∷ ks)))
+      last_part part rest fits count h none =
+          let all : take place (steps_along (k ∷ ks)) ≡ take place (steps_at old k) =
+          ap (take place) (steps_along_more k ks) ∙ take-append-le place (steps_at old k) (steps_along ks) (omega (arith, h)) in
+          subst (ReplaysAs c d (part ∷ rest)) (sym all)
+          (subst (λ ps. ReplaysAs c d (part ∷ ps) (take place (steps_at old k))) (sym none)
           (record {
-            end = part_comes c k place part home fits count;
-            events = append-nil (part_events is part) ∙ part_records c k place part home fits count;
+            end = part_reaches c k place part home fits count;
+            events = append-nil (part_events is part) ∙ part_events_are c k place part home fits count;
           }))
 
-      some : Later → (part : RunPart R P) (rest : List (RunPart R P)) (m : ℕ) → part.count + counted rest ≡ place
-          → Settles E b old new c place (k ∷ reached old (place - len) ks) (part ∷ rest) m → Comes c d (part ∷ rest) (take place (along (k ∷ ks)))
-      some later part rest m sum h = elim (cases_lt place len) [
+      at_least_one_part : Later → (part : RunPart R P) (rest : List (RunPart R P)) (m : ℕ) → part.count + counted rest ≡ place
+          → Settles E b old new c place (k ∷ reached old (place - len) ks) (part ∷ rest) m → ReplaysAs c d (part ∷ rest) (take place (steps_along (k ∷ ks)))
+      at_least_one_part later part rest m sum h = elim (cases_lt place len) [
         | inl less ↦
             let count : part.count ≡ place = h.3.count ∙ omega (arith, less) in
-            last part rest h.3.fits count less (none_reached next (place - len) ks rest h.1 (omega (arith, less)) h.4)
+            last_part part rest h.3.fits count less (none_reached next (place - len) ks rest h.1 (omega (arith, less)) h.4)
         | inr more ↦
             let count : part.count ≡ len = h.3.count ∙ omega (arith, more) in
             let every : take len (steps_at old k) ≡ steps_at old k = take_all len (steps_at old k) (omega arith) in
-            whole part rest h.3.fits count more
+            whole_part part rest h.3.fits count more
             (later next (part_end is part) (place - len) rest h.1 (ap is (register_kept b c (steps_at old k)) ∙ home)
-            (subst (λ xs. SameConfiguration E (part_end is part) (replayed b c xs)) every (part_comes c k len part home h.3.fits count))
+            (subst (λ xs. SameConfiguration E (part_end is part) (replayed b c xs)) every (part_reaches c k len part home h.3.fits count))
             (omega (arith, sum, count, more)) h.4)
       ]
 
       by : Later → (t : Bool) → nat_eq place 0 ≡ t → (parts : List (RunPart R P)) → counted parts ≡ place
-          → Settles E b old new c place (cond t [] (k ∷ reached old (place - len) ks)) parts n → Comes c d parts (take place (along (k ∷ ks)))
-      by later true e parts sum h = nothing c d parts place (along (k ∷ ks)) same h.0 (eqb-true place 0 e)
+          → Settles E b old new c place (cond t [] (k ∷ reached old (place - len) ks)) parts n → ReplaysAs c d parts (take place (steps_along (k ∷ ks)))
+      by later true e parts sum h = no_parts_replay c d parts place (steps_along (k ∷ ks)) same h.0 (eqb-true place 0 e)
       by later false e [] sum h = absurd h
-      by later false e (part ∷ rest) sum h = some later part rest n sum h
+      by later false e (part ∷ rest) sum h = at_least_one_part later part rest n sum h
 
 history-take : {R P : Type 0} (b : Behaviour P) (c : Configuration R P) (n : ℕ) (steps : List Step) → take n (history b c steps) ≡ history b c (take n steps)
 history-take b c zero steps = refl
@@ -157,18 +157,18 @@ steps_named trie name = by (index_of (forest trie).branches name) refl
     by (Some i) e = rw e (ap (map step_of) (slots_in_on (segment_at trie.segments) trie.branches i))
 
 -- the length of a branch is the number of its steps
-pub length_told : (f : Forest) (name : List ℕ) (len : ℕ) → Some len ≡ len_of f name → len ≡ length (steps_in f name)
-length_told f name len told = by (index_of f.branches name) refl
+pub len_is_step_count : (f : Forest) (name : List ℕ) (len : ℕ) → Some len ≡ len_of f name → len ≡ length (steps_in f name)
+len_is_step_count f name len len_of_is = by (index_of f.branches name) refl
   where
     Counts : Option ℕ → Type 0
     Counts o = Some len ≡ option_map (λ i. length (slots_in f.branches i)) o
 
     by : (o : Option ℕ) → index_of f.branches name ≡ o → len ≡ length (steps_in f name)
     by None e =
-        let bad : ◌≡◌ {A = Option ℕ} (Some len) None = subst Counts e told in
+        let bad : ◌≡◌ {A = Option ℕ} (Some len) None = subst Counts e len_of_is in
         cc
     by (Some i) e =
-        let found : Some len ≡ Some (length (slots_in f.branches i)) = subst Counts e told in
+        let found : Some len ≡ Some (length (slots_in f.branches i)) = subst Counts e len_of_is in
         let same : len ≡ length (slots_in f.branches i) = cc in
         subst (λ (o : Option ℕ). len ≡ length (unwrap_or (path_by o f) [])) (sym e) (same ∙ sym (length-map (slots_in f.branches i) step_of))
 
@@ -178,18 +178,18 @@ module _ {R P : Type 0} (E : R → R → Bool) (equal : IsEquivalence E) (is : R
       → old.start ≡ initial_configuration (is old.start.register) old.start.register old.value
       → IsSettled E (is old.start.register) old new name place parts n
       → IsSpotOf is old.start old.value (steps_in (forest old.trie) name) place len parts
-  spot_of old new name place len parts n told begins h =
+  spot_of old new name place len parts n len_of_is begins h =
       let b = is old.start.register in
-      let comes = settled E equal is alike b old.trie new.trie old.start old.start place (keys_named old.trie name) parts n refl
+      let replays = settled_parts_replay E equal is alike b old.trie new.trie old.start old.start place (keys_named old.trie name) parts n refl
       (record { register = equal.refl old.start.register; memory = refl; running = refl; stopped = refl }) h.sum h.settles in
-      let whole : List Step = map step_of (line (segment_at old.trie.segments) (keys_named old.trie name)) in
-      let steps : whole ≡ steps_in (forest old.trie) name = sym (steps_named old.trie name) in
+      let branch_steps : List Step = map step_of (line (segment_at old.trie.segments) (keys_named old.trie name)) in
+      let steps : branch_steps ≡ steps_in (forest old.trie) name = sym (steps_named old.trie name) in
       let first : without_register old.start ≡ first_configuration b old.value = ap without_register begins in
       record {
-        counted = length_told (forest old.trie) name len told;
-        home = alike (parts_end is old.start parts).register (replayed b old.start (take place whole)).register comes.end.register ∙ ap is (register_kept b old.start (take place whole));
-        arrives = alone_same E (parts_end is old.start parts) (replayed b old.start (take place whole)) comes.end ∙ replayed_alone b old.start (take place whole)
+        counted = len_is_step_count (forest old.trie) name len len_of_is;
+        home = alike (parts_end is old.start parts).register (replayed b old.start (take place branch_steps)).register replays.end.register ∙ ap is (register_kept b old.start (take place branch_steps));
+        arrives = alone_same E (parts_end is old.start parts) (replayed b old.start (take place branch_steps)) replays.end ∙ replayed_alone b old.start (take place branch_steps)
             ∙ ap (λ xs. replayed b (without_register old.start) (take place xs)) steps ∙ ap (λ c. replayed b c (take place (steps_in (forest old.trie) name))) first;
-        records = comes.events ∙ history_alone b old.start (take place whole) ∙ ap (λ xs. history b (without_register old.start) (take place xs)) steps
+        records = replays.events ∙ history_alone b old.start (take place branch_steps) ∙ ap (λ xs. history b (without_register old.start) (take place xs)) steps
             ∙ ap (λ c. history b c (take place (steps_in (forest old.trie) name))) first;
       }

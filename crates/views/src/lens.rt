@@ -23,7 +23,7 @@ const PLACES: usize = 32;
 
 /// The most places that one look keeps when looks go backwards. Then most of the next looks replay
 /// no steps.
-const STRETCH: u32 = 16;
+const BACKWARD_PLACES: u32 = 16;
 
 /// A cache of the configurations at the places used most recently, at most 32. A place is a run and
 /// a number: how many of the run's steps precede the place. Two places are the same if equally many
@@ -110,7 +110,7 @@ impl<R: Register> Lens<R> {
         ensures { (made ≤ result) × (result ≤ count) }
     {
         let goes_back = count - made > 1 && self.has(run, count.saturating_add(1));
-        let passed = if goes_back { STRETCH } else { 1 };
+        let passed = if goes_back { BACKWARD_PLACES } else { 1 };
         made.max(count.saturating_sub(passed))
     }
 

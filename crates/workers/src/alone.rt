@@ -43,7 +43,7 @@ impl Crew {
 fn last_outcome<J: Runnable>(alloc: Global, job: J) -> JobOutcome<J::Run>
     ensures { IsOutcomeOf J.gives job result }
 {
-    match job.run_once(alloc) {
+    match job.into_run(alloc) {
         Ok(run) => JobOutcome::Ran(run),
         Err(AllocError) => JobOutcome::NoMemory,
     }

@@ -26,8 +26,8 @@ pub trait Runnable {
     fn run(&self, alloc: Global) -> Result<Self::Run, AllocError>
         ensures { IfOk result (gives self.now) };
 
-    /// Runs the job, and takes it: what it gives may use the job's memory.
-    fn run_once(self, alloc: Global) -> Result<Self::Run, AllocError>
+    /// Runs the job and consumes it, so that its run may reuse the job's memory.
+    fn into_run(self, alloc: Global) -> Result<Self::Run, AllocError>
         ensures { IfOk result (gives self) };
 }
 

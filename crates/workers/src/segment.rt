@@ -30,7 +30,7 @@ impl<R: Register> job::Runnable for Job<R> {
         Ok(Arc::new(alloc, run)?)
     }
 
-    fn run_once(self, alloc: Global) -> Result<Arc<Run<R>>, AllocError> {
+    fn into_run(self, alloc: Global) -> Result<Arc<Run<R>>, AllocError> {
         let Self {
             key: _,
             entry,

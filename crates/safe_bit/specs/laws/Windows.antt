@@ -1,4 +1,4 @@
--- Laws of stretches of lists: how they are read and replaced.
+-- Laws of windows of lists: how they are read and replaced.
 use Rattle.std.proofs.Common.{◌≡◌, ℕ, ◌+◌, ◌-◌, ◌<◌, ◌≤◌, ◌⊎◌, List, ◌++◌, length, take, drop, set, get_or, sym, ap, ◌∙◌, arith, inl, inr, length-take, length-drop, length-append, add_assoc, append-nil}
 use Rattle.std.proofs.lemmas.List.{places, same_lists, take-take, drop-drop, drop-take, get_or-take, get_or-drop, length-set, get_or-set_same, get_or-set_other, take_all, drop_all}
 use Rattle.std.proofs.lemmas.Bool.{cases_lt, cases_eq}
@@ -6,7 +6,7 @@ use Rattle.std.proofs.Common.{suc, [], ◌∷◌, add-zero, append_assoc}
 use Rattle.std.proofs.lemmas.List.{set_split, take_at, drop_at, take-append-drop, take-append-le, drop-append-le}
 use Rattle.safe_bit.specs.Windows.{splice, window}
 
--- P k holds if it holds in each of three cases: index k is before a stretch, in it, or after it
+-- P k holds if it holds in each of three cases: index k is before a window, in it, or after it
 by_place : (i n k : ℕ) (P : ℕ → Type 0) → (k < i → P k) → ((m : ℕ) → k ≡ i + m → m < n → P k) → (i + n ≤ k → P k) → P k
 by_place i n k P before inside after =
     elim (cases_lt k i) [
@@ -33,7 +33,7 @@ module _ {A : Type 0} where
   pub get_or-splice_after : (i : ℕ) (ys xs : List A) (k : ℕ) (d : A) → i + length ys ≤ length xs → i + length ys ≤ k → get_or (splice i ys xs) k d ≡ get_or xs k d
   get_or-splice_after i ys xs k d h lt = grind (arith, places)
 
-  -- a stretch of a stretch is a stretch of the whole list
+  -- a window of a window is a window of the whole list
   pub window-window : (i n j k : ℕ) (xs : List A) → j + k ≤ n → window j k (window i n xs) ≡ window (i + j) k xs
   window-window i n j k xs h =
       ap (take k) (ap (λ m. drop j (take m (drop i xs))) (split_at j n (omega arith)) ∙ drop-take j (n - j) (drop i xs))
@@ -42,14 +42,14 @@ module _ {A : Type 0} where
       split_at : (a b : ℕ) → a ≤ b → b ≡ a + (b - a)
       split_at a b l = omega arith
 
-  -- reading a stretch that was put in gives that stretch back
+  -- reading a window that was put in gives that window back
   pub window-splice : (i : ℕ) (ys xs : List A) → i + length ys ≤ length xs → window i (length ys) (splice i ys xs) ≡ ys
   window-splice i ys xs h =
       same_lists _ _ (length-window i (length ys) (splice i ys xs) (rw (length-splice i ys xs h) h))
       (λ k d lt. let lt' : k < length ys = rw (length-window i (length ys) (splice i ys xs) (rw (length-splice i ys xs h) h)) at lt in
       get_or-window i (length ys) (splice i ys xs) k d lt' ∙ get_or-splice_inside i ys xs k d h lt')
 
-  -- a stretch that doesn't overlap the replaced one stays as it was
+  -- a window that doesn't overlap the replaced one stays as it was
   pub window-splice_beside : (i j n : ℕ) (ys xs : List A) → i + length ys ≤ length xs → j + n ≤ length xs → (i + length ys ≤ j) ⊎ (j + n ≤ i)
       → window j n (splice i ys xs) ≡ window j n xs
   window-splice_beside i j n ys xs h h' beside =
@@ -62,7 +62,7 @@ module _ {A : Type 0} where
       ]
       ∙ sym (get_or-window j n xs k d lt'))
 
-  -- the second of two stretches put in at the same place replaces the first
+  -- the second of two windows put in at the same place replaces the first
   pub splice-splice : (i : ℕ) (ys zs xs : List A) → i + length zs ≤ length xs → length ys ≡ length zs → splice i ys (splice i zs xs) ≡ splice i ys xs
   splice-splice i ys zs xs h e =
       let hy : i + length ys ≤ length xs = omega arith in
@@ -74,7 +74,7 @@ module _ {A : Type 0} where
       (λ m at_m less. rw at_m (get_or-splice_inside i ys (splice i zs xs) m d hy' less ∙ sym (get_or-splice_inside i ys xs m d hy less)))
       (λ after. get_or-splice_after i ys (splice i zs xs) k d hy' after ∙ get_or-splice_after i zs xs k d h (omega arith) ∙ sym (get_or-splice_after i ys xs k d hy after)))
 
-  -- two lists are equal if they agree before a stretch, in it, and after it
+  -- two lists are equal if they agree before a window, in it, and after it
   same_in_three : (i n : ℕ) (xs ys : List A) → length xs ≡ length ys
       → ((k : ℕ) (d : A) → k < i → get_or xs k d ≡ get_or ys k d)
       → ((k : ℕ) (d : A) → k < n → get_or xs (i + k) d ≡ get_or ys (i + k) d)
@@ -86,8 +86,8 @@ module _ {A : Type 0} where
       (λ m at_m lt. rw at_m (inside m d lt))
       (λ past. after k d past))
 
-  -- replacing a stretch of a stretch, and putting the outer stretch back, is the same as replacing
-  -- the inner stretch in the whole list
+  -- replacing a window of a window, and putting the outer window back, is the same as replacing
+  -- the inner window in the whole list
   pub splice-window : (i n j : ℕ) (ys xs : List A) → i + n ≤ length xs → j + length ys ≤ n
       → splice i (splice j ys (window i n xs)) xs ≡ splice (i + j) ys xs
   splice-window i n j ys xs h inner =
@@ -111,7 +111,7 @@ module _ {A : Type 0} where
           ∙ sym (ap (λ q. get_or (splice (i + j) ys xs) q d) (sym (add_assoc i j p)) ∙ get_or-splice_inside (i + j) ys xs p d hij below)))
           (λ after. get_or-splice_after j ys (window i n xs) m d hj after ∙ get_or-window i n xs m d less ∙ sym (get_or-splice_after (i + j) ys xs (i + m) d hij (omega arith)))
 
-  -- setting an item of a stretch, and putting the stretch back, is the same as setting the item in
+  -- setting an item of a window, and putting the window back, is the same as setting the item in
   -- the list
   pub set-window : (i n j : ℕ) (x : A) (xs : List A) → i + n ≤ length xs → j < n → set xs (i + j) x ≡ splice i (set (window i n xs) j x) xs
   set-window i n j x xs h less =
@@ -133,7 +133,7 @@ module _ {A : Type 0} where
                 ∙ sym (get_or-set_other (window i n xs) j m x d other ∙ get_or-window i n xs m d below)
           ]
 
-  -- putting a stretch back unchanged changes nothing
+  -- putting a window back unchanged changes nothing
   pub splice-own : (i n : ℕ) (xs : List A) → i + n ≤ length xs → splice i (window i n xs) xs ≡ xs
   splice-own i n xs h =
       let lw = length-window i n xs h in
@@ -143,14 +143,14 @@ module _ {A : Type 0} where
       (λ m d below. get_or-splice_inside i (window i n xs) xs m d hs (omega arith) ∙ get_or-window i n xs m d below)
       (λ k d after. get_or-splice_after i (window i n xs) xs k d hs (omega arith))
 
-  -- the stretch from index 0 that is as long as the list is the whole list
+  -- the window from index 0 that is as long as the list is the whole list
   pub window-whole : (n : ℕ) (xs : List A) → length xs ≡ n → window 0 n xs ≡ xs
   window-whole n xs e = take_all n xs (omega arith)
 
   pub splice-whole : (ys xs : List A) → length ys ≡ length xs → splice 0 ys xs ≡ ys
   splice-whole ys xs e = rw (drop_all (0 + length ys) xs (omega arith)) (append-nil ys)
 
--- a stretch stays as it was if an item after it is set
+-- a window stays as it was if an item after it is set
 pub window-set_after : {A : Type 0} (i n k : ℕ) (x : A) (xs : List A) → i + n ≤ length xs → i + n ≤ k → window i n (set xs k x) ≡ window i n xs
 window-set_after i n k x xs h behind =
     let l = length-set xs k x in
@@ -159,13 +159,13 @@ window-set_after i n k x xs h behind =
     (λ q d lt. let lt' : q < n = rw (length-window i n (set xs k x) h') at lt in
     get_or-window i n (set xs k x) q d lt' ∙ get_or-set_other xs k (i + q) x d (omega arith) ∙ sym (get_or-window i n xs q d lt'))
 
--- a stretch of xs is also a stretch of xs ++ ys
+-- a window of xs is also a window of xs ++ ys
 pub window-append : {A : Type 0} (i n : ℕ) (xs ys : List A) → i + n ≤ length xs → window i n (xs ++ ys) ≡ window i n xs
 window-append i n xs ys h =
     ap (take n) (drop-append-le i xs ys (omega arith)) ∙ take-append-le n (drop i xs) ys (omega (arith, length-drop i xs))
 
 module _ {A : Type 0} where
-  -- putting in one stretch and then another right after it is the same as putting in both, joined
+  -- putting in one window and then another right after it is the same as putting in both, joined
   pub splice-after : (i n : ℕ) (ys zs xs : List A) → length ys ≡ n → i + length ys ≤ length xs → splice (i + n) zs (splice i ys xs) ≡ splice i (ys ++ zs) xs
   splice-after i n ys zs xs e fit =
       let front : length (take i xs ++ ys) ≡ i + n = omega (arith, length-append (take i xs) ys, length-take i xs) in
@@ -178,7 +178,7 @@ module _ {A : Type 0} where
       ∙ ap (λ q. take i xs ++ ys ++ zs ++ q) tail
       ∙ ap (λ q. q ++ drop (i + length (ys ++ zs)) xs) (append_assoc (take i xs) ys zs)
 
-  -- setting the item right after a stretch that was put in makes the stretch one item longer
+  -- setting the item right after a window that was put in makes the window one item longer
   pub set-after : (i n : ℕ) (x : A) (ys xs : List A) → length ys ≡ n → i + n < length xs → set (splice i ys xs) (i + n) x ≡ splice i (ys ++ x ∷ []) xs
   set-after i n x ys xs e fit =
       let l = length-splice i ys xs (omega arith) in

@@ -6,7 +6,7 @@ use Rattle.std.specs.List.{position_or_len}
 use Rattle.lineage.specs.Family.{last_of, last_from}
 use Rattle.branch_terms.specs.declared.slot.Slot.{Slot}
 use Rattle.branch_terms.specs.Forest.{cell_of, is_cell}
-use Rattle.schedule_trie.specs.Trie.{SegmentOf, slots_of, line, has, has_cell, Once, IsSpotInPath, LiesInPath}
+use Rattle.schedule_trie.specs.Trie.{SegmentOf, slots_of, line, has, has_cell, Once, SpotHasCellAt, SpotIsAt}
 use Rattle.schedule_trie.specs.Climbs.{keys_up_to, keys_to, HasClimbedTo}
 use Rattle.schedule_trie.proofs.lists.NoRepeats.{has-tail, has_not_from, has-in, once_before}
 use Rattle.schedule_trie.proofs.branches.Lines.{in_line}
@@ -156,7 +156,7 @@ module _ {T : Type 0} (at : ℕ → Option (SegmentOf T)) where
 
   -- a place lies in the key's segment if it is the number of cells above the segment plus an offset
   pub lies_here : (keys : List ℕ) (last : Option ℕ) (key place offset : ℕ) → HasClimbedTo keys last → last ≡ Some key
-      → length (line at (keys_to keys last)) + offset ≡ place + length (slots_of (at key)) → offset < length (slots_of (at key)) → LiesInPath at keys place (key, offset)
+      → length (line at (keys_to keys last)) + offset ≡ place + length (slots_of (at key)) → offset < length (slots_of (at key)) → SpotIsAt at keys place (key, offset)
   lies_here keys None key place offset h e behind within = absurd (cc)
   lies_here keys (Some k) key place offset h e behind within =
       let one : k ≡ key = cc in
@@ -174,7 +174,7 @@ module _ {T : Type 0} (at : ℕ → Option (SegmentOf T)) where
       }
 
   -- the cells down to the segment of a place are those before the segment, and the segment's own
-  pub cells_to : (keys : List ℕ) (key place offset : ℕ) → (l : LiesInPath at keys place (key, offset))
+  pub cells_to : (keys : List ℕ) (key place offset : ℕ) → (l : SpotIsAt at keys place (key, offset))
       → length (line at (keys_to keys (Some key))) + offset ≡ place + length (slots_of (at key))
   cells_to keys key place offset l =
       let own : length (line at (keys_up_to key keys)) ≡ length (line at l.front) + length (slots_of (at key)) =
@@ -183,7 +183,7 @@ module _ {T : Type 0} (at : ℕ → Option (SegmentOf T)) where
       let before = l.before in
       omega (arith, own, before)
 
-  pub stands_here : (keys : List ℕ) (place : ℕ) (spot : ℕ × ℕ) → LiesInPath at keys place spot → IsSpotInPath at keys place spot
+  pub stands_here : (keys : List ℕ) (place : ℕ) (spot : ℕ × ℕ) → SpotIsAt at keys place spot → SpotHasCellAt at keys place spot
   stands_here keys place spot l =
       let whole : line at keys ≡ line at l.front ++ (slots_of (at spot.0) ++ line at l.back) = ap (line at) l.is ∙ line-append at l.front (spot.0 ∷ l.back) in
       record {

@@ -12,7 +12,7 @@ use Rattle.branch_terms.specs.declared.slot.Slot.{Slot}
 use Rattle.schedule_trie.specs.declared.segment.Segment.{Segment}
 use Rattle.schedule_trie.specs.declared.trie.Trie.TheInside.{Inside}
 use Rattle.branch_terms.specs.Forest.{slot, cell_of, slots_in, cell_in, only_in, put_last, put_before, everywhere, inserted}
-use Rattle.schedule_trie.specs.Trie.{TrieOf, SegmentOf, segment, segment_at, slots_of, note_of, forest, branches_on, keys_in, has, has_cell, Once, IsSpotInPath, IsSegment, IsSoundTrie, IsWithin, IsWhole, HoldsCellAt, MayGrowAt, IsPushed, IsPutBefore, IsInserted, divided_branch, HasChanged, IsExtended}
+use Rattle.schedule_trie.specs.Trie.{TrieOf, SegmentOf, segment, segment_at, slots_of, note_of, forest, branches_on, keys_in, has, has_cell, Once, SpotHasCellAt, IsSegment, IsSoundTrie, IsWithin, IsWhole, HoldsCellAt, MayGrowAt, IsPushed, IsPutBefore, IsInserted, divided_branch, HasChanged, IsExtended}
 use Rattle.branch_terms.specs.declared.limits.Limits.{Limits}
 use Rattle.schedule_trie.specs.TrieFields.{segment_of, keyed_branches, names_of, trie_of, IsHeldTrie}
 use Rattle.schedule_trie.proofs.branches.KeyedBranches.{keyed_branches-divided}
@@ -108,7 +108,7 @@ module _ {T : Type 0} (t : Inside T) (key offset : ℕ) (step : Step) (v w : Seg
   }
 
 -- the result of `insert_at`
-module _ {T : Type 0} (old new : TrieOf T) (index place key offset : ℕ) (step : Step) (stands : IsSpotInPath (segment_at old.segments) (keys_in old.branches index) place (key, offset))
+module _ {T : Type 0} (old new : TrieOf T) (index place key offset : ℕ) (step : Step) (stands : SpotHasCellAt (segment_at old.segments) (keys_in old.branches index) place (key, offset))
     (sound : IsSoundTrie (segment_at old.segments) old.branches old.made) (put : IsPutBefore old new key offset step) where
   the_cell : (s : Slot) × (slice_get (slots_of (segment_at old.segments key)) offset ≡ Some s)
   the_cell = slice_get_some (slots_of (segment_at old.segments key)) offset stands.within

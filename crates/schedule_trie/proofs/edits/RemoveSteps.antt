@@ -7,7 +7,7 @@ use Rattle.branch_terms.specs.declared.slot.Slot.{Slot}
 use Rattle.schedule_trie.specs.declared.segment.Segment.{Segment}
 use Rattle.schedule_trie.specs.declared.trie.Trie.TheInside.{Inside}
 use Rattle.branch_terms.specs.Forest.{without, remove_cell, index_of}
-use Rattle.schedule_trie.specs.Trie.{IsWithin, TrieOf, segment, segment_at, slots_of, note_of, forest, branches_on, keys_in, keys_without, branch_without, IsSpotInPath, IsSoundTrie, IsRemoved}
+use Rattle.schedule_trie.specs.Trie.{IsWithin, TrieOf, segment, segment_at, slots_of, note_of, forest, branches_on, keys_in, keys_without, branch_without, SpotHasCellAt, IsSoundTrie, IsRemoved}
 use Rattle.schedule_trie.specs.TrieFields.{segment_of, keyed_branches, names_of, trie_of, IsHeldTrie}
 use Rattle.schedule_trie.proofs.branches.KeyedBranches.{keyed_branches-without}
 use Rattle.schedule_trie.proofs.segments.Notes.{notes_at}
@@ -106,7 +106,7 @@ module _ {T : Type 0} (t u : Inside T) (key : ℕ) (held : IsHeldTrie t) (one : 
 
 -- the result of `remove`
 pub remove_ok : {T : Type 0} (old new : TrieOf T) (name : List ℕ) (place index key offset : ℕ) → index_of (forest old).branches name ≡ Some index
-    → IsSpotInPath (segment_at old.segments) (keys_in old.branches index) place (key, offset) → IsRemoved old new key offset
+    → SpotHasCellAt (segment_at old.segments) (keys_in old.branches index) place (key, offset) → IsRemoved old new key offset
     → remove_cell (forest old) name place ≡ Ok (forest new)
 remove_ok old new name place index key offset found stands removed =
     let cell = the_cell old new name place index key offset found stands in

@@ -1,7 +1,7 @@
 -- A fork of all cells of a branch: it has all of the branch's segments.
 use Rattle.std.proofs.Common.{◌≡◌, ℕ, ◌+◌, ◌<◌, true, List, [], ◌∷◌, ◌++◌, length, Option, Some, Result, Ok, Err, OnOk, refl, sym, ap, ◌∙◌, arith, append_assoc}
 use Rattle.std.proofs.lemmas.List.{length-append}
-use Rattle.schedule_trie.specs.Trie.{TrieOf, SegmentOf, segment_at, slots_of, line, keys_in, has, LiesInPath, IsWhole}
+use Rattle.schedule_trie.specs.Trie.{TrieOf, SegmentOf, segment_at, slots_of, line, keys_in, has, SpotIsAt, IsWhole}
 use Rattle.schedule_trie.specs.Climbs.{keys_up_to, keys_to}
 use Rattle.schedule_trie.proofs.lists.NoRepeats.{has-head, has-in}
 use Rattle.schedule_trie.proofs.climbs.Climbs.{up_to-here}
@@ -29,7 +29,7 @@ module _ {T : Type 0} (at : ℕ → Option (SegmentOf T)) where
       absurd (omega (arith, one, sum, e))
 
   -- if the last cell of the branch is in a key's segment, the keys down to that key are all keys
-  pub all_to : (keys : List ℕ) → HaveCells keys → (key place offset : ℕ) → LiesInPath at keys place (key, offset) → offset + 1 ≡ length (slots_of (at key)) → place + 1 ≡ length (line at keys)
+  pub all_to : (keys : List ℕ) → HaveCells keys → (key place offset : ℕ) → SpotIsAt at keys place (key, offset) → offset + 1 ≡ length (slots_of (at key)) → place + 1 ≡ length (line at keys)
       → keys_to keys (Some key) ≡ keys
   all_to keys some key place offset l here e = by l.back l.is
     where

@@ -6,7 +6,7 @@ use Rattle.std.proofs.lemmas.List.Edits.{length-insert, length-remove}
 use Rattle.schedule_steps.specs.declared.types.Step.{Step}
 use Rattle.branch_terms.specs.declared.slot.Slot.{Slot}
 use Rattle.branch_terms.specs.Forest.{Branch, branch, cell_of, cell_in, changed, everywhere, only_in, put_before, put_last, slot, slots_in, without}
-use Rattle.schedule_trie.specs.Trie.{TrieOf, forest, segment_at, slots_of, branch_on, keys_in, Once, IsSpotInPath, IsWhole, IsInserted, IsRemoved}
+use Rattle.schedule_trie.specs.Trie.{TrieOf, forest, segment_at, slots_of, branch_on, keys_in, Once, SpotHasCellAt, IsWhole, IsInserted, IsRemoved}
 use Rattle.schedule_trie.specs.changes.Forks.{IsBranchForked}
 use Rattle.schedule_trie.proofs.edits.Insertion.{inserted-at}
 use Rattle.branch_terms.proofs.LimbLists.{slots_in-last}
@@ -45,7 +45,7 @@ pub branch_count : {T : Type 0} (c : TrieOf T) → length (forest c).branches �
 branch_count c = length-map c.branches (branch_on (segment_at c.segments))
 
 -- a place at which a cell is found is inside the branch
-pub place_inside : {T : Type 0} (c : TrieOf T) (index place : ℕ) (spot : ℕ × ℕ) → IsSpotInPath (segment_at c.segments) (keys_in c.branches index) place spot
+pub place_inside : {T : Type 0} (c : TrieOf T) (index place : ℕ) (spot : ℕ × ℕ) → SpotHasCellAt (segment_at c.segments) (keys_in c.branches index) place spot
     → place < length (slots_in (forest c).branches index)
 place_inside c index place spot stands =
     let p = slice_get_some (slots_of (segment_at c.segments spot.0)) spot.1 stands.within in
@@ -93,7 +93,7 @@ module _ {T : Type 0} (old new : TrieOf T) (whole : IsWhole old) (index : ℕ) (
       let same : length (forest new).branches ≡ length (forest old).branches = ap length (told.everywhere_gone p.0 p.1) ∙ length-map (forest old).branches (changed (without p.0.cell)) in
       omega (arith, same, within, branch_count new)
 
-  pub shorter : (place key offset : ℕ) → IsSpotInPath (segment_at old.segments) (keys_in old.branches index) place (key, offset) → IsRemoved old new key offset
+  pub shorter : (place key offset : ℕ) → SpotHasCellAt (segment_at old.segments) (keys_in old.branches index) place (key, offset) → IsRemoved old new key offset
       → place < length slots → length slots ≡ length (slots_in (forest new).branches index) + 1
   shorter place key offset stands told less =
       let p = slice_get_some (slots_of (segment_at old.segments key)) offset stands.within in

@@ -3,7 +3,7 @@ use Rattle.std.proofs.Common.{◌≡◌, ℕ, true, List, Some, sym, ap, subst, 
 use Rattle.std.specs.Option.{option_map}
 use Rattle.branch_terms.specs.declared.slot.Slot.{Slot}
 use Rattle.branch_terms.specs.Forest.{cell_on_branch, cell_by, cell_of, index_of}
-use Rattle.schedule_trie.specs.Trie.{TrieOf, segment_at, slots_of, forest, keys_in, has_cell, IsSpotInPath, IsSoundTrie, KeepsNotesOff, HoldsCellAt}
+use Rattle.schedule_trie.specs.Trie.{TrieOf, segment_at, slots_of, forest, keys_in, has_cell, SpotHasCellAt, IsSoundTrie, KeepsNotesOff, HoldsCellAt}
 use Rattle.schedule_trie.proofs.segments.Changes.{has_cell_get}
 use Rattle.schedule_trie.proofs.branches.Lines.{slots_in_on}
 use Rattle.schedule_trie.proofs.segments.Notes.{notes_but}
@@ -11,7 +11,7 @@ use Rattle.branch_terms.proofs.Lists.{slice_get_some}
 
 -- the result of `cell_on_branch`
 pub cell_found : {T : Type 0} (c : TrieOf T) (name : List ℕ) (place index key offset : ℕ) (s : Slot) → index_of (forest c).branches name ≡ Some index
-    → IsSpotInPath (segment_at c.segments) (keys_in c.branches index) place (key, offset) → slice_get (slots_of (segment_at c.segments key)) offset ≡ Some s
+    → SpotHasCellAt (segment_at c.segments) (keys_in c.branches index) place (key, offset) → slice_get (slots_of (segment_at c.segments key)) offset ≡ Some s
     → cell_on_branch (forest c) name place ≡ Some s.cell
 cell_found c name place index key offset s found stands here =
     ap (λ o. cell_by o (forest c) place) found
@@ -20,7 +20,7 @@ cell_found c name place index key offset s found stands here =
 
 -- the segment of the cell at a place of a branch
 pub holds_cell : {T : Type 0} (c : TrieOf T) (name : List ℕ) (place index key offset : ℕ) → index_of (forest c).branches name ≡ Some index
-    → IsSpotInPath (segment_at c.segments) (keys_in c.branches index) place (key, offset) → HoldsCellAt c name place key
+    → SpotHasCellAt (segment_at c.segments) (keys_in c.branches index) place (key, offset) → HoldsCellAt c name place key
 holds_cell c name place index key offset found stands =
     let p = slice_get_some (slots_of (segment_at c.segments key)) offset stands.within in
     record {
@@ -39,7 +39,7 @@ one_holder c name place j k sound a b =
 
 -- an edit at a cell touches exactly the segment that has it
 pub notes_here : {T : Type 0} (old new : TrieOf T) (name : List ℕ) (place index key offset : ℕ) → IsSoundTrie (segment_at old.segments) old.branches old.made
-    → index_of (forest old).branches name ≡ Some index → IsSpotInPath (segment_at old.segments) (keys_in old.branches index) place (key, offset)
+    → index_of (forest old).branches name ≡ Some index → SpotHasCellAt (segment_at old.segments) (keys_in old.branches index) place (key, offset)
     → KeepsNotesOff old new (λ k. k ≡ key) → KeepsNotesOff old new (HoldsCellAt old name place)
 notes_here old new name place index key offset sound found stands notes =
     let here = holds_cell old name place index key offset found stands in

@@ -11,7 +11,7 @@ use Rattle.schedule_trie.specs.declared.trie.Trie.TheInside.{Inside}
 use Rattle.branch_terms.specs.declared.refusal.Refusal.TheVariants.{NoPlace}
 use Rattle.branch_terms.specs.Forest.{branch, replace_step, at_cell, on_found, replaced_by, index_of, slots_in, cell_in, cell_of, everywhere}
 use Rattle.schedule_trie.specs.Slots.{set_step}
-use Rattle.schedule_trie.specs.Trie.{line, KeyedBranch, IsNoted, with_note, branches_on, TrieOf, SegmentOf, segment, segment_at, slots_of, forest, keys_in, IsSpotInPath, note_of, IsSoundTrie, IsCut, IsWithin, IsSegment, IsStepSet}
+use Rattle.schedule_trie.specs.Trie.{line, KeyedBranch, IsNoted, with_note, branches_on, TrieOf, SegmentOf, segment, segment_at, slots_of, forest, keys_in, SpotHasCellAt, note_of, IsSoundTrie, IsCut, IsWithin, IsSegment, IsStepSet}
 use Rattle.schedule_trie.specs.TrieFields.{segment_of, trie_of, IsHeldTrie}
 use Rattle.branch_terms.specs.declared.limits.Limits.{Limits}
 use Rattle.branch_terms.specs.declared.limits.TheConstants.{MOST_CELLS_MADE}
@@ -124,7 +124,7 @@ module _ {T : Type 0} (t : Inside T) (key offset : ℕ) (step : Step) (v w : Seg
 -- the result of a command at a cell
 module _ {T : Type 0} (old new : TrieOf T) (name : List ℕ) (place index key offset : ℕ)
     (found : index_of (forest old).branches name ≡ Some index)
-    (stands : IsSpotInPath (segment_at old.segments) (keys_in old.branches index) place (key, offset)) where
+    (stands : SpotHasCellAt (segment_at old.segments) (keys_in old.branches index) place (key, offset)) where
   abbrev pub the_cell : (s : Slot) × (slice_get (slots_of (segment_at old.segments key)) offset ≡ Some s)
   the_cell = slice_get_some (slots_of (segment_at old.segments key)) offset stands.within
 

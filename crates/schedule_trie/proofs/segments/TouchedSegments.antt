@@ -4,7 +4,7 @@ use Rattle.std.specs.Option.{IfSome, option_map}
 use Rattle.std.proofs.lemmas.List.{length-append, take-append-drop}
 use Rattle.branch_terms.specs.declared.slot.Slot.{Slot}
 use Rattle.branch_terms.specs.Forest.{cell_on_branch, cell_by, cell_of, index_of, slots_in}
-use Rattle.schedule_trie.specs.Trie.{TrieOf, SegmentOf, segment_at, slots_of, line, forest, keys_in, has, has_cell, Once, IsSpotInPath, IsSegment, IsWhole, IsEnd, HoldsCellAt, HoldsCellBefore, IsParted}
+use Rattle.schedule_trie.specs.Trie.{TrieOf, SegmentOf, segment_at, slots_of, line, forest, keys_in, has, has_cell, Once, SpotHasCellAt, IsSegment, IsWhole, IsEnd, HoldsCellAt, HoldsCellBefore, IsParted}
 use Rattle.schedule_trie.proofs.segments.Changes.{has_cell_get}
 use Rattle.schedule_trie.proofs.branches.Lines.{in_line, slots_in_on, line-drop}
 use Rattle.schedule_trie.proofs.lists.NoRepeats.{Once-from_linked, has-get_or, Once-apart, has-in}
@@ -16,7 +16,7 @@ use Rattle.std.proofs.lemmas.Option.{slice_get_within}
 module _ {T : Type 0} (at : ℕ → Option (SegmentOf T)) where
   -- a cell's place is its offset plus the number of cells in the segments before its own
   stands_behind : (keys : List ℕ) (count offset place : ℕ) → count < length keys → offset < length (slots_of (at (get_or keys count 0)))
-      → length (line at (take count keys)) + offset ≡ place → IsSpotInPath at keys place (get_or keys count 0, offset)
+      → length (line at (take count keys)) + offset ≡ place → SpotHasCellAt at keys place (get_or keys count 0, offset)
   stands_behind keys count offset place inside within behind = record {
     member = has-get_or keys count inside;
     within = within;
@@ -27,7 +27,7 @@ module _ {T : Type 0} (at : ℕ → Option (SegmentOf T)) where
   }
 
   -- a cell's place in the last segment
-  stands_last : (front : List ℕ) (key offset : ℕ) → offset < length (slots_of (at key)) → IsSpotInPath at (front ++ key ∷ []) (length (line at front) + offset) (key, offset)
+  stands_last : (front : List ℕ) (key offset : ℕ) → offset < length (slots_of (at key)) → SpotHasCellAt at (front ++ key ∷ []) (length (line at front) + offset) (key, offset)
   stands_last front key offset within = record {
     member = has-in key front [];
     within = within;
@@ -77,7 +77,7 @@ module _ {T : Type 0} (c : TrieOf T) (name : List ℕ) (index : ℕ) (found : in
         before = length (line at end.front) + (length (slots_of (at key)) - 1);
         next = omega arith;
         holds = holds_cell c name (length (line at end.front) + (length (slots_of (at key)) - 1)) index key (length (slots_of (at key)) - 1) found
-            (subst (λ l. IsSpotInPath at l (length (line at end.front) + (length (slots_of (at key)) - 1)) (key, length (slots_of (at key)) - 1)) (sym end.last)
+            (subst (λ l. SpotHasCellAt at l (length (line at end.front) + (length (slots_of (at key)) - 1)) (key, length (slots_of (at key)) - 1)) (sym end.last)
             (stands_last at end.front key (length (slots_of (at key)) - 1) (omega arith)));
       }
 

@@ -4,7 +4,7 @@ ghost use Rattle.std.specs.Prelude.{ℕ, List, ◌≡◌, ◌≤◌, ◌<◌, �
 ghost use Rattle.std.specs.List.{position};
 ghost use Rattle.lineage.specs.Family.{last_of};
 ghost use Rattle.branch_terms.specs.Forest.{is_cell, slots_in};
-ghost use Rattle.schedule_trie.specs.Trie.{forest, segment_at, slots_of, keys_in, line, IsSpotInPath, LiesInPath, IsWhole};
+ghost use Rattle.schedule_trie.specs.Trie.{forest, segment_at, slots_of, keys_in, line, SpotHasCellAt, SpotIsAt, IsWhole};
 ghost use Rattle.schedule_trie.specs.Climbs.{keys_to, HasClimbedTo};
 
 use super::Trie;
@@ -73,9 +73,9 @@ impl<T: Drop> Trie<T> {
     /// offset in that segment. The place is this offset plus the number of cells in all segments
     /// above. `None` if the branch has no cell there.
     pub fn find_cell(&self, index: usize, place: u32) -> Option<(SegKey, usize)>
-        ensures found { IfSome result (IsSpotInPath (segment_at self.now.segments)
+        ensures found { IfSome result (SpotHasCellAt (segment_at self.now.segments)
             (keys_in self.now.branches index) place) }
-        ensures lies { IfSome result (LiesInPath (segment_at self.now.segments)
+        ensures lies { IfSome result (SpotIsAt (segment_at self.now.segments)
             (keys_in self.now.branches index) place) }
         ensures none { IfNone result (length (slots_in (forest self.now).branches index) ≤ place) }
     {

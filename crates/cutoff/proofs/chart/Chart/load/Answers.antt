@@ -9,7 +9,7 @@ over-requires-clause-fits g c =
     loaded_fits (g.R.Behaves.behaviour c.args.register) c.args.limits c.args.limbs.now (forest c.in_ok-trie.trie) c.requires.fits c.in_ok-trie.ensures.ok
 
 pub returns-clause-forest : goal.returns-clause-forest
-returns-clause-forest g c = subst (λ t. loaded c.args.limits c.args.limbs.now ≡ Ok (forest t)) (sym c.in_ok-over.ensures.cut) c.in_ok-trie.ensures.ok
+returns-clause-forest g c = subst (λ t. loaded c.args.limits c.args.limbs.now ≡ Ok (forest t)) (sym c.in_ok-over.ensures.trie) c.in_ok-trie.ensures.ok
 
 pub returns-clause-again : goal.returns-clause-again
-returns-clause-again g c = subst (λ t. limbs (forest t) ≡ c.args.limbs.now) (sym c.in_ok-over.ensures.cut) c.in_ok-trie.ensures.again
+returns-clause-again g c = subst (λ t. limbs (forest t) ≡ c.args.limbs.now) (sym c.in_ok-over.ensures.trie) c.in_ok-trie.ensures.again

@@ -9,4 +9,4 @@ over-requires-clause-fits g c =
     opened_fits (g.R.Behaves.behaviour c.args.register) c.args.limits c.args.steps.now (forest c.in_ok-trie.trie) c.requires.fits c.in_ok-trie.ensures.ok
 
 pub returns-clause-forest : goal.returns-clause-forest
-returns-clause-forest g c = subst (λ t. opened c.args.limits c.args.steps.now ≡ Ok (forest t)) (sym c.in_ok-over.ensures.cut) c.in_ok-trie.ensures.ok
+returns-clause-forest g c = subst (λ t. opened c.args.limits c.args.steps.now ≡ Ok (forest t)) (sym c.in_ok-over.ensures.trie) c.in_ok-trie.ensures.ok

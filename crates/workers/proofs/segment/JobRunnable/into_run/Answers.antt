@@ -1,7 +1,7 @@
 use Rattle.std.proofs.Common.{ap, sym, subst, ◌∙◌}
 use Rattle.std.specs.Arc.{arc_value}
 use Rattle.frames.specs.Recorded.{AllFit}
-use Rattle.workers.proofs.segment.JobRunnable.run_once.Goals as goal
+use Rattle.workers.proofs.segment.JobRunnable.into_run.Goals as goal
 
 pub run_of_all-requires : goal.run_of_all-requires
 run_of_all-requires g c =
