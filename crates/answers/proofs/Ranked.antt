@@ -270,13 +270,13 @@ module _ (q : Question) where
       none_left p lt = descend (acyclic.rank p (ended p) + 1) p lt (omega arith)
 
     -- if no process is free, the question is acyclic exactly if each process has ended all
-    pub decides_acyclic : (ended : ℕ → ℕ) (processes : ℕ) (told : Bool) → length q.operations.items ≤ processes
+    pub decides_acyclic : (ended : ℕ → ℕ) (processes : ℕ) (verdict : Bool) → length q.operations.items ≤ processes
         → IsRankedTo ended
         → ((p : ℕ) → ended p ≤ length (operations_of q p))
         → ((p : ℕ) → p < processes → next_of q ended p ≡ None)
-        → Decides told ((p : ℕ) → p < processes → ended p ≡ length (operations_of q p))
-        → Decides told (IsAcyclic q)
-    decides_acyclic ended processes told lists was few none d = (
+        → Decides verdict ((p : ℕ) → p < processes → ended p ≡ length (operations_of q p))
+        → Decides verdict (IsAcyclic q)
+    decides_acyclic ended processes verdict lists was few none d = (
       λ h. acyclic_if_all ended was (everywhere (d.0 h)),
       λ acyclic. d.1 (λ p lt. elim (cases_lt (ended p) (length (operations_of q p))) [
         | inl low ↦ absurd (none_left ended (λ r less. none r (there r less)) acyclic p low)

@@ -304,12 +304,12 @@ module _ (c : Command) (m : ArgMatches) (shape : app_of c ≡ program) (p : IsPa
         let one : least_values arg ≡ 1 = ap (λ (r : Rule). (unwrap_or_range r.range).start_inclusive) rule in
         (kept.action Set is_set, kept.parser (number least most) is_number, kept.least is_set (omega (arith, one)), kept.val_delim ∙ no_delimiter arg simple)
 
-    wants : WantsDefault arg
-    wants = (nothing arg.default_vals_ifs.items (both _ _ (both _ _ simple).1).0, some_text (items_of arg.default_vals) o.default (ap (λ (r : Rule). r.defaults) rule))
+    has_default : WantsDefault arg
+    has_default = (nothing arg.default_vals_ifs.items (both _ _ (both _ _ simple).1).0, some_text (items_of arg.default_vals) o.default (ap (λ (r : Rule). r.defaults) rule))
 
     found : HasId (found_of m) id
     found =
-        let has = default_present c m p no_globals o.place an_arg place wants in
+        let has = default_present c m p no_globals o.place an_arg place has_default in
         rw id_is at has
 
     read : ReadsNumber id least most (found_of m)
@@ -332,9 +332,9 @@ module _ (c : Command) (m : ArgMatches) (shape : app_of c ≡ program) (p : IsPa
         cc
 
     -- it is in its range, and is the one that the words give
-    told : (words : List Text) (n : ℕ) → HasMatchesOf (app_of c) words m → Gives id (Some n)
+    number_given : (words : List Text) (n : ℕ) → HasMatchesOf (app_of c) words m → Gives id (Some n)
         → (n ≡ option_number id words) × (least ≤ n) × (n ≤ most)
-    told words n has gives =
+    number_given words n has gives =
         let got = in_range (Some n) gives in
         let same : n ≡ got.0 = ap (λ o. unwrap_or o 0) got.1 in
         let digits = without_minus read.0 in
@@ -349,9 +349,9 @@ module _ (c : Command) (m : ArgMatches) (shape : app_of c ≡ program) (p : IsPa
       → Gives (codes "workers") (Some n) → Gives (codes "cells") (Some k) → Gives (codes "branches") (Some l)
       → Says words file (record { workers = n; cells = k; branches = l }) save
   says words file save n k l has taken file_is save_is gives_workers gives_cells gives_branches =
-      let workers_are = told workers words n has gives_workers in
-      let cells_are = told cells words k has gives_cells in
-      let branches_are = told branches words l has gives_branches in
+      let workers_are = number_given workers words n has gives_workers in
+      let cells_are = number_given cells words k has gives_cells in
+      let branches_are = number_given branches words l has gives_branches in
       record {
         taken = ap (λ (a : App). fault_of a words) (sym shape) ∙ taken;
         file_is = file_is ∙ first_value-rows (found_of m) (codes "FILE") ∙ ap (first_of (codes "FILE")) (rows words has);
@@ -368,20 +368,20 @@ module _ (c : Command) (m : ArgMatches) (shape : app_of c ≡ program) (p : IsPa
 
 -- ---- what is answered
 
-told_of : (words : List Text) (kinds : Kinds) (e : Error) (r : Invocation) → kinds ≡ faults_of words → HasKind kinds e → Explains (kind_of e) r → IsAskedBy words r
-told_of words kinds e (Run file options save) same has h = absurd h
-told_of words kinds e (Help text) same (inl lack) h =
+invocation_explained : (words : List Text) (kinds : Kinds) (e : Error) (r : Invocation) → kinds ≡ faults_of words → HasKind kinds e → Explains (kind_of e) r → IsAskedBy words r
+invocation_explained words kinds e (Run file options save) same has h = absurd h
+invocation_explained words kinds e (Help text) same (inl lack) h =
     let bad : OutOfMemory ≡ DisplayHelp = sym lack ∙ h in
     cc
-told_of words kinds e (Help text) same (inr among) h =
+invocation_explained words kinds e (Help text) same (inr among) h =
     subst (λ k. IsAmong k (faults_of words)) h (subst (λ ks. IsAmong (kind_of e) ks) same among)
-told_of words kinds e (Refused text) same (inl lack) h = absurd (h.1 lack)
-told_of words kinds e (Refused text) same (inr among) h = (kind_of e, subst (λ ks. IsAmong (kind_of e) ks) same among, h.0)
-told_of words kinds e Memory same has h = tt
+invocation_explained words kinds e (Refused text) same (inl lack) h = absurd (h.1 lack)
+invocation_explained words kinds e (Refused text) same (inr among) h = (kind_of e, subst (λ ks. IsAmong (kind_of e) ks) same among, h.0)
+invocation_explained words kinds e Memory same has h = tt
 
-pub tells : (c : Command) (words : List Text) (e : Error) (r : Invocation) → app_of c ≡ program → HasKind (fault_of (app_of c) words) e
+pub fault_explained : (c : Command) (words : List Text) (e : Error) (r : Invocation) → app_of c ≡ program → HasKind (fault_of (app_of c) words) e
     → Explains (kind_of e) r → IsAskedBy words r
-tells c words e r shape has h = told_of words (fault_of (app_of c) words) e r (ap (λ (a : App). fault_of a words) shape) has h
+fault_explained c words e r shape has h = invocation_explained words (fault_of (app_of c) words) e r (ap (λ (a : App). fault_of a words) shape) has h
 
 -- ---- no words
 

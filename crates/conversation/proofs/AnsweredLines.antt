@@ -74,8 +74,8 @@ module _ {W : Type 0} (define : Definition W) where
 
   module _ (start : W) where
     module _ (seen : List ℕ) (world : W) (lines : ℕ) (line text : List ℕ) where
-      pub told_start : seen ≡ [] → world ≡ start → lines ≡ 0 → line ≡ [] → text ≡ [] → HasAnswered define start seen world lines line text
-      told_start s w n l t = record {
+      pub answered_start : seen ≡ [] → world ≡ start → lines ≡ 0 → line ≡ [] → text ≡ [] → HasAnswered define start seen world lines line text
+      answered_start s w n l t = record {
         marks = λ _. false;
         whole = [];
         rest = [];
@@ -88,20 +88,20 @@ module _ {W : Type 0} (define : Definition W) where
 
       module _ (t : HasAnswered define start seen world lines line text) where
         -- the answers so far are those to the whole lines seen
-        pub told_whole : text ≡ answers_to define start (whole_lines seen) t.marks
-        told_whole = t.same_text ∙ ap (λ ls. answers_to define start ls t.marks) (sym (ap all_but_last t.cut ∙ but_last t.whole t.rest))
+        pub answered_whole : text ≡ answers_to define start (whole_lines seen) t.marks
+        answered_whole = t.same_text ∙ ap (λ ls. answers_to define start ls t.marks) (sym (ap all_but_last t.cut ∙ but_last t.whole t.rest))
 
         -- the answers so far are also those to the first whole lines of any longer text that is
         -- seen later
-        pub told_first : (more : List ℕ) → text ≡ answers_to define start (take (length t.whole) (whole_lines (seen ++ more))) t.marks
-        told_first more =
+        pub answered_first : (more : List ℕ) → text ≡ answers_to define start (take (length t.whole) (whole_lines (seen ++ more))) t.marks
+        answered_first more =
             let on = go_on seen more t.whole t.rest t.cut in
             t.same_text ∙ ap (λ ls. answers_to define start ls t.marks) (sym (ap (λ ls. take (length t.whole) (all_but_last ls)) on.same ∙ first_lines t.whole on.next on.others))
 
         -- after more bytes in which no line ends, nothing more is answered
-        pub told_on : (bytes : List ℕ) (new_lines : ℕ) (new_line new_text : List ℕ) → HasNoEnd bytes
+        pub answered_on : (bytes : List ℕ) (new_lines : ℕ) (new_line new_text : List ℕ) → HasNoEnd bytes
             → new_lines ≡ lines → new_line ≡ kept_with line bytes → new_text ≡ text → HasAnswered define start (seen ++ bytes) world new_lines new_line new_text
-        told_on bytes new_lines new_line new_text h n l same = record {
+        answered_on bytes new_lines new_line new_text h n l same = record {
           marks = t.marks;
           whole = t.whole;
           rest = t.rest ++ bytes;
@@ -113,7 +113,7 @@ module _ {W : Type 0} (define : Definition W) where
         }
 
 -- all lines are answered, the last one too
-pub record ToldAll {W : Type 0} (define : Definition W) (start : W) (script : List ℕ) (world : W) (lines : ℕ) (text : List ℕ) : Type 0 where
+pub record HasAnsweredAll {W : Type 0} (define : Definition W) (start : W) (script : List ℕ) (world : W) (lines : ℕ) (text : List ℕ) : Type 0 where
   pub marks : Marks
   pub same_world : world ≡ (after_lines define start (lines_of script) marks).world
   pub same_lines : lines ≡ (after_lines define start (lines_of script) marks).lines
@@ -121,8 +121,8 @@ pub record ToldAll {W : Type 0} (define : Definition W) (start : W) (script : Li
 
 module _ {W : Type 0} (define : Definition W) (front : (memory : Bool) (number : ℕ) (line : List ℕ) (w : W) → define memory number (take KEPT_BYTES line) w ≡ define memory number line w)
     (start : W) (seen : List ℕ) (world : W) (lines : ℕ) (line text : List ℕ) (t : HasAnswered define start seen world lines line text) where
-  pub told_all : (new_world : W) (new_text : List ℕ) → IsLineAnswer define (lines + 1) line world new_world text new_text → ToldAll define start seen new_world (lines + 1) new_text
-  told_all new_world new_text a = record {
+  pub answered_all : (new_world : W) (new_text : List ℕ) → IsLineAnswer define (lines + 1) line world new_world text new_text → HasAnsweredAll define start seen new_world (lines + 1) new_text
+  answered_all new_world new_text a = record {
     marks = new_marks;
     same_world = ap (λ q. q.world) (sym all_lines);
     same_lines = ap (λ q. q.lines) (sym all_lines);
@@ -159,10 +159,10 @@ module _ {W : Type 0} (define : Definition W) (front : (memory : Bool) (number :
           ∙ ap (further p) answered
           ∙ ap (λ n. record { world = new_world; lines = n + 1; text = p.text ++ a.text }) (sym t.same_lines)
 
-  pub told_line : (new_world : W) (new_lines : ℕ) (new_line new_text : List ℕ) → IsLineAnswer define (lines + 1) line world new_world text new_text
+  pub answered_line : (new_world : W) (new_lines : ℕ) (new_line new_text : List ℕ) → IsLineAnswer define (lines + 1) line world new_world text new_text
       → new_lines ≡ lines + 1 → new_line ≡ [] → HasAnswered define start (seen ++ 10 ∷ []) new_world new_lines new_line new_text
-  told_line new_world new_lines new_line new_text a n l =
-      let all = told_all new_world new_text a in
+  answered_line new_world new_lines new_line new_text a n l =
+      let all = answered_all new_world new_text a in
       record {
         marks = all.marks;
         whole = lines_of seen;
@@ -175,7 +175,7 @@ module _ {W : Type 0} (define : Definition W) (front : (memory : Bool) (number :
       }
 
 -- an answer that was added to one text was also added to a longer text which ends with it
-pub behind : {W : Type 0} (define : Definition W) (number : ℕ) (line : List ℕ) (old new : W) (before after front : List ℕ)
+pub line_answer_append : {W : Type 0} (define : Definition W) (number : ℕ) (line : List ℕ) (old new : W) (before after front : List ℕ)
     → IsLineAnswer define number line old new before after → IsLineAnswer define number line old new (front ++ before) (front ++ after)
-behind define number line old new before after front a =
+line_answer_append define number line old new before after front a =
     record { memory = a.memory; text = a.text; answered = a.answered; added = ap (λ xs. front ++ xs) a.added ∙ sym (append_assoc front before a.text) }

@@ -8,15 +8,15 @@ use Rattle.std.specs.Prelude.{⊤, IfErr, OnOk, Result, Ok, Err}
 use Rattle.conversation.specs.declared.fault.StreamFault.{StreamFault}
 use Rattle.conversation.specs.Answering.{HasAnswered, Reached, Finished}
 use Rattle.conversation.specs.Conversations.{Leaves, EndsWithFault, IsFront}
-use Rattle.conversation.proofs.AnsweredLines.{ToldAll, told_start, told_whole, told_first, told_all, behind}
+use Rattle.conversation.proofs.AnsweredLines.{HasAnsweredAll, answered_start, answered_whole, answered_first, answered_all, line_answer_append}
 use Rattle.std.proofs.KnownBytes.{Appends-nil, Appends-trans, Consumes-nil, Consumes-trans}
 use Rattle.conversation.specs.declared.limits.TheConstants.{KEPT_BYTES, MOST_SCRIPT_BYTES}
 
 consumes_kept : (a b c : Option (List ℕ)) (s : List ℕ) → Consumes a b s → Consumes b c [] → Consumes a c s
 consumes_kept a b c s h k = subst (Consumes a c) (append-nil s) (Consumes-trans a b c s [] h k)
 
-front_behind : (text front out : List ℕ) → IsFront front out → IsFront (text ++ front) (text ++ out)
-front_behind text front out h = (h.0, ap (λ xs. text ++ xs) h.1 ∙ sym (append_assoc text front h.0))
+front_append : (text front out : List ℕ) → IsFront front out → IsFront (text ++ front) (text ++ out)
+front_append text front out h = (h.0, ap (λ xs. text ++ xs) h.1 ∙ sym (append_assoc text front h.0))
 
 module _ {W : Type 0} (define : Definition W) (start : W) where
   pub reached_start : (before : Streams) (lines : ℕ) (line : List ℕ) → lines ≡ 0 → line ≡ [] → Reached define start before before 0 start lines line
@@ -26,7 +26,7 @@ module _ {W : Type 0} (define : Definition W) (start : W) where
     read = Consumes-nil before.unread;
     counted = refl;
     wrote = Appends-nil before.written;
-    reported = told_start define start [] start lines line [] refl refl n l refl;
+    reported = answered_start define start [] start lines line [] refl refl n l refl;
   }
 
   module _ (before after : Streams) (count : ℕ) (world : W) (lines : ℕ) (line : List ℕ) (r : Reached define start before after count world lines line) where
@@ -41,7 +41,7 @@ module _ {W : Type 0} (define : Definition W) (start : W) where
       read = consumes_kept before.unread after.unread next r.seen r.read k;
       few = omega (arith, r.counted);
       wrote = r.wrote;
-      went = told_whole define start r.seen world lines line r.text r.reported;
+      went = answered_whole define start r.seen world lines line r.text r.reported;
     }
 
     pub fault_long : count ≤ MOST_SCRIPT_BYTES → EndsWithFault (answers_to define start) TooLong before after
@@ -52,7 +52,7 @@ module _ {W : Type 0} (define : Definition W) (start : W) where
       read = r.read;
       few = omega (arith, r.counted);
       wrote = r.wrote;
-      went = told_whole define start r.seen world lines line r.text r.reported;
+      went = answered_whole define start r.seen world lines line r.text r.reported;
     }
 
     -- a piece whose answers run out of memory goes unanswered
@@ -65,7 +65,7 @@ module _ {W : Type 0} (define : Definition W) (start : W) where
       read = Consumes-trans before.unread after.unread next r.seen piece r.read k;
       few = omega (arith, r.counted, length-append r.seen piece);
       wrote = r.wrote;
-      went = (length r.reported.whole, told_first define start r.seen world lines line r.text r.reported piece);
+      went = (length r.reported.whole, answered_first define start r.seen world lines line r.text r.reported piece);
     }
 
     -- the answers of a piece, and the part of them that the writer took
@@ -94,8 +94,8 @@ module _ {W : Type 0} (define : Definition W) (start : W) where
       pub fault_write : (last : Option (List ℕ)) (front : List ℕ) → IsFront front out → Appends after.written last front → count + n ≤ MOST_SCRIPT_BYTES
           → EndsWithFault (answers_to define start) Write before (streams next last)
       fault_write last front f w few =
-          let h = front_behind r.text front out f in
-          let all = told_whole define start (r.seen ++ piece) new_world new_lines new_line (r.text ++ out) t in
+          let h = front_append r.text front out f in
+          let all = answered_whole define start (r.seen ++ piece) new_world new_lines new_line (r.text ++ out) t in
           record {
             seen = r.seen ++ piece;
             marks = t.marks;
@@ -107,8 +107,8 @@ module _ {W : Type 0} (define : Definition W) (start : W) where
           }
 
     -- between pieces no answer is held back, so all that was read is answered
-    pub told_onto : (out : List ℕ) → out ≡ [] → HasAnswered define start r.seen world lines line (r.text ++ out)
-    told_onto out e = record {
+    pub answered_onto : (out : List ℕ) → out ≡ [] → HasAnswered define start r.seen world lines line (r.text ++ out)
+    answered_onto out e = record {
       marks = r.reported.marks;
       whole = r.reported.whole;
       rest = r.reported.rest;
@@ -124,11 +124,11 @@ module _ {W : Type 0} (define : Definition W) (start : W) where
         (ended : IsAtEnd after.unread) (short : count < MOST_SCRIPT_BYTES) (new_world : W) (sent out : List ℕ) (none : sent ≡ []) (a : IsLineAnswer define (lines + 1) line world new_world sent out) where
       onto : IsLineAnswer define (lines + 1) line world new_world r.text (r.text ++ out)
       onto =
-          let b = behind define (lines + 1) line world new_world sent out r.text a in
+          let b = line_answer_append define (lines + 1) line world new_world sent out r.text a in
           record { memory = b.memory; text = b.text; answered = b.answered; added = b.added ∙ ap (λ xs. (r.text ++ xs) ++ b.text) none ∙ ap (λ xs. xs ++ b.text) (append-nil r.text) }
 
-      all : ToldAll define start r.seen new_world (lines + 1) (r.text ++ out)
-      all = told_all define reads_front start r.seen world lines line r.text r.reported new_world (r.text ++ out) onto
+      all : HasAnsweredAll define start r.seen new_world (lines + 1) (r.text ++ out)
+      all = answered_all define reads_front start r.seen world lines line r.text r.reported new_world (r.text ++ out) onto
 
       pub all_answered : (last : Option (List ℕ)) → Appends after.written last out → Leaves define start new_world before (streams after.unread last)
       all_answered last w = record {
@@ -146,7 +146,7 @@ module _ {W : Type 0} (define : Definition W) (start : W) where
 
       pub fault_last : (last : Option (List ℕ)) (front : List ℕ) → IsFront front out → Appends after.written last front → EndsWithFault (answers_to define start) Write before (streams after.unread last)
       fault_last last front f w =
-          let h = front_behind r.text front out f in
+          let h = front_append r.text front out f in
           record {
             seen = r.seen;
             marks = all.marks;

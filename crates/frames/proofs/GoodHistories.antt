@@ -29,34 +29,34 @@ gone_reads Good who None end s h = (h.first, subst (AllByRecursion Good) (append
 gone_reads Good who (Some c) end s h = (h.second, h.reads)
 
 -- a step's events take `Seen` from s to z, refuse nothing, and return only good reads
-abbrev pub Told : (Returned → Type 0) → Seen → StepEvents → Seen → Type 0
-Told Good s e z = IsFine Good s e × (z ≡ after_step e s)
+abbrev pub IsGoodStep : (Returned → Type 0) → Seen → StepEvents → Seen → Type 0
+IsGoodStep Good s e z = IsFine Good s e × (z ≡ after_step e s)
 
 -- this holds when a layer's operation has begun, and may have ended at once
-pub told_begun : (Good : Returned → Type 0) (p : ℕ) (o : Op) (end : Option Event) (s : Seen) → refuses end ≡ false → AllByRecursion Good (got end (sees (Some (Invoke p o)) s))
-    → Told Good s (in_order (Some (Invoke p o)) end) (sees end (sees (Some (Invoke p o)) s))
-told_begun Good p o end s f g = (record { first = refl; second = f; reads = g }, sym (begun_seen p o end s f))
+pub good_begun : (Good : Returned → Type 0) (p : ℕ) (o : Op) (end : Option Event) (s : Seen) → refuses end ≡ false → AllByRecursion Good (got end (sees (Some (Invoke p o)) s))
+    → IsGoodStep Good s (in_order (Some (Invoke p o)) end) (sees end (sees (Some (Invoke p o)) s))
+good_begun Good p o end s f g = (record { first = refl; second = f; reads = g }, sym (begun_seen p o end s f))
 
 -- this holds when a layer's operation has made a bit action, and may have ended
-pub told_gone : (Good : Returned → Type 0) (p : ℕ) (chosen : Option (ℕ × Bool)) (end : Option Event) (s : Seen) → refuses end ≡ false → AllByRecursion Good (got end s)
-    → Told Good s (in_order (chosen_of p chosen) end) (sees end s)
-told_gone Good p None end s f g = (record { first = f; second = refl; reads = all_both Good (got end s) [] g tt }, refl)
-told_gone Good p (Some c) end s f g = (record { first = refl; second = f; reads = g }, sym (gone_seen p (Some c) end s f))
+pub good_gone : (Good : Returned → Type 0) (p : ℕ) (chosen : Option (ℕ × Bool)) (end : Option Event) (s : Seen) → refuses end ≡ false → AllByRecursion Good (got end s)
+    → IsGoodStep Good s (in_order (chosen_of p chosen) end) (sees end s)
+good_gone Good p None end s f g = (record { first = f; second = refl; reads = all_both Good (got end s) [] g tt }, refl)
+good_gone Good p (Some c) end s f g = (record { first = refl; second = f; reads = g }, sym (gone_seen p (Some c) end s f))
 
-pub told_void : (Good : Returned → Type 0) (s : Seen) (p : ℕ) (reason : Reason) → Told Good s (in_order (Some (Void p reason)) None) s
-told_void Good s p reason = (record { first = refl; second = refl; reads = tt }, refl)
+pub good_void : (Good : Returned → Type 0) (s : Seen) (p : ℕ) (reason : Reason) → IsGoodStep Good s (in_order (Some (Void p reason)) None) s
+good_void Good s p reason = (record { first = refl; second = refl; reads = tt }, refl)
 
-pub told_stop : (Good : Returned → Type 0) (s : Seen) (p : ℕ) → Told Good s (in_order (Some (Stop p)) None) s
-told_stop Good s p = (record { first = refl; second = refl; reads = tt }, refl)
+pub good_stop : (Good : Returned → Type 0) (s : Seen) (p : ℕ) → IsGoodStep Good s (in_order (Some (Stop p)) None) s
+good_stop Good s p = (record { first = refl; second = refl; reads = tt }, refl)
 
-pub told_none : (Good : Returned → Type 0) (s : Seen) (es : List StepEvents) → Allowed (Told Good) s es → IsTrue (refuses_none es)
-told_none Good s [] h = refl
-told_none Good s (e ∷ es) h =
-    let k : IsTrue (refuses_none es) = told_none Good h.0 es h.1.1 in
+pub good_refuses_none : (Good : Returned → Type 0) (s : Seen) (es : List StepEvents) → Allowed (IsGoodStep Good) s es → IsTrue (refuses_none es)
+good_refuses_none Good s [] h = refl
+good_refuses_none Good s (e ∷ es) h =
+    let k : IsTrue (refuses_none es) = good_refuses_none Good h.0 es h.1.1 in
     rw (h.1.0.0.first, h.1.0.0.second) k
 
-pub told_reads : (Good : Returned → Type 0) (s : Seen) (es : List StepEvents) → Allowed (Told Good) s es → AllByRecursion Good (reads s es)
-told_reads Good s [] h = tt
-told_reads Good s (e ∷ es) h =
+pub good_reads : (Good : Returned → Type 0) (s : Seen) (es : List StepEvents) → Allowed (IsGoodStep Good) s es → AllByRecursion Good (reads s es)
+good_reads Good s [] h = tt
+good_reads Good s (e ∷ es) h =
     all_both Good (read_in e s) (reads (after_step e s) es) h.1.0.0.reads
-    (told_reads Good (after_step e s) es (subst (λ z. Allowed (Told Good) z es) h.1.0.1 h.1.1))
+    (good_reads Good (after_step e s) es (subst (λ z. Allowed (IsGoodStep Good) z es) h.1.0.1 h.1.1))

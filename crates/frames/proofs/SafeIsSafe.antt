@@ -32,7 +32,7 @@ use Rattle.frames.specs.laws.Steps.{void_unless_enabled, stopped_is_void}
 use Rattle.frames.specs.laws.Safe.{safe_lawful, value_of_its_bit}
 use Rattle.frames.proofs.Seen.{Seen, opening, sees, now_last, IsFreshAlone, Always, Allowed}
 use Rattle.frames.proofs.Moves.{moves, StepsTo, step_begins, step_goes, step_stops}
-use Rattle.frames.proofs.GoodHistories.{Told, told_begun, told_gone, told_void, told_stop, told_none, told_reads}
+use Rattle.frames.proofs.GoodHistories.{IsGoodStep, good_begun, good_gone, good_void, good_stop, good_refuses_none, good_reads}
 use Rattle.frames.proofs.KnownAndSeen.{fresh_alike}
 use Rattle.frames.proofs.OneWriterPromises.{always_known}
 use Rattle.frames.proofs.VerdictFacts.{none_in, is_fresh}
@@ -139,29 +139,29 @@ ended_write : (v : Bool) (cell : Cell) → cell.writing ≡ Some v → (end_writ
 ended_write v cell e = ap (λ o. unwrap_or o cell.value) e
 
 abbrev Good : C → Seen → Step → Type 0
-Good c u s = (z : Seen) × (Told IsFreshAlone u (events_of safe_behaviour c s) z × SafeInv (stepped safe_behaviour c s) z)
+Good c u s = (z : Seen) × (IsGoodStep IsFreshAlone u (events_of safe_behaviour c s) z × SafeInv (stepped safe_behaviour c s) z)
 
 -- a step is good if its effect keeps the invariant
 to_good : (c : C) (u z : Seen) (s : Step) (who : ℕ) (o : Op) (event : Option Event) (next : Next SafePoint) (m : Memory) → StepsTo safe_behaviour c s who o event next m
-    → Told IsFreshAlone u (in_order event (return_of who next)) z → SafeInv (moves who o next m c) z → Good c u s
-to_good c u z s who o event next m to told inv = (z, (subst (λ e. Told IsFreshAlone u e z) (sym to.events) told, subst (λ d. SafeInv d z) (sym to.after) inv))
+    → IsGoodStep IsFreshAlone u (in_order event (return_of who next)) z → SafeInv (moves who o next m c) z → Good c u s
+to_good c u z s who o event next m to good_step inv = (z, (subst (λ e. IsGoodStep IsFreshAlone u e z) (sym to.events) good_step, subst (λ d. SafeInv d z) (sym to.after) inv))
 
 void_good : (c : C) (u : Seen) (s : Step) → IsVoid safe_behaviour c s → SafeInv c u → Good c u s
-void_good c u s v h = (u, (subst (λ e. Told IsFreshAlone u e u) (sym v.reported) (told_void IsFreshAlone u (process_of s) (why_void c s)), subst (λ d. SafeInv d u) (sym v.leaves) h))
+void_good c u s v h = (u, (subst (λ e. IsGoodStep IsFreshAlone u e u) (sym v.reported) (good_void IsFreshAlone u (process_of s) (why_void c s)), subst (λ d. SafeInv d u) (sym v.leaves) h))
 
 begin_write : (v : ℕ) (c : C) (u : Seen) → running_at 0 c ≡ None → is_stopped 0 c ≡ false → v < 2 → SafeInv c u → Good c u (step.Write 0 v)
 begin_write v c u e awake l h =
     let w : WriterSays None u (cell_at 0 c.memory) = subst (λ r. WriterSays r u (cell_at 0 c.memory)) e h.writer in
     let z : Seen = sees (Some (Invoke 0 (op.Write v))) u in
     to_good c u z (step.Write 0 v) 0 (op.Write v) (Some (Invoke 0 (op.Write v))) (Pending (WriteStart (bit_of v))) c.memory (step_begins safe_behaviour 0 (op.Write v) c c.memory e awake refl)
-    (told_begun IsFreshAlone 0 (op.Write v) None u refl tt)
+    (good_begun IsFreshAlone 0 (op.Write v) None u refl tt)
     (writer_moves c u z (op.Write v) (Pending (WriteStart (bit_of v))) c.memory h h.size h.last (v, (refl, (w.1, value_of_its_bit v l))) (begun_write v u (cell_at 0 c.memory) (running_at 1 c) h.reader))
 
 begin_read : (c : C) (u : Seen) → running_at 1 c ≡ None → is_stopped 1 c ≡ false → SafeInv c u → Good c u (step.Read 1)
 begin_read c u e awake h =
     let z : Seen = sees (Some (Invoke 1 op.Read)) u in
     to_good c u z (step.Read 1) 1 op.Read (Some (Invoke 1 op.Read)) (Pending ReadStart) c.memory (step_begins safe_behaviour 1 op.Read c c.memory e awake refl)
-    (told_begun IsFreshAlone 1 op.Read None u refl tt)
+    (good_begun IsFreshAlone 1 op.Read None u refl tt)
     (reader_moves c u z op.Read (Pending ReadStart) c.memory h h.size h.last
     (same_writer (running_at 0 c) u z (cell_at 0 c.memory) (cell_at 0 c.memory) refl refl h.writer) (λ o. (refl, none_in u.writing o)))
 
@@ -170,7 +170,7 @@ go_writer choice c u o (WriteStart v) e awake w h =
     let m : Memory = on_cell 0 (start_write v) c.memory in
     let on = on_it (start_write v) c.memory h.size in
     to_good c u u (step.Go 0 choice) 0 o None (Pending (WriteEnd v)) m (step_goes safe_behaviour 0 choice c (record { op = o; point = WriteStart v }) c.memory e awake refl)
-    (told_gone IsFreshAlone 0 None None u refl tt)
+    (good_gone IsFreshAlone 0 None None u refl tt)
     (writer_moves c u u o (Pending (WriteEnd v)) m h (on_size (start_write v) c.memory h.size) (ap (λ k. value_of k.value) on ∙ h.last)
     (w.0, (v, (w.1.0, (ap (λ k. k.writing) on, w.1.1.1)))) (no_write w.0 (Unit {0}) u (cell_at 0 c.memory) _ (running_at 1 c) w.1.0 h.reader u refl))
 go_writer choice c u o (WriteEnd x) e awake w h =
@@ -179,7 +179,7 @@ go_writer choice c u o (WriteEnd x) e awake w h =
     let d = ended_write w.1.0 (cell_at 0 c.memory) w.1.1.1.0 in
     let z : Seen = sees (Some (Wrote 0)) u in
     to_good c u z (step.Go 0 choice) 0 o None (Done Written) m (step_goes safe_behaviour 0 choice c (record { op = o; point = WriteEnd x }) c.memory e awake refl)
-    (told_gone IsFreshAlone 0 None (Some (Wrote 0)) u refl tt)
+    (good_gone IsFreshAlone 0 None (Some (Wrote 0)) u refl tt)
     (writer_moves c u z o (Done Written) m h (on_size end_write c.memory h.size)
     (ap (λ k. value_of k.value) on ∙ ap value_of d ∙ w.1.1.1.1 ∙ sym (ap (λ o. now_last o u.last) w.1.1.0))
     (refl, ap (λ k. k.writing) on) (no_write w.0 (Unit {0}) u (cell_at 0 c.memory) _ (running_at 1 c) w.1.1.0 h.reader z refl))
@@ -193,7 +193,7 @@ go_reader choice c u o ReadStart e awake w h =
     let m : Memory = on_cell 0 start_read c.memory in
     let on = on_it start_read c.memory h.size in
     to_good c u u (step.Go 1 choice) 1 o None (Pending ReadEnd) m (step_goes safe_behaviour 1 choice c (record { op = o; point = ReadStart }) c.memory e awake refl)
-    (told_gone IsFreshAlone 1 None None u refl tt)
+    (good_gone IsFreshAlone 1 None None u refl tt)
     (reader_moves c u u o (Pending ReadEnd) m h (on_size start_read c.memory h.size) (ap (λ k. value_of k.value) on ∙ h.last)
     (same_writer (running_at 0 c) u u (cell_at 0 c.memory) _ refl (sym (ap (λ k. k.writing) on)) h.writer)
     (λ o. let f = w o in (f.0, (f.1, ap (λ k. k.hit) on ∙ quiet_cell (running_at 0 c) u (cell_at 0 c.memory) h.writer f.1))))
@@ -205,7 +205,7 @@ go_reader choice c u o ReadEnd e awake w h =
     let x : ℕ = value_of given in
     let chosen : Option (ℕ × Bool) = (if cell.hit then Some (0, given) else None) in
     to_good c u u (step.Go 1 choice) 1 o (chosen_of 1 chosen) (Done (Value x)) m (step_goes safe_behaviour 1 choice c (record { op = o; point = ReadEnd }) c.memory e awake refl)
-    (told_gone IsFreshAlone 1 chosen (Some (Got 1 x)) u refl (
+    (good_gone IsFreshAlone 1 chosen (Some (Got 1 x)) u refl (
       (λ o. let f = w o in is_fresh (record { reader = 1; value = x; fresh = u.fresh 1; overlaps = u.overlaps 1 })
           (ap (λ k. value_of (if k then (choice == 1) else cell.value)) f.1.1 ∙ h.last ∙ sym f.0)),
       tt,
@@ -240,7 +240,7 @@ awake_safe (step.Stop p) c u f awake h =
     let is = step_stops safe_behaviour p c awake in (
       u,
       (
-        subst (λ e. Told IsFreshAlone u e u) (sym is.events) (told_stop IsFreshAlone u p),
+        subst (λ e. IsGoodStep IsFreshAlone u e u) (sym is.events) (good_stop IsFreshAlone u p),
         subst (λ d. SafeInv d u) (sym is.after) (record { processes = h.processes; size = h.size; last = h.last; writer = h.writer; reader = h.reader }),
       ),
     )
@@ -252,7 +252,7 @@ step_safe s c u f h = go (is_stopped (process_of s) c) refl
     go true e = void_good c u s (stopped_is_void safe_behaviour c s e) h
     go false e = awake_safe s c u f e h
 
-steps_safe : (list : List Step) (c : C) (u : Seen) → AllFit safe_behaviour list → SafeInv c u → Allowed (Told IsFreshAlone) u (history safe_behaviour c list)
+steps_safe : (list : List Step) (c : C) (u : Seen) → AllFit safe_behaviour list → SafeInv c u → Allowed (IsGoodStep IsFreshAlone) u (history safe_behaviour c list)
 steps_safe [] c u f h = tt
 steps_safe (s ∷ rest) c u f h =
     let z = step_safe s c u (All-head (λ x. fits_step safe_behaviour x ≡ true) s rest f) h in
@@ -261,7 +261,7 @@ steps_safe (s ∷ rest) c u f h =
 always_fresh_alone : Always IsFreshAlone safe_behaviour
 always_fresh_alone v steps l f =
     let a = steps_safe steps (first_configuration safe_behaviour v) (opening v) f (record { processes = refl; size = refl; last = value_of_its_bit v l; writer = (refl, refl); reader = tt }) in
-    (told_none IsFreshAlone (opening v) _ a, told_reads IsFreshAlone (opening v) _ a)
+    (good_refuses_none IsFreshAlone (opening v) _ a, good_reads IsFreshAlone (opening v) _ a)
 
 one_writes : HasOneWriter safe_behaviour
 one_writes who (op.Write v) h = h' (who == 0) (nat_lt v 2) h

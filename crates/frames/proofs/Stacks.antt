@@ -26,7 +26,7 @@ use Rattle.frames.specs.laws.Steps.{initial_keeps, put_keeps}
 use Rattle.frames.specs.laws.Flat.{set_running, length_running, none_running, slot_point, parked_eq, parked_decides, slot_by_frames}
 
 module _ {R P : Type 0} (b : Behaviour P) (Holds : Memory → Type 0) (Reaches : ℕ → Op → P → Type 0) (find : ℕ → List Frame → Option P)
-    (lawful : IsLawful b Holds Reaches) (tell : FramesGivePoint b Reaches find)
+    (lawful : IsLawful b Holds Reaches) (gives_point : FramesGivePoint b Reaches find)
     (r : R) (m : Memory) (stacks : List (List Frame)) (stopped : List Bool) (was : IsFlat b Holds Reaches (parked_configuration find r m stacks stopped) stacks) where
   -- each process has a stack
   stack_there : (who : ℕ) → who < b.processes → who < length stacks
@@ -43,9 +43,9 @@ module _ {R P : Type 0} (b : Behaviour P) (Holds : Memory → Type 0) (Reaches :
       set_running find 0 stacks who stack
       ∙ ap (λ n. set (running_from find 0 stacks) who (running_of (find n) stack)) (zero-add who)
       ∙ ap (λ x. set (running_from find 0 stacks) who (running_of (find who) x)) is
-      ∙ ap (λ x. set (running_from find 0 stacks) who x) (slot_by_frames b Reaches find tell who slot there)
+      ∙ ap (λ x. set (running_from find 0 stacks) who x) (slot_by_frames b Reaches find gives_point who slot there)
 
-  module _ (who : ℕ) (done : Acted P) (told : StepEvents) (stack : List Frame) (m' : Memory) (acts : Acts b done told stack m') (there : IsReached Reaches who done.running) where
+  module _ (who : ℕ) (done : Acted P) (step_events : StepEvents) (stack : List Frame) (m' : Memory) (acts : Acts b done step_events stack m') (there : IsReached Reaches who done.running) where
     -- putting in the new stack and memory gives the configuration after the step's effect
     pub put_shown : parked_configuration find r m' (set stacks who stack) stopped ≡ put_acted who done (parked_configuration find r m stacks stopped)
     put_shown = λ i. record { register = r; memory = acts.memory i; running = put_running who done.running stack there acts.stack i; stopped = stopped }
@@ -102,8 +102,8 @@ module _ {R P : Type 0} (b : Behaviour P) (Holds : Memory → Type 0) (Reaches :
 pub pointed : {P : Type 0} (b : Behaviour P) (Reaches : ℕ → Op → P → Type 0) (find : ℕ → List Frame → Option P) → FramesGivePoint b Reaches find
     → (who : ℕ) (slot : Option (Running P)) (stack : List Frame) (p : P) → IsReached Reaches who slot → stack ≡ stack_of b slot → find who stack ≡ Some p
     → ((o : Op) × Reaches who o p) × (option_map (λ r. r.point) slot ≡ Some p)
-pointed {P} b Reaches find tell who slot stack p there is found =
-    let e : option_map (λ r. r.point) slot ≡ Some p = sym (slot_point b Reaches find tell who slot there) ∙ ap (find who) (sym is) ∙ found in (reached_at slot there e, e)
+pointed {P} b Reaches find gives_point who slot stack p there is found =
+    let e : option_map (λ r. r.point) slot ≡ Some p = sym (slot_point b Reaches find gives_point who slot there) ∙ ap (find who) (sym is) ∙ found in (reached_at slot there e, e)
   where
     reached_at : (slot : Option (Running P)) → IsReached Reaches who slot → option_map (λ r. r.point) slot ≡ Some p → (o : Op) × Reaches who o p
     reached_at None h e = cc

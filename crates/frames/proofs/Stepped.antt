@@ -18,7 +18,7 @@ use Rattle.frames.specs.laws.Steps.{LeavesWell, going_well, invoking_well}
 use Rattle.frames.proofs.Stacks.{found_there, put_shown, put_flat}
 
 module _ {R P : Type 0} {b : Behaviour P} {Holds : Memory → Type 0} {Reaches : ℕ → Op → P → Type 0} {find : ℕ → List Frame → Option P}
-    (lawful : IsLawful b Holds Reaches) (tell : FramesGivePoint b Reaches find)
+    (lawful : IsLawful b Holds Reaches) (gives_point : FramesGivePoint b Reaches find)
     {r : R} {m : Memory} (ps : List Parked) (was : IsFlat b Holds Reaches (parked_configuration find r m (stacks_of ps) (marks_of ps)) (stacks_of ps))
     (who : ℕ) (lt : who < b.processes) where
   abbrev before : Configuration R P
@@ -28,8 +28,8 @@ module _ {R P : Type 0} {b : Behaviour P} {Holds : Memory → Type 0} {Reaches :
   slot = running_at who before
 
   -- a step has the effect `done`: these events, and the configuration that `now` and m' give
-  pub record Leaves (done : Acted P) (told : StepEvents) (now : List Parked) (m' : Memory) : Type 0 where
-    pub events : told ≡ done.events
+  pub record Leaves (done : Acted P) (step_events : StepEvents) (now : List Parked) (m' : Memory) : Type 0 where
+    pub events : step_events ≡ done.events
     pub flat : IsFlat b Holds Reaches (parked_configuration find r m' (stacks_of now) (marks_of now)) (stacks_of now)
     pub after : parked_configuration find r m' (stacks_of now) (marks_of now) ≡ put_acted who done before
 
@@ -66,15 +66,15 @@ module _ {R P : Type 0} {b : Behaviour P} {Holds : Memory → Type 0} {Reaches :
     marks_stay : (stack : List Frame) → marks_of (with_stack stack) ≡ marks_of ps
     marks_stay stack = map-set_same (λ x. x.stopped) ps who (record { stack = stack; stopped = p.stopped }) p (ap (λ x. x.stopped) is)
 
-    leaves : (done : Acted P) (told : StepEvents) (stack : List Frame) (m' : Memory) → Acts b done told stack m' → LeavesWell Holds Reaches who done
-        → Leaves done told (with_stack stack) m'
-    leaves done told stack m' acts well = record {
+    leaves : (done : Acted P) (step_events : StepEvents) (stack : List Frame) (m' : Memory) → Acts b done step_events stack m' → LeavesWell Holds Reaches who done
+        → Leaves done step_events (with_stack stack) m'
+    leaves done step_events stack m' acts well = record {
       events = acts.events;
       flat = subst (λ k. IsFlat b Holds Reaches (parked_configuration find r m' (stacks_of (with_stack stack)) k) (stacks_of (with_stack stack))) (sym (marks_stay stack))
           (subst (λ l. IsFlat b Holds Reaches (parked_configuration find r m' l (marks_of ps)) l) (sym (stacks_put stack))
-          (put_flat b Holds Reaches find lawful tell r m (stacks_of ps) (marks_of ps) was who done told stack m' acts well.reached lt well.holds));
+          (put_flat b Holds Reaches find lawful gives_point r m (stacks_of ps) (marks_of ps) was who done step_events stack m' acts well.reached lt well.holds));
       after = (λ i. parked_configuration find r m' (stacks_put stack i) (marks_stay stack i))
-          ∙ put_shown b Holds Reaches find lawful tell r m (stacks_of ps) (marks_of ps) was who done told stack m' acts well.reached;
+          ∙ put_shown b Holds Reaches find lawful gives_point r m (stacks_of ps) (marks_of ps) was who done step_events stack m' acts well.reached;
     }
 
     abbrev x : List Frame
@@ -87,24 +87,24 @@ module _ {R P : Type 0} {b : Behaviour P} {Holds : Memory → Type 0} {Reaches :
         ∙ get_or-map (λ q. q.stopped) ps who p ∙ sym (ap (λ q. q.stopped) is)
 
     found : x ≡ stack_of b slot
-    found = found_there b Holds Reaches find lawful tell r m (stacks_of ps) (marks_of ps) was who x lt
+    found = found_there b Holds Reaches find lawful gives_point r m (stacks_of ps) (marks_of ps) was who x lt
         (ap (λ q. q.stack) is ∙ sym (get_or-map (λ q. q.stack) ps who p))
 
     -- the process is idle or at a point that it can reach, and its stack has the frames
-    pub stands : (s : Option (Running P)) × (IsReached Reaches who s × (x ≡ stack_of b s))
-    stands = (slot, (was.configuration.reached who, found))
+    pub slot_with_frames : (s : Option (Running P)) × (IsReached Reaches who s × (x ≡ stack_of b s))
+    slot_with_frames = (slot, (was.configuration.reached who, found))
 
-    module _ (told : StepEvents) (stack : List Frame) (m' : Memory) where
+    module _ (step_events : StepEvents) (stack : List Frame) (m' : Memory) where
       -- a bit action that has the defined effect on stack and memory has it on the configuration
-      pub proceeds : (choice : Bool) → ((s : Option (Running P)) → IsReached Reaches who s → x ≡ stack_of b s → Acts b (going b who choice s m) told stack m')
-          → Leaves (going b who choice slot m) told (with_stack stack) m'
+      pub proceeds : (choice : Bool) → ((s : Option (Running P)) → IsReached Reaches who s → x ≡ stack_of b s → Acts b (going b who choice s m) step_events stack m')
+          → Leaves (going b who choice slot m) step_events (with_stack stack) m'
       proceeds choice acts =
-          leaves (going b who choice slot m) told stack m' (acts slot (was.configuration.reached who) found)
+          leaves (going b who choice slot m) step_events stack m' (acts slot (was.configuration.reached who) found)
           (going_well b Holds Reaches lawful who choice slot m was.configuration.holds (was.configuration.reached who))
 
       -- an invocation that has the defined effect on stack and memory has it on the configuration
-      pub invokes : (o : Op) → b.suits who o ≡ true → ((s : Option (Running P)) → IsReached Reaches who s → x ≡ stack_of b s → Acts b (invoking b who o s m) told stack m')
-          → Leaves (invoking b who o slot m) told (with_stack stack) m'
+      pub invokes : (o : Op) → b.suits who o ≡ true → ((s : Option (Running P)) → IsReached Reaches who s → x ≡ stack_of b s → Acts b (invoking b who o s m) step_events stack m')
+          → Leaves (invoking b who o slot m) step_events (with_stack stack) m'
       invokes o fits acts =
-          leaves (invoking b who o slot m) told stack m' (acts slot (was.configuration.reached who) found)
+          leaves (invoking b who o slot m) step_events stack m' (acts slot (was.configuration.reached who) found)
           (invoking_well b Holds Reaches lawful who o slot m was.configuration.holds (was.configuration.reached who) fits)

@@ -23,29 +23,29 @@ laid stack pushed all below own frame push lay same =
 -- a layer's operation has its own frame and at least one of its part's
 pub too_few : {Task P : Type 0} (l : LayerOver Task P) (find : ℕ → List Frame → Option P) → FramesGivePoint l.below l.Reaches find → (who first : ℕ) (stack : List Frame)
     → length (drop first stack) < 2 → IsPointByFrames (layered l.table l.below).frames (LayerReaches l.table l.MayBeAt l.Reaches) who (drop first stack) None
-too_few l find tell who first stack few o n there e =
-    let some = some_frames (l.below.frames n.below) (l.table.asks n.task).op (tell.op (l.table.asks n.task).who (l.table.asks n.task).op n.below there.below) in
+too_few l find gives_point who first stack few o n there e =
+    let some = some_frames (l.below.frames n.below) (l.table.asks n.task).op (gives_point.op (l.table.asks n.task).who (l.table.asks n.task).op n.below there.below) in
     let long : length (drop first stack) ≡ suc (length (l.below.frames n.below)) = ap length e in
     omega (arith, few, some, long)
 
-module _ {Task P : Type 0} (l : LayerOver Task P) (find : ℕ → List Frame → Option P) (tell : FramesGivePoint l.below l.Reaches find) (who first : ℕ) (stack : List Frame)
+module _ {Task P : Type 0} (l : LayerOver Task P) (find : ℕ → List Frame → Option P) (gives_point : FramesGivePoint l.below l.Reaches find) (who first : ℕ) (stack : List Frame)
     (own : Frame) (task : Task) (a : Ask) (there : drop first stack ≡ own ∷ drop (first + 1) stack)
-    (told : l.MayBeAt who own.op task × (l.table.frame task ≡ own)) (asks : a ≡ l.table.asks task) where
-  abbrev Tells : Option (Nested Task P) → Type 0
-  Tells n = IsPointByFrames (layered l.table l.below).frames (LayerReaches l.table l.MayBeAt l.Reaches) who (drop first stack) n
+    (at_own_task : l.MayBeAt who own.op task × (l.table.frame task ≡ own)) (asks : a ≡ l.table.asks task) where
+  abbrev IsPoint : Option (Nested Task P) → Type 0
+  IsPoint n = IsPointByFrames (layered l.table l.below).frames (LayerReaches l.table l.MayBeAt l.Reaches) who (drop first stack) n
 
   -- the frames describe a point of the layer: its own frame comes first, and then those of its
   -- part's point
-  pub told_below : (inner : Frame) → drop (first + 1) stack ≡ inner ∷ drop (first + 1 + 1) stack → inner.op ≡ a.op → (p : P)
-      → IsPointByFrames l.below.frames l.Reaches a.who (drop (first + 1) stack) (Some p) → Tells (Some (record { task = task; below = p }))
-  told_below inner next op p below =
-      let some : Some below.0 ≡ Some a.op = sym (tell.op a.who below.0 p below.1.0) ∙ ap outermost (sym below.1.1 ∙ next) ∙ ap Some op in
+  pub point_below : (inner : Frame) → drop (first + 1) stack ≡ inner ∷ drop (first + 1 + 1) stack → inner.op ≡ a.op → (p : P)
+      → IsPointByFrames l.below.frames l.Reaches a.who (drop (first + 1) stack) (Some p) → IsPoint (Some (record { task = task; below = p }))
+  point_below inner next op p below =
+      let some : Some below.0 ≡ Some a.op = sym (gives_point.op a.who below.0 p below.1.0) ∙ ap outermost (sym below.1.1 ∙ next) ∙ ap Some op in
       let same : below.0 ≡ a.op = cc in
       let reached : l.Reaches a.who a.op p = subst (λ o. l.Reaches a.who o p) same below.1.0 in (
         own.op,
         (
-          record { may_be_at = told.0; below = subst (λ b. l.Reaches b.who b.op p) asks reached },
-          there ∙ ap (λ x. x ∷ drop (first + 1) stack) (sym told.1) ∙ ap (λ xs. l.table.frame task ∷ xs) below.1.1,
+          record { may_be_at = at_own_task.0; below = subst (λ b. l.Reaches b.who b.op p) asks reached },
+          there ∙ ap (λ x. x ∷ drop (first + 1) stack) (sym at_own_task.1) ∙ ap (λ xs. l.table.frame task ∷ xs) below.1.1,
         ),
       )
 
@@ -55,20 +55,20 @@ module _ {Task P : Type 0} (l : LayerOver Task P) (find : ℕ → List Frame →
       → (a ≡ l.table.asks n.task) × (drop (first + 1) stack ≡ l.below.frames n.below)
   part_of o n on e =
       let parts = parts_there first stack (l.below.frames n.below) (l.table.frame n.task) own e there in
-      let same : task ≡ n.task = sym (l.sound.frame_gives who own.op task told.0).0 ∙ ap (l.table.find who) (told.1 ∙ parts.0) ∙ (l.sound.frame_gives who o n.task on.may_be_at).0 in
+      let same : task ≡ n.task = sym (l.sound.frame_gives who own.op task at_own_task.0).0 ∙ ap (l.table.find who) (at_own_task.1 ∙ parts.0) ∙ (l.sound.frame_gives who o n.task on.may_be_at).0 in
       (asks ∙ ap l.table.asks same, parts.1)
 
   -- the frames describe no point of the layer, because the part's frames describe none
-  pub untold_below : IsPointByFrames l.below.frames l.Reaches a.who (drop (first + 1) stack) None → Tells None
-  untold_below below o n on e =
+  pub no_point_below : IsPointByFrames l.below.frames l.Reaches a.who (drop (first + 1) stack) None → IsPoint None
+  no_point_below below o n on e =
       let part = part_of o n on e in
       below (l.table.asks n.task).op n.below (subst (λ (b : Ask). l.Reaches b.who (l.table.asks n.task).op n.below) (sym part.0) on.below) part.1
 
   -- the frames describe no point of the layer, because the part's frame has another operation than
   -- the task asks for
-  pub other_op : (inner : Frame) → drop (first + 1) stack ≡ inner ∷ drop (first + 1 + 1) stack → (inner.op ≡ a.op → false ≡ true) → Tells None
+  pub other_op : (inner : Frame) → drop (first + 1) stack ≡ inner ∷ drop (first + 1 + 1) stack → (inner.op ≡ a.op → false ≡ true) → IsPoint None
   other_op inner next other o n on e =
       let part = part_of o n on e in
       let some : Some inner.op ≡ Some a.op =
-      ap outermost (sym next ∙ part.1) ∙ tell.op (l.table.asks n.task).who (l.table.asks n.task).op n.below on.below ∙ ap (λ (b : Ask). Some b.op) (sym part.0) in
+      ap outermost (sym next ∙ part.1) ∙ gives_point.op (l.table.asks n.task).who (l.table.asks n.task).op n.below on.below ∙ ap (λ (b : Ask). Some b.op) (sym part.0) in
       let no : false ≡ true = other (let same : inner.op ≡ a.op = cc in same) in cc

@@ -18,7 +18,7 @@ use Rattle.layers.specs.Nested.{Program, Ends, Asks, Reads, Sets, Table}
 use Rattle.layers.specs.Sound.{IsNotSpent}
 
 -- an operation of a layer, and the task that it is in
-pub record Standing (Task : Type 0) : Type 0 where
+pub record TaskInProgress (Task : Type 0) : Type 0 where
   pub op : Op
   pub task : Task
 
@@ -26,7 +26,7 @@ pub record Standing (Task : Type 0) : Type 0 where
 -- what each part's own history shows
 pub record View (Task : Type 0) : Type 0 where
   pub words : ℕ → ℕ
-  pub tasks : ℕ → Option (Standing Task)
+  pub tasks : ℕ → Option (TaskInProgress Task)
   pub parts : ℕ → Seen
 
 -- `Good` is what is assumed of each returned read of a part, and `Inv` the invariant; U is the type
@@ -86,7 +86,7 @@ pub record IsKeptBy {Task U : Type 0} (runs : Running Task U) (t : Table Task) (
   pub passes : Passes w Up
   pub begins : (u : U) (j : View Task) (p : ℕ) (op : Op) → w.Inv u j → j.tasks p ≡ None → t.suits p op ≡ true
       → runs p op (λ e. Up u (in_order (Some (Invoke p op)) e)) (t.program p op) j
-  pub goes : (u : U) (j : View Task) (p : ℕ) (n : Standing Task) (chosen : Option (ℕ × Bool)) (o : Outcome)
+  pub goes : (u : U) (j : View Task) (p : ℕ) (n : TaskInProgress Task) (chosen : Option (ℕ × Bool)) (o : Outcome)
       → w.Inv u j → j.tasks p ≡ Some n → MayBeAt p n.op n.task
       → Answers t.inner_values (t.asks n.task).op o → IsNotSpent o
       → AllByRecursion w.Good (got (Some (ended (t.asks n.task).who o)) (j.parts (t.asks n.task).part))

@@ -27,21 +27,21 @@ use Rattle.layers.specs.laws.Over.{LayerOver}
 use Rattle.layers.proofs.Law.{View, Watch, Admission, Passes, IsKept, IsKeptUnder, IsUser, takes_all, kept_under}
 use Rattle.layers.proofs.Admitted.{AlwaysAdmits, always_admits}
 use Rattle.layers.proofs.Links.{below_of}
-pub use Rattle.frames.proofs.GoodHistories.{Told, told_begun, told_gone, told_void, told_stop, told_none, told_reads}
+pub use Rattle.frames.proofs.GoodHistories.{IsGoodStep, good_begun, good_gone, good_void, good_stop, good_refuses_none, good_reads}
 use Rattle.frames.proofs.Pending.{none_at, awake_at, first_well}
-use Rattle.layers.proofs.Turns.{standing_of}
+use Rattle.layers.proofs.Turns.{task_in_progress}
 use Rattle.layers.proofs.LayerSteps.{Joint, steps_joint, step_joint, replayed_joint}
 
 -- steps that do nothing, and those that record no outcome, return no read
-pub told_passes : {Task : Type 0} (w : Watch Task Seen) (Good : Returned → Type 0) → Passes w (Told Good)
-told_passes w Good = record { void = told_void Good; stop = told_stop Good; still = λ u j p chosen h. (u, (told_gone Good p chosen None u refl tt, h)) }
+pub good_passes : {Task : Type 0} (w : Watch Task Seen) (Good : Returned → Type 0) → Passes w (IsGoodStep Good)
+good_passes w Good = record { void = good_void Good; stop = good_stop Good; still = λ u j p chosen h. (u, (good_gone Good p chosen None u refl tt, h)) }
 
 -- what is known before step s, in which the layer's configuration is c, and after it
 pub record NextStep {Task P U : Type 0} (l : LayerOver Task P) (w : Watch Task U) (Up : U → StepEvents → U → Type 0) (c : Alone (Nested Task P)) (s : Step) : Type 0 where
   pub u : U
   pub j : View Task
   pub inv : w.Inv u j
-  pub tasks : (q : ℕ) → j.tasks q ≡ standing_of (running_at q c)
+  pub tasks : (q : ℕ) → j.tasks q ≡ task_in_progress (running_at q c)
   pub z : U
   pub up : Up u (events_of (layered l.table l.below) c s) z
 
@@ -77,8 +77,8 @@ module _ {Task P : Type 0} (l : LayerOver Task P) (user : ℕ → ℕ → ℕ) (
   first_joint w rule first Up K v lt =
       let value : ℕ → ℕ = l.table.first v in
       let c : Alone (Nested Task P) = first_configuration (layered l.table l.below) v in
-      let idle : (p : ℕ) → standing_of (running_at p c) ≡ None = λ p. ap standing_of (none_at l.table.processes p) in
-      let j : View Task = record { words = λ i. word_at (own_words l.table l.below.size + i) c.memory; tasks = λ p. standing_of (running_at p c); parts = λ k. opening (value k) } in
+      let idle : (p : ℕ) → task_in_progress (running_at p c) ≡ None = λ p. ap task_in_progress (none_at l.table.processes p) in
+      let j : View Task = record { words = λ i. word_at (own_words l.table l.below.size + i) c.memory; tasks = λ p. task_in_progress (running_at p c); parts = λ k. opening (value k) } in
       record {
         well = first_well (layered l.table l.below) (LayerHolds l.table l.below l.Holds) (LayerReaches l.table l.MayBeAt l.Reaches) (layer_lawful l) v lt;
         j = j;
@@ -121,15 +121,15 @@ module _ {Task P : Type 0} (l : LayerOver Task P) (user : ℕ → ℕ → ℕ) (
       layer_law_under w takes_all first Up (always_admits w.Good takes_all l.below (λ o s. tt) all) (kept_under l.table l.MayBeAt w first Up K) v steps lt f
 
   -- the law of layers for a claim about reads
-  pub layer_always : (Good : Returned → Type 0) (w : Watch Task Seen) → Always w.Good l.below → IsKept l.table l.MayBeAt w opening (Told Good) → Always Good (layered l.table l.below)
+  pub layer_always : (Good : Returned → Type 0) (w : Watch Task Seen) → Always w.Good l.below → IsKept l.table l.MayBeAt w opening (IsGoodStep Good) → Always Good (layered l.table l.below)
   layer_always Good w all K v steps lt f =
-      let allowed = layer_law w opening (Told Good) all K v steps lt f in
-      (told_none Good (opening v) _ allowed, told_reads Good (opening v) _ allowed)
+      let allowed = layer_law w opening (IsGoodStep Good) all K v steps lt f in
+      (good_refuses_none Good (opening v) _ allowed, good_reads Good (opening v) _ allowed)
 
   -- the law in terms of `Known`: what a layer of one writer promises of its reads, if its parts
   -- keep their own promises
   pub layer_promises : {Below Says : Known → ℕ → ℕ → Type 0} (Good : Returned → Type 0) (w : Watch Task Seen) → Alike Below w.Good → Alike Says Good → HasOneWriter (layered l.table l.below)
-      → AlwaysReads l.below Below → IsKept l.table l.MayBeAt w opening (Told Good) → AlwaysReads (layered l.table l.below) Says
+      → AlwaysReads l.below Below → IsKept l.table l.MayBeAt w opening (IsGoodStep Good) → AlwaysReads (layered l.table l.below) Says
   layer_promises {Below} {Says} Good w below here one promised K =
       always_known Says Good here (layered l.table l.below) one (LayerHolds l.table l.below l.Holds) (LayerReaches l.table l.MayBeAt l.Reaches) (layer_lawful l)
       (layer_always Good w (always_seen Below w.Good below l.below promised.one_writer l.Holds l.Reaches l.lawful promised) K)

@@ -34,9 +34,9 @@ use Rattle.layers.specs.Sound.{LayerHolds, LayerReaches}
 use Rattle.layers.specs.laws.Nested.{asks_fit, holds_with_part}
 use Rattle.layers.specs.laws.Layered.{layer_lawful}
 use Rattle.layers.specs.laws.Over.{LayerOver}
-use Rattle.layers.proofs.Law.{Standing, View, Watch, Admission, IsKeptUnder, IsUser}
-use Rattle.layers.proofs.Links.{moves, StepsTo, step_begins, step_goes, step_stops, step_of, nested, below_of, below_of-same, below_of-other, Linked, word_behind, links_move, link_same, gone_seen}
-use Rattle.layers.proofs.Turns.{standing_of, Ran, run_on, behind_ran, stands_here}
+use Rattle.layers.proofs.Law.{TaskInProgress, View, Watch, Admission, IsKeptUnder, IsUser}
+use Rattle.layers.proofs.Links.{moves, StepsTo, step_begins, step_goes, step_stops, step_of, nested, below_of, below_of-same, below_of-other, Linked, word_after_part, links_move, link_same, gone_seen}
+use Rattle.layers.proofs.Turns.{task_in_progress, Ran, run_on, after_part_ran, suits_by_table}
 
 -- a configuration of the layer, its view, and each part alone agree, and the invariant holds
 pub record Joint {Task P U : Type 0} (l : LayerOver Task P) (user : ℕ → ℕ → ℕ) (value : ℕ → ℕ) (w : Watch Task U) (c : Alone (Nested Task P)) (u : U) : Type 0 where
@@ -44,7 +44,7 @@ pub record Joint {Task P U : Type 0} (l : LayerOver Task P) (user : ℕ → ℕ 
   pub j : View Task
   pub inv : w.Inv u j
   pub words : (i : ℕ) → i < l.table.words → j.words i ≡ word_at (own_words l.table l.below.size + i) c.memory
-  pub tasks : (q : ℕ) → j.tasks q ≡ standing_of (running_at q c)
+  pub tasks : (q : ℕ) → j.tasks q ≡ task_in_progress (running_at q c)
   pub links : (k : ℕ) → k < l.table.parts → Linked l user value (λ q. is_stopped q c) c.memory (λ q. running_at q c) k (j.parts k)
 
 -- part k alone, after those of its first n processes for which p acts have stopped
@@ -102,7 +102,7 @@ module _ {Task P U : Type 0} (l : LayerOver Task P) (user : ℕ → ℕ → ℕ)
             j = r.j;
             inv = r.inv;
             words = r.words;
-            tasks = λ q. r.tasks q ∙ ap standing_of (same q);
+            tasks = λ q. r.tasks q ∙ ap task_in_progress (same q);
             links = λ k lt. link_same l user value (λ q. is_stopped q c) begun.memory begun.memory r.to (λ q. running_at q d) k (r.j.parts k) (r.j.parts k) same refl refl (r.links k lt);
           }),
         ),
@@ -118,7 +118,7 @@ module _ {Task P U : Type 0} (l : LayerOver Task P) (user : ℕ → ℕ → ℕ)
       let r = run_on l user value (λ q. is_stopped q c) w rule is_user all vals p o (λ e. Up u (in_order (Some (Invoke p o)) e)) (l.table.program p o) c.memory (λ q. running_at q c) h.j
       awake e (l.sound.begins_sound p o s)
       (record { holds = h.well.holds; words = h.words; tasks = λ q ne. h.tasks q; links = h.links })
-      (K.begins u h.j p o h.inv (h.tasks p ∙ ap standing_of e) s) in
+      (K.begins u h.j p o h.inv (h.tasks p ∙ ap task_in_progress e) s) in
       let lp : p < l.table.processes = l.sound.nobody_else p o s in
       joined_ran p o (step_of p o) (Some (Invoke p o)) begun c u (omega (arith, lp, h.well.each)) (step_begins L p o c c.memory e awake refl) (keeps c (step_of p o) u f h) r
 
@@ -139,14 +139,14 @@ module _ {Task P U : Type 0} (l : LayerOver Task P) (user : ℕ → ℕ → ℕ)
       let lw : who < l.below.processes = l.lawful.nobody_else who aop fit.1 in
       let us : user a who ≡ p = is_user p o task can.may_be_at in
       let link = h.links a la in
-      let standing : Running P = record { op = aop; point = r.point.below } in
-      let runs_it : running_at who link.c ≡ Some standing =
+      let inner_running : Running P = record { op = aop; point = r.point.below } in
+      let runs_it : running_at who link.c ≡ Some inner_running =
       link.running who lw ∙ ap (λ i. below_of l.table a who (at i)) us ∙ ap (below_of l.table a who) e ∙ below_of-same l.table o task (Rattle.frames.specs.declared.types.Next.TheVariants.Pending r.point.below) in
       let own : Memory = part (part_place l.below.size a) l.below.size m in
       let moved : Moved P = l.below.goes r.point.below (choice == 1) own in
       let new : Memory = with_part (part_place l.below.size a) moved.memory m in
       let to : StepsTo l.below link.c (step.Go who choice) who aop (chosen_of who moved.chosen) moved.next moved.memory =
-      step_goes l.below who choice link.c standing own runs_it (link.stopped who lw ∙ ap (λ q. is_stopped q c) us ∙ awake) link.memory in
+      step_goes l.below who choice link.c inner_running own runs_it (link.stopped who lw ∙ ap (λ q. is_stopped q c) us ∙ awake) link.memory in
       let fb : fits_step l.below (step.Go who choice) ≡ true = go_fits l.below who choice lw lc in
       let g = l.lawful.goes_well who aop r.point.below (choice == 1) own (h.well.holds.parts a la) can.below in
       let hs : HasSize l.below.size moved.memory = l.lawful.size_holds moved.memory g.holds in
@@ -157,22 +157,22 @@ module _ {Task P U : Type 0} (l : LayerOver Task P) (user : ℕ → ℕ → ℕ)
       let whole = step_goes L p choice c r m e awake refl in
       let lh : LayerHolds l.table l.below l.Holds new = holds_with_part l a moved.memory m la g.holds h.well.holds in
       let chosen = (resume l.table l.below r.point (choice == 1) m).chosen in
-      let n : Standing Task = record { op = o; task = task } in
-      let mine : h.j.tasks p ≡ Some n = h.tasks p ∙ ap standing_of e in
+      let n : TaskInProgress Task = record { op = o; task = task } in
+      let mine : h.j.tasks p ≡ Some n = h.tasks p ∙ ap task_in_progress e in
       let tasks_same : (q : ℕ) → h.j.tasks q ≡ put p (Some n) h.j.tasks q = λ q. put_is p q (Some n) h.j.tasks mine in
       let parts_same : (k : ℕ) → h.j.parts k ≡ put a (h.j.parts a) h.j.parts k = λ k. put_again a k h.j.parts in
       let Out : Option Event → U → Type 0 = λ e. Up u (in_order (chosen_of p chosen) e) in
       let still = K.passes.still u h.j p chosen h.inv in
-      let ran = behind_ran l user value (λ q. is_stopped q c) w p o task new at h.j h.j (h.j.parts a) moved.next Out (λ outcome m'. advance l.table l.below (l.table.rest task outcome) m')
+      let ran = after_part_ran l user value (λ q. is_stopped q c) w p o task new at h.j h.j (h.j.parts a) moved.next Out (λ outcome m'. advance l.table l.below (l.table.rest task outcome) m')
       lh
-      (λ i lt. h.words i lt ∙ sym (word_behind l moved.memory m a i h.well.holds la hs))
+      (λ i lt. h.words i lt ∙ sym (word_after_part l moved.memory m a i h.well.holds la hs))
       (λ q ne. h.tasks q)
       (λ k lk. subst (λ y. Linked l user value (λ q. is_stopped q c) new (put p (still_running o (nested task moved.next)) at) k (put a y h.j.parts k)) es
       (links_move l user value (λ q. is_stopped q c) m at h.j.parts p o task (chosen_of who moved.chosen) moved.next moved.memory (step.Go who choice) h.well.holds h.links la lw us
       (λ k q ne. ap (below_of l.table k q) e ∙ below_of-other l.table o task (Rattle.frames.specs.declared.types.Next.TheVariants.Pending r.point.below) k q ne) link fb to hs k lk))
       fine.0
       fine.1
-      (stands_here l user value (λ q. is_stopped q c) w task moved.next g.may_be_at)
+      (suits_by_table l user value (λ q. is_stopped q c) w task moved.next g.may_be_at)
       still
       (λ i. refl) tasks_same parts_same
       (λ outcome ans pass good mid.

@@ -28,18 +28,18 @@ own_left frames (Pending p) front given left is leaves = subst (λ g. IfSome g (
 own_left frames (Done o) front given left is leaves = subst (λ g. IfSome g (λ _. left ≡ front)) (sym is) (leaves ∙ append-nil front)
 
 -- a stack has at least `first` frames after a layer's own frame was pushed at that index
-pub behind_long : (stack rest behind_own left : List Frame) (frame : Frame) (first : ℕ) → behind_own ≡ stack ++ frame ∷ [] → length stack ≡ first → left ≡ behind_own ++ rest → first ≤ length left
-behind_long stack rest behind_own left frame first owns long leaves =
+pub stack_long : (stack rest with_own left : List Frame) (frame : Frame) (first : ℕ) → with_own ≡ stack ++ frame ∷ [] → length stack ≡ first → left ≡ with_own ++ rest → first ≤ length left
+stack_long stack rest with_own left frame first owns long leaves =
     let whole = ap length leaves in
     let own = ap length owns in
-    omega (arith, long, whole, own, length-append behind_own rest, length-append stack (frame ∷ []))
+    omega (arith, long, whole, own, length-append with_own rest, length-append stack (frame ∷ []))
 
 -- `a` is what the task asks, and `q` is the part's place
 module _ {Task P : Type 0} (l : LayerOver Task P) (at : Place) (m : Memory) (lies : LayerLies l.table l.below l.Holds at m)
     (task : Task) (a : Ask) (e : a ≡ l.table.asks task) (q : Place) (is : q ≡ place_after at (part_place l.below.size a.part)) where
-  module _ (who : ℕ) (o : Op) (stands : l.MayBeAt who o task) where
+  module _ (who : ℕ) (o : Op) (at_task : l.MayBeAt who o task) where
     part_there : a.part < l.table.parts
-    part_there = rw e (asks_fit l who o task stands).0
+    part_there = rw e (asks_fit l who o task at_task).0
 
     -- the part's memory satisfies `Holds`
     pub part_keeps : l.Holds (part q l.below.size m)
@@ -51,15 +51,15 @@ module _ {Task P : Type 0} (l : LayerOver Task P) (at : Place) (m : Memory) (lie
 
     -- the part is asked after the layer's own frame is pushed; that frame is dropped if the part
     -- has ended
-    pub part_asked : (stack behind_own left closed : List Frame) (first : ℕ) (given : Option Outcome) (after : Memory)
-        → behind_own ≡ stack ++ l.table.frame task ∷ [] → length stack ≡ first
-        → Lands l.below.frames q (l.below.begins a.who a.op (part q l.below.size m)).next (l.below.begins a.who a.op (part q l.below.size m)).memory behind_own m given left after
+    pub part_asked : (stack with_own left closed : List Frame) (first : ℕ) (given : Option Outcome) (after : Memory)
+        → with_own ≡ stack ++ l.table.frame task ∷ [] → length stack ≡ first
+        → Lands l.below.frames q (l.below.begins a.who a.op (part q l.below.size m)).next (l.below.begins a.who a.op (part q l.below.size m)).memory with_own m given left after
         → closed ≡ cut_where_ended first given left
         → Lands (task_frames l.table l.below task) at (asked l.below (l.table.asks task) (own l.table l.below at m)).next (asked l.below (l.table.asks task) (own l.table l.below at m)).memory stack m given closed after
-    part_asked stack behind_own left closed first given after owns long lands closes =
+    part_asked stack with_own left closed first given after owns long lands closes =
         let b = l.below in
         let here = own l.table b at m in
-        let suits : b.suits a.who a.op ≡ true = rw e (asks_fit l who o task stands).1 in
+        let suits : b.suits a.who a.op ≡ true = rw e (asks_fit l who o task at_task).1 in
         let next = ap (λ x. (b.begins a.who a.op (part x b.size m)).next) is ∙ asked_next l at m lies a part_there ∙ ap (λ x. (asked b x here).next) e in
         let answer = lands.answer ∙ ap ended next in
         record {
@@ -73,14 +73,14 @@ module _ {Task P : Type 0} (l : LayerOver Task P) (at : Place) (m : Memory) (lie
   module _ (choice : Bool) (first : ℕ) (stack : List Frame) (who : ℕ) (o : Op) (p : P)
       (on : HasFramesFrom (layered l.table l.below).frames (LayerReaches l.table l.MayBeAt l.Reaches) who first stack o (record { task = task; below = p })) where
     -- the part's frames follow the layer's own
-    pub part_stands : HasFramesFrom l.below.frames l.Reaches a.who (first + 1) stack a.op p
-    part_stands = record { reached = rw e on.reached.below; there = drop_one_more first stack (l.below.frames p) (l.table.frame task) on.there }
+    pub part_has_frames : HasFramesFrom l.below.frames l.Reaches a.who (first + 1) stack a.op p
+    part_has_frames = record { reached = rw e on.reached.below; there = drop_one_more first stack (l.below.frames p) (l.table.frame task) on.there }
 
     -- the bit that the part's bit action chooses is the layer's
     pub part_chooses : (chosen : Option (ℕ × Bool)) → (HasFramesFrom l.below.frames l.Reaches a.who (first + 1) stack a.op p → chosen ≡ placed_bit q (l.below.goes p choice (part q l.below.size m)).chosen)
         → chosen ≡ placed_bit at (pushed l.below (l.table.asks task).part p choice (own l.table l.below at m)).chosen
     part_chooses chosen chooses =
-        chooses part_stands ∙ ap (λ x. placed_bit x (l.below.goes p choice (part x l.below.size m)).chosen) is
+        chooses part_has_frames ∙ ap (λ x. placed_bit x (l.below.goes p choice (part x l.below.size m)).chosen) is
         ∙ pushed_chosen l at m lies a.part p choice (part_there who o on.reached.may_be_at)
         ∙ ap (λ x. placed_bit at (pushed l.below x.part p choice (own l.table l.below at m)).chosen) e
 
@@ -92,7 +92,7 @@ module _ {Task P : Type 0} (l : LayerOver Task P) (at : Place) (m : Memory) (lie
         (pushed l.below (l.table.asks task).part p choice (own l.table l.below at m)).memory (take first stack) m given closed after
     part_moved given left closed after lands_there closes =
         let b = l.below in
-        let lands = lands_there part_stands in
+        let lands = lands_there part_has_frames in
         let here = own l.table b at m in
         let lt = part_there who o on.reached.may_be_at in
         let next = ap (λ x. (b.goes p choice (part x b.size m)).next) is ∙ pushed_next l at m lies a.part p choice lt ∙ ap (λ x. (pushed b x.part p choice here).next) e in
@@ -104,7 +104,7 @@ module _ {Task P : Type 0} (l : LayerOver Task P) (at : Place) (m : Memory) (lie
           stack = closes ∙ part_leaves b.frames (l.table.frame task) (take first stack) (pushed b (l.table.asks task).part p choice here).next given left first
               (omega (arith, there, length-take first stack)) answer (lands.stack ∙ (λ i. front i ++ left_frames b.frames (next i)));
           memory = lands.memory ∙ ap (λ x. with_part x (b.goes p choice (part x b.size m)).memory m) is
-              ∙ pushed_memory l at m lies a.part p choice a.who a.op lt part_stands.reached
+              ∙ pushed_memory l at m lies a.part p choice a.who a.op lt part_has_frames.reached
               ∙ ap (λ x. with_part at (pushed b x.part p choice here).memory m) e;
         }
 
@@ -114,5 +114,5 @@ module _ {Task P : Type 0} (l : LayerOver Task P) (at : Place) (m : Memory) (lie
         → Lands l.below.frames q (l.below.goes p choice (part q l.below.size m)).next (l.below.goes p choice (part q l.below.size m)).memory (take (first + 1) stack) m given left after)
         → IfSome given (λ _. left ≡ take (first + 1) stack)
     part_ended given left after lands_there =
-        let lands = lands_there part_stands in
+        let lands = lands_there part_has_frames in
         own_left l.below.frames (l.below.goes p choice (part q l.below.size m)).next (take (first + 1) stack) given left lands.answer lands.stack

@@ -93,13 +93,13 @@ module _ {Task P : Type 0} (l : LayerOver Task P) (at : Place) where
 
   -- settling a program in a store, in which the layer's own words begin at word `base`, is the same
   -- as settling it in the layer's memory there
-  pub settles_there : (who : ℕ) (o : Op) (p : Program Task) (m : Memory) → LayerLies l.table l.below l.Holds at m
+  pub settled_in_store : (who : ℕ) (o : Op) (p : Program Task) (m : Memory) → LayerLies l.table l.below l.Holds at m
       → IsSound l.table (l.MayBeAt who o) (Answers l.table.values o) p
       → (base : ℕ) → base ≡ at.word + own_words l.table l.below.size → (c1 : Continuation Task) (m1 : Memory)
       → c1 ≡ (settled base p m).continuation → m1 ≡ (settled base p m).memory
       → (c1 ≡ (settled (own_words l.table l.below.size) p (own l.table l.below at m)).continuation)
       × (m1 ≡ with_part at (settled (own_words l.table l.below.size) p (own l.table l.below at m)).memory m)
-  settles_there who o p m lies sound base is c1 m1 ec em =
+  settled_in_store who o p m lies sound base is c1 m1 ec em =
       let there = settled_in_place l.table (l.MayBeAt who o) (Answers l.table.values o) at (layer_size l.table l.below.size) (own_words l.table l.below.size) p m sound lies.inside (omega arith) lies.holds.words in (
         ec ∙ ap (λ b. (settled b p m).continuation) is ∙ there.0,
         em ∙ ap (λ b. (settled b p m).memory) is ∙ there.1,
@@ -117,28 +117,28 @@ module _ {Task P : Type 0} (l : LayerOver Task P) (at : Place) where
 
     -- a settled program is at a task or an end that suits; the layer lies at its place; and running
     -- on from there is the same as running the program
-    pub settles_stands : ContinuationIsSound (l.MayBeAt who o) (Answers l.table.values o) c1
-    settles_stands =
+    pub settled_sound : ContinuationIsSound (l.MayBeAt who o) (Answers l.table.values o) c1
+    settled_sound =
         subst (ContinuationIsSound (l.MayBeAt who o) (Answers l.table.values o)) (sym ec)
         (settled_is_reached l.table (l.MayBeAt who o) (Answers l.table.values o) (own_words l.table l.below.size) p (own l.table l.below at m) sound words_inside lies.holds.words)
 
-    pub settles_lies : LayerLies l.table l.below l.Holds at m1
-    settles_lies = lies_after l at m lies _ m1 em settled_well
+    pub settled_lies : LayerLies l.table l.below l.Holds at m1
+    settled_lies = lies_after l at m lies _ m1 em settled_well
 
-    pub settles_on : run_on l.table l.below c1 (own l.table l.below at m1) ≡ advance l.table l.below p (own l.table l.below at m)
-    settles_on =
+    pub settled_runs_on : run_on l.table l.below c1 (own l.table l.below at m1) ≡ advance l.table l.below p (own l.table l.below at m)
+    settled_runs_on =
         let here = own l.table l.below at m in
         let own_1 : own l.table l.below at m1 ≡ (settled (own_words l.table l.below.size) p here).memory = ap (own l.table l.below at) em ∙ own_with l at m lies _ settled_well in
         (λ i. run_on l.table l.below (ec i) (own_1 i))
         ∙ sym (advance_settled l.table (l.MayBeAt who o) (Answers l.table.values o) l.below p here sound words_inside lies.holds.words)
 
-    pub settles : (aim : Begun (Nested Task P)) → advance l.table l.below p (own l.table l.below at m) ≡ aim → (stack : List Frame) (given : Option Outcome) (left : List Frame) (m2 : Memory)
+    pub settled_lands : (aim : Begun (Nested Task P)) → advance l.table l.below p (own l.table l.below at m) ≡ aim → (stack : List Frame) (given : Option Outcome) (left : List Frame) (m2 : Memory)
         → Lands (layered l.table l.below).frames at (run_on l.table l.below c1 (own l.table l.below at m1)).next (run_on l.table l.below c1 (own l.table l.below at m1)).memory stack m1 given left m2
         → Lands (layered l.table l.below).frames at aim.next aim.memory stack m given left m2
-    settles aim aims stack given left m2 lands =
+    settled_lands aim aims stack given left m2 lands =
         let mid = (settled (own_words l.table l.below.size) p (own l.table l.below at m)).memory in
-        again m lies mid m1 em settled_well (run_on l.table l.below c1 (own l.table l.below at m1)) aim (settles_on ∙ aims)
-        (run_well l who o c1 (own l.table l.below at m1) settles_stands settles_lies.holds).holds stack given left m2 lands
+        again m lies mid m1 em settled_well (run_on l.table l.below c1 (own l.table l.below at m1)) aim (settled_runs_on ∙ aims)
+        (run_well l who o c1 (own l.table l.below at m1) settled_sound settled_lies.holds).holds stack given left m2 lands
 
   -- after a part that has ended and isn't spent, the program runs on
   pub advances : (task : Task) (outcome : Outcome) (m : Memory) → IsNotSpent outcome → advance l.table l.below (l.table.rest task outcome) m ≡ follow_on l.table l.below task (Done outcome) m
@@ -161,11 +161,11 @@ module _ {Task P : Type 0} (l : LayerOver Task P) (at : Place) where
 
     module _ (task : Task) (is : c ≡ continuation.Asks task) (given : Option Outcome) (stack left : List Frame) (m1 : Memory)
         (lands : Lands (task_frames l.table l.below task) at (asked l.below (l.table.asks task) (own l.table l.below at m)).next (asked l.below (l.table.asks task) (own l.table l.below at m)).memory stack m given left m1) where
-      task_stands : l.MayBeAt come.who come.op task
-      task_stands = subst (ContinuationIsSound (l.MayBeAt come.who come.op) (Answers l.table.values come.op)) is come.may_be_at
+      task_may_be_at : l.MayBeAt come.who come.op task
+      task_may_be_at = subst (ContinuationIsSound (l.MayBeAt come.who come.op) (Answers l.table.values come.op)) is come.may_be_at
 
       asked_well : LayerHolds l.table l.below l.Holds (asked l.below (l.table.asks task) (own l.table l.below at m)).memory
-      asked_well = ask_holds l come.who come.op task (own l.table l.below at m) come.lies.holds task_stands
+      asked_well = ask_holds l come.who come.op task (own l.table l.below at m) come.lies.holds task_may_be_at
 
       asked_aims : follow_on l.table l.below task (asked l.below (l.table.asks task) (own l.table l.below at m)).next (asked l.below (l.table.asks task) (own l.table l.below at m)).memory ≡ aim
       asked_aims = ap (λ d. run_on l.table l.below d (own l.table l.below at m)) (sym is) ∙ come.aims
@@ -186,7 +186,7 @@ module _ {Task P : Type 0} (l : LayerOver Task P) (at : Place) where
       pub asked_answers : (outcome : Outcome) → given ≡ Some outcome → Answers l.below.values (l.table.asks task).op outcome
       asked_answers outcome e =
           subst (ReachedOrAnswered (l.Reaches (l.table.asks task).who (l.table.asks task).op) (Answers l.below.values (l.table.asks task).op)) (done_of _ outcome (sym lands.answer ∙ e))
-          (ask_is_reached l come.who come.op task (own l.table l.below at m) come.lies.holds task_stands)
+          (ask_is_reached l come.who come.op task (own l.table l.below at m) come.lies.holds task_may_be_at)
 
       -- a part that has ended leaves the frames that were below its own
       pub asked_leaves : (outcome : Outcome) → given ≡ Some outcome → left ≡ stack
@@ -201,16 +201,16 @@ module _ {Task P : Type 0} (l : LayerOver Task P) (at : Place) where
       turns outcome e goes_on c2 m2 ec em =
           let here = own l.table l.below at m1 in
           let asked_memory = (asked l.below (l.table.asks task) (own l.table l.below at m)).memory in
-          let sound = rest_sound l come.who come.op task outcome task_stands (asked_answers outcome e) goes_on in
+          let sound = rest_sound l come.who come.op task outcome task_may_be_at (asked_answers outcome e) goes_on in
           let rest = l.table.rest task outcome in
           let own_1 : here ≡ asked_memory = ap (own l.table l.below at) lands.memory ∙ own_with l at m come.lies asked_memory asked_well in
           let done : Done outcome ≡ (asked l.below (l.table.asks task) (own l.table l.below at m)).next = sym (done_of _ outcome (sym lands.answer ∙ e)) in
           record {
             who = come.who;
             op = come.op;
-            may_be_at = settles_stands come.who come.op rest m1 asked_lies sound c2 m2 ec em;
-            lies = settles_lies come.who come.op rest m1 asked_lies sound c2 m2 ec em;
-            aims = settles_on come.who come.op rest m1 asked_lies sound c2 m2 ec em ∙ advances task outcome here goes_on
+            may_be_at = settled_sound come.who come.op rest m1 asked_lies sound c2 m2 ec em;
+            lies = settled_lies come.who come.op rest m1 asked_lies sound c2 m2 ec em;
+            aims = settled_runs_on come.who come.op rest m1 asked_lies sound c2 m2 ec em ∙ advances task outcome here goes_on
                 ∙ (λ i. follow_on l.table l.below task (done i) (own_1 i)) ∙ asked_aims;
             puts = λ late h. ap (with_part at late) em ∙ put_again l at m1 asked_lies _ late (settled_well come.who come.op rest m1 asked_lies sound c2 m2 ec em) h
                 ∙ ap (with_part at late) lands.memory ∙ put_again l at m come.lies asked_memory late asked_well h ∙ come.puts late h;
@@ -231,10 +231,10 @@ module _ {Task P : Type 0} (l : LayerOver Task P) {at : Place} {m : Memory} (lie
   abbrev moved : P → Moved P
   moved p = pushed l.below (l.table.asks task).part p choice (own l.table l.below at m)
 
-  abbrev StandsAt : Op → Nested Task P → Type 0
-  StandsAt o n = HasFramesFrom (layered l.table l.below).frames (LayerReaches l.table l.MayBeAt l.Reaches) who first stack o n
+  abbrev HasFramesOf : Op → Nested Task P → Type 0
+  HasFramesOf o n = HasFramesFrom (layered l.table l.below).frames (LayerReaches l.table l.MayBeAt l.Reaches) who first stack o n
 
-  in_task : (o : Op) (n : Nested Task P) → StandsAt o n → task ≡ n.task
+  in_task : (o : Op) (n : Nested Task P) → HasFramesOf o n → task ≡ n.task
   in_task o n on = finds ∙ found_task l who first stack frame found o n on
 
   -- if the part has ended, the layer's own frame is still there, and gives the same task
@@ -242,8 +242,8 @@ module _ {Task P : Type 0} (l : LayerOver Task P) {at : Place} {m : Memory} (lie
     left_is : left ≡ take (first + 1) stack
     left_is = subst (λ e. IfSome e (λ _. left ≡ take (first + 1) stack)) is still
 
-    pub stands_still : first < length left
-    stands_still =
+    pub frame_still_there : first < length left
+    frame_still_there =
         let there = index_there first stack (drop (first + 1) stack) frame found in
         let long = ap length left_is in
         omega (arith, there, long, length-take (first + 1) stack)
@@ -253,24 +253,24 @@ module _ {Task P : Type 0} (l : LayerOver Task P) {at : Place} {m : Memory} (lie
         let own : drop first left ≡ frame ∷ [] = ap (drop first) left_is ∙ drop-take first 1 stack ∙ ap (take 1) found in
         e ∙ ap (l.table.find who) (parts_there first left [] frame last own there).0 ∙ sym finds
 
-  pub stands_at : (o : Op) (n : Nested Task P) → StandsAt o n → StandsAt o (record { task = task; below = n.below })
-  stands_at o n on = subst (λ x. StandsAt o (record { task = x; below = n.below })) (sym (in_task o n on)) on
+  pub at_found_task : (o : Op) (n : Nested Task P) → HasFramesOf o n → HasFramesOf o (record { task = task; below = n.below })
+  at_found_task o n on = subst (λ x. HasFramesOf o (record { task = x; below = n.below })) (sym (in_task o n on)) on
 
-  pub chooses : (chosen : Option (ℕ × Bool)) → ((o : Op) (p : P) → StandsAt o (record { task = task; below = p }) → chosen ≡ placed_bit at (moved p).chosen)
-      → (o : Op) (n : Nested Task P) → StandsAt o n → chosen ≡ placed_bit at (resume l.table l.below n choice (own l.table l.below at m)).chosen
+  pub chooses : (chosen : Option (ℕ × Bool)) → ((o : Op) (p : P) → HasFramesOf o (record { task = task; below = p }) → chosen ≡ placed_bit at (moved p).chosen)
+      → (o : Op) (n : Nested Task P) → HasFramesOf o n → chosen ≡ placed_bit at (resume l.table l.below n choice (own l.table l.below at m)).chosen
   chooses chosen e o n on =
-      e o n.below (stands_at o n on) ∙ ap (λ x. placed_bit at (pushed l.below (l.table.asks x).part n.below choice (own l.table l.below at m)).chosen) (in_task o n on)
+      e o n.below (at_found_task o n on) ∙ ap (λ x. placed_bit at (pushed l.below (l.table.asks x).part n.below choice (own l.table l.below at m)).chosen) (in_task o n on)
 
   module _ {end : Option Outcome} (still : List Frame) {m1 : Memory}
-      (pushes : (o : Op) (p : P) → StandsAt o (record { task = task; below = p })
+      (pushes : (o : Op) (p : P) → HasFramesOf o (record { task = task; below = p })
       → Lands (task_frames l.table l.below task) at (moved p).next (moved p).memory (take first stack) m end (cut_where_ended first end still) m1)
-      {o : Op} {n : Nested Task P} (on : StandsAt o n) where
+      {o : Op} {n : Nested Task P} (on : HasFramesOf o n) where
     -- the stack, without the layer's frames if the part has ended
     abbrev left : List Frame
     left = cut_where_ended first end still
 
     lands : Lands (task_frames l.table l.below task) at (moved n.below).next (moved n.below).memory (take first stack) m end left m1
-    lands = pushes o n.below (stands_at o n on)
+    lands = pushes o n.below (at_found_task o n on)
 
     -- the effect for the task found is that for the task that the process is in
     for_task : (front : List Frame) (given : Option Outcome) (after : List Frame) (m2 : Memory)
@@ -292,7 +292,7 @@ module _ {Task P : Type 0} (l : LayerOver Task P) {at : Place} {m : Memory} (lie
 
     module _ {outcome : Outcome} (is : end ≡ Some outcome) where
       pushed_well : LayerHolds l.table l.below l.Holds (moved n.below).memory
-      pushed_well = let there = stands_at o n on in push_holds l who o task n.below choice (own l.table l.below at m) lies.holds there.reached.may_be_at there.reached.below
+      pushed_well = let there = at_found_task o n on in push_holds l who o task n.below choice (own l.table l.below at m) lies.holds there.reached.may_be_at there.reached.below
 
       ended_so : (moved n.below).next ≡ Done outcome
       ended_so = done_of (moved n.below).next outcome (sym lands.answer ∙ is)
@@ -301,9 +301,9 @@ module _ {Task P : Type 0} (l : LayerOver Task P) {at : Place} {m : Memory} (lie
       pub ended_lies : LayerLies l.table l.below l.Holds at m1
       ended_lies = lies_after l at m lies (moved n.below).memory m1 lands.memory pushed_well
 
-      ended_stands : l.MayBeAt who o task × Answers l.below.values (l.table.asks task).op outcome
-      ended_stands =
-          let there = stands_at o n on in (
+      ended_suits : l.MayBeAt who o task × Answers l.below.values (l.table.asks task).op outcome
+      ended_suits =
+          let there = at_found_task o n on in (
             there.reached.may_be_at,
             subst (ReachedOrAnswered (l.Reaches (l.table.asks task).who (l.table.asks task).op) (Answers l.below.values (l.table.asks task).op)) ended_so
                 (push_is_reached l who o task n.below choice (own l.table l.below at m) lies.holds there.reached.may_be_at there.reached.below),
@@ -315,8 +315,8 @@ module _ {Task P : Type 0} (l : LayerOver Task P) {at : Place} {m : Memory} (lie
           ∙ ended_leaves (task_frames l.table l.below task) (moved n.below).next end outcome (take first stack) left lands.answer is lands.stack
 
       -- the outcome also suits the task that is found again, since it is the same
-      pub again_stands : (back : Task) → back ≡ task → l.MayBeAt who o back × Answers l.below.values (l.table.asks back).op outcome
-      again_stands back same = subst (λ t. l.MayBeAt who o t × Answers l.below.values (l.table.asks t).op outcome) (sym same) ended_stands
+      pub again_suits : (back : Task) → back ≡ task → l.MayBeAt who o back × Answers l.below.values (l.table.asks back).op outcome
+      again_suits back same = subst (λ t. l.MayBeAt who o t × Answers l.below.values (l.table.asks t).op outcome) (sym same) ended_suits
 
       -- the program runs on after the part has ended
       pub ended_goes_on : (back : Task) → back ≡ task → (front : List Frame) → front ≡ take first still → (given : Option Outcome) (after : List Frame) (m2 : Memory)
@@ -326,7 +326,7 @@ module _ {Task P : Type 0} (l : LayerOver Task P) {at : Place} {m : Memory} (lie
           let it_there = subst (λ t. Lands (layered l.table l.below).frames at (follow_on l.table l.below t (Done outcome) (own l.table l.below at m1)).next
           (follow_on l.table l.below t (Done outcome) (own l.table l.below at m1)).memory front m1 given after m2) same it in
           let here : own l.table l.below at m1 ≡ (moved n.below).memory = ap (own l.table l.below at) lands.memory ∙ own_with l at m lies (moved n.below).memory pushed_well in
-          let late = (follow_well l who o task (Done outcome) (own l.table l.below at m1) ended_lies.holds ended_stands.0 ended_stands.1).holds in
+          let late = (follow_well l who o task (Done outcome) (own l.table l.below at m1) ended_lies.holds ended_suits.0 ended_suits.1).holds in
           for_task (take first stack) given after m2
           (again l at m lies (moved n.below).memory m1 lands.memory pushed_well (follow_on l.table l.below task (Done outcome) (own l.table l.below at m1))
           (follow_on l.table l.below task (moved n.below).next (moved n.below).memory) (λ i. follow_on l.table l.below task (sym ended_so i) (here i)) late (take first stack) given after m2

@@ -26,13 +26,13 @@ use Rattle.layers.specs.Nested.{Program, Ends, Asks, Reads, Sets, part_place, ow
 use Rattle.layers.specs.Sound.{LayerHolds, IsSound, IsNotSpent}
 use Rattle.layers.specs.laws.Nested.{asks_fit, holds_with_part, holds_with_word}
 use Rattle.layers.specs.laws.Over.{LayerOver}
-use Rattle.layers.proofs.Law.{Standing, View, Watch, Admission, RunsUnder, IsUser}
+use Rattle.layers.proofs.Law.{TaskInProgress, View, Watch, Admission, RunsUnder, IsUser}
 use Rattle.layers.proofs.Admitted.{IsAdmitted, AlwaysAdmits, reached_admitted, spent_end}
-use Rattle.layers.proofs.Links.{step_of, fits_of, step_begins, StepsTo, nested, below_of, Linked, part-with_word, word_behind, links_move, link_same, begun_seen}
+use Rattle.layers.proofs.Links.{step_of, fits_of, step_begins, StepsTo, nested, below_of, Linked, part-with_word, word_after_part, links_move, link_same, begun_seen}
 
-abbrev pub standing_of : {Task P : Type 0} → Option (Running (Nested Task P)) → Option (Standing Task)
-standing_of None = None
-standing_of (Some r) = Some (record { op = r.op; task = r.point.task })
+abbrev pub task_in_progress : {Task P : Type 0} → Option (Running (Nested Task P)) → Option (TaskInProgress Task)
+task_in_progress None = None
+task_in_progress (Some r) = Some (record { op = r.op; task = r.point.task })
 
 -- the event of an operation's end is that of its outcome
 pub return_done : (P : Type 0) (p : ℕ) (o : Outcome) → return_of {P = P} p (Done o) ≡ Some (ended p o)
@@ -46,7 +46,7 @@ pub record Mid {Task P U : Type 0} (l : LayerOver Task P) (user : ℕ → ℕ �
     (m : Memory) (at : ℕ → Option (Running (Nested Task P))) (p : ℕ) (j : View Task) : Type 0 where
   pub holds : LayerHolds l.table l.below l.Holds m
   pub words : (i : ℕ) → i < l.table.words → j.words i ≡ word_at (own_words l.table l.below.size + i) m
-  pub tasks : (q : ℕ) → (q ≡ p → ⊥) → j.tasks q ≡ standing_of (at q)
+  pub tasks : (q : ℕ) → (q ≡ p → ⊥) → j.tasks q ≡ task_in_progress (at q)
   pub links : (k : ℕ) → k < l.table.parts → Linked l user value halted m at k (j.parts k)
 
 -- what holds after p's turn has ended
@@ -60,15 +60,15 @@ pub record Ran {Task P U : Type 0} (l : LayerOver Task P) (user : ℕ → ℕ �
   pub others : (q : ℕ) → (q ≡ p → ⊥) → to q ≡ at q
   pub mine : to p ≡ still_running o begun.next
   pub words : (i : ℕ) → i < l.table.words → j.words i ≡ word_at (own_words l.table l.below.size + i) begun.memory
-  pub tasks : (q : ℕ) → j.tasks q ≡ standing_of (to q)
+  pub tasks : (q : ℕ) → j.tasks q ≡ task_in_progress (to q)
   pub links : (k : ℕ) → k < l.table.parts → Linked l user value halted begun.memory to k (j.parts k)
 
-tasks_put : {Task P : Type 0} (p q : ℕ) (x : Option (Running (Nested Task P))) (f : ℕ → Option (Standing Task)) (at : ℕ → Option (Running (Nested Task P)))
-    → ((q : ℕ) → (q ≡ p → ⊥) → f q ≡ standing_of (at q)) → put p (standing_of x) f q ≡ standing_of (put p x at q)
+tasks_put : {Task P : Type 0} (p q : ℕ) (x : Option (Running (Nested Task P))) (f : ℕ → Option (TaskInProgress Task)) (at : ℕ → Option (Running (Nested Task P)))
+    → ((q : ℕ) → (q ≡ p → ⊥) → f q ≡ task_in_progress (at q)) → put p (task_in_progress x) f q ≡ task_in_progress (put p x at q)
 tasks_put p q x f at h =
     elim (cases_eq q p) [
-      | inl e ↦ ap (put p (standing_of x) f) e ∙ put_same p (standing_of x) f ∙ sym (ap (λ i. standing_of (put p x at i)) e ∙ ap standing_of (put_same p x at))
-      | inr ne ↦ put_other p q (standing_of x) f ne ∙ h q ne ∙ sym (ap standing_of (put_other p q x at ne))
+      | inl e ↦ ap (put p (task_in_progress x) f) e ∙ put_same p (task_in_progress x) f ∙ sym (ap (λ i. task_in_progress (put p x at i)) e ∙ ap task_in_progress (put_same p x at))
+      | inr ne ↦ put_other p q (task_in_progress x) f ne ∙ h q ne ∙ sym (ap task_in_progress (put_other p q x at ne))
     ]
 
 module _ {Task P U : Type 0} (l : LayerOver Task P) (user : ℕ → ℕ → ℕ) (value : ℕ → ℕ) (halted : ℕ → Bool) (w : Watch Task U) where
@@ -94,10 +94,10 @@ module _ {Task P U : Type 0} (l : LayerOver Task P) (user : ℕ → ℕ → ℕ)
   }
 
   -- the turn of p goes on after a part's step
-  pub behind_ran : (p : ℕ) (o : Op) (task : Task) (m : Memory) (at : At) (j c : View Task) (s : Seen) (next : Next P) (Out : Option Event → U → Type 0) (go_on : Outcome → Memory → Begun (Nested Task P))
+  pub after_part_ran : (p : ℕ) (o : Op) (task : Task) (m : Memory) (at : At) (j c : View Task) (s : Seen) (next : Next P) (Out : Option Event → U → Type 0) (go_on : Outcome → Memory → Begun (Nested Task P))
       → LayerHolds l.table l.below l.Holds m
       → ((i : ℕ) → i < l.table.words → j.words i ≡ word_at (own_words l.table l.below.size + i) m)
-      → ((q : ℕ) → (q ≡ p → ⊥) → j.tasks q ≡ standing_of (at q))
+      → ((q : ℕ) → (q ≡ p → ⊥) → j.tasks q ≡ task_in_progress (at q))
       → ((k : ℕ) → k < l.table.parts → Linked l user value halted m (put p (still_running o (nested task next)) at) k
       (put (l.table.asks task).part (sees (return_of (l.table.asks task).who next) s) j.parts k))
       → refuses (return_of (l.table.asks task).who next) ≡ false
@@ -109,7 +109,7 @@ module _ {Task P U : Type 0} (l : LayerOver Task P) (user : ℕ → ℕ → ℕ)
       → Mid l user value halted w m (put p None at) p (record j { parts = put (l.table.asks task).part (sees (Some (ended (l.table.asks task).who outcome)) s) j.parts })
       → RanTo p o Out (go_on outcome m) (put p None at))
       → RanTo p o Out (after_part go_on task next m) at
-  behind_ran p o task m at j c s (Pending q) Out go_on lh words tasks links fine good ans inv cw ct cp more =
+  after_part_ran p o task m at j c s (Pending q) Out go_on lh words tasks links fine good ans inv cw ct cp more =
       let x : Option (Running (Nested Task P)) = Some (record { op = o; point = record { task = task; below = q } }) in
       record {
         u = inv.0;
@@ -123,23 +123,23 @@ module _ {Task P U : Type 0} (l : LayerOver Task P) (user : ℕ → ℕ → ℕ)
         tasks = λ i. ct i ∙ tasks_put p i x j.tasks at tasks;
         links = λ k lt. subst (Linked l user value halted m (put p x at) k) (sym (cp k)) (links k lt);
       }
-  behind_ran p o task m at j c s (Done (Value v)) Out go_on lh words tasks links fine good ans inv cw ct cp more =
-      ran_from p o Out (go_on (Value v) m) at (more (Value v) ans tt good (record { holds = lh; words = words; tasks = λ q ne. tasks q ne ∙ sym (ap standing_of (put_other p q None at ne)); links = links }))
-  behind_ran p o task m at j c s (Done Written) Out go_on lh words tasks links fine good ans inv cw ct cp more =
-      ran_from p o Out (go_on Written m) at (more Written ans tt good (record { holds = lh; words = words; tasks = λ q ne. tasks q ne ∙ sym (ap standing_of (put_other p q None at ne)); links = links }))
-  behind_ran p o task m at j c s (Done (Spent layer)) Out go_on lh words tasks links fine good ans inv cw ct cp more =
+  after_part_ran p o task m at j c s (Done (Value v)) Out go_on lh words tasks links fine good ans inv cw ct cp more =
+      ran_from p o Out (go_on (Value v) m) at (more (Value v) ans tt good (record { holds = lh; words = words; tasks = λ q ne. tasks q ne ∙ sym (ap task_in_progress (put_other p q None at ne)); links = links }))
+  after_part_ran p o task m at j c s (Done Written) Out go_on lh words tasks links fine good ans inv cw ct cp more =
+      ran_from p o Out (go_on Written m) at (more Written ans tt good (record { holds = lh; words = words; tasks = λ q ne. tasks q ne ∙ sym (ap task_in_progress (put_other p q None at ne)); links = links }))
+  after_part_ran p o task m at j c s (Done (Spent layer)) Out go_on lh words tasks links fine good ans inv cw ct cp more =
       let never : ⊥ = cc in absurd never
 
   -- a part's next point or end suits in terms of the table's numbers of values too
-  pub stands_here : (task : Task) (next : Next P) → ReachedOrAnswered (l.Reaches (l.table.asks task).who (l.table.asks task).op) (Answers l.below.values (l.table.asks task).op) next
+  pub suits_by_table : (task : Task) (next : Next P) → ReachedOrAnswered (l.Reaches (l.table.asks task).who (l.table.asks task).op) (Answers l.below.values (l.table.asks task).op) next
       → ReachedOrAnswered (l.Reaches (l.table.asks task).who (l.table.asks task).op) (Answers l.table.inner_values (l.table.asks task).op) next
-  stands_here task next h = subst (λ n. ReachedOrAnswered (l.Reaches (l.table.asks task).who (l.table.asks task).op) (Answers n (l.table.asks task).op) next) l.fit.same_values h
+  suits_by_table task next h = subst (λ n. ReachedOrAnswered (l.Reaches (l.table.asks task).who (l.table.asks task).op) (Answers n (l.table.asks task).op) next) l.fit.same_values h
 
   -- the part that is asked takes the operation, or refuses it at once
   pub asked_ends : (rule : Admission) (p : ℕ) (o : Op) (task : Task) (m : Memory) (at : At) (j : View Task) (next : Next P) (Out : Option Event → U → Type 0) (go_on : Outcome → Memory → Begun (Nested Task P))
       → at p ≡ None → LayerHolds l.table l.below l.Holds m
       → ((i : ℕ) → i < l.table.words → j.words i ≡ word_at (own_words l.table l.below.size + i) m)
-      → ((q : ℕ) → (q ≡ p → ⊥) → j.tasks q ≡ standing_of (at q))
+      → ((q : ℕ) → (q ≡ p → ⊥) → j.tasks q ≡ task_in_progress (at q))
       → ((k : ℕ) → k < l.table.parts → Linked l user value halted m (put p (still_running o (nested task next)) at) k
       (put (l.table.asks task).part (after_step (in_order (Some (Invoke (l.table.asks task).who (l.table.asks task).op)) (return_of (l.table.asks task).who next)) (j.parts (l.table.asks task).part)) j.parts k))
       → IsAdmitted w.Good rule (j.parts (l.table.asks task).part) (in_order (Some (Invoke (l.table.asks task).who (l.table.asks task).op)) (return_of (l.table.asks task).who next))
@@ -164,7 +164,7 @@ module _ {Task P U : Type 0} (l : LayerOver Task P) (user : ℕ → ℕ → ℕ)
           let z : Seen = sees (Some (Invoke who aop)) (j.parts a) in
           let t : rule.Takes aop (j.parts a) = fine.taken e in
           let es : after_step (in_order (Some (Invoke who aop)) (return_of who next)) (j.parts a) ≡ sees (return_of who next) z = begun_seen who aop (return_of who next) (j.parts a) e in
-          behind_ran p o task m at j (record j { tasks = put p (Some (record { op = o; task = task })) j.tasks; parts = put a z j.parts }) z next Out go_on
+          after_part_ran p o task m at j (record j { tasks = put p (Some (record { op = o; task = task })) j.tasks; parts = put a z j.parts }) z next Out go_on
           lh words tasks
           (λ k lk. subst (λ y. Linked l user value halted m (put p (still_running o (nested task next)) at) k (put a y j.parts k)) es (moved k lk))
           e fine.reads ans (pending t)
@@ -254,11 +254,11 @@ module _ {Task P U : Type 0} (l : LayerOver Task P) (user : ℕ → ℕ → ℕ)
       subst (IsAdmitted w.Good rule (j.parts a)) to.events (reached_admitted w.Good rule l.below (value a) link.c (j.parts a) (step_of who aop) all (vals a la) link.reached f) in
       let z : Seen = sees (Some (Invoke who aop)) (j.parts a) in
       let lh : LayerHolds l.table l.below l.Holds new = holds_with_part l a begun.memory m la g.holds mid.holds in
-      let words : (i : ℕ) → i < l.table.words → j.words i ≡ word_at (own_words l.table l.below.size + i) new = λ i lt. mid.words i lt ∙ sym (word_behind l begun.memory m a i mid.holds la hs) in
+      let words : (i : ℕ) → i < l.table.words → j.words i ≡ word_at (own_words l.table l.below.size + i) new = λ i lt. mid.words i lt ∙ sym (word_after_part l begun.memory m a i mid.holds la hs) in
       let moved : (k : ℕ) → k < l.table.parts → Linked l user value halted new (put p (still_running o (nested task begun.next)) at) k (put a (after_step (in_order (Some (Invoke who aop)) (return_of who begun.next)) (j.parts a)) j.parts k) =
       links_move l user value halted m at j.parts p o task (Some (Invoke who aop)) begun.next begun.memory (step_of who aop) mid.holds mid.links la lw u
       (λ k q ne. ap (below_of l.table k q) idle) link f to hs in
-      asked_ends rule p o task new at j begun.next Out (λ outcome n. advance l.table l.below (rest outcome) n) idle lh words mid.tasks moved fine (stands_here task begun.next g.may_be_at) r.0 r.1.1
+      asked_ends rule p o task new at j begun.next Out (λ outcome n. advance l.table l.below (rest outcome) n) idle lh words mid.tasks moved fine (suits_by_table task begun.next g.may_be_at) r.0 r.1.1
       (λ outcome takes ans pass good mid2.
       run_on rule is_user all vals p o Out (rest outcome) new (put p None at) (record j { parts = put a (sees (Some (ended who outcome)) z) j.parts })
       awake (put_same p None at)

@@ -5,7 +5,7 @@ use Rattle.std.proofs.lemmas.Map.Keys.{IsDistinct-cons}
 use Rattle.std.proofs.lemmas.Map.Steps.{length-le_from_distinct_below}
 use Rattle.lineage.specs.Family.{has, last_of}
 use Rattle.lineage.specs.Climbs.{IsClimb, climb}
-use Rattle.lineage.proofs.KeyLists.{has_cases, has-head, has-tail, stands, has_not_from, has_from_any, AllByRecursion-from_has, reverse_cons, last_from-push}
+use Rattle.lineage.proofs.KeyLists.{has_cases, has-head, has-tail, on_path, has_not_from, has_from_any, AllByRecursion-from_has, reverse_cons, last_from-push}
 
 module _ (p : ℕ → Option (Option ℕ)) where
   climb_none : (n : ℕ) → climb p n None ≡ []
@@ -46,14 +46,14 @@ module _ (p : ℕ → Option (Option ℕ)) where
   -- each key of a climb has an item
   pub climb_there : (at : Option ℕ) (up : List ℕ) (k : ℕ) → IsClimb p at up → has k up ≡ true → (next : Option ℕ) × (p k ≡ Some next)
   climb_there at up k h m =
-      let s = stands k up m in
+      let s = on_path k up m in
       let c = climb_from at s.front k s.back (subst (IsClimb p at) s.is h) in
       (c.1.0, c.1.1.0)
 
   -- no key is twice in a climb
   pub not_again : (k : ℕ) (rest : List ℕ) → IsClimb p (Some k) (k ∷ rest) → has k rest ≡ false
   not_again k rest h = has_not_from k rest (λ m.
-      let s = stands k rest m in
+      let s = on_path k rest m in
       let here : IsClimb p (Some k) (k ∷ s.front ++ k ∷ s.back) = subst (λ r. IsClimb p (Some k) (k ∷ r)) s.is h in
       let again : IsClimb p (Some k) (k ∷ s.back) = climb_from (Some k) (k ∷ s.front) k s.back here in
       let same : k ∷ s.front ++ k ∷ s.back ≡ k ∷ s.back = climb_unique (Some k) (k ∷ s.front ++ k ∷ s.back) (k ∷ s.back) here again in

@@ -136,9 +136,9 @@ module _ {X : Type 0} where
   few_holders s tips k n sound e room =
       let is = sound.counted k n e in
       let a = count_few (is_key k) tips in
-      let b = count_weaker (links_to_key k) is_some s (λ o. stands_some o) in
+      let b = count_weaker (links_to_key k) is_some s (λ o. linked_is_some o) in
       omega (arith, is, a, b, room)
     where
-      stands_some : (o : Option (Node X)) → links_to_key k o ≡ true → is_some o ≡ true
-      stands_some None h = absurd (cc)
-      stands_some (Some m) h = refl
+      linked_is_some : (o : Option (Node X)) → links_to_key k o ≡ true → is_some o ≡ true
+      linked_is_some None h = absurd (cc)
+      linked_is_some (Some m) h = refl

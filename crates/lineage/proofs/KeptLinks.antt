@@ -6,7 +6,7 @@ use Rattle.lineage.specs.declared.node.Node.{Node}
 use Rattle.lineage.specs.Family.{has}
 use Rattle.lineage.specs.Climbs.{IsClimb, Ends}
 use Rattle.lineage.specs.Lineages.{tip_at, is_key, is_above, node_at, above_in, above_node, path_to, links_to_key, holders_of, IsOn, IsSoundFamily}
-use Rattle.lineage.proofs.KeyLists.{stands}
+use Rattle.lineage.proofs.KeyLists.{on_path}
 use Rattle.lineage.proofs.Climbs.{climb_kept, climb_from}
 use Rattle.lineage.proofs.Walks.{path_to_is, no_end}
 use Rattle.lineage.proofs.Counts.{count_none, count_same}
@@ -71,7 +71,7 @@ module _ {X : Type 0} where
       pub node_climb : (k : ℕ) (n : Node X) → node_at s k ≡ Some n → (up : List ℕ) × IsClimb (above_node s) (Some k) (k ∷ up)
       node_climb k n e =
           let o = sound.live k n e in
-          let m = stands k o.up o.on in
+          let m = on_path k o.up o.on in
           (m.back, climb_from (above_node s) (tip_at tips o.path) m.front k m.back (subst (IsClimb (above_node s) (tip_at tips o.path)) m.is o.is))
 
       -- a node's link is to an existing node
@@ -96,12 +96,12 @@ module _ {X : Type 0} where
           let a = count_none (is_key k) refl tips (λ i. false_from_ne_true (is_key k (tip_at tips i))
           (λ m. no_end s (tip_at tips i) k (sound.ends i) (is_key_true k (tip_at tips i) m) none)) in
           let b = count_none (links_to_key k) refl s (λ j. false_from_ne_true (links_to_key k (node_at s j))
-          (λ m. let l = linked_there j k (stands_true j m) in let no : above_node s k ≡ None = ap above_in none in let yes = l.1 in cc)) in
+          (λ m. let l = linked_there j k (link_is j m) in let no : above_node s k ≡ None = ap above_in none in let yes = l.1 in cc)) in
           omega (arith, a, b)
         where
           from_link : (o : Option (Option ℕ)) → is_above k o ≡ true → o ≡ Some (Some k)
           from_link None m = absurd (cc)
           from_link (Some next) m = ap Some (is_key_true k next m)
 
-          stands_true : (j : ℕ) → links_to_key k (node_at s j) ≡ true → above_node s j ≡ Some (Some k)
-          stands_true j m = from_link (above_node s j) m
+          link_is : (j : ℕ) → links_to_key k (node_at s j) ≡ true → above_node s j ≡ Some (Some k)
+          link_is j m = from_link (above_node s j) m

@@ -58,12 +58,12 @@ pub has_not_from : (x : ℕ) (ys : List ℕ) → (has x ys ≡ true → ⊥) →
 has_not_from x ys h = false_from_ne_true (has x ys) h
 
 -- a number in a list has a position there
-pub stands : (x : ℕ) (ys : List ℕ) → has x ys ≡ true → IsOnPath ys x
-stands x [] h = absurd (true≢false (sym h))
-stands x (y ∷ ys) h =
+pub on_path : (x : ℕ) (ys : List ℕ) → has x ys ≡ true → IsOnPath ys x
+on_path x [] h = absurd (true≢false (sym h))
+on_path x (y ∷ ys) h =
     has_cases x y ys (IsOnPath (y ∷ ys) x) h
     (λ same. record { front = []; back = ys; is = ap (λ z. z ∷ ys) (sym same) })
-    (λ rest. let s = stands x ys rest in record { front = y ∷ s.front; back = s.back; is = ap (λ l. y ∷ l) s.is })
+    (λ rest. let s = on_path x ys rest in record { front = y ∷ s.front; back = s.back; is = ap (λ l. y ∷ l) s.is })
 
 pub AllByRecursion-from_has : (x : ℕ) (ys : List ℕ) → has x ys ≡ false → AllByRecursion (λ y. eqb x y ≡ false) ys
 AllByRecursion-from_has x [] h = tt

@@ -29,9 +29,9 @@ use Rattle.frames.proofs.Pointwise.{put, put_same, put_other, put_over, put_back
 use Rattle.layers.specs.Nested.{Program, Ends, Asks, Table, layered}
 use Rattle.layers.specs.Sound.{IsNotSpent, IsSoundTable, FitsBelow}
 use Rattle.layers.specs.laws.Over.{over}
-use Rattle.layers.proofs.Law.{Standing, View, Watch, Admission, RunsUnder, IsKeptUnder, IsUser}
+use Rattle.layers.proofs.Law.{TaskInProgress, View, Watch, Admission, RunsUnder, IsKeptUnder, IsUser}
 use Rattle.layers.proofs.LayerLaw.{layer_law_under, layer_next_under}
-use Rattle.layers.proofs.Turns.{standing_of}
+use Rattle.layers.proofs.Turns.{task_in_progress}
 use Rattle.layers.specs.declared.nested.Nested.{Nested}
 use Rattle.frames.specs.declared.running.Running.{Running}
 use Rattle.frames.specs.declared.types.Step.TheVariants as step
@@ -51,14 +51,14 @@ abbrev pub at_task : MatrixTask → Phase
 at_task (Column who o j g) = Looks o j g
 at_task (Row who o j x) = Puts o j x
 
-abbrev pub phase_of : Option (Standing MatrixTask) → Phase
+abbrev pub phase_of : Option (TaskInProgress MatrixTask) → Phase
 phase_of None = Rests
 phase_of (Some s) = at_task s.task
 
 abbrev pub phases : View MatrixTask → ℕ → Phase
 phases j q = phase_of (j.tasks q)
 
-phase_put : (p : ℕ) (s : Option (Standing MatrixTask)) (tasks : ℕ → Option (Standing MatrixTask)) (q : ℕ) → put p (phase_of s) (λ r. phase_of (tasks r)) q ≡ phase_of (put p s tasks q)
+phase_put : (p : ℕ) (s : Option (TaskInProgress MatrixTask)) (tasks : ℕ → Option (TaskInProgress MatrixTask)) (q : ℕ) → put p (phase_of s) (λ r. phase_of (tasks r)) q ≡ phase_of (put p s tasks q)
 phase_put p s tasks q = elim (q == p) as (λ b. (if b then phase_of s else phase_of (tasks q)) ≡ phase_of (if b then s else tasks q)) [ true ↦ refl | false ↦ refl ]
 
 -- whether a process in this phase writes its row
@@ -119,10 +119,10 @@ module _ (L : ℕ → Bool) (n V last : ℕ) (some : 2 ≤ n) (values : 0 < V) w
   Mid p x c j = Invariant n V c (put p x (phases j)) j.parts
 
   -- who writes a row, and what is known, after p's turn has ended with this task, or none
-  abbrev rows : ℕ → Option (Standing MatrixTask) → View MatrixTask → ℕ → Bool
+  abbrev rows : ℕ → Option (TaskInProgress MatrixTask) → View MatrixTask → ℕ → Bool
   rows p s j q = in_row (phase_of (put p s j.tasks q))
 
-  abbrev rowed : ℕ → Option (Standing MatrixTask) → Coded → View MatrixTask → Rowed
+  abbrev rowed : ℕ → Option (TaskInProgress MatrixTask) → Coded → View MatrixTask → Rowed
   rowed p s c j = record { coded = c; rowing = rows p s j }
 
   -- what an event that refuses nothing says, and one that may refuse p's operation
@@ -134,7 +134,7 @@ module _ (L : ℕ → Bool) (n V last : ℕ) (some : 2 ≤ n) (values : 0 < V) w
       (e : Option Event) (d z : Coded) (f : ℕ → Bool) → RefusesOf p e → Takes V c d → Counts V e d z → Out e (record { coded = z; rowing = f })
 
   -- p's turn ends with this task, or none
-  mid_ends : (p : ℕ) (s : Option (Standing MatrixTask)) (c : Coded) (j : View MatrixTask) → c.limit ≡ L → Mid p (phase_of s) c j → MatrixInv (rowed p s c j) (record j { tasks = put p s j.tasks })
+  mid_ends : (p : ℕ) (s : Option (TaskInProgress MatrixTask)) (c : Coded) (j : View MatrixTask) → c.limit ≡ L → Mid p (phase_of s) c j → MatrixInv (rowed p s c j) (record j { tasks = put p s j.tasks })
   mid_ends p s c j l h = (l, (subst (λ f. Invariant n V c f j.parts) (λ d q. phase_put p s j.tasks q d) h, λ q. refl))
 
   mid_from : (p : ℕ) (x y : Phase) (c : Coded) (j : View MatrixTask) (parts : ℕ → Seen) → Invariant n V c (put p y (put p x (phases j))) parts → Mid p y c (record j { parts = parts })
@@ -159,7 +159,7 @@ module _ (L : ℕ → Bool) (n V last : ℕ) (some : 2 ≤ n) (values : 0 < V) w
       let at : ℕ → Phase = put p (Holds o i x) (phases j) in
       let is : at p ≡ Holds o i x = put_same p (Holds o i x) (phases j) in
       let asked : Mid p (Puts o i x) c (record j { parts = put k s j.parts }) = mid_from p (Holds o i x) (Puts o i x) c j (put k s j.parts) (row_asked n V p c o i x at j.parts lp li is h) in
-      let n1 : Option (Standing MatrixTask) = Some (record { op = op; task = Row p o i x }) in (
+      let n1 : Option (TaskInProgress MatrixTask) = Some (record { op = op; task = Row p o i x }) in (
         λ takes. (rowed p n1 c j, (out None c (rows p n1 j) (λ q layer e. cc) refl, mid_ends p n1 c (record j { parts = put k s j.parts }) lim asked)),
         (
           λ outcome takes ans pass good. elim outcome as (λ z. Answers (matrix_code_count n V last) (Write x) z → IsNotSpent z → RunsUnder rule t w p op Out (row_from n V p o left (i + 1) x) (record j { parts = put k (sees (Some (ended 0 z)) s) j.parts })) [
@@ -194,7 +194,7 @@ module _ (L : ℕ → Bool) (n V last : ℕ) (some : 2 ≤ n) (values : 0 < V) w
       → RunsUnder rule t w p op Out (row_from n V p o left 0 x) j
   runs_first zero g x p o op Out c d j whole lp lc ld h chosen out refuse = absurd (omega (arith, whole, some))
   runs_first (suc left) g x p o op Out c d j whole lp lc ld h chosen out refuse =
-      let n1 : Option (Standing MatrixTask) = Some (record { op = op; task = Row p o 0 x }) in (
+      let n1 : Option (TaskInProgress MatrixTask) = Some (record { op = op; task = Row p o 0 x }) in (
         λ takes. (rowed p n1 d j, (out None d (rows p n1 j) (λ q layer e. cc) refl, mid_ends p n1 d (record j { parts = put (p * n + 0) s j.parts }) ld (asked (chosen (room takes))))),
         (
           λ outcome takes ans pass good. elim outcome as (λ z. Answers (matrix_code_count n V last) (Write x) z → IsNotSpent z → RunsUnder rule t w p op Out (row_from n V p o left (0 + 1) x) (record j { parts = put (p * n + 0) (sees (Some (ended 0 z)) s) j.parts })) [
@@ -305,7 +305,7 @@ module _ (L : ℕ → Bool) (n V last : ℕ) (some : 2 ≤ n) (values : 0 < V) w
       let at : ℕ → Phase = put p (Climbs o i g) (phases j) in
       let is : at p ≡ Climbs o i g = put_same p (Climbs o i g) (phases j) in
       let asked : Mid p (Looks o i g) c (record j { parts = put k s j.parts }) = mid_from p (Climbs o i g) (Looks o i g) c j (put k s j.parts) (column_asked n V p c o i g at j.parts lp li is h) in
-      let n1 : Option (Standing MatrixTask) = Some (record { op = op; task = Column p o i g }) in (
+      let n1 : Option (TaskInProgress MatrixTask) = Some (record { op = op; task = Column p o i g }) in (
         λ takes. (rowed p n1 c j, (out None c c (rows p n1 j) (none_of p) (inl refl) refl, mid_ends p n1 c (record j { parts = put k s j.parts }) lim asked)),
         (
           λ outcome takes ans pass good. elim outcome as (λ z. Answers (matrix_code_count n V last) Read z → IsNotSpent z → AllByRecursion IsNotStray (got (Some (ended 1 z)) s)
@@ -458,7 +458,7 @@ matrix_over_counted b Keeps Reaches L n V last left lawful sound fit admits v st
     )
 
 -- whether a process writes its row, by what it has pending
-by_pending : {P : Type 0} (x : Option (Running (Nested MatrixTask P))) → in_row (phase_of (standing_of x)) ≡ writes_row x
+by_pending : {P : Type 0} (x : Option (Running (Nested MatrixTask P))) → in_row (phase_of (task_in_progress x)) ≡ writes_row x
 by_pending None = refl
 by_pending (Some r) = by_task r.point.task
   where

@@ -22,8 +22,8 @@ use Rattle.frames.proofs.Pointwise.{put, put_same, put_other, put_zero, put_all}
 use Rattle.layers.specs.Nested.{Ends, Table, layered}
 use Rattle.layers.specs.Sound.{IsNotSpent, IsSoundTable, FitsBelow}
 use Rattle.layers.specs.laws.Over.{over}
-use Rattle.layers.proofs.Law.{Standing as Doing, View, Watch, Runs, IsKept, IsUser}
-use Rattle.layers.proofs.LayerLaw.{Told as IsGoodStep, told_begun as begun, told_gone as gone, told_passes, layer_promises}
+use Rattle.layers.proofs.Law.{TaskInProgress as Doing, View, Watch, Runs, IsKept, IsUser}
+use Rattle.layers.proofs.LayerLaw.{IsGoodStep, good_begun as begun, good_gone as gone, good_passes, layer_promises}
 use Rattle.own_register.specs.declared.task.TwoBitsTask.{TwoBitsTask}
 use Rattle.own_register.specs.declared.task.TwoBitsTask.TheVariants.{WriteHigh, WriteLow, ReadHigh, ReadLow}
 use Rattle.own_register.specs.Program.{high_of, low_of, with_bit, write_low, read_low, two_bits_program, two_bits_rest, two_bits_table, TwoBitsMayBeAt}
@@ -380,7 +380,7 @@ module _ (processes : ℕ) where
   pub two_bits_kept : IsKept t (TwoBitsMayBeAt processes) two_bits_watch opening (IsGoodStep IsFreshAlone)
   two_bits_kept = record {
     initial = λ v l j words free parts. at_first v j free (parts 0 (omega arith)) (parts 1 (omega arith));
-    passes = told_passes two_bits_watch IsFreshAlone;
+    passes = good_passes two_bits_watch IsFreshAlone;
     begins = begins;
     goes = λ u j p n chosen o h at may. goes u j p n.op n.task chosen o h at may;
   }

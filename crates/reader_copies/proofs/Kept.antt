@@ -21,15 +21,15 @@ use Rattle.frames.proofs.Pointwise.{put, put_same, put_other, put_zero, put_back
 use Rattle.layers.specs.Nested.{Ends, Table, layered}
 use Rattle.layers.specs.Sound.{IsNotSpent, IsSoundTable, FitsBelow}
 use Rattle.layers.specs.laws.Over.{over}
-use Rattle.layers.proofs.Law.{Standing, View, Watch, Runs, IsKept, IsUser}
-use Rattle.layers.proofs.LayerLaw.{Told, told_begun, told_gone, told_passes, layer_promises}
+use Rattle.layers.proofs.Law.{TaskInProgress, View, Watch, Runs, IsKept, IsUser}
+use Rattle.layers.proofs.LayerLaw.{IsGoodStep, good_begun, good_gone, good_passes, layer_promises}
 use Rattle.reader_copies.specs.declared.task.CopiesTask.{CopiesTask}
 use Rattle.reader_copies.specs.declared.task.CopiesTask.TheVariants.{Writing, Reading}
 use Rattle.reader_copies.specs.Program.{write_from, copies_program, copies_rest, copies_table, CopiesMayBeAt}
 
 -- a write of v is in progress, between two copies: the copies of the readers before r hold v, and
 -- no copy is being written
-pub record Behind (m r v : ℕ) (u : Seen) (parts : ℕ → Seen) : Type 0 where
+pub record WriteReached (m r v : ℕ) (u : Seen) (parts : ℕ → Seen) : Type 0 where
   pub writing : u.writing ≡ Some v
   pub last : (k : ℕ) → k + 1 < r → (parts k).last ≡ v
   pub quiet : (k : ℕ) → k < m → (parts k).writing ≡ None
@@ -51,7 +51,7 @@ abbrev pub CopierAt : ℕ → CopiesTask → Seen → (ℕ → Seen) → Type 0
 CopierAt m (Writing v r) u parts = Within m r v u parts
 CopierAt m (Reading r) u parts = ⊥
 
-abbrev pub CopierSays : ℕ → Option (Standing CopiesTask) → Seen → (ℕ → Seen) → Type 0
+abbrev pub CopierSays : ℕ → Option (TaskInProgress CopiesTask) → Seen → (ℕ → Seen) → Type 0
 CopierSays m None u parts = Still m u parts
 CopierSays m (Some n) u parts = CopierAt m n.task u parts
 
@@ -73,7 +73,7 @@ alone_none m v u z parts to e h o r lo hi k =
     let f : ⊥ = cc in
     absurd f
 
-writer_still : (m : ℕ) (task : Option (Standing CopiesTask)) (u : Seen) (parts : ℕ → Seen) → CopierSays m task u parts → u.writing ≡ None → Still m u parts
+writer_still : (m : ℕ) (task : Option (TaskInProgress CopiesTask)) (u : Seen) (parts : ℕ → Seen) → CopierSays m task u parts → u.writing ≡ None → Still m u parts
 writer_still m None u parts h e = h
 writer_still m (Some n) u parts h e = at n.task h
   where
@@ -81,7 +81,7 @@ writer_still m (Some n) u parts h e = at n.task h
     at (Writing v r) h = let q : u.writing ≡ Some v = h.writing in let f : ⊥ = cc in absurd f
     at (Reading r) h = absurd h
 
-copier_same : (m : ℕ) (task : Option (Standing CopiesTask)) (u z : Seen) (parts to : ℕ → Seen) → u.last ≡ z.last → u.writing ≡ z.writing → ((k : ℕ) → (parts k).last ≡ (to k).last) → ((k : ℕ) → (parts k).writing ≡ (to k).writing)
+copier_same : (m : ℕ) (task : Option (TaskInProgress CopiesTask)) (u z : Seen) (parts to : ℕ → Seen) → u.last ≡ z.last → u.writing ≡ z.writing → ((k : ℕ) → (parts k).last ≡ (to k).last) → ((k : ℕ) → (parts k).writing ≡ (to k).writing)
     → CopierSays m task u parts → CopierSays m task z to
 copier_same m None u z parts to ul uw l w h = record { writing = sym uw ∙ h.writing; last = λ k lk. sym (l k) ∙ h.last k lk ∙ ul; quiet = λ k lk. sym (w k) ∙ h.quiet k lk }
 copier_same m (Some n) u z parts to ul uw l w h = at n.task h
@@ -102,7 +102,7 @@ module _ (m values : ℕ) where
   abbrev w : Watch CopiesTask Seen
   w = copies_watch m
 
-  runs_writes : (behind r v p : ℕ) (op : Op) (Out : Option Event → Seen → Type 0) (u : Seen) (j : View CopiesTask) → p ≡ 0 → 1 ≤ r → r + behind ≡ m + 1 → Behind m r v u j.parts → Alone m u j.parts
+  runs_writes : (behind r v p : ℕ) (op : Op) (Out : Option Event → Seen → Type 0) (u : Seen) (j : View CopiesTask) → p ≡ 0 → 1 ≤ r → r + behind ≡ m + 1 → WriteReached m r v u j.parts → Alone m u j.parts
       → Out None u → Out (Some (Wrote p)) (sees (Some (Wrote p)) u) → Runs t w p op Out (write_from v r behind) j
   runs_writes zero r v p op Out u j zp lo room h a on oe =
       let z : Seen = sees (Some (Wrote p)) u in (
@@ -121,7 +121,7 @@ module _ (m values : ℕ) where
       )
   runs_writes (suc behind) r v p op Out u j zp lo room h a on oe =
       let i : ℕ = r - 1 in
-      let n : Option (Standing CopiesTask) = Some (record { op = op; task = Writing v r }) in
+      let n : Option (TaskInProgress CopiesTask) = Some (record { op = op; task = Writing v r }) in
       let s : Seen = sees (Some (Invoke 0 (Write v))) (j.parts i) in
       let e : Seen = sees (Some (Wrote 0)) s in (
         (
@@ -152,14 +152,14 @@ module _ (m values : ℕ) where
       )
 
   begin_write : (u : Seen) (j : View CopiesTask) (p v : ℕ) → CopiesInv m u j → j.tasks p ≡ None → p ≡ 0
-      → Runs t w p (Write v) (λ e. Told IsFreshAlone u (in_order (Some (Invoke p (Write v))) e)) (write_from v 1 m) j
+      → Runs t w p (Write v) (λ e. IsGoodStep IsFreshAlone u (in_order (Some (Invoke p (Write v))) e)) (write_from v 1 m) j
   begin_write u j p v h free zp =
       let idle : Still m u j.parts = subst (λ y. CopierSays m y u j.parts) (sym (ap j.tasks zp) ∙ free) h.copier in
       let z : Seen = sees (Some (Invoke p (Write v))) u in
-      runs_writes m 1 v p (Write v) (λ e. Told IsFreshAlone u (in_order (Some (Invoke p (Write v))) e)) z j zp (omega arith) (omega arith)
+      runs_writes m 1 v p (Write v) (λ e. IsGoodStep IsFreshAlone u (in_order (Some (Invoke p (Write v))) e)) z j zp (omega arith) (omega arith)
       (record { writing = refl; last = λ k lk. (let f : ⊥ = omega (arith, lk) in absurd f); quiet = idle.quiet })
       (λ r lo hi k. (let f : ⊥ = cc in absurd f))
-      (told_begun IsFreshAlone p (Write v) None u refl tt) (told_begun IsFreshAlone p (Write v) (Some (Wrote p)) u refl tt)
+      (good_begun IsFreshAlone p (Write v) None u refl tt) (good_begun IsFreshAlone p (Write v) (Some (Wrote p)) u refl tt)
 
   gives : (r x : ℕ) (u s : Seen) → (u.overlaps r ≡ [] → (s.overlaps 1 ≡ []) × ((s.fresh 1 ≡ u.fresh r) × (u.writing ≡ None)))
       → IsFreshAlone (record { reader = 1; value = x; fresh = s.fresh 1; overlaps = s.overlaps 1 }) → IsFreshAlone (record { reader = r; value = x; fresh = u.fresh r; overlaps = u.overlaps r })
@@ -169,7 +169,7 @@ module _ (m values : ℕ) where
       is_fresh (record { reader = r; value = x; fresh = u.fresh r; overlaps = u.overlaps r }) (fresh_value y (g f.0) ∙ f.1.0)
 
   begin_read : (u : Seen) (j : View CopiesTask) (p : ℕ) → CopiesInv m u j → 1 ≤ p → p ≤ m
-      → Runs t w p Read (λ e. Told IsFreshAlone u (in_order (Some (Invoke p Read)) e)) (copies_program m p Read) j
+      → Runs t w p Read (λ e. IsGoodStep IsFreshAlone u (in_order (Some (Invoke p Read)) e)) (copies_program m p Read) j
   begin_read u j p h lo hi =
       let i : ℕ = p - 1 in
       let li : i < m = omega (arith, lo, hi) in
@@ -198,7 +198,7 @@ module _ (m values : ℕ) where
         (
           z,
           (
-            told_begun IsFreshAlone p Read None u refl tt,
+            good_begun IsFreshAlone p Read None u refl tt,
             record {
               alone = alone;
               copier = subst (λ y. CopierSays m y z mid) (sym (put_other p 0 (Some (record { op = Read; task = Reading p })) j.tasks (λ q. omega (arith, q, lo)))) copier;
@@ -206,11 +206,11 @@ module _ (m values : ℕ) where
           ),
         ),
         λ o ans pass good. elim o as (λ o. Answers values Read o → IsNotSpent o → AllByRecursion IsFreshAlone (got (Some (ended 1 o)) s)
-            → Runs t w p Read (λ e. Told IsFreshAlone u (in_order (Some (Invoke p Read)) e)) (Ends o) (record j { parts = put i (sees (Some (ended 1 o)) s) j.parts })) [
+            → Runs t w p Read (λ e. IsGoodStep IsFreshAlone u (in_order (Some (Invoke p Read)) e)) (Ends o) (record j { parts = put i (sees (Some (ended 1 o)) s) j.parts })) [
               | Value x ↦ λ ans pass good. (
                 z,
                 (
-                  told_begun IsFreshAlone p Read (Some (Got p x)) u refl
+                  good_begun IsFreshAlone p Read (Some (Got p x)) u refl
                       (gives p x z s (λ o. let f = alone p lo hi o in (sym (ap (λ x. x.overlaps 1) me) ∙ f.0, (sym (ap (λ x. x.fresh 1) me) ∙ f.1.0, f.1.1))) good.0, tt),
                   record {
                     alone = alone;
@@ -224,14 +224,14 @@ module _ (m values : ℕ) where
       )
 
   begins : (u : Seen) (j : View CopiesTask) (p : ℕ) (op : Op) → CopiesInv m u j → j.tasks p ≡ None → one_writer values (m + 1) p op ≡ true
-      → Runs t w p op (λ e. Told IsFreshAlone u (in_order (Some (Invoke p op)) e)) (copies_program m p op) j
+      → Runs t w p op (λ e. IsGoodStep IsFreshAlone u (in_order (Some (Invoke p op)) e)) (copies_program m p op) j
   begins u j p (Write v) h free s = begin_write u j p v h free (writer.writer_zero values (m + 1) p v s)
   begins u j p Read h free s = let lo = writer.reader_some values (m + 1) p s in let hi = writer.reader_few values (m + 1) p s in begin_read u j p h lo (omega (arith, hi))
 
   go_ends : (u : Seen) (j : View CopiesTask) (p : ℕ) (op : Op) (task : CopiesTask) (chosen : Option (ℕ × Bool)) (o : Outcome) → CopiesInv m u j → j.tasks p ≡ Some (record { op = op; task = task })
       → CopiesMayBeAt m values p op task
       → Answers values (t.asks task).op o → IsNotSpent o → AllByRecursion IsFreshAlone (got (Some (ended (t.asks task).who o)) (j.parts (t.asks task).part))
-      → Runs t w p op (λ e. Told IsFreshAlone u (in_order (chosen_of p chosen) e)) (copies_rest m task o)
+      → Runs t w p op (λ e. IsGoodStep IsFreshAlone u (in_order (chosen_of p chosen) e)) (copies_rest m task o)
       (record j { parts = put (t.asks task).part (sees (Some (ended (t.asks task).who o)) (j.parts (t.asks task).part)) j.parts })
   go_ends u j p (Write x) (Writing v r) chosen (Value y) h mine st ans pass good = absurd ans
   go_ends u j p (Write x) (Writing v r) chosen (Spent l) h mine st ans pass good = absurd pass
@@ -241,23 +241,23 @@ module _ (m values : ℕ) where
       let e : Seen = sees (Some (Wrote 0)) (j.parts i) in
       let lo : 1 ≤ r = st.3 in
       let hi : r ≤ m = st.4 in
-      runs_writes (m - r) (r + 1) v p (Write x) (λ e. Told IsFreshAlone u (in_order (chosen_of p chosen) e)) u (record j { parts = put i e j.parts }) st.0 (omega (arith, lo)) (omega (arith, hi))
+      runs_writes (m - r) (r + 1) v p (Write x) (λ e. IsGoodStep IsFreshAlone u (in_order (chosen_of p chosen) e)) u (record j { parts = put i e j.parts }) st.0 (omega (arith, lo)) (omega (arith, hi))
       (record {
         writing = h0.writing;
         last = put_all (λ k x. k + 1 < r + 1 → x.last ≡ v) i e j.parts (λ lk. ap (λ o. now_last o (j.parts i).last) h0.here) (λ k ne lk. h0.last k (omega (arith, lk, ne, lo)));
         quiet = put_all (λ k x. k < m → x.writing ≡ None) i e j.parts (λ lk. refl) (λ k ne lk. h0.quiet k lk ne);
       }) (alone_none m v u u j.parts (put i e j.parts) h0.writing h.alone (λ r. refl))
-      (told_gone IsFreshAlone p chosen None u refl tt) (told_gone IsFreshAlone p chosen (Some (Wrote p)) u refl tt)
+      (good_gone IsFreshAlone p chosen None u refl tt) (good_gone IsFreshAlone p chosen (Some (Wrote p)) u refl tt)
   go_ends u j p Read (Reading r) chosen Written h mine st ans pass good = absurd ans
   go_ends u j p Read (Reading r) chosen (Spent l) h mine st ans pass good = absurd pass
   go_ends u j p Read (Reading r) chosen (Value x) h mine st ans pass good =
       let i : ℕ = r - 1 in
       let lo : 1 ≤ r = st.1 in
       let is : r ≡ p = st.0 in
-      subst (λ f. Runs t w p Read (λ e. Told IsFreshAlone u (in_order (chosen_of p chosen) e)) (Ends (Value x)) (record j { parts = f })) (put_back i j.parts) (
+      subst (λ f. Runs t w p Read (λ e. IsGoodStep IsFreshAlone u (in_order (chosen_of p chosen) e)) (Ends (Value x)) (record j { parts = f })) (put_back i j.parts) (
         u,
         (
-          told_gone IsFreshAlone p chosen (Some (Got p x)) u refl
+          good_gone IsFreshAlone p chosen (Some (Got p x)) u refl
               (subst (λ q. IsFreshAlone (record { reader = q; value = x; fresh = u.fresh q; overlaps = u.overlaps q })) is (gives r x u (j.parts i) (h.alone r lo st.2) good.0), tt),
           record { alone = h.alone; copier = subst (λ y. CopierSays m y u j.parts) (sym (put_other p 0 None j.tasks (λ q. omega (arith, q, lo, is)))) h.copier },
         ),
@@ -265,13 +265,13 @@ module _ (m values : ℕ) where
   go_ends u j p (Write x) (Reading r) chosen o h mine st ans pass good = absurd st
   go_ends u j p Read (Writing v r) chosen o h mine st ans pass good = absurd st
 
-  pub copies_kept : IsKept t (CopiesMayBeAt m values) w opening (Told IsFreshAlone)
+  pub copies_kept : IsKept t (CopiesMayBeAt m values) w opening (IsGoodStep IsFreshAlone)
   copies_kept = record {
     initial = λ v l j ew et ep. record {
       alone = λ r lo hi o. (let f = ep (r - 1) (omega (arith, lo, hi)) in (ap (λ s. s.overlaps 1) f, (ap (λ s. s.fresh 1) f, refl)));
       copier = subst (λ y. CopierSays m y (opening v) j.parts) (sym (et 0)) (record { writing = refl; last = λ k lk. ap (λ s. s.last) (ep k lk); quiet = λ k lk. ap (λ s. s.writing) (ep k lk) });
     };
-    passes = told_passes w IsFreshAlone;
+    passes = good_passes w IsFreshAlone;
     begins = begins;
     goes = λ u j p n chosen o h mine s ans pass good. go_ends u j p n.op n.task chosen o h mine s ans pass good;
   }

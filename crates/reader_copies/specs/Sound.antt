@@ -62,39 +62,39 @@ module _ (readers values : ℕ) (some : 1 ≤ readers) (few : readers ≤ MOST_R
 
   rest_sound : (who : ℕ) (o : Op) (task : CopiesTask) (outcome : Outcome) → CopiesMayBeAt readers values who o task → Answers values (copies_asks task).op outcome → IsNotSpent outcome
       → IsSound (copies_table readers values) (CopiesMayBeAt readers values who o) (Answers values o) (copies_rest readers task outcome)
-  rest_sound who (op.Write w) (Writing v reader) outcome stands answers on =
-      write_sound who w v (reader + 1) (readers - reader) stands.0 stands.1 stands.2 (omega arith) (omega (arith, stands.3, stands.4))
-  rest_sound who op.Read (Reading reader) (Value x) stands answers on = answers
-  rest_sound who op.Read (Reading reader) Written stands answers on = absurd answers
-  rest_sound who op.Read (Reading reader) (Spent layer) stands answers on = absurd on
-  rest_sound who (op.Write w) (Reading reader) outcome stands answers on = absurd stands
-  rest_sound who op.Read (Writing v reader) outcome stands answers on = absurd stands
+  rest_sound who (op.Write w) (Writing v reader) outcome at_task answers on =
+      write_sound who w v (reader + 1) (readers - reader) at_task.0 at_task.1 at_task.2 (omega arith) (omega (arith, at_task.3, at_task.4))
+  rest_sound who op.Read (Reading reader) (Value x) at_task answers on = answers
+  rest_sound who op.Read (Reading reader) Written at_task answers on = absurd answers
+  rest_sound who op.Read (Reading reader) (Spent layer) at_task answers on = absurd on
+  rest_sound who (op.Write w) (Reading reader) outcome at_task answers on = absurd at_task
+  rest_sound who op.Read (Writing v reader) outcome at_task answers on = absurd at_task
 
   rest_falls : (who : ℕ) (o : Op) (task : CopiesTask) (outcome : Outcome) → CopiesMayBeAt readers values who o task → Answers values (copies_asks task).op outcome → IsNotSpent outcome
       → Falls (copies_left readers) (copies_left readers task) (copies_rest readers task outcome)
-  rest_falls who (op.Write w) (Writing v reader) outcome stands answers on = write_falls v (reader + 1) (readers - reader) (omega (arith, stands.3, stands.4))
-  rest_falls who op.Read (Reading reader) outcome stands answers on = tt
-  rest_falls who (op.Write w) (Reading reader) outcome stands answers on = absurd stands
-  rest_falls who op.Read (Writing v reader) outcome stands answers on = absurd stands
+  rest_falls who (op.Write w) (Writing v reader) outcome at_task answers on = write_falls v (reader + 1) (readers - reader) (omega (arith, at_task.3, at_task.4))
+  rest_falls who op.Read (Reading reader) outcome at_task answers on = tt
+  rest_falls who (op.Write w) (Reading reader) outcome at_task answers on = absurd at_task
+  rest_falls who op.Read (Writing v reader) outcome at_task answers on = absurd at_task
 
   asks_fit : (who : ℕ) (o : Op) (task : CopiesTask) → CopiesMayBeAt readers values who o task
       → ((copies_asks task).part < readers) × FitsPart values 2 (copies_asks task).who (copies_asks task).op
-  asks_fit who (op.Write w) (Writing v reader) stands = (omega (arith, stands.3, stands.4), (refl, stands.2))
-  asks_fit who op.Read (Reading reader) stands = (omega (arith, stands.1, stands.2), (omega arith, omega arith))
-  asks_fit who (op.Write w) (Reading reader) stands = absurd stands
-  asks_fit who op.Read (Writing v reader) stands = absurd stands
+  asks_fit who (op.Write w) (Writing v reader) at_task = (omega (arith, at_task.3, at_task.4), (refl, at_task.2))
+  asks_fit who op.Read (Reading reader) at_task = (omega (arith, at_task.1, at_task.2), (omega arith, omega arith))
+  asks_fit who (op.Write w) (Reading reader) at_task = absurd at_task
+  asks_fit who op.Read (Writing v reader) at_task = absurd at_task
 
   may_be_at_suits : (who : ℕ) (o : Op) (task : CopiesTask) → CopiesMayBeAt readers values who o task → one_writer values (readers + 1) who o ≡ true
-  may_be_at_suits who (op.Write w) (Writing v reader) stands = writer.writer_suits values (readers + 1) who w stands.0 (omega arith) (rw stands.1 at stands.2)
-  may_be_at_suits who op.Read (Reading reader) stands = writer.others_read values (readers + 1) who (omega (arith, stands.0, stands.1)) (omega (arith, stands.0, stands.2))
-  may_be_at_suits who (op.Write w) (Reading reader) stands = absurd stands
-  may_be_at_suits who op.Read (Writing v reader) stands = absurd stands
+  may_be_at_suits who (op.Write w) (Writing v reader) at_task = writer.writer_suits values (readers + 1) who w at_task.0 (omega arith) (rw at_task.1 at at_task.2)
+  may_be_at_suits who op.Read (Reading reader) at_task = writer.others_read values (readers + 1) who (omega (arith, at_task.0, at_task.1)) (omega (arith, at_task.0, at_task.2))
+  may_be_at_suits who (op.Write w) (Reading reader) at_task = absurd at_task
+  may_be_at_suits who op.Read (Writing v reader) at_task = absurd at_task
 
   frame_gives_task : (who : ℕ) (o : Op) (task : CopiesTask) → CopiesMayBeAt readers values who o task → (copies_find who (copies_frame task) ≡ task) × ((copies_frame task).op ≡ o)
-  frame_gives_task who (op.Write w) (Writing v reader) stands = (refl, ap op.Write stands.1)
-  frame_gives_task who op.Read (Reading reader) stands = (refl, refl)
-  frame_gives_task who (op.Write w) (Reading reader) stands = absurd stands
-  frame_gives_task who op.Read (Writing v reader) stands = absurd stands
+  frame_gives_task who (op.Write w) (Writing v reader) at_task = (refl, ap op.Write at_task.1)
+  frame_gives_task who op.Read (Reading reader) at_task = (refl, refl)
+  frame_gives_task who (op.Write w) (Reading reader) at_task = absurd at_task
+  frame_gives_task who op.Read (Writing v reader) at_task = absurd at_task
 
   -- the rules of copies meet the laws that every layer's rules must meet
   pub copies_sound : IsSoundTable (copies_table readers values) (CopiesMayBeAt readers values) (copies_left readers)

@@ -5,7 +5,7 @@ use Rattle.std.proofs.lemmas.List.{length-replicate}
 use Rattle.safe_bit.specs.Memory.{Memory, blank, no_cell}
 use Rattle.safe_bit.specs.Parts.{LiesIn, with_part, origin}
 use Rattle.safe_bit.specs.laws.Parts.{LiesIn-with_part, part-with_part}
-use Rattle.frames.specs.laws.Beside.{put_in_leaves}
+use Rattle.frames.specs.laws.OwnMemory.{put_in_leaves}
 use Rattle.frames.specs.declared.types.Op.{Op}
 use Rattle.frames.specs.Behaviour.{Behaviour, IsLawful}
 use Rattle.register_tests.specs.Neighbours.{AreNeighbours}

@@ -61,33 +61,33 @@ begins_sound who (op.Write v) h = (omega arith, λ read low. write_sound who v r
 begins_sound who op.Read h = (omega arith, (omega arith, (let above = writer.reader_some 8 2 who h in let below = writer.reader_few 8 2 who h in omega arith, λ o. refl)))
 
 rest_sound : (who : ℕ) (o task : Op) (outcome : Outcome) → ReadFirstMayBeAt who o task → Answers 8 (read_first_asks task).op outcome → IsNotSpent outcome → Answers 8 o outcome
-rest_sound who (op.Write w) (op.Write v) Written stands answers on = tt
-rest_sound who (op.Write w) (op.Write v) (Value x) stands answers on = absurd answers
-rest_sound who (op.Write w) (op.Write v) (Spent layer) stands answers on = absurd on
-rest_sound who op.Read op.Read (Value x) stands answers on = answers
-rest_sound who op.Read op.Read Written stands answers on = absurd answers
-rest_sound who op.Read op.Read (Spent layer) stands answers on = absurd on
-rest_sound who (op.Write w) op.Read outcome stands answers on = absurd stands
-rest_sound who op.Read (op.Write v) outcome stands answers on = absurd stands
+rest_sound who (op.Write w) (op.Write v) Written at_task answers on = tt
+rest_sound who (op.Write w) (op.Write v) (Value x) at_task answers on = absurd answers
+rest_sound who (op.Write w) (op.Write v) (Spent layer) at_task answers on = absurd on
+rest_sound who op.Read op.Read (Value x) at_task answers on = answers
+rest_sound who op.Read op.Read Written at_task answers on = absurd answers
+rest_sound who op.Read op.Read (Spent layer) at_task answers on = absurd on
+rest_sound who (op.Write w) op.Read outcome at_task answers on = absurd at_task
+rest_sound who op.Read (op.Write v) outcome at_task answers on = absurd at_task
 
 asks_fit : (who : ℕ) (o task : Op) → ReadFirstMayBeAt who o task → ((read_first_asks task).part < 1) × FitsPart 8 2 (read_first_asks task).who (read_first_asks task).op
-asks_fit who (op.Write w) (op.Write v) stands = (omega arith, (refl, stands.2))
-asks_fit who op.Read op.Read stands = (omega arith, (omega arith, omega arith))
-asks_fit who (op.Write w) op.Read stands = absurd stands
-asks_fit who op.Read (op.Write v) stands = absurd stands
+asks_fit who (op.Write w) (op.Write v) at_task = (omega arith, (refl, at_task.2))
+asks_fit who op.Read op.Read at_task = (omega arith, (omega arith, omega arith))
+asks_fit who (op.Write w) op.Read at_task = absurd at_task
+asks_fit who op.Read (op.Write v) at_task = absurd at_task
 
 may_be_at_suits : (who : ℕ) (o task : Op) → ReadFirstMayBeAt who o task → one_writer 8 2 who o ≡ true
-may_be_at_suits who (op.Write w) (op.Write v) stands = writer.writer_suits 8 2 who w stands.0 (omega arith) (omega (arith, stands.1, stands.2))
-may_be_at_suits who op.Read op.Read stands = writer.others_read 8 2 who (omega arith) (omega arith)
-may_be_at_suits who (op.Write w) op.Read stands = absurd stands
-may_be_at_suits who op.Read (op.Write v) stands = absurd stands
+may_be_at_suits who (op.Write w) (op.Write v) at_task = writer.writer_suits 8 2 who w at_task.0 (omega arith) (omega (arith, at_task.1, at_task.2))
+may_be_at_suits who op.Read op.Read at_task = writer.others_read 8 2 who (omega arith) (omega arith)
+may_be_at_suits who (op.Write w) op.Read at_task = absurd at_task
+may_be_at_suits who op.Read (op.Write v) at_task = absurd at_task
 
 -- a task's frame gives the task back, and the frame's operation is the pending operation
 frame_gives_task : (who : ℕ) (o task : Op) → ReadFirstMayBeAt who o task → (task ≡ task) × (task ≡ o)
-frame_gives_task who (op.Write w) (op.Write v) stands = (refl, ap op.Write (sym stands.1))
-frame_gives_task who op.Read op.Read stands = (refl, refl)
-frame_gives_task who (op.Write w) op.Read stands = absurd stands
-frame_gives_task who op.Read (op.Write v) stands = absurd stands
+frame_gives_task who (op.Write w) (op.Write v) at_task = (refl, ap op.Write (sym at_task.1))
+frame_gives_task who op.Read op.Read at_task = (refl, refl)
+frame_gives_task who (op.Write w) op.Read at_task = absurd at_task
+frame_gives_task who op.Read (op.Write v) at_task = absurd at_task
 
 pub read_first_sound : IsSoundTable read_first_table ReadFirstMayBeAt (λ _. 0)
 read_first_sound = record {
@@ -102,5 +102,5 @@ read_first_sound = record {
   frame_gives = frame_gives_task;
   begins_sound = begins_sound;
   rest_sound = rest_sound;
-  rest_falls = λ who o task outcome stands answers on. tt;
+  rest_falls = λ who o task outcome at_task answers on. tt;
 }

@@ -23,8 +23,8 @@ use Rattle.frames.proofs.Pointwise.{put, put_same, put_other}
 use Rattle.layers.specs.Nested.{Ends, Asks, Sets, Table, layered}
 use Rattle.layers.specs.Sound.{IsNotSpent, IsSoundTable, FitsBelow}
 use Rattle.layers.specs.laws.Over.{over}
-use Rattle.layers.proofs.Law.{Standing, View, Watch, Runs, IsKept, IsUser}
-use Rattle.layers.proofs.LayerLaw.{Told, told_begun, told_gone, told_passes, layer_promises}
+use Rattle.layers.proofs.Law.{TaskInProgress, View, Watch, Runs, IsKept, IsUser}
+use Rattle.layers.proofs.LayerLaw.{IsGoodStep, good_begun, good_gone, good_passes, layer_promises}
 use Rattle.regular_bit.specs.declared.task.RegularTask.{RegularTask}
 use Rattle.regular_bit.specs.declared.task.RegularTask.TheVariants.{Writing, Reading}
 use Rattle.regular_bit.specs.Program.{regular_table, regular_program, RegularMayBeAt}
@@ -182,9 +182,9 @@ module _ (processes : ℕ) where
   t = regular_table processes
 
   abbrev OutOf : Seen → ℕ → Op → Option Event → Seen → Type 0
-  OutOf u p o e = Told IsNotStray u (in_order (Some (Invoke p o)) e)
+  OutOf u p o e = IsGoodStep IsNotStray u (in_order (Some (Invoke p o)) e)
 
-  busy : (p : ℕ) (n : Standing RegularTask) (f : ℕ → Option (Standing RegularTask)) → p ≡ 0 → put p (Some n) f 0 ≡ None → ⊥
+  busy : (p : ℕ) (n : TaskInProgress RegularTask) (f : ℕ → Option (TaskInProgress RegularTask)) → p ≡ 0 → put p (Some n) f 0 ≡ None → ⊥
   busy p n f e k =
       let s : put p (Some n) f p ≡ Some n = put_same p (Some n) f in
       let m : put p (Some n) f p ≡ put p (Some n) f 0 = ap (put p (Some n) f) e in
@@ -202,7 +202,7 @@ module _ (processes : ℕ) where
       ends Written ans pass a = (
         sees (Some (Wrote p)) (sees (Some (Invoke p (Write v))) u),
         (
-          told_begun IsNotStray p (Write v) (Some (Wrote p)) u refl tt,
+          good_begun IsNotStray p (Write v) (Some (Wrote p)) u refl tt,
           record { agree = agree_wrote p 0 _ _ v a; idle = λ k. refl },
         ),
       )
@@ -212,7 +212,7 @@ module _ (processes : ℕ) where
           let idle : (j.parts 0).writing ≡ None = h.idle (sym (ap j.tasks zero_p) ∙ free) in (
             sees (Some (Wrote p)) (sees (Some (Invoke p (Write v))) u),
             (
-              told_begun IsNotStray p (Write v) (Some (Wrote p)) u refl tt,
+              good_begun IsNotStray p (Write v) (Some (Wrote p)) u refl tt,
               record { agree = agree_same p v u (j.parts 0) (j.words 0) h.agree idle (eqb-true (j.words 0) v e); idle = λ k. idle },
             ),
           )
@@ -222,14 +222,14 @@ module _ (processes : ℕ) where
             (
               sees (Some (Invoke p (Write v))) u,
               (
-                told_begun IsNotStray p (Write v) None u refl tt,
+                good_begun IsNotStray p (Write v) None u refl tt,
                 record { agree = a; idle = λ k. absurd (busy p (record { op = Write v; task = Writing v }) j.tasks zero_p k) },
               ),
             ),
             λ o ans pass good. ends o ans pass a,
           )
 
-  other_task : (p : ℕ) (n : Option (Standing RegularTask)) (f : ℕ → Option (Standing RegularTask)) → 1 ≤ p → put p n f 0 ≡ None → f 0 ≡ None
+  other_task : (p : ℕ) (n : Option (TaskInProgress RegularTask)) (f : ℕ → Option (TaskInProgress RegularTask)) → 1 ≤ p → put p n f 0 ≡ None → f 0 ≡ None
   other_task p n f l e = sym (put_other p 0 n f (λ k. omega (arith, l, k))) ∙ e
 
   begin_read : (u : Seen) (j : View RegularTask) (p : ℕ) → RegularInv u j → 1 ≤ p → Runs t regular_watch p Read (OutOf u p Read) (regular_program p Read) j
@@ -238,7 +238,7 @@ module _ (processes : ℕ) where
         (
           sees (Some (Invoke p Read)) u,
           (
-            told_begun IsNotStray p Read None u refl tt,
+            good_begun IsNotStray p Read None u refl tt,
             record { agree = a; idle = λ k. h.idle (other_task p (Some (record { op = Read; task = Reading p })) j.tasks l k) },
           ),
         ),
@@ -254,7 +254,7 @@ module _ (processes : ℕ) where
       ends (Value x) ans pass good a = (
         sees (Some (Invoke p Read)) u,
         (
-          told_begun IsNotStray p Read (Some (Got p x)) u refl (agree_got p _ _ (j.words 0) x a ans good.0, tt),
+          good_begun IsNotStray p Read (Some (Got p x)) u refl (agree_got p _ _ (j.words 0) x a ans good.0, tt),
           record { agree = a; idle = λ k. h.idle (other_task p None j.tasks l k) },
         ),
       )
@@ -267,10 +267,10 @@ module _ (processes : ℕ) where
   go_ends : (u : Seen) (j : View RegularTask) (p : ℕ) (op : Op) (task : RegularTask) (chosen : Option (ℕ × Bool)) (o : Outcome)
       → RegularInv u j → RegularMayBeAt processes p op task → Answers 2 (t.asks task).op o → IsNotSpent o
       → AllByRecursion IsFreshAlone (got (Some (ended (t.asks task).who o)) (j.parts (t.asks task).part))
-      → Runs t regular_watch p op (λ e. Told IsNotStray u (in_order (chosen_of p chosen) e)) (Ends o)
+      → Runs t regular_watch p op (λ e. IsGoodStep IsNotStray u (in_order (chosen_of p chosen) e)) (Ends o)
       (record j { parts = put (t.asks task).part (sees (Some (ended (t.asks task).who o)) (j.parts (t.asks task).part)) j.parts })
   go_ends u j p (Write w) (Writing v) chosen Written h s ans pass good =
-      (sees (Some (Wrote p)) u, (told_gone IsNotStray p chosen (Some (Wrote p)) u refl tt, record { agree = agree_wrote p 0 u (j.parts 0) (j.words 0) h.agree; idle = λ k. refl }))
+      (sees (Some (Wrote p)) u, (good_gone IsNotStray p chosen (Some (Wrote p)) u refl tt, record { agree = agree_wrote p 0 u (j.parts 0) (j.words 0) h.agree; idle = λ k. refl }))
   go_ends u j p (Write w) (Writing v) chosen (Value x) h s ans pass good = absurd ans
   go_ends u j p (Write w) (Writing v) chosen (Spent l) h s ans pass good = absurd pass
   go_ends u j p Read (Reading q) chosen Written h s ans pass good = absurd ans
@@ -280,7 +280,7 @@ module _ (processes : ℕ) where
       let l : 1 ≤ p = subst (λ i. 1 ≤ i) s.0 s.1 in (
         u,
         (
-          told_gone IsNotStray p chosen (Some (Got p x)) u refl (agree_got p u (j.parts 0) (j.words 0) x h.agree ans g.0, tt),
+          good_gone IsNotStray p chosen (Some (Got p x)) u refl (agree_got p u (j.parts 0) (j.words 0) x h.agree ans g.0, tt),
           record { agree = h.agree; idle = λ k. h.idle (other_task p None j.tasks l k) },
         ),
       )
@@ -304,10 +304,10 @@ module _ (processes : ℕ) where
         idle = λ k. ap (λ s. s.writing) ep;
       }
 
-  pub regular_kept : IsKept t (RegularMayBeAt processes) regular_watch opening (Told IsNotStray)
+  pub regular_kept : IsKept t (RegularMayBeAt processes) regular_watch opening (IsGoodStep IsNotStray)
   regular_kept = record {
     initial = λ v l j ew et ep. at_first v l j (ew 0 (omega arith)) (ep 0 (omega arith));
-    passes = told_passes regular_watch IsNotStray;
+    passes = good_passes regular_watch IsNotStray;
     begins = begins;
     goes = λ u j p n chosen o h mine s ans pass good. go_ends u j p n.op n.task chosen o h s ans pass good;
   }

@@ -29,38 +29,38 @@ module _ (processes : ℕ) (some : 0 < processes) where
   begins_sound who op.Read h = ((refl, writer.reader_some 2 processes who h, writer.reader_few 2 processes who h), λ o. refl)
 
   rest_sound : (who : ℕ) (o : Op) (task : RegularTask) (outcome : Outcome) → RegularMayBeAt processes who o task → Answers 2 (regular_asks task).op outcome → IsNotSpent outcome → Answers 2 o outcome
-  rest_sound who (op.Write w) (Writing v) Written stands answers on = tt
-  rest_sound who (op.Write w) (Writing v) (Value x) stands answers on = absurd answers
-  rest_sound who op.Read (Reading reader) (Value x) stands answers on = answers
-  rest_sound who op.Read (Reading reader) Written stands answers on = absurd answers
-  rest_sound who (op.Write w) (Reading reader) outcome stands answers on = absurd stands
-  rest_sound who op.Read (Writing v) outcome stands answers on = absurd stands
-  rest_sound who (op.Write w) (Writing v) (Spent layer) stands answers on = absurd on
-  rest_sound who op.Read (Reading reader) (Spent layer) stands answers on = absurd on
+  rest_sound who (op.Write w) (Writing v) Written at_task answers on = tt
+  rest_sound who (op.Write w) (Writing v) (Value x) at_task answers on = absurd answers
+  rest_sound who op.Read (Reading reader) (Value x) at_task answers on = answers
+  rest_sound who op.Read (Reading reader) Written at_task answers on = absurd answers
+  rest_sound who (op.Write w) (Reading reader) outcome at_task answers on = absurd at_task
+  rest_sound who op.Read (Writing v) outcome at_task answers on = absurd at_task
+  rest_sound who (op.Write w) (Writing v) (Spent layer) at_task answers on = absurd on
+  rest_sound who op.Read (Reading reader) (Spent layer) at_task answers on = absurd on
 
   asks_fit : (who : ℕ) (o : Op) (task : RegularTask) → RegularMayBeAt processes who o task → ((regular_asks task).part < 1) × FitsPart 2 processes (regular_asks task).who (regular_asks task).op
-  asks_fit who (op.Write w) (Writing v) stands = (omega arith, (refl, stands.2))
-  asks_fit who op.Read (Reading reader) stands = (omega arith, (stands.1, stands.2))
-  asks_fit who (op.Write w) (Reading reader) stands = absurd stands
-  asks_fit who op.Read (Writing v) stands = absurd stands
+  asks_fit who (op.Write w) (Writing v) at_task = (omega arith, (refl, at_task.2))
+  asks_fit who op.Read (Reading reader) at_task = (omega arith, (at_task.1, at_task.2))
+  asks_fit who (op.Write w) (Reading reader) at_task = absurd at_task
+  asks_fit who op.Read (Writing v) at_task = absurd at_task
 
   may_be_at_suits : (who : ℕ) (o : Op) (task : RegularTask) → RegularMayBeAt processes who o task → one_writer 2 processes who o ≡ true
-  may_be_at_suits who (op.Write w) (Writing v) stands = writer.writer_suits 2 processes who w stands.0 some (rw stands.1 at stands.2)
-  may_be_at_suits who op.Read (Reading reader) stands = writer.others_read 2 processes who (omega (arith, stands.0, stands.1)) (omega (arith, stands.0, stands.2))
-  may_be_at_suits who (op.Write w) (Reading reader) stands = absurd stands
-  may_be_at_suits who op.Read (Writing v) stands = absurd stands
+  may_be_at_suits who (op.Write w) (Writing v) at_task = writer.writer_suits 2 processes who w at_task.0 some (rw at_task.1 at at_task.2)
+  may_be_at_suits who op.Read (Reading reader) at_task = writer.others_read 2 processes who (omega (arith, at_task.0, at_task.1)) (omega (arith, at_task.0, at_task.2))
+  may_be_at_suits who (op.Write w) (Reading reader) at_task = absurd at_task
+  may_be_at_suits who op.Read (Writing v) at_task = absurd at_task
 
   frame_gives_task : (who : ℕ) (o : Op) (task : RegularTask) → RegularMayBeAt processes who o task → (regular_find who (regular_frame task) ≡ task) × ((regular_frame task).op ≡ o)
-  frame_gives_task who (op.Write w) (Writing v) stands = (refl, ap op.Write stands.1)
-  frame_gives_task who op.Read (Reading reader) stands = (ap Reading (sym stands.0), refl)
-  frame_gives_task who (op.Write w) (Reading reader) stands = absurd stands
-  frame_gives_task who op.Read (Writing v) stands = absurd stands
+  frame_gives_task who (op.Write w) (Writing v) at_task = (refl, ap op.Write at_task.1)
+  frame_gives_task who op.Read (Reading reader) at_task = (ap Reading (sym at_task.0), refl)
+  frame_gives_task who (op.Write w) (Reading reader) at_task = absurd at_task
+  frame_gives_task who op.Read (Writing v) at_task = absurd at_task
 
   -- the regular bit's rules meet the laws that every layer's rules must meet
   pub regular_sound : IsSoundTable (regular_table processes) (RegularMayBeAt processes) (λ _. 0)
   regular_sound = writer.one_writer_sound (regular_table processes) (RegularMayBeAt processes) (λ _. 0) (λ who o. refl) (some)
       (λ v j lt below. lt) (λ v k lt below. omega (arith, lt))
-      asks_fit may_be_at_suits frame_gives_task begins_sound rest_sound (λ who o task outcome stands answers on. tt)
+      asks_fit may_be_at_suits frame_gives_task begins_sound rest_sound (λ who o task outcome at_task answers on. tt)
 
 -- the derived `==` of tasks is true exactly if the two tasks are equal
 pub regular_task_decides : (a b : RegularTask) → Decides (tasks.eq-value.it a b) (a ≡ b)

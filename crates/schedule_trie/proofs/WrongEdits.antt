@@ -53,8 +53,8 @@ five = cut (keyed_branch main (2 ∷ 0 ∷ 3 ∷ 1 ∷ 4 ∷ []) ∷ [])
     ∷ Some (segment (slot 2 read ∷ []) None) ∷ Some (segment (slot 4 go ∷ []) None) ∷ []) 5
 
 -- throw-all-away-cuts-again: both segments have changed, and at most one may be touched
-pub cut_anew : IsEdited four five (Insert main 4 go) → ⊥
-cut_anew e = first (λ t. second (λ u. let same : ◌≡◌ {A = Option ℕ} (Some 0) (Some 1) = sym t ∙ u in let one : ◌≡◌ {A = ℕ} 0 1 = cc in omega (arith, one)))
+pub cut_again : IsEdited four five (Insert main 4 go) → ⊥
+cut_again e = first (λ t. second (λ u. let same : ◌≡◌ {A = Option ℕ} (Some 0) (Some 1) = sym t ∙ u in let one : ◌≡◌ {A = ℕ} 0 1 = cc in omega (arith, one)))
   where
     first : (e.notes.0.notes.touched ≡ Some 0 → ⊥) → ⊥
     first ne = elim (e.notes.0.notes.kept 0 ne refl) [

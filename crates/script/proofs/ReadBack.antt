@@ -76,9 +76,9 @@ module _ (b : List ℕ) (k : ℕ) where
       let a = both (Text b) (Number k ∷ shape) h in
       let c = both (Number k) shape a.1 in
       let ws = map spelled shape in
-      let behind : List ℕ × ℕ → Option (List ℕ × ℕ × A) = λ p. option_and_then (λ (y : A). Some (p.0, p.1, y)) (read ws) in
-      ap (λ (o : Option (List ℕ)). option_and_then behind (option_and_then (λ (w : List ℕ). option_and_then (λ (n : ℕ). Some (w, n)) (number (decimal k))) o)) (branch_again b a.0)
-      ∙ ap (λ (o : Option ℕ). option_and_then behind (option_and_then (λ (n : ℕ). Some (b, n)) o)) (number_again k c.0)
+      let with_item : List ℕ × ℕ → Option (List ℕ × ℕ × A) = λ p. option_and_then (λ (y : A). Some (p.0, p.1, y)) (read ws) in
+      ap (λ (o : Option (List ℕ)). option_and_then with_item (option_and_then (λ (w : List ℕ). option_and_then (λ (n : ℕ). Some (w, n)) (number (decimal k))) o)) (branch_again b a.0)
+      ∙ ap (λ (o : Option ℕ). option_and_then with_item (option_and_then (λ (n : ℕ). Some (b, n)) o)) (number_again k c.0)
       ∙ ap (option_and_then (λ (y : A). Some (b, k, y))) (again c.1)
 
 step_again : (s : Step) → AreSound (step_words s) → step_of_words (map spelled (step_words s)) ≡ Some s

@@ -59,21 +59,21 @@ module _ (values last : ℕ) (some : LEAST_VALUES ≤ values) where
 
   rest_sound : (who : ℕ) (o : Op) (task : StampedTask) (outcome : Outcome) → StampedMayBeAt values last who o task → Answers (stamped_code_count values last) (stamped_asks task).op outcome → IsNotSpent outcome
       → IsSound (stamped_table values last) (StampedMayBeAt values last who o) (Answers values o) (stamped_rest values task outcome)
-  rest_sound who (op.Write w) (Writing v code) Written stands answers on = tt
-  rest_sound who (op.Write w) (Writing v code) (Value x) stands answers on = absurd answers
-  rest_sound who (op.Write w) (Writing v code) (Spent layer) stands answers on = absurd on
-  rest_sound who op.Read Reading (Value code) stands answers on =
+  rest_sound who (op.Write w) (Writing v code) Written at_task answers on = tt
+  rest_sound who (op.Write w) (Writing v code) (Value x) at_task answers on = absurd answers
+  rest_sound who (op.Write w) (Writing v code) (Spent layer) at_task answers on = absurd on
+  rest_sound who op.Read Reading (Value code) at_task answers on =
       (omega arith, λ best low. (omega arith, (greater_fits best code low answers, mod_below _ values (omega arith))))
-  rest_sound who op.Read Reading Written stands answers on = absurd answers
-  rest_sound who op.Read Reading (Spent layer) stands answers on = absurd on
-  rest_sound who (op.Write w) Reading outcome stands answers on = absurd stands
-  rest_sound who op.Read (Writing v code) outcome stands answers on = absurd stands
+  rest_sound who op.Read Reading Written at_task answers on = absurd answers
+  rest_sound who op.Read Reading (Spent layer) at_task answers on = absurd on
+  rest_sound who (op.Write w) Reading outcome at_task answers on = absurd at_task
+  rest_sound who op.Read (Writing v code) outcome at_task answers on = absurd at_task
 
   asks_fit : (who : ℕ) (o : Op) (task : StampedTask) → StampedMayBeAt values last who o task → ((stamped_asks task).part < 1) × FitsPart (stamped_code_count values last) 2 (stamped_asks task).who (stamped_asks task).op
-  asks_fit who (op.Write w) (Writing v code) stands = (omega arith, (refl, stands.4))
-  asks_fit who op.Read Reading stands = (omega arith, (omega arith, omega arith))
-  asks_fit who (op.Write w) Reading stands = absurd stands
-  asks_fit who op.Read (Writing v code) stands = absurd stands
+  asks_fit who (op.Write w) (Writing v code) at_task = (omega arith, (refl, at_task.4))
+  asks_fit who op.Read Reading at_task = (omega arith, (omega arith, omega arith))
+  asks_fit who (op.Write w) Reading at_task = absurd at_task
+  asks_fit who op.Read (Writing v code) at_task = absurd at_task
 
   first_words : (v k : ℕ) → v < values → k < 2 → (stamped_table values last).first_word v k < (stamped_table values last).bound k
   first_words v k lt low = by_test (k == 0)
@@ -85,22 +85,22 @@ module _ (values last : ℕ) (some : LEAST_VALUES ≤ values) where
   -- an operation has at most one task: the rest of its program, after a task, has no task
   rest_falls : (who : ℕ) (o : Op) (task : StampedTask) (outcome : Outcome) → StampedMayBeAt values last who o task → Answers (stamped_code_count values last) (stamped_asks task).op outcome → IsNotSpent outcome
       → Falls {Task = StampedTask} (λ _. 0) 0 (stamped_rest values task outcome)
-  rest_falls who o Reading (Value code) stands answers on = λ best. tt
-  rest_falls who o _ _ stands answers on = tt
+  rest_falls who o Reading (Value code) at_task answers on = λ best. tt
+  rest_falls who o _ _ at_task answers on = tt
 
   may_be_at_suits : (who : ℕ) (o : Op) (task : StampedTask) → StampedMayBeAt values last who o task → one_writer values 2 who o ≡ true
-  may_be_at_suits who (op.Write w) (Writing v code) stands =
+  may_be_at_suits who (op.Write w) (Writing v code) at_task =
       let low : code % values < values = mod_below code values (omega arith) in
-      writer.writer_suits values 2 who w stands.0 (omega arith) (omega (arith, low, stands.1, stands.2))
-  may_be_at_suits who op.Read Reading stands = writer.others_read values 2 who (omega (arith, stands)) (omega (arith, stands))
-  may_be_at_suits who (op.Write w) Reading stands = absurd stands
-  may_be_at_suits who op.Read (Writing v code) stands = absurd stands
+      writer.writer_suits values 2 who w at_task.0 (omega arith) (omega (arith, low, at_task.1, at_task.2))
+  may_be_at_suits who op.Read Reading at_task = writer.others_read values 2 who (omega (arith, at_task)) (omega (arith, at_task))
+  may_be_at_suits who (op.Write w) Reading at_task = absurd at_task
+  may_be_at_suits who op.Read (Writing v code) at_task = absurd at_task
 
   frame_gives_task : (who : ℕ) (o : Op) (task : StampedTask) → StampedMayBeAt values last who o task → (stamped_find who (stamped_frame task) ≡ task) × ((stamped_frame task).op ≡ o)
-  frame_gives_task who (op.Write w) (Writing v code) stands = (refl, ap op.Write stands.1)
-  frame_gives_task who op.Read Reading stands = (refl, refl)
-  frame_gives_task who (op.Write w) Reading stands = absurd stands
-  frame_gives_task who op.Read (Writing v code) stands = absurd stands
+  frame_gives_task who (op.Write w) (Writing v code) at_task = (refl, ap op.Write at_task.1)
+  frame_gives_task who op.Read Reading at_task = (refl, refl)
+  frame_gives_task who (op.Write w) Reading at_task = absurd at_task
+  frame_gives_task who op.Read (Writing v code) at_task = absurd at_task
 
   -- the stamped register's rules meet the laws that every layer's rules must meet
   pub stamped_sound : IsSoundTable (stamped_table values last) (StampedMayBeAt values last) (λ _. 0)

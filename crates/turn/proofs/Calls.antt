@@ -68,12 +68,12 @@ module _ {T E : Type 0} (by : E → ℕ) (entries : T → List E) where
 
   pub joined_chair : (m o m1 m2 : M) (marks others both : List Bool) (n : ℕ) → m.0.shares ≡ marks → (m.1 ≡ []) × (m.0.holds ≡ false) → o.0.shares ≡ others → length marks ≡ 16 → 0 < count marks
       → both ≡ together marks others → m1 ≡ (joined m.0 o.0, m.1) → NewsReports by entries m1 n m2 → IsChair m2 both
-  joined_chair m o m1 m2 marks others both n marked idle marked' long some_share is after told =
+  joined_chair m o m1 m2 marks others both n marked idle marked' long some_share is after reported_length =
       let mine = number_held marks long some_share in let one = together_some marks others (chair_number marks) mine.0 mine.1 in (
-        ap (λ (x : M). x.0.shares) told.0 ∙ (ap (λ (x : M). x.0.shares) after ∙ ((λ i. together (marked i) (marked' i)) ∙ sym is)),
-        (ap (λ (x : M). x.1) told.0 ∙ (ap (λ (x : M). x.1) after ∙ idle.0), ap (λ (x : M). x.0.holds) told.0 ∙ (ap (λ (x : M). x.0.holds) after ∙ idle.1)),
+        ap (λ (x : M). x.0.shares) reported_length.0 ∙ (ap (λ (x : M). x.0.shares) after ∙ ((λ i. together (marked i) (marked' i)) ∙ sym is)),
+        (ap (λ (x : M). x.1) reported_length.0 ∙ (ap (λ (x : M). x.1) after ∙ idle.0), ap (λ (x : M). x.0.holds) reported_length.0 ∙ (ap (λ (x : M). x.0.holds) after ∙ idle.1)),
         subst (λ (l : List Bool). 0 < count l) (sym is) (count_some (together marks others) one.0 one.1),
-        subst (λ (x : M). OwnsItsCalls by x.0) (sym told.0) told.3,
+        subst (λ (x : M). OwnsItsCalls by x.0) (sym reported_length.0) reported_length.3,
       )
 
   pub meets : (v w : V) (m1 m2 : M) (n : ℕ) → m1.0 ≡ joined v w → NewsReports by entries m1 n m2

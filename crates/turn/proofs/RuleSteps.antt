@@ -57,10 +57,10 @@ module _ {T E : Type 0} (by : E → ℕ) (entries : T → List E) where
 
   -- what a view knows of an unchanged list, if it reads a greater length, or the turn and the
   -- shares' owners change
-  same_list : (list : List E) (f f' h h' : ℕ) (owner owner' : ℕ → ℕ) (seat : ℕ) (v : V) (told : ℕ) (holds : Bool) → Knows by list f h owner seat v
-      → ((share : ℕ) → has_share v.shares share ≡ true → owner' share ≡ seat) → told ≤ length list → (holds ≡ true → (f' ≡ 1) × (seat ≡ h') × (v.seen ≡ list) × HoldsSome v)
-      → Knows by list f' h' owner' seat (record v { reported = told; holds = holds })
-  same_list list f f' h h' owner owner' seat v told holds k owns within turn =
+  same_list : (list : List E) (f f' h h' : ℕ) (owner owner' : ℕ → ℕ) (seat : ℕ) (v : V) (reported_length : ℕ) (holds : Bool) → Knows by list f h owner seat v
+      → ((share : ℕ) → has_share v.shares share ≡ true → owner' share ≡ seat) → reported_length ≤ length list → (holds ≡ true → (f' ≡ 1) × (seat ≡ h') × (v.seen ≡ list) × HoldsSome v)
+      → Knows by list f' h' owner' seat (record v { reported = reported_length; holds = holds })
+  same_list list f f' h h' owner owner' seat v reported_length holds k owns within turn =
       record { below = k.below; seen = k.seen; owns = owns; calls = k.calls; saw = k.saw; others = k.others; reported = within; holding = turn; met = k.met }
 
   -- another seat takes or frees the turn
@@ -244,8 +244,8 @@ module _ {T E : Type 0} (by : E → ℕ) (entries : T → List E) where
         λ i. (w, rest (carried i)),
       )
 
-  pub tells : (slots id : ℕ) (me : M) → Allows Rule slots id me 1 (λ n. n) (news_reports by entries (step slots 1 0 0 none) me)
-  tells slots id me s r _ at _ =
+  pub news_allowed : (slots id : ℕ) (me : M) → Allows Rule slots id me 1 (λ n. n) (news_reports by entries (step slots 1 0 0 none) me)
+  news_allowed slots id me s r _ at _ =
       let v : V = me.0 in let n : ℕ = get_or s.words 1 0 in let w : V = with_news v n in let k = r.each id v at in let now : n ≡ length r.list = word_1 s r in
       let seen : StartsWith r.list v.seen = (k.seen.0, k.seen.1) in (
         w,

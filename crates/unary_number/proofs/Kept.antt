@@ -11,7 +11,7 @@ use Rattle.frames.specs.declared.types.Event.TheVariants.{Invoke, Got, Wrote}
 use Rattle.frames.specs.declared.verdict.Verdict.TheVariants.{Fresh, Overlap, Stray}
 use Rattle.frames.specs.correctness.Regularity.{in_progress}
 use Rattle.frames.proofs.Seen.{Seen, among, opening, sees, got, IsNotStray, ended, among_here}
-use Rattle.layers.proofs.Law.{Standing, View, Watch, Runs, IsKept, IsUser}
+use Rattle.layers.proofs.Law.{TaskInProgress, View, Watch, Runs, IsKept, IsUser}
 use Rattle.unary_number.specs.declared.task.UnaryTask.{UnaryTask}
 use Rattle.unary_number.specs.declared.task.UnaryTask.TheVariants.{Setting, Clearing, Looking}
 use Rattle.safe_bit.specs.Memory.{Memory}
@@ -27,7 +27,7 @@ use Rattle.frames.proofs.Pointwise.{put, put_same, put_other, put_zero, put_back
 use Rattle.layers.specs.Nested.{Program, Ends, Asks, Table, layered}
 use Rattle.layers.specs.Sound.{IsNotSpent, IsSoundTable, FitsBelow}
 use Rattle.layers.specs.laws.Over.{over}
-use Rattle.layers.proofs.LayerLaw.{Told, told_begun, told_gone, told_passes, layer_promises}
+use Rattle.layers.proofs.LayerLaw.{IsGoodStep, good_begun, good_gone, good_passes, layer_promises}
 use Rattle.unary_number.specs.Program.{unary_table_with, unary_program, unary_rest, clears_below, looks_above, after_look, UnaryMayBeAt}
 use Rattle.unary_number.proofs.Beacons.{Beacon, raised, lowered, written, MayGive, MayGiveNow, Looks, beacon_more, beacon_read, looking_other, looking_mine, looked_one, looked_zero}
 use Rattle.unary_number.proofs.Phases.{lights_for, lights_put, Idle, Rising, Cleared, Falling, WriterAt, WriterSays, ReaderAt, ReaderSays, Lights, reader_map, lights_begin, lights_raised, lights_lower, lights_lowered, lights_end, idle_end, rising_begin, rising_end, falling_begin, falling_end}
@@ -45,7 +45,7 @@ unary_watch top = record { Good = IsNotStray; Inv = UnaryInv top }
 
 -- the claim about the writer depends only on the bits' values and the writes in progress
 writer_same : (top : ℕ) (u v : Seen) (parts to : ℕ → Seen) → u.last ≡ v.last → u.writing ≡ v.writing → ((k : ℕ) → (parts k).last ≡ (to k).last) → ((k : ℕ) → (parts k).writing ≡ (to k).writing)
-    → (task : Option (Standing UnaryTask)) → WriterSays top task u parts → WriterSays top task v to
+    → (task : Option (TaskInProgress UnaryTask)) → WriterSays top task u parts → WriterSays top task v to
 writer_same top u v parts to ul uw l w None h = record {
   writing = sym uw ∙ h.writing;
   small = subst (λ x. x ≤ top) ul h.small;
@@ -70,7 +70,7 @@ in_it : (w : Option ℕ) (x : ℕ) → w ≡ Some x → IsTrue (among x (in_prog
 in_it w x e = subst (λ z. IsTrue (among x (in_progress z))) (sym e) (among_here x [])
 
 -- p invokes a read of the number
-lights_invoke : (top p : ℕ) (u : Seen) (tasks : ℕ → Option (Standing UnaryTask)) (parts : ℕ → Seen) → Lights top p u tasks parts → Lights top p (sees (Some (Invoke p Read)) u) tasks parts
+lights_invoke : (top p : ℕ) (u : Seen) (tasks : ℕ → Option (TaskInProgress UnaryTask)) (parts : ℕ → Seen) → Lights top p u tasks parts → Lights top p (sees (Some (Invoke p Read)) u) tasks parts
 lights_invoke top p u tasks parts l =
     let v : Seen = sees (Some (Invoke p Read)) u in
     record {
@@ -90,7 +90,7 @@ beacon_invoke top p k u parts b =
     ]) b
 
 -- p begins to read a bit
-lights_look : (top p i : ℕ) (u : Seen) (tasks : ℕ → Option (Standing UnaryTask)) (parts : ℕ → Seen) → Lights top p u tasks parts → Lights top p u tasks (put i (sees (Some (Invoke p Read)) (parts i)) parts)
+lights_look : (top p i : ℕ) (u : Seen) (tasks : ℕ → Option (TaskInProgress UnaryTask)) (parts : ℕ → Seen) → Lights top p u tasks parts → Lights top p u tasks (put i (sees (Some (Invoke p Read)) (parts i)) parts)
 lights_look top p i u tasks parts l = record {
   overlap = l.overlap;
   ready = (l.ready.0, beacon_read top 0 l.ready.0 i p (MayGiveNow u) parts l.ready.1);
@@ -98,7 +98,7 @@ lights_look top p i u tasks parts l = record {
       (λ y left k h. (k, looking_other top r y left k i p u u parts ne refl refl h)) (tasks r) (l.readers r z ne);
 }
 
-writer_look : (top p i : ℕ) (u : Seen) (parts : ℕ → Seen) (task : Option (Standing UnaryTask)) → WriterSays top task u parts → WriterSays top task u (put i (sees (Some (Invoke p Read)) (parts i)) parts)
+writer_look : (top p i : ℕ) (u : Seen) (parts : ℕ → Seen) (task : Option (TaskInProgress UnaryTask)) → WriterSays top task u parts → WriterSays top task u (put i (sees (Some (Invoke p Read)) (parts i)) parts)
 writer_look top p i u parts task h =
     writer_same top u u parts (put i (sees (Some (Invoke p Read)) (parts i)) parts) refl refl
     (put_all (λ k s. (parts k).last ≡ s.last) i (sees (Some (Invoke p Read)) (parts i)) parts refl (λ k ne. refl))
@@ -138,7 +138,7 @@ module _ (not_found : Outcome) (values processes : ℕ) (two : 2 ≤ values) whe
     ),
   )
   runs_clears (suc i) x p op Out u j zp c l on oe =
-      let n : Option (Standing UnaryTask) = Some (record { op = op; task = Clearing x i }) in
+      let n : Option (TaskInProgress UnaryTask) = Some (record { op = op; task = Clearing x i }) in
       let mid : ℕ → Seen = put i (lowered (j.parts i)) j.parts in
       let fall : Falling top i x u mid = falling_begin top i x u j.parts c in
       let lm : Lights top p u j.tasks mid = lights_lower top p i x u j.tasks j.parts l c in
@@ -164,13 +164,13 @@ module _ (not_found : Outcome) (values processes : ℕ) (two : 2 ≤ values) whe
       )
 
   begin_write : (u : Seen) (j : View UnaryTask) (p x : ℕ) → UnaryInv top u j → j.tasks p ≡ None → p ≡ 0 → x ≤ top
-      → Runs t w p (Write x) (λ e. Told IsNotStray u (in_order (Some (Invoke p (Write x))) e)) (unary_program not_found values p (Write x)) j
+      → Runs t w p (Write x) (λ e. IsGoodStep IsNotStray u (in_order (Some (Invoke p (Write x))) e)) (unary_program not_found values p (Write x)) j
   begin_write u j p x h free zp lx =
       let op : Op = Write x in
       let v : Seen = sees (Some (Invoke p (Write x))) u in
-      let Out : Option Event → Seen → Type 0 = λ e. Told IsNotStray u (in_order (Some (Invoke p op)) e) in
+      let Out : Option Event → Seen → Type 0 = λ e. IsGoodStep IsNotStray u (in_order (Some (Invoke p op)) e) in
       let idle : Idle top u j.parts = subst (λ y. WriterSays top y u j.parts) (sym (ap j.tasks zp) ∙ free) h.writer in
-      let n : Option (Standing UnaryTask) = Some (record { op = op; task = Setting x }) in
+      let n : Option (TaskInProgress UnaryTask) = Some (record { op = op; task = Setting x }) in
       let mid : ℕ → Seen = put x (raised (j.parts x)) j.parts in
       let rise : Rising top x v mid = rising_begin top p x u j.parts idle lx in
       let lm : Lights top p v j.tasks mid = lights_begin top p x u j.tasks j.parts (lights_for top p u j.tasks j.parts h.lights) idle.writing in
@@ -181,16 +181,16 @@ module _ (not_found : Outcome) (values processes : ℕ) (two : 2 ≤ values) whe
         (
           v,
           (
-            told_begun IsNotStray p op None u refl tt,
+            good_begun IsNotStray p op None u refl tt,
             record {
               lights = lights_put top p v n j.tasks mid lm (λ ne. absurd (ne zp));
               writer = subst (λ y. WriterSays top y v mid) (sym (put_zero p n j.tasks zp)) rise;
             },
           ),
         ),
-        λ o ans pass good. elim o as (λ o. Answers 2 (Write 1) o → IsNotSpent o → Runs t w p op (λ e. Told IsNotStray u (in_order (Some (Invoke p op)) e)) (clears_below x x) (record j { parts = put x (sees (Some (ended 0 o)) (raised (j.parts x))) j.parts })) [
+        λ o ans pass good. elim o as (λ o. Answers 2 (Write 1) o → IsNotSpent o → Runs t w p op (λ e. IsGoodStep IsNotStray u (in_order (Some (Invoke p op)) e)) (clears_below x x) (record j { parts = put x (sees (Some (ended 0 o)) (raised (j.parts x))) j.parts })) [
           | Value v ↦ λ ans pass. absurd ans
-          | Written ↦ λ ans pass. runs_clears x x p op (λ e. Told IsNotStray u (in_order (Some (Invoke p op)) e)) v (record j { parts = after }) zp ca la (told_begun IsNotStray p op None u refl tt) (told_begun IsNotStray p op (Some (Wrote p)) u refl tt)
+          | Written ↦ λ ans pass. runs_clears x x p op (λ e. IsGoodStep IsNotStray u (in_order (Some (Invoke p op)) e)) v (record j { parts = after }) zp ca la (good_begun IsNotStray p op None u refl tt) (good_begun IsNotStray p op (Some (Wrote p)) u refl tt)
           | Spent s ↦ λ ans pass. absurd pass
         ] ans pass,
       )
@@ -224,7 +224,7 @@ module _ (not_found : Outcome) (values processes : ℕ) (two : 2 ≤ values) whe
       → ((z : View UnaryTask) → Beacon top (suc i) k (MayGive p u) z.parts → Lights top p u z.tasks z.parts → WriterSays top (z.tasks 0) u z.parts → Runs t w p op Out on z)
       → Runs t w p op Out (Asks (Looking p i left) (λ o. after_look i on o)) j
   runs_look i left k p op Out u j on np room bk l wr out og more =
-      let n : Option (Standing UnaryTask) = Some (record { op = op; task = Looking p i left }) in
+      let n : Option (TaskInProgress UnaryTask) = Some (record { op = op; task = Looking p i left }) in
       let mid : ℕ → Seen = put i (sees (Some (Invoke p Read)) (j.parts i)) j.parts in
       let z : View UnaryTask = record j { parts = mid } in
       let look : Looks top p i left k u mid = looking_mine top p i left k u j.parts room bk in
@@ -261,7 +261,7 @@ module _ (not_found : Outcome) (values processes : ℕ) (two : 2 ≤ values) whe
       (λ z bk2 lz wz. runs_looks left (suc i) k p op Out u z np (omega (arith, room)) bk2 lz wz out og)
 
   begins : (u : Seen) (j : View UnaryTask) (p : ℕ) (op : Op) → UnaryInv top u j → j.tasks p ≡ None → one_writer values processes p op ≡ true
-      → Runs t w p op (λ e. Told IsNotStray u (in_order (Some (Invoke p op)) e)) (unary_program not_found values p op) j
+      → Runs t w p op (λ e. IsGoodStep IsNotStray u (in_order (Some (Invoke p op)) e)) (unary_program not_found values p op) j
   begins u j p (Write x) h free s =
       let lx = writer.no_other_value values processes p x s in
       begin_write u j p x h free (writer.writer_zero values processes p x s) (omega (arith, lx, two))
@@ -269,55 +269,55 @@ module _ (not_found : Outcome) (values processes : ℕ) (two : 2 ≤ values) whe
       let lp = writer.reader_some values processes p s in
       let v : Seen = sees (Some (Invoke p Read)) u in
       let l : Lights top p v j.tasks j.parts = lights_invoke top p u j.tasks j.parts (lights_for top p u j.tasks j.parts h.lights) in
-      runs_looks top 0 h.lights.ready.0 p Read (λ e. Told IsNotStray u (in_order (Some (Invoke p Read)) e)) v j (λ e. omega (arith, e, lp)) (omega arith)
+      runs_looks top 0 h.lights.ready.0 p Read (λ e. IsGoodStep IsNotStray u (in_order (Some (Invoke p Read)) e)) v j (λ e. omega (arith, e, lp)) (omega arith)
       (beacon_invoke top p h.lights.ready.0 u j.parts h.lights.ready.1) l
       (writer_same top u v j.parts j.parts refl refl (λ k. refl) (λ k. refl) (j.tasks 0) h.writer)
-      (told_begun IsNotStray p Read None u refl tt)
-      (λ x m. told_begun IsNotStray p Read (Some (Got p x)) u refl (not_stray_give p v x m, tt))
+      (good_begun IsNotStray p Read None u refl tt)
+      (λ x m. good_begun IsNotStray p Read (Some (Got p x)) u refl (not_stray_give p v x m, tt))
 
   -- an operation of the writer on a bit has ended
   writer_ends : (u : Seen) (j : View UnaryTask) (p : ℕ) (op : Op) (task : UnaryTask) (chosen : Option (ℕ × Bool)) (o : Outcome) → UnaryInv top u j → p ≡ 0 → WriterAt top task u j.parts
       → Answers 2 (t.asks task).op o → IsNotSpent o
-      → Runs t w p op (λ e. Told IsNotStray u (in_order (chosen_of p chosen) e)) (unary_rest not_found task o)
+      → Runs t w p op (λ e. IsGoodStep IsNotStray u (in_order (chosen_of p chosen) e)) (unary_rest not_found task o)
       (record j { parts = put (t.asks task).part (sees (Some (ended (t.asks task).who o)) (j.parts (t.asks task).part)) j.parts })
   writer_ends u j p op (Setting x) chosen (Value v) h zp wr ans pass = absurd ans
   writer_ends u j p op (Setting x) chosen (Spent s) h zp wr ans pass = absurd pass
   writer_ends u j p op (Setting x) chosen Written h zp wr ans pass =
-      let Out : Option Event → Seen → Type 0 = λ e. Told IsNotStray u (in_order (chosen_of p chosen) e) in
+      let Out : Option Event → Seen → Type 0 = λ e. IsGoodStep IsNotStray u (in_order (chosen_of p chosen) e) in
       let after : ℕ → Seen = put x (written (j.parts x)) j.parts in
-      runs_clears x x p op (λ e. Told IsNotStray u (in_order (chosen_of p chosen) e)) u (record j { parts = after }) zp (rising_end top x u j.parts wr)
+      runs_clears x x p op (λ e. IsGoodStep IsNotStray u (in_order (chosen_of p chosen) e)) u (record j { parts = after }) zp (rising_end top x u j.parts wr)
       (lights_raised top p x u j.tasks j.parts (lights_for top p u j.tasks j.parts h.lights) wr.writing wr.here)
-      (told_gone IsNotStray p chosen None u refl tt) (told_gone IsNotStray p chosen (Some (Wrote p)) u refl tt)
+      (good_gone IsNotStray p chosen None u refl tt) (good_gone IsNotStray p chosen (Some (Wrote p)) u refl tt)
   writer_ends u j p op (Clearing x i) chosen (Value v) h zp wr ans pass = absurd ans
   writer_ends u j p op (Clearing x i) chosen (Spent s) h zp wr ans pass = absurd pass
   writer_ends u j p op (Clearing x i) chosen Written h zp wr ans pass =
       let f : Falling top i x u j.parts = wr in
       let after : ℕ → Seen = put i (written (j.parts i)) j.parts in
-      runs_clears i x p op (λ e. Told IsNotStray u (in_order (chosen_of p chosen) e)) u (record j { parts = after }) zp (falling_end top i x u j.parts f)
+      runs_clears i x p op (λ e. IsGoodStep IsNotStray u (in_order (chosen_of p chosen) e)) u (record j { parts = after }) zp (falling_end top i x u j.parts f)
       (lights_lowered top p i u j.tasks j.parts (lights_for top p u j.tasks j.parts h.lights) f.here)
-      (told_gone IsNotStray p chosen None u refl tt) (told_gone IsNotStray p chosen (Some (Wrote p)) u refl tt)
+      (good_gone IsNotStray p chosen None u refl tt) (good_gone IsNotStray p chosen (Some (Wrote p)) u refl tt)
   writer_ends u j p op (Looking q i left) chosen o h zp wr ans pass = absurd wr
 
   -- a reader's read of a bit has ended
   look_ends : (u : Seen) (j : View UnaryTask) (p i left k v : ℕ) (op : Op) (chosen : Option (ℕ × Bool)) → UnaryInv top u j → (p ≡ 0 → ⊥) → Looks top p i left k u j.parts → v < 2
       → IsNotStray (record { reader = p; value = v; fresh = (j.parts i).fresh p; overlaps = (j.parts i).overlaps p })
-      → Runs t w p op (λ e. Told IsNotStray u (in_order (chosen_of p chosen) e)) (unary_rest not_found (Looking p i left) (Value v)) j
+      → Runs t w p op (λ e. IsGoodStep IsNotStray u (in_order (chosen_of p chosen) e)) (unary_rest not_found (Looking p i left) (Value v)) j
   look_ends u j p i zero k v op chosen h np look lv good =
-      runs_found i zero k p v op (λ e. Told IsNotStray u (in_order (chosen_of p chosen) e)) u j (Ends not_found) np lv look (lights_for top p u j.tasks j.parts h.lights) h.writer good
-      (λ x m. told_gone IsNotStray p chosen (Some (Got p x)) u refl (not_stray_give p u x m, tt))
+      runs_found i zero k p v op (λ e. IsGoodStep IsNotStray u (in_order (chosen_of p chosen) e)) u j (Ends not_found) np lv look (lights_for top p u j.tasks j.parts h.lights) h.writer good
+      (λ x m. good_gone IsNotStray p chosen (Some (Got p x)) u refl (not_stray_give p u x m, tt))
       (λ bk. let lo : suc i ≤ k = bk.low in let hi : k ≤ top = bk.high in let room : i + 0 ≡ top = look.room in let n : ⊥ = omega (arith, lo, hi, room) in absurd n)
   look_ends u j p i (suc left) k v op chosen h np look lv good =
       let room : i + suc left ≡ top = look.room in
       let l : Lights top p u j.tasks j.parts = lights_for top p u j.tasks j.parts h.lights in
-      runs_found i (suc left) k p v op (λ e. Told IsNotStray u (in_order (chosen_of p chosen) e)) u j (looks_above not_found p i (suc left)) np lv look l h.writer good
-      (λ x m. told_gone IsNotStray p chosen (Some (Got p x)) u refl (not_stray_give p u x m, tt))
-      (λ bk. runs_looks left (suc i) k p op (λ e. Told IsNotStray u (in_order (chosen_of p chosen) e)) u j np (omega (arith, room)) bk l h.writer
-      (told_gone IsNotStray p chosen None u refl tt)
-      (λ x m. told_gone IsNotStray p chosen (Some (Got p x)) u refl (not_stray_give p u x m, tt)))
+      runs_found i (suc left) k p v op (λ e. IsGoodStep IsNotStray u (in_order (chosen_of p chosen) e)) u j (looks_above not_found p i (suc left)) np lv look l h.writer good
+      (λ x m. good_gone IsNotStray p chosen (Some (Got p x)) u refl (not_stray_give p u x m, tt))
+      (λ bk. runs_looks left (suc i) k p op (λ e. IsGoodStep IsNotStray u (in_order (chosen_of p chosen) e)) u j np (omega (arith, room)) bk l h.writer
+      (good_gone IsNotStray p chosen None u refl tt)
+      (λ x m. good_gone IsNotStray p chosen (Some (Got p x)) u refl (not_stray_give p u x m, tt)))
 
   reader_ends : (u : Seen) (j : View UnaryTask) (p : ℕ) (op : Op) (task : UnaryTask) (chosen : Option (ℕ × Bool)) (o : Outcome) → UnaryInv top u j → (p ≡ 0 → ⊥) → ReaderAt top p task u j.parts
       → Answers 2 (t.asks task).op o → IsNotSpent o → AllByRecursion IsNotStray (got (Some (ended (t.asks task).who o)) (j.parts (t.asks task).part))
-      → Runs t w p op (λ e. Told IsNotStray u (in_order (chosen_of p chosen) e)) (unary_rest not_found task o)
+      → Runs t w p op (λ e. IsGoodStep IsNotStray u (in_order (chosen_of p chosen) e)) (unary_rest not_found task o)
       (record j { parts = put (t.asks task).part (sees (Some (ended (t.asks task).who o)) (j.parts (t.asks task).part)) j.parts })
   reader_ends u j p op (Setting x) chosen o h np rd ans pass good = absurd rd
   reader_ends u j p op (Clearing x i) chosen o h np rd ans pass good = absurd rd
@@ -326,13 +326,13 @@ module _ (not_found : Outcome) (values processes : ℕ) (two : 2 ≤ values) whe
   reader_ends u j p op (Looking q i left) chosen (Value v) h np rd ans pass good =
       let g : IsNotStray (record { reader = p; value = v; fresh = (j.parts i).fresh p; overlaps = (j.parts i).overlaps p }) =
       subst (λ r. IsNotStray (record { reader = r; value = v; fresh = (j.parts i).fresh r; overlaps = (j.parts i).overlaps r })) rd.0 good.0 in
-      subst (λ f. Runs t w p op (λ e. Told IsNotStray u (in_order (chosen_of p chosen) e)) (unary_rest not_found (Looking q i left) (Value v)) (record j { parts = f })) (put_back i j.parts)
-      (subst (λ r. Runs t w p op (λ e. Told IsNotStray u (in_order (chosen_of p chosen) e)) (unary_rest not_found (Looking r i left) (Value v)) j) (sym rd.0)
+      subst (λ f. Runs t w p op (λ e. IsGoodStep IsNotStray u (in_order (chosen_of p chosen) e)) (unary_rest not_found (Looking q i left) (Value v)) (record j { parts = f })) (put_back i j.parts)
+      (subst (λ r. Runs t w p op (λ e. IsGoodStep IsNotStray u (in_order (chosen_of p chosen) e)) (unary_rest not_found (Looking r i left) (Value v)) j) (sym rd.0)
       (look_ends u j p i left rd.1.0 v op chosen h np rd.1.1 ans g))
 
-  goes : (u : Seen) (j : View UnaryTask) (p : ℕ) (n : Standing UnaryTask) (chosen : Option (ℕ × Bool)) (o : Outcome) → UnaryInv top u j → j.tasks p ≡ Some n
+  goes : (u : Seen) (j : View UnaryTask) (p : ℕ) (n : TaskInProgress UnaryTask) (chosen : Option (ℕ × Bool)) (o : Outcome) → UnaryInv top u j → j.tasks p ≡ Some n
       → Answers 2 (t.asks n.task).op o → IsNotSpent o → AllByRecursion IsNotStray (got (Some (ended (t.asks n.task).who o)) (j.parts (t.asks n.task).part))
-      → Runs t w p n.op (λ e. Told IsNotStray u (in_order (chosen_of p chosen) e)) (unary_rest not_found n.task o)
+      → Runs t w p n.op (λ e. IsGoodStep IsNotStray u (in_order (chosen_of p chosen) e)) (unary_rest not_found n.task o)
       (record j { parts = put (t.asks n.task).part (sees (Some (ended (t.asks n.task).who o)) (j.parts (t.asks n.task).part)) j.parts })
   goes u j p n chosen o h mine ans pass good =
       elim (cases_eq p 0) [
@@ -373,10 +373,10 @@ module _ (not_found : Outcome) (values processes : ℕ) (two : 2 ≤ values) whe
         });
       }
 
-  pub unary_kept : IsKept t (UnaryMayBeAt values processes) w opening (Told IsNotStray)
+  pub unary_kept : IsKept t (UnaryMayBeAt values processes) w opening (IsGoodStep IsNotStray)
   unary_kept = record {
     initial = λ v l j ew et ep. at_first v l j et ep;
-    passes = told_passes w IsNotStray;
+    passes = good_passes w IsNotStray;
     begins = begins;
     goes = λ u j p n chosen o h mine s ans pass good. goes u j p n chosen o h mine ans pass good;
   }

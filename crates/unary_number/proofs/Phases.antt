@@ -6,7 +6,7 @@ use Rattle.frames.specs.declared.types.Op.TheVariants.{Write}
 use Rattle.frames.specs.declared.types.Event.TheVariants.{Invoke, Wrote}
 use Rattle.frames.proofs.Seen.{Seen, among, sees, now_last, among_here}
 use Rattle.frames.proofs.Pointwise.{put, put_same, put_other, put_all}
-use Rattle.layers.proofs.Law.{Standing}
+use Rattle.layers.proofs.Law.{TaskInProgress}
 use Rattle.unary_number.specs.declared.task.UnaryTask.{UnaryTask}
 use Rattle.unary_number.specs.declared.task.UnaryTask.TheVariants.{Setting, Clearing, Looking}
 use Rattle.unary_number.proofs.Beacons.{MayShow, Beacon, raised, lowered, written, MayGive, MayGiveNow, Looks, beacon_raise, beacon_raised, beacon_lower, beacon_jump, beacon_lowered, beacon_more, looking_begin, looking_written, looking_lower}
@@ -49,7 +49,7 @@ WriterAt top (Setting x) u parts = Rising top x u parts
 WriterAt top (Clearing x i) u parts = Falling top i x u parts
 WriterAt top (Looking q i left) u parts = ⊥
 
-abbrev pub WriterSays : ℕ → Option (Standing UnaryTask) → Seen → (ℕ → Seen) → Type 0
+abbrev pub WriterSays : ℕ → Option (TaskInProgress UnaryTask) → Seen → (ℕ → Seen) → Type 0
 WriterSays top None u parts = Idle top u parts
 WriterSays top (Some n) u parts = WriterAt top n.task u parts
 
@@ -58,19 +58,19 @@ ReaderAt top r (Setting x) u parts = ⊥
 ReaderAt top r (Clearing x i) u parts = ⊥
 ReaderAt top r (Looking q i left) u parts = (q ≡ r) × ((k : ℕ) × Looks top r i left k u parts)
 
-abbrev pub ReaderSays : ℕ → ℕ → Option (Standing UnaryTask) → Seen → (ℕ → Seen) → Type 0
+abbrev pub ReaderSays : ℕ → ℕ → Option (TaskInProgress UnaryTask) → Seen → (ℕ → Seen) → Type 0
 ReaderSays top r None u parts = Unit {0}
 ReaderSays top r (Some n) u parts = ReaderAt top r n.task u parts
 
 -- In a step of process p, every read overlaps the write in progress, if there is one. A read that
 -- is invoked now has a beacon, and so does each read in progress except that of p.
-pub record Lights (top p : ℕ) (u : Seen) (tasks : ℕ → Option (Standing UnaryTask)) (parts : ℕ → Seen) : Type 0 where
+pub record Lights (top p : ℕ) (u : Seen) (tasks : ℕ → Option (TaskInProgress UnaryTask)) (parts : ℕ → Seen) : Type 0 where
   pub overlap : (r x : ℕ) → u.writing ≡ Some x → IsTrue (among x (u.overlaps r))
   pub ready : (k : ℕ) × Beacon top 0 k (MayGiveNow u) parts
   pub readers : (r : ℕ) → (r ≡ 0 → ⊥) → (r ≡ p → ⊥) → ReaderSays top r (tasks r) u parts
 
 pub reader_map : (top r : ℕ) (u v : Seen) (parts to : ℕ → Seen) → ((i left k : ℕ) → Looks top r i left k u parts → (z : ℕ) × Looks top r i left z v to)
-    → (task : Option (Standing UnaryTask)) → ReaderSays top r task u parts → ReaderSays top r task v to
+    → (task : Option (TaskInProgress UnaryTask)) → ReaderSays top r task u parts → ReaderSays top r task v to
 reader_map top r u v parts to f None h = tt
 reader_map top r u v parts to f (Some n) h = at n.task h
   where
@@ -82,7 +82,7 @@ reader_map top r u v parts to f (Some n) h = at n.task h
 same_some : (x y : ℕ) → (let s : Option ℕ = Some x in s) ≡ Some y → x ≡ y
 same_some x y e = cc
 
-pub lights_begin : (top p x : ℕ) (u : Seen) (tasks : ℕ → Option (Standing UnaryTask)) (parts : ℕ → Seen) → Lights top p u tasks parts → u.writing ≡ None
+pub lights_begin : (top p x : ℕ) (u : Seen) (tasks : ℕ → Option (TaskInProgress UnaryTask)) (parts : ℕ → Seen) → Lights top p u tasks parts → u.writing ≡ None
     → Lights top p (sees (Some (Invoke p (Write x))) u) tasks (put x (raised (parts x)) parts)
 lights_begin top p x u tasks parts l idle =
     let v : Seen = sees (Some (Invoke p (Write x))) u in
@@ -96,7 +96,7 @@ lights_begin top p x u tasks parts l idle =
       readers = λ r z ne. reader_map top r u v parts (put x (raised (parts x)) parts) (λ i left k h. (k, looking_begin top r i left k p x u parts h)) (tasks r) (l.readers r z ne);
     }
 
-pub lights_raised : (top p x : ℕ) (u : Seen) (tasks : ℕ → Option (Standing UnaryTask)) (parts : ℕ → Seen) → Lights top p u tasks parts → u.writing ≡ Some x → (parts x).writing ≡ Some 1
+pub lights_raised : (top p x : ℕ) (u : Seen) (tasks : ℕ → Option (TaskInProgress UnaryTask)) (parts : ℕ → Seen) → Lights top p u tasks parts → u.writing ≡ Some x → (parts x).writing ≡ Some 1
     → Lights top p u tasks (put x (written (parts x)) parts)
 lights_raised top p x u tasks parts l e w = record {
   overlap = l.overlap;
@@ -125,7 +125,7 @@ beacon_fall top p k i x A u parts c ax b =
       )
     ]
 
-pub lights_lower : (top p i x : ℕ) (u : Seen) (tasks : ℕ → Option (Standing UnaryTask)) (parts : ℕ → Seen) → Lights top p u tasks parts → Cleared top (suc i) x u parts
+pub lights_lower : (top p i x : ℕ) (u : Seen) (tasks : ℕ → Option (TaskInProgress UnaryTask)) (parts : ℕ → Seen) → Lights top p u tasks parts → Cleared top (suc i) x u parts
     → Lights top p u tasks (put i (lowered (parts i)) parts)
 lights_lower top p i x u tasks parts l c =
     let ready = beacon_fall top 0 l.ready.0 i x (MayGiveNow u) u parts c (inr c.writing) l.ready.1 in
@@ -147,7 +147,7 @@ lights_lower top p i x u tasks parts l c =
           ]),
         )
 
-pub lights_lowered : (top p i : ℕ) (u : Seen) (tasks : ℕ → Option (Standing UnaryTask)) (parts : ℕ → Seen) → Lights top p u tasks parts → (parts i).writing ≡ Some 0
+pub lights_lowered : (top p i : ℕ) (u : Seen) (tasks : ℕ → Option (TaskInProgress UnaryTask)) (parts : ℕ → Seen) → Lights top p u tasks parts → (parts i).writing ≡ Some 0
     → Lights top p u tasks (put i (written (parts i)) parts)
 lights_lowered top p i u tasks parts l w = record {
   overlap = l.overlap;
@@ -157,7 +157,7 @@ lights_lowered top p i u tasks parts l w = record {
 }
 
 -- the write of the number returns
-pub lights_end : (top p q x : ℕ) (u : Seen) (tasks : ℕ → Option (Standing UnaryTask)) (parts : ℕ → Seen) → Lights top p u tasks parts → Cleared top 0 x u parts
+pub lights_end : (top p q x : ℕ) (u : Seen) (tasks : ℕ → Option (TaskInProgress UnaryTask)) (parts : ℕ → Seen) → Lights top p u tasks parts → Cleared top 0 x u parts
     → Lights top p (sees (Some (Wrote q)) u) tasks parts
 lights_end top p q x u tasks parts l c =
     let v : Seen = sees (Some (Wrote q)) u in
@@ -236,11 +236,11 @@ falling_end top i x u parts f =
     zero_one : (n : ℕ) → n ≡ 0 → n ≡ 1 → ⊥
     zero_one n e f = omega (arith, e, f)
 
-pub lights_for : (top p : ℕ) (u : Seen) (tasks : ℕ → Option (Standing UnaryTask)) (parts : ℕ → Seen) → Lights top 0 u tasks parts → Lights top p u tasks parts
+pub lights_for : (top p : ℕ) (u : Seen) (tasks : ℕ → Option (TaskInProgress UnaryTask)) (parts : ℕ → Seen) → Lights top 0 u tasks parts → Lights top p u tasks parts
 lights_for top p u tasks parts l = record { overlap = l.overlap; ready = l.ready; readers = λ r z ne. l.readers r z z }
 
 -- the step of process p ends
-pub lights_put : (top p : ℕ) (u : Seen) (x : Option (Standing UnaryTask)) (tasks : ℕ → Option (Standing UnaryTask)) (parts : ℕ → Seen) → Lights top p u tasks parts
+pub lights_put : (top p : ℕ) (u : Seen) (x : Option (TaskInProgress UnaryTask)) (tasks : ℕ → Option (TaskInProgress UnaryTask)) (parts : ℕ → Seen) → Lights top p u tasks parts
     → ((p ≡ 0 → ⊥) → ReaderSays top p x u parts) → Lights top 0 u (put p x tasks) parts
 lights_put top p u x tasks parts l mine = record {
   overlap = l.overlap;

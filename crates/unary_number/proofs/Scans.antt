@@ -97,36 +97,36 @@ module _ {P : Type 0} (b : Behaviour P) (values processes : ℕ) (layer : Layer)
   abbrev Alike : Program UnaryTask → Program UnaryTask → Memory → Type 0
   Alike k l m = (advance t b k m ≡ advance r b l m) × AllFind (ended_by t b k m)
 
-  abbrev AlikeBehind : UnaryTask → (Outcome → Program UnaryTask) → (Outcome → Program UnaryTask) → Next P → Memory → Type 0
-  AlikeBehind task k l next m =
+  abbrev AlikeAfter : UnaryTask → (Outcome → Program UnaryTask) → (Outcome → Program UnaryTask) → Next P → Memory → Type 0
+  AlikeAfter task k l next m =
       (after_part (λ o n. advance t b (k o) n) task next m ≡ after_part (λ o n. advance r b (l o) n) task next m)
       × AllFind (ended_after (λ o n. ended_by t b (k o) n) task next m)
 
   -- both do the same after a write of a bit
-  behind_write : (task : UnaryTask) (k : Program UnaryTask) (next : Next P) (m : Memory) → ((o : Outcome) → FindsOne values task o) → ((n : Memory) → Alike k k n) → AlikeBehind task (λ o. k) (λ o. k) next m
-  behind_write task k (Pending p) m says same = (refl, tt)
-  behind_write task k (Done (Spent l)) m says same = (refl, (says (Spent l), tt))
-  behind_write task k (Done Written) m says same = ((same m).0, (says Written, (same m).1))
-  behind_write task k (Done (Value v)) m says same = ((same m).0, (says (Value v), (same m).1))
+  after_write : (task : UnaryTask) (k : Program UnaryTask) (next : Next P) (m : Memory) → ((o : Outcome) → FindsOne values task o) → ((n : Memory) → Alike k k n) → AlikeAfter task (λ o. k) (λ o. k) next m
+  after_write task k (Pending p) m says same = (refl, tt)
+  after_write task k (Done (Spent l)) m says same = (refl, (says (Spent l), tt))
+  after_write task k (Done Written) m says same = ((same m).0, (says Written, (same m).1))
+  after_write task k (Done (Value v)) m says same = ((same m).0, (says (Value v), (same m).1))
 
   clears : (x i : ℕ) (m : Memory) → Alike (clears_below x i) (clears_below x i) m
   clears x zero m = (refl, tt)
   clears x (suc i) m =
-      behind_write (Clearing x i) (clears_below x i) (asked b (unary_asks (Clearing x i)) m).next (asked b (unary_asks (Clearing x i)) m).memory (λ o. tt) (λ n. clears x i n)
+      after_write (Clearing x i) (clears_below x i) (asked b (unary_asks (Clearing x i)) m).next (asked b (unary_asks (Clearing x i)) m).memory (λ o. tt) (λ n. clears x i n)
 
   one_isnt : {A : Type 0} (v : ℕ) → (v == 1) ≡ true → Value v ≡ Value 0 → A
   one_isnt v one e = absurd (let is : v ≡ 1 = eqb-true v 1 one in let no : v ≡ 0 = cc in omega (arith, is, no))
 
   -- both do the same after a read of a bit, if they do so after a 0; after a 0 in the last bit the
   -- variant only refuses
-  behind_look_at : (who i left : ℕ) (next : Next P) (m : Memory) → i + left + 1 ≡ values
+  after_look_at : (who i left : ℕ) (next : Next P) (m : Memory) → i + left + 1 ≡ values
       → ((n : Memory) → Goes (advance r b (looks_above (Spent layer) who i left) n).next → Alike (looks_above top who i left) (looks_above (Spent layer) who i left) n)
       → Goes (after_part (λ o n. advance r b (after_look i (looks_above (Spent layer) who i left) o) n) (Looking who i left) next m).next
-      → AlikeBehind (Looking who i left) (after_look i (looks_above top who i left)) (after_look i (looks_above (Spent layer) who i left)) next m
-  behind_look_at who i left (Pending p) m all same goes = (refl, tt)
-  behind_look_at who i left (Done (Spent l)) m all same goes = absurd goes
-  behind_look_at who i left (Done Written) m all same goes = (refl, ((λ last e. (let n : ⊥ = cc in n)), tt))
-  behind_look_at who i left (Done (Value v)) m all same goes = by (v == 1) refl goes
+      → AlikeAfter (Looking who i left) (after_look i (looks_above top who i left)) (after_look i (looks_above (Spent layer) who i left)) next m
+  after_look_at who i left (Pending p) m all same goes = (refl, tt)
+  after_look_at who i left (Done (Spent l)) m all same goes = absurd goes
+  after_look_at who i left (Done Written) m all same goes = (refl, ((λ last e. (let n : ⊥ = cc in n)), tt))
+  after_look_at who i left (Done (Value v)) m all same goes = by (v == 1) refl goes
     where
       by : (found : Bool) → (v == 1) ≡ found → Goes (advance r b (if found then Ends (Value i) else looks_above (Spent layer) who i left) m).next
           → (advance t b (if found then Ends (Value i) else looks_above top who i left) m ≡ advance r b (if found then Ends (Value i) else looks_above (Spent layer) who i left) m)
@@ -144,21 +144,21 @@ module _ {P : Type 0} (b : Behaviour P) (values processes : ℕ) (layer : Layer)
       → Alike (looks_above top who i left) (looks_above (Spent layer) who i left) m
   looks zero who i m all goes = absurd goes
   looks (suc left) who i m all goes =
-      behind_look_at who (suc i) left (asked b (unary_asks (Looking who (suc i) left)) m).next (asked b (unary_asks (Looking who (suc i) left)) m).memory (omega (arith, all)) (λ n. looks left who (suc i) n (omega (arith, all))) goes
+      after_look_at who (suc i) left (asked b (unary_asks (Looking who (suc i) left)) m).next (asked b (unary_asks (Looking who (suc i) left)) m).memory (omega (arith, all)) (λ n. looks left who (suc i) n (omega (arith, all))) goes
 
   -- both do the same as an operation begins, and as it goes on
   begins : (who : ℕ) (o : Op) (m : Memory) → Goes (advance r b (unary_program (Spent layer) values who o) m).next
       → Alike (unary_program top values who o) (unary_program (Spent layer) values who o) m
-  begins who (op.Write x) m goes = behind_write (Setting x) (clears_below x x) (asked b (unary_asks (Setting x)) m).next (asked b (unary_asks (Setting x)) m).memory (λ o. tt) (λ n. clears x x n)
+  begins who (op.Write x) m goes = after_write (Setting x) (clears_below x x) (asked b (unary_asks (Setting x)) m).next (asked b (unary_asks (Setting x)) m).memory (λ o. tt) (λ n. clears x x n)
   begins who op.Read m goes =
-      behind_look_at who 0 (values - 1) (asked b (unary_asks (Looking who 0 (values - 1))) m).next (asked b (unary_asks (Looking who 0 (values - 1))) m).memory (omega (arith, some))
+      after_look_at who 0 (values - 1) (asked b (unary_asks (Looking who 0 (values - 1))) m).next (asked b (unary_asks (Looking who 0 (values - 1))) m).memory (omega (arith, some))
       (λ n. looks (values - 1) who 0 n (omega (arith, some))) goes
 
   goes_on : (who : ℕ) (o : Op) (task : UnaryTask) (next : Next P) (m : Memory) → UnaryMayBeAt values processes who o task → Goes (after_part (λ o n. advance r b (unary_rest (Spent layer) task o) n) task next m).next
-      → AlikeBehind task (unary_rest top task) (unary_rest (Spent layer) task) next m
-  goes_on who (op.Write w) (Setting x) next m stands goes = behind_write (Setting x) (clears_below x x) next m (λ o. tt) (λ n. clears x x n)
-  goes_on who (op.Write w) (Clearing x i) next m stands goes = behind_write (Clearing x i) (clears_below x i) next m (λ o. tt) (λ n. clears x i n)
-  goes_on who op.Read (Looking q i left) next m stands goes = behind_look_at q i left next m stands.3 (λ n. looks left q i n stands.3) goes
+      → AlikeAfter task (unary_rest top task) (unary_rest (Spent layer) task) next m
+  goes_on who (op.Write w) (Setting x) next m stands goes = after_write (Setting x) (clears_below x x) next m (λ o. tt) (λ n. clears x x n)
+  goes_on who (op.Write w) (Clearing x i) next m stands goes = after_write (Clearing x i) (clears_below x i) next m (λ o. tt) (λ n. clears x i n)
+  goes_on who op.Read (Looking q i left) next m stands goes = after_look_at q i left next m stands.3 (λ n. looks left q i n stands.3) goes
   goes_on who _ _ next m stands goes = absurd stands
 
   abbrev N : Type 0
@@ -171,14 +171,14 @@ module _ {P : Type 0} (b : Behaviour P) (values processes : ℕ) (layer : Layer)
   R = layered r b
 
   module _ (Reaches : ℕ → Op → P → Type 0) where
-    abbrev StandsAt : ℕ → Option (Running N) → Type 0
-    StandsAt p running = IsReached (LayerReaches r (UnaryMayBeAt values processes) Reaches) p running
+    abbrev IsReachedBy : ℕ → Option (Running N) → Type 0
+    IsReachedBy p running = IsReached (LayerReaches r (UnaryMayBeAt values processes) Reaches) p running
 
     -- both do the same in a step
     abbrev AlikeIn : Bool → Step → Option (Running N) → Memory → Type 0
     AlikeIn halted s running m = (acting_unless halted L s running m ≡ acting_unless halted R s running m) × AllFind (ended_unless t b halted s running m)
 
-    acts : (s : Step) (halted : Bool) (running : Option (Running N)) (m : Memory) → StandsAt (process_of s) running → AreQuiet (acting_unless halted R s running m).events → AlikeIn halted s running m
+    acts : (s : Step) (halted : Bool) (running : Option (Running N)) (m : Memory) → IsReachedBy (process_of s) running → AreQuiet (acting_unless halted R s running m).events → AlikeIn halted s running m
     acts s true running m stands quiet = (refl, tt)
     acts (step.Write p v) false None m stands quiet =
         let o : Op = op.Write v in

@@ -84,44 +84,44 @@ module _ (not_found : Outcome) (values processes : ℕ) (two : LEAST_VALUES ≤ 
 
   asks_fit : (who : ℕ) (o : Op) (task : UnaryTask) → UnaryMayBeAt values processes who o task
       → ((unary_asks task).part < values) × FitsPart 2 processes (unary_asks task).who (unary_asks task).op
-  asks_fit who (op.Write w) (Setting x) stands = (omega (arith, stands.1, stands.2), (refl, omega arith))
-  asks_fit who (op.Write w) (Clearing x i) stands = (omega (arith, stands.1, stands.2, stands.3), (refl, omega arith))
-  asks_fit who op.Read (Looking reader i left) stands = (omega (arith, stands.3), (omega (arith, stands.0, stands.1), omega (arith, stands.0, stands.2)))
-  asks_fit who _ _ stands = absurd stands
+  asks_fit who (op.Write w) (Setting x) at_task = (omega (arith, at_task.1, at_task.2), (refl, omega arith))
+  asks_fit who (op.Write w) (Clearing x i) at_task = (omega (arith, at_task.1, at_task.2, at_task.3), (refl, omega arith))
+  asks_fit who op.Read (Looking reader i left) at_task = (omega (arith, at_task.3), (omega (arith, at_task.0, at_task.1), omega (arith, at_task.0, at_task.2)))
+  asks_fit who _ _ at_task = absurd at_task
 
   rest_sound : (who : ℕ) (o : Op) (task : UnaryTask) (outcome : Outcome) → UnaryMayBeAt values processes who o task → Answers 2 (unary_asks task).op outcome → IsNotSpent outcome
       → IsSound (unary_table_with not_found values processes) (UnaryMayBeAt values processes who o) (Answers values o) (unary_rest not_found task outcome)
-  rest_sound who (op.Write w) (Setting x) outcome stands answers on = clears_sound who w x x stands.0 stands.1 (omega (arith, stands.1)) stands.2
-  rest_sound who (op.Write w) (Clearing x i) outcome stands answers on = clears_sound who w x i stands.0 stands.1 (omega (arith, stands.2)) stands.3
-  rest_sound who op.Read (Looking reader i left) (Value bit) stands answers on =
-      looked_sound who reader i left bit _ stands.0 stands.1 stands.2 stands.3 (omega (arith, stands.3))
-  rest_sound who op.Read (Looking reader i left) Written stands answers on = absurd answers
-  rest_sound who op.Read (Looking reader i left) (Spent layer) stands answers on = absurd on
-  rest_sound who _ _ outcome stands answers on = absurd stands
+  rest_sound who (op.Write w) (Setting x) outcome at_task answers on = clears_sound who w x x at_task.0 at_task.1 (omega (arith, at_task.1)) at_task.2
+  rest_sound who (op.Write w) (Clearing x i) outcome at_task answers on = clears_sound who w x i at_task.0 at_task.1 (omega (arith, at_task.2)) at_task.3
+  rest_sound who op.Read (Looking reader i left) (Value bit) at_task answers on =
+      looked_sound who reader i left bit _ at_task.0 at_task.1 at_task.2 at_task.3 (omega (arith, at_task.3))
+  rest_sound who op.Read (Looking reader i left) Written at_task answers on = absurd answers
+  rest_sound who op.Read (Looking reader i left) (Spent layer) at_task answers on = absurd on
+  rest_sound who _ _ outcome at_task answers on = absurd at_task
 
   rest_falls : (who : ℕ) (o : Op) (task : UnaryTask) (outcome : Outcome) → UnaryMayBeAt values processes who o task → Answers 2 (unary_asks task).op outcome → IsNotSpent outcome
       → Falls unary_left (unary_left task) (unary_rest not_found task outcome)
-  rest_falls who o (Setting x) outcome stands answers on = clears_fall x x x (omega arith)
-  rest_falls who o (Clearing x i) outcome stands answers on = clears_fall x i i (omega arith)
-  rest_falls who o (Looking reader i left) (Value bit) stands answers on = look_falls reader i left bit _
-  rest_falls who o (Looking reader i left) Written stands answers on = tt
-  rest_falls who o (Looking reader i left) (Spent layer) stands answers on = tt
+  rest_falls who o (Setting x) outcome at_task answers on = clears_fall x x x (omega arith)
+  rest_falls who o (Clearing x i) outcome at_task answers on = clears_fall x i i (omega arith)
+  rest_falls who o (Looking reader i left) (Value bit) at_task answers on = look_falls reader i left bit _
+  rest_falls who o (Looking reader i left) Written at_task answers on = tt
+  rest_falls who o (Looking reader i left) (Spent layer) at_task answers on = tt
 
   may_be_at_suits : (who : ℕ) (o : Op) (task : UnaryTask) → UnaryMayBeAt values processes who o task → one_writer values processes who o ≡ true
-  may_be_at_suits who (op.Write w) (Setting x) stands = writer.writer_suits values processes who w stands.0 some stands.2
-  may_be_at_suits who (op.Write w) (Clearing x i) stands = writer.writer_suits values processes who w stands.0 some stands.3
-  may_be_at_suits who op.Read (Looking reader i left) stands = writer.others_read values processes who stands.1 stands.2
-  may_be_at_suits who _ _ stands = absurd stands
+  may_be_at_suits who (op.Write w) (Setting x) at_task = writer.writer_suits values processes who w at_task.0 some at_task.2
+  may_be_at_suits who (op.Write w) (Clearing x i) at_task = writer.writer_suits values processes who w at_task.0 some at_task.3
+  may_be_at_suits who op.Read (Looking reader i left) at_task = writer.others_read values processes who at_task.1 at_task.2
+  may_be_at_suits who _ _ at_task = absurd at_task
 
   frame_gives_task : (who : ℕ) (o : Op) (task : UnaryTask) → UnaryMayBeAt values processes who o task → (unary_find values who (unary_frame task) ≡ task) × ((unary_frame task).op ≡ o)
-  frame_gives_task who (op.Write w) (Setting x) stands = (ap (λ same. if same then Setting x else Clearing x x) (same_bit x), ap op.Write stands.1)
-  frame_gives_task who (op.Write w) (Clearing x i) stands = (ap (λ same. if same then Setting x else Clearing x i) (other_bit i x (omega (arith, stands.1, stands.2))), ap op.Write stands.1)
-  frame_gives_task who op.Read (Looking reader i left) stands =
-      let behind : values - 1 - i ≡ left = omega (arith, stands.3) in
-      (λ k. Looking (sym stands.0 k) i (behind k), refl)
-  frame_gives_task who (op.Write w) (Looking reader i left) stands = absurd stands
-  frame_gives_task who op.Read (Setting x) stands = absurd stands
-  frame_gives_task who op.Read (Clearing x i) stands = absurd stands
+  frame_gives_task who (op.Write w) (Setting x) at_task = (ap (λ same. if same then Setting x else Clearing x x) (same_bit x), ap op.Write at_task.1)
+  frame_gives_task who (op.Write w) (Clearing x i) at_task = (ap (λ same. if same then Setting x else Clearing x i) (other_bit i x (omega (arith, at_task.1, at_task.2))), ap op.Write at_task.1)
+  frame_gives_task who op.Read (Looking reader i left) at_task =
+      let left_is : values - 1 - i ≡ left = omega (arith, at_task.3) in
+      (λ k. Looking (sym at_task.0 k) i (left_is k), refl)
+  frame_gives_task who (op.Write w) (Looking reader i left) at_task = absurd at_task
+  frame_gives_task who op.Read (Setting x) at_task = absurd at_task
+  frame_gives_task who op.Read (Clearing x i) at_task = absurd at_task
 
   -- the rules meet the laws that every layer's rules must meet, if a read may end with `not_found`,
   -- the outcome of a scan that finds no 1

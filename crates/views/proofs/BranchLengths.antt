@@ -30,10 +30,10 @@ branch_at branches i name len apart named counts =
 abbrev branch_length : List ℕ → ℕ → BranchLength
 branch_length name len = record { name = name; len = len }
 
-pub branch_told : (branches : List Branch) (i : ℕ) (name : List ℕ) (len : ℕ) → AreNamedApart branches → Some name ≡ name_in branches i
+pub branch_is : (branches : List Branch) (i : ℕ) (name : List ℕ) (len : ℕ) → AreNamedApart branches → Some name ≡ name_in branches i
     → Some len ≡ option_map (λ j. length (slots_in branches j)) (index_of branches name)
     → (b : Branch) × (slice_get branches i ≡ Some b) × (branch_length name len ≡ length_of b)
-branch_told branches i name len apart named counts =
+branch_is branches i name len apart named counts =
     let b = branch_at branches i name len apart named counts in
     (b.here, b.at, λ j. branch_length (sym b.named j) (sym b.counted j))
 

@@ -11,10 +11,10 @@ indexed-append i [] later =
     ap (λ n. indexed n later) same
 indexed-append i (events ∷ steps) later =
     let own : List (ℕ × Event) = at_index i events.first ++ at_index i events.second in
-    let behind : (i + 1) + length steps ≡ i + suc (length steps) = omega arith in
+    let next_index : (i + 1) + length steps ≡ i + suc (length steps) = omega arith in
     ap (λ l. own ++ l) (indexed-append (i + 1) steps later)
     ∙ sym (append_assoc own (indexed (i + 1) steps) (indexed ((i + 1) + length steps) later))
-    ∙ ap (λ n. (own ++ indexed (i + 1) steps) ++ indexed n later) behind
+    ∙ ap (λ n. (own ++ indexed (i + 1) steps) ++ indexed n later) next_index
 
 -- `all` has the events of the steps so far, and `index` is the index of the next step
 pub record IsIndexed (all : List (ℕ × Event)) (index : ℕ) (steps : List StepEvents) : Type 0 where

@@ -85,8 +85,8 @@ module _ {R P : Type 0} (is : R → Behaviour P) where
 
     module _ (places : LruCache (RunPart R P) (Configuration R P)) (all : MatchTheirKeys is places) where
       pub found : (place : RunPart R P) (c : Configuration R P) → lookup (same_place E F place) places.entries ≡ Some c → IsAlike is c (part_end is place)
-      found place c told =
-          let at = Contains-lookup (same_place E F place) places.entries c told in
+      found place c kept =
+          let at = Contains-lookup (same_place E F place) places.entries c kept in
           like_trans c (part_end is at.0) (part_end is place) (all (at.0, c) at.1) (like_symm (part_end is place) (part_end is at.0) (ends_alike place at.0 ((place_decides E F d place at.0).0 at.2)))
 
       still_true : (test : RunPart R P → Bool) → MatchTheirKeys is (lru_cache (promoted test places.entries) places.cap)

@@ -21,10 +21,10 @@ use Rattle.views.specs.RunPages.{run_page, found_last, Shows}
 use Rattle.views.specs.Looks.{place_page}
 use Rattle.views.proofs.BehaviourAlone.{page_alone}
 
-pub slip_told : {R P : Type 0} (is : R → Behaviour P) (start : Configuration R P) (value : ℕ) (steps : List Step) (place len : ℕ) (parts : List (RunPart R P))
+pub slip_is : {R P : Type 0} (is : R → Behaviour P) (start : Configuration R P) (value : ℕ) (steps : List Step) (place len : ℕ) (parts : List (RunPart R P))
     → IsSpotOf is start value steps place len parts → (kind : PlaceKind) (branch : List ℕ)
     → run_page is kind (record { branch = branch; place = place; len = len }) start parts ≡ place_page (is start.register) value kind branch place steps
-slip_told is start value steps place len parts spot kind branch =
+slip_is is start value steps place len parts spot kind branch =
     ap (λ n. run_page is kind (record { branch = branch; place = place; len = n }) start parts) spot.counted
     ∙ page_alone (is (parts_end is start parts).register) (is start.register) kind (record { branch = branch; place = place; len = length steps }) (parts_end is start parts)
     (shown (is start.register) value (take place steps)) (indexed 0 (parts_events is parts)) spot.home spot.arrives

@@ -30,26 +30,26 @@ use Rattle.views.specs.RunPages.{run_page}
 use Rattle.views.specs.Looks.{steps_in, place_page, judged_from, NeverShowsStray}
 use Rattle.views.specs.Slips.{Slipped}
 use Rattle.pages.specs.Strays.{OnVerdicts, AreVerdictsOn, Judges, JudgesIts, ShowsNoStray, IsRegularOrAtomic, JudgesFrom}
-use Rattle.views.proofs.Slips.{slip_told}
+use Rattle.views.proofs.Slips.{slip_is}
 
 NoneStray : List ReadVerdict → Type 0
 NoneStray reads = All (λ read. read.verdict ≢ Stray) reads
 
-told_one : (k : Known) (i : ℕ) (e : Event) → OnReturn NotStray k e → NoneStray (verdict_of_event k i e)
+verdict_not_stray : (k : Known) (i : ℕ) (e : Event) → OnReturn NotStray k e → NoneStray (verdict_of_event k i e)
 unfolding NoneStray
-told_one k i (Got p v) h = All-cons (λ read. read.verdict ≢ Stray) _ [] h (All-nil (λ read. read.verdict ≢ Stray))
-told_one k i (Invoke p o) h = All-nil (λ read. read.verdict ≢ Stray)
-told_one k i (Wrote p) h = All-nil (λ read. read.verdict ≢ Stray)
-told_one k i (Refused p layer) h = All-nil (λ read. read.verdict ≢ Stray)
-told_one k i (Void p reason) h = All-nil (λ read. read.verdict ≢ Stray)
-told_one k i (Stop p) h = All-nil (λ read. read.verdict ≢ Stray)
-told_one k i (Chosen p bit v) h = All-nil (λ read. read.verdict ≢ Stray)
+verdict_not_stray k i (Got p v) h = All-cons (λ read. read.verdict ≢ Stray) _ [] h (All-nil (λ read. read.verdict ≢ Stray))
+verdict_not_stray k i (Invoke p o) h = All-nil (λ read. read.verdict ≢ Stray)
+verdict_not_stray k i (Wrote p) h = All-nil (λ read. read.verdict ≢ Stray)
+verdict_not_stray k i (Refused p layer) h = All-nil (λ read. read.verdict ≢ Stray)
+verdict_not_stray k i (Void p reason) h = All-nil (λ read. read.verdict ≢ Stray)
+verdict_not_stray k i (Stop p) h = All-nil (λ read. read.verdict ≢ Stray)
+verdict_not_stray k i (Chosen p bit v) h = All-nil (λ read. read.verdict ≢ Stray)
 
 none_stray : (k : Known) (events : List (ℕ × Event)) → EachRead NotStray k events → NoneStray (verdicts_from k events)
 unfolding NoneStray
 none_stray k [] h = All-nil (λ read. read.verdict ≢ Stray)
 none_stray k (e ∷ es) h =
-    All-append (λ read. read.verdict ≢ Stray) (verdict_of_event k e.0 e.1) (verdicts_from (after k e.1) es) (told_one k e.0 e.1 h.0) (none_stray (after k e.1) es h.1)
+    All-append (λ read. read.verdict ≢ Stray) (verdict_of_event k e.0 e.1) (verdicts_from (after k e.1) es) (verdict_not_stray k e.0 e.1 h.0) (none_stray (after k e.1) es h.1)
 
 -- what holds of verdicts holds of those that a page shows
 on_verdicts : {A B : List ReadVerdict → Type 0} → ((reads : List ReadVerdict) → A reads → B reads) → (p : Page) → OnVerdicts A p → OnVerdicts B p
@@ -122,7 +122,7 @@ pub slip_judges : {R P : Type 0} (is : R → Behaviour P) (start : Configuration
     → IsSpotOf is start value steps place len parts → value < (is start.register).values → AllFit (is start.register) steps → (what : PlaceKind) (branch : List ℕ) → JudgesFrom value what
     → Judges (is start.register) (run_page is what (record { branch = branch; place = place; len = len }) start parts)
 slip_judges is start value steps place len parts spot within fit what branch judged =
-    subst (Judges (is start.register)) (sym (slip_told is start value steps place len parts spot what branch))
+    subst (Judges (is start.register)) (sym (slip_is is start value steps place len parts spot what branch))
     (place_judges (is start.register) value what branch place steps within fit judged)
 
 -- each step of a branch fits

@@ -17,16 +17,16 @@ use Rattle.words.proofs.Numbers.{digits-decimal, digit_first, eight_digits, nine
 use Rattle.words.proofs.Digits.{digit_bounds}
 
 -- one more digit is taken from the text that is left, and added to the number
-pub one_more : (first v d b : ℕ) (text left behind : List ℕ) → 0 < v → v < 100000000 → is_ascii_digit b ≡ true → d ≡ b - 48 → left ≡ b ∷ behind
-    → decimal first ++ text ≡ decimal v ++ left → decimal first ++ text ≡ decimal (v * 10 + d) ++ behind
-one_more first v d b text left behind some short h e is front =
+pub one_more : (first v d b : ℕ) (text left following : List ℕ) → 0 < v → v < 100000000 → is_ascii_digit b ≡ true → d ≡ b - 48 → left ≡ b ∷ following
+    → decimal first ++ text ≡ decimal v ++ left → decimal first ++ text ≡ decimal (v * 10 + d) ++ following
+one_more first v d b text left following some short h e is front =
     let bounds = digit_bounds b h in
     let tens : (v * 10 + d) / 10 ≡ v = omega arith in
     let ones : (v * 10 + d) % 10 ≡ d = omega arith in
     let more : decimal (v * 10 + d) ≡ decimal v ++ b ∷ [] =
     decimal_step (v * 10 + d) (omega arith) (omega arith) ∙ ap (λ (n : ℕ). decimal n ++ (48 + (v * 10 + d) % 10) ∷ []) tens
     ∙ ap (λ (c : ℕ). decimal v ++ c ∷ []) (omega arith) in
-    front ∙ ap (λ (xs : List ℕ). decimal v ++ xs) is ∙ sym (append_assoc (decimal v) (b ∷ []) behind) ∙ ap (λ (ds : List ℕ). ds ++ behind) (sym more)
+    front ∙ ap (λ (xs : List ℕ). decimal v ++ xs) is ∙ sym (append_assoc (decimal v) (b ∷ []) following) ∙ ap (λ (ds : List ℕ). ds ++ following) (sym more)
 
 pub small_more : (v d b : ℕ) → v < 100000000 → is_ascii_digit b ≡ true → d ≡ b - 48 → v * 10 + d < 10 ^ 9
 small_more v d b short h e = let bounds = digit_bounds b h in omega arith
@@ -51,8 +51,8 @@ digits_split (x ∷ xs) [] left c rest dx dy other h e =
     let same : x ≡ c = cc in
     absurd (false≢true (sym other ∙ ap is_ascii_digit (sym same) ∙ (and_parts (is_ascii_digit x) (list_all is_ascii_digit xs) dx).0))
 digits_split (x ∷ xs) (y ∷ ys) left c rest dx dy other h e =
-    let behind : xs ++ left ≡ ys ++ c ∷ rest = cc in
-    digits_split xs ys left c rest (and_parts (is_ascii_digit x) (list_all is_ascii_digit xs) dx).1 (and_parts (is_ascii_digit y) (list_all is_ascii_digit ys) dy).1 other (λ l. h (omega arith)) behind
+    let following : xs ++ left ≡ ys ++ c ∷ rest = cc in
+    digits_split xs ys left c rest (and_parts (is_ascii_digit x) (list_all is_ascii_digit xs) dx).1 (and_parts (is_ascii_digit y) (list_all is_ascii_digit ys) dy).1 other (λ l. h (omega arith)) following
 
 left_of_zero : (n : ℕ) (left : List ℕ) (c : ℕ) (rest : List ℕ) → n < 10 ^ 9 → decimal 0 ++ left ≡ decimal n ++ c ∷ rest → left ≡ c ∷ rest
 left_of_zero n left c rest short e =
@@ -98,13 +98,13 @@ letter (step.Read p) = 114
 letter (step.Go p c) = 103
 letter (step.Stop p) = 120
 
-abbrev behind_first : Step → List ℕ → List ℕ
-behind_first (step.Write p v) rest = 32 ∷ (decimal v ++ rest)
-behind_first (step.Read p) rest = rest
-behind_first (step.Go p c) rest = 32 ∷ (decimal c ++ rest)
-behind_first (step.Stop p) rest = rest
+abbrev after_process : Step → List ℕ → List ℕ
+after_process (step.Write p v) rest = 32 ∷ (decimal v ++ rest)
+after_process (step.Read p) rest = rest
+after_process (step.Go p c) rest = 32 ∷ (decimal c ++ rest)
+after_process (step.Stop p) rest = rest
 
-spelled : (s : Step) (rest : List ℕ) → step_text s ++ rest ≡ letter s ∷ 32 ∷ (decimal (process_of s) ++ behind_first s rest)
+spelled : (s : Step) (rest : List ℕ) → step_text s ++ rest ≡ letter s ∷ 32 ∷ (decimal (process_of s) ++ after_process s rest)
 spelled (step.Write p v) rest =
     ap (λ (xs : List ℕ). 119 ∷ 32 ∷ xs) (append_assoc (decimal p) (32 ∷ (decimal v ++ [])) rest ∙ ap (λ (xs : List ℕ). decimal p ++ 32 ∷ (xs ++ rest)) (append-nil (decimal v)))
 spelled (step.Read p) rest = ap (λ (xs : List ℕ). 114 ∷ 32 ∷ (xs ++ rest)) (append-nil (decimal p))
@@ -119,26 +119,26 @@ short_process (step.Go p c) h = h.0
 short_process (step.Stop p) h = h
 
 -- what follows begins with no digit
-first_behind : (s : Step) (rest : List ℕ) → (c : ℕ) × (more : List ℕ) × (is_ascii_digit c ≡ false) × (behind_first s (10 ∷ rest) ≡ c ∷ more)
-first_behind (step.Write p v) rest = (32, decimal v ++ 10 ∷ rest, refl, refl)
-first_behind (step.Read p) rest = (10, rest, refl, refl)
-first_behind (step.Go p c) rest = (32, decimal c ++ 10 ∷ rest, refl, refl)
-first_behind (step.Stop p) rest = (10, rest, refl, refl)
+process_ends : (s : Step) (rest : List ℕ) → (c : ℕ) × (more : List ℕ) × (is_ascii_digit c ≡ false) × (after_process s (10 ∷ rest) ≡ c ∷ more)
+process_ends (step.Write p v) rest = (32, decimal v ++ 10 ∷ rest, refl, refl)
+process_ends (step.Read p) rest = (10, rest, refl, refl)
+process_ends (step.Go p c) rest = (32, decimal c ++ 10 ∷ rest, refl, refl)
+process_ends (step.Stop p) rest = (10, rest, refl, refl)
 
-two_numbers_behind : (word : ℕ) (s : Step) (rest : List ℕ) → word ≡ letter s → (word ≡ 119) ⊎ (word ≡ 103) → HasShortNumbers s
-    → (n : ℕ) × (n < 10 ^ 9) × (behind_first s rest ≡ 32 ∷ (decimal n ++ rest))
-two_numbers_behind word (step.Write p v) rest e two h = (v, h.1, refl)
-two_numbers_behind word (step.Read p) rest e (inl w) h = absurd (omega (arith, e, w))
-two_numbers_behind word (step.Read p) rest e (inr g) h = absurd (omega (arith, e, g))
-two_numbers_behind word (step.Go p c) rest e two h = (c, h.1, refl)
-two_numbers_behind word (step.Stop p) rest e (inl w) h = absurd (omega (arith, e, w))
-two_numbers_behind word (step.Stop p) rest e (inr g) h = absurd (omega (arith, e, g))
+two_numbers_after : (word : ℕ) (s : Step) (rest : List ℕ) → word ≡ letter s → (word ≡ 119) ⊎ (word ≡ 103) → HasShortNumbers s
+    → (n : ℕ) × (n < 10 ^ 9) × (after_process s rest ≡ 32 ∷ (decimal n ++ rest))
+two_numbers_after word (step.Write p v) rest e two h = (v, h.1, refl)
+two_numbers_after word (step.Read p) rest e (inl w) h = absurd (omega (arith, e, w))
+two_numbers_after word (step.Read p) rest e (inr g) h = absurd (omega (arith, e, g))
+two_numbers_after word (step.Go p c) rest e two h = (c, h.1, refl)
+two_numbers_after word (step.Stop p) rest e (inl w) h = absurd (omega (arith, e, w))
+two_numbers_after word (step.Stop p) rest e (inr g) h = absurd (omega (arith, e, g))
 
-one_number_behind : (word : ℕ) (s : Step) (rest : List ℕ) → word ≡ letter s → (word ≡ 119 → ⊥) → (word ≡ 103 → ⊥) → behind_first s rest ≡ rest
-one_number_behind word (step.Write p v) rest e nw ng = absurd (nw e)
-one_number_behind word (step.Read p) rest e nw ng = refl
-one_number_behind word (step.Go p c) rest e nw ng = absurd (ng e)
-one_number_behind word (step.Stop p) rest e nw ng = refl
+one_number_after : (word : ℕ) (s : Step) (rest : List ℕ) → word ≡ letter s → (word ≡ 119 → ⊥) → (word ≡ 103 → ⊥) → after_process s rest ≡ rest
+one_number_after word (step.Write p v) rest e nw ng = absurd (nw e)
+one_number_after word (step.Read p) rest e nw ng = refl
+one_number_after word (step.Go p c) rest e nw ng = absurd (ng e)
+one_number_after word (step.Stop p) rest e nw ng = refl
 
 -- ---- what a text doesn't begin with
 
@@ -148,32 +148,32 @@ HasNoStep text = (s : Step) (rest : List ℕ) → HasShortNumbers s → text ≡
 
 module _ (text numbers : List ℕ) (word : ℕ) (is : text ≡ word ∷ numbers) where
   letter_is : (s : Step) (rest : List ℕ) → text ≡ step_text s ++ 10 ∷ rest
-      → (word ≡ letter s) × (numbers ≡ 32 ∷ (decimal (process_of s) ++ behind_first s (10 ∷ rest)))
+      → (word ≡ letter s) × (numbers ≡ 32 ∷ (decimal (process_of s) ++ after_process s (10 ∷ rest)))
   letter_is s rest e = let both = sym is ∙ e ∙ spelled s (10 ∷ rest) in (cc, cc)
 
   pub no_first : HasNoNumber numbers → HasNoStep text
-  no_first none s rest short e = no_number numbers (process_of s) (behind_first s (10 ∷ rest)) (short_process s short) none (letter_is s rest e).1
+  no_first none s rest short e = no_number numbers (process_of s) (after_process s (10 ∷ rest)) (short_process s short) none (letter_is s rest e).1
 
   module _ (p : ℕ) (left : List ℕ) (short_p : p < 10 ^ 9) (front : numbers ≡ 32 ∷ (decimal p ++ left)) (whole : IsWholeNumber p left) where
-    left_is : (s : Step) (rest : List ℕ) → HasShortNumbers s → text ≡ step_text s ++ 10 ∷ rest → left ≡ behind_first s (10 ∷ rest)
+    left_is : (s : Step) (rest : List ℕ) → HasShortNumbers s → text ≡ step_text s ++ 10 ∷ rest → left ≡ after_process s (10 ∷ rest)
     left_is s rest short e =
-        let a = first_behind s rest in
-        let both : 32 ∷ (decimal p ++ left) ≡ 32 ∷ (decimal (process_of s) ++ behind_first s (10 ∷ rest)) = sym front ∙ (letter_is s rest e).1 in
-        let same : decimal p ++ left ≡ decimal (process_of s) ++ a.0 ∷ a.1 = (let t : decimal p ++ left ≡ decimal (process_of s) ++ behind_first s (10 ∷ rest) = cc in t ∙ ap (λ (xs : List ℕ). decimal (process_of s) ++ xs) a.3) in
+        let a = process_ends s rest in
+        let both : 32 ∷ (decimal p ++ left) ≡ 32 ∷ (decimal (process_of s) ++ after_process s (10 ∷ rest)) = sym front ∙ (letter_is s rest e).1 in
+        let same : decimal p ++ left ≡ decimal (process_of s) ++ a.0 ∷ a.1 = (let t : decimal p ++ left ≡ decimal (process_of s) ++ after_process s (10 ∷ rest) = cc in t ∙ ap (λ (xs : List ℕ). decimal (process_of s) ++ xs) a.3) in
         left_of_number p (process_of s) left a.0 a.1 short_p (short_process s short) a.2 whole same ∙ sym a.3
 
     pub no_second : (word ≡ 119) ⊎ (word ≡ 103) → HasNoNumber left → HasNoStep text
     no_second two none s rest short e =
-        let a = two_numbers_behind word s (10 ∷ rest) (letter_is s rest e).0 two short in
+        let a = two_numbers_after word s (10 ∷ rest) (letter_is s rest e).0 two short in
         no_number left a.0 (10 ∷ rest) a.1 none (left_is s rest short e ∙ a.2)
 
     pub no_end : (word ≡ 119 → ⊥) → (word ≡ 103 → ⊥) → HasNoEnd left → HasNoStep text
     no_end nw ng none s rest short e =
-        none rest (left_is s rest short e ∙ one_number_behind word s (10 ∷ rest) (letter_is s rest e).0 nw ng)
+        none rest (left_is s rest short e ∙ one_number_after word s (10 ∷ rest) (letter_is s rest e).0 nw ng)
 
     pub no_second_end : (word ≡ 119) ⊎ (word ≡ 103) → (v : ℕ) (last : List ℕ) → v < 10 ^ 9 → left ≡ 32 ∷ (decimal v ++ last) → IsWholeNumber v last → HasNoEnd last → HasNoStep text
     no_second_end two v last short_v front_v whole_v none s rest short e =
-        let a = two_numbers_behind word s (10 ∷ rest) (letter_is s rest e).0 two short in
+        let a = two_numbers_after word s (10 ∷ rest) (letter_is s rest e).0 two short in
         let both : 32 ∷ (decimal v ++ last) ≡ 32 ∷ (decimal a.0 ++ 10 ∷ rest) = sym front_v ∙ left_is s rest short e ∙ a.2 in
         let same : decimal v ++ last ≡ decimal a.0 ++ 10 ∷ rest = cc in
         none rest (left_of_number v a.0 last 10 rest short_v a.1 refl whole_v same)

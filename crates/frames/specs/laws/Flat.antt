@@ -93,26 +93,26 @@ pub none_running : {P : Type 0} (point : ℕ → List Frame → Option P) (k n :
 none_running point k zero = refl
 none_running point k (suc n) = ap (λ l. None ∷ l) (none_running point (k + 1) n)
 
-module _ {P : Type 0} (b : Behaviour P) (Reaches : ℕ → Op → P → Type 0) (point : ℕ → List Frame → Option P) (tell : FramesGivePoint b Reaches point) where
+module _ {P : Type 0} (b : Behaviour P) (Reaches : ℕ → Op → P → Type 0) (point : ℕ → List Frame → Option P) (gives_point : FramesGivePoint b Reaches point) where
   -- a stack describes operation o at point p if its outermost frame has o and `point` gives p
-  told : (who : ℕ) (stack : List Frame) (o : Op) (p : P) → outermost stack ≡ Some o → point who stack ≡ Some p → running_of (point who) stack ≡ Some (record { op = o; point = p })
-  told who [] o p first found = cc
-  told who (frame ∷ rest) o p first found =
+  running_described : (who : ℕ) (stack : List Frame) (o : Op) (p : P) → outermost stack ≡ Some o → point who stack ≡ Some p → running_of (point who) stack ≡ Some (record { op = o; point = p })
+  running_described who [] o p first found = cc
+  running_described who (frame ∷ rest) o p first found =
       let e : frame.op ≡ o = cc in ap (λ q. option_map (λ x. record { op = frame.op; point = x }) q) found ∙ ap (λ q. Some (record { op = q; point = p })) e
 
   -- the frames of a pending operation determine the operation and its point
   pub slot_by_frames : (who : ℕ) (slot : Option (Running P)) → IsReached Reaches who slot → running_of (point who) (stack_of b slot) ≡ slot
   slot_by_frames who None h = refl
-  slot_by_frames who (Some r) h = told who (b.frames r.point) r.op r.point (tell.op who r.op r.point h) (tell.point who r.op r.point h)
+  slot_by_frames who (Some r) h = running_described who (b.frames r.point) r.op r.point (gives_point.op who r.op r.point h) (gives_point.point who r.op r.point h)
 
   -- the outermost frame of a process's stack has the process's pending operation; an idle process
   -- has no frame
   pub slot_op : (who : ℕ) (slot : Option (Running P)) → IsReached Reaches who slot → outermost (stack_of b slot) ≡ option_map (λ r. r.op) slot
   slot_op who None h = refl
-  slot_op who (Some r) h = tell.op who r.op r.point h
+  slot_op who (Some r) h = gives_point.op who r.op r.point h
 
   -- `point` gives the point of a process's pending operation from its stack; `None` if the process
   -- is idle
   pub slot_point : (who : ℕ) (slot : Option (Running P)) → IsReached Reaches who slot → point who (stack_of b slot) ≡ option_map (λ r. r.point) slot
-  slot_point who None h = tell.none who
-  slot_point who (Some r) h = tell.point who r.op r.point h
+  slot_point who None h = gives_point.none who
+  slot_point who (Some r) h = gives_point.point who r.op r.point h

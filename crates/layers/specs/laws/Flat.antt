@@ -14,11 +14,11 @@ use Rattle.layers.specs.laws.Over.{LayerOver}
 
 pub layered_frames_give_point : {Task P : Type 0} (l : LayerOver Task P) (find : ℕ → List Frame → Option P) → FramesGivePoint l.below l.Reaches find
     → FramesGivePoint (layered l.table l.below) (LayerReaches l.table l.MayBeAt l.Reaches) (layered_point l.table find)
-layered_frames_give_point l find tell = record {
+layered_frames_give_point l find gives_point = record {
   point = λ who o n there.
       let own = (l.sound.frame_gives who o n.task there.may_be_at).0 in
       (λ i. option_map (λ p. record { task = own i; below = p }) (find (l.table.asks (own i)).who (l.below.frames n.below)))
-      ∙ ap (option_map (λ p. record { task = n.task; below = p })) (tell.point (l.table.asks n.task).who (l.table.asks n.task).op n.below there.below);
+      ∙ ap (option_map (λ p. record { task = n.task; below = p })) (gives_point.point (l.table.asks n.task).who (l.table.asks n.task).op n.below there.below);
   op = λ who o n there. ap Some (l.sound.frame_gives who o n.task there.may_be_at).1;
   none = λ who. refl;
 }

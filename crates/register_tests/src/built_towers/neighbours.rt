@@ -186,10 +186,10 @@ fn begin_write<R: Register>(rt: &impl Abort, both: &mut Neighbours<R>, side: Sid
 
 #[test]
 fn work_on_one_leaves_the_other(rt: HostRuntime) -> Result<(), Fail> {
-    for (side, beside) in [(Side::First, Side::Second), (Side::Second, Side::First)] {
+    for (side, other) in [(Side::First, Side::Second), (Side::Second, Side::First)] {
         let mut both = Neighbours::new(&rt, rt.alloc(), unary(3, 2), 1)?;
-        begin_write(&rt, &mut both, beside);
-        assert_other_left(&rt, &mut both, side, beside)?;
+        begin_write(&rt, &mut both, other);
+        assert_other_left(&rt, &mut both, side, other)?;
     }
     Ok(())
 }

@@ -4,7 +4,7 @@ use Rattle.safe_bit.specs.declared.Cell.{Cell}
 use Rattle.safe_bit.specs.declared.Place.{Place}
 use Rattle.safe_bit.specs.Memory.{Memory, cell_at, word_at, on_cell, with_word, no_cell, IsNumbered}
 use Rattle.safe_bit.specs.Windows.{window, splice}
-use Rattle.safe_bit.specs.laws.Windows.{length-window, length-splice, window-window, window-splice, window-splice_beside, splice-splice, splice-window, set-window, splice-own, window-whole, splice-whole, get_or-window}
+use Rattle.safe_bit.specs.laws.Windows.{length-window, length-splice, window-window, window-splice, window-splice_apart, splice-splice, splice-window, set-window, splice-own, window-whole, splice-whole, get_or-window}
 use Rattle.safe_bit.specs.Parts.{Apart, HasSize, IsPlaced, LiesIn, Within, place_after, origin, part, with_part}
 
 pub same_memory : (m n : Memory) → m.cells ≡ n.cells → m.words ≡ n.words → m ≡ n
@@ -86,11 +86,11 @@ pub with_part-own : (at size : Place) (m : Memory) → LiesIn at size m → with
 with_part-own at size m h = same_memory _ _ (splice-own at.cell size.cell m.cells h.cells) (splice-own at.word size.word m.words h.words)
 
 -- a part that doesn't overlap the replaced one stays as it was
-pub part-with_part_beside : (a s b t : Place) (inner m : Memory) → HasSize s inner → LiesIn a s m → LiesIn b t m → Apart a s b t
+pub part-with_part_apart : (a s b t : Place) (inner m : Memory) → HasSize s inner → LiesIn a s m → LiesIn b t m → Apart a s b t
     → part b t (with_part a inner m) ≡ part b t m
-part-with_part_beside a s b t inner m z h k apart = same_memory _ _
-    (window-splice_beside a.cell b.cell t.cell inner.cells m.cells (fits_cells a s inner m z h) k.cells (rw z.cells apart.cells))
-    (window-splice_beside a.word b.word t.word inner.words m.words (fits_words a s inner m z h) k.words (rw z.words apart.words))
+part-with_part_apart a s b t inner m z h k apart = same_memory _ _
+    (window-splice_apart a.cell b.cell t.cell inner.cells m.cells (fits_cells a s inner m z h) k.cells (rw z.cells apart.cells))
+    (window-splice_apart a.word b.word t.word inner.words m.words (fits_words a s inner m z h) k.words (rw z.words apart.words))
 
 -- the part at the origin that has the size of the whole memory is the whole memory
 pub part-whole : (size : Place) (m : Memory) → HasSize size m → part origin size m ≡ m

@@ -50,13 +50,13 @@ module _ {A : Type 0} where
       get_or-window i (length ys) (splice i ys xs) k d lt' ∙ get_or-splice_inside i ys xs k d h lt')
 
   -- a window that doesn't overlap the replaced one stays as it was
-  pub window-splice_beside : (i j n : ℕ) (ys xs : List A) → i + length ys ≤ length xs → j + n ≤ length xs → (i + length ys ≤ j) ⊎ (j + n ≤ i)
+  pub window-splice_apart : (i j n : ℕ) (ys xs : List A) → i + length ys ≤ length xs → j + n ≤ length xs → (i + length ys ≤ j) ⊎ (j + n ≤ i)
       → window j n (splice i ys xs) ≡ window j n xs
-  window-splice_beside i j n ys xs h h' beside =
+  window-splice_apart i j n ys xs h h' apart =
       same_lists _ _ (length-window j n (splice i ys xs) (rw (length-splice i ys xs h) h') ∙ sym (length-window j n xs h'))
       (λ k d lt. let lt' : k < n = rw (length-window j n (splice i ys xs) (rw (length-splice i ys xs h) h')) at lt in
       get_or-window j n (splice i ys xs) k d lt'
-      ∙ elim beside as (λ _. get_or (splice i ys xs) (j + k) d ≡ get_or xs (j + k) d) [
+      ∙ elim apart as (λ _. get_or (splice i ys xs) (j + k) d ≡ get_or xs (j + k) d) [
         | inl after ↦ get_or-splice_after i ys xs (j + k) d h (omega arith)
         | inr before ↦ get_or-splice_before i ys xs (j + k) d h (omega arith)
       ]

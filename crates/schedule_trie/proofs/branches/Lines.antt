@@ -98,9 +98,9 @@ module _ {T : Type 0} (t : Inside T) where
   line_fits h i = sound_short (segment_at (trie_of t).segments) (trie_of t).branches t.made h.whole.sound i
 
   -- the keys of a branch, in terms of the fields
-  pub keys_told : IsHeldTrie t → (i : ℕ) (keys : List ℕ) → keys ≡ path_in t.segments i
+  pub keys_by_fields : IsHeldTrie t → (i : ℕ) (keys : List ℕ) → keys ≡ path_in t.segments i
       → (keys ≡ keys_in (trie_of t).branches i) × (length (line (segment_at (trie_of t).segments) keys) ≤ (trie_of t).made) × ((trie_of t).made ≤ MOST_CELLS_MADE)
-  keys_told h i keys e =
+  keys_by_fields h i keys e =
       let same : keys_in (trie_of t).branches i ≡ keys = keys_are h i ∙ sym e in
       (sym same, subst (λ l. length (line (segment_at (trie_of t).segments) l) ≤ t.made) same (line_fits h i), omega (arith, h.whole.within.cells, h.whole.within.most_cells))
 

@@ -101,7 +101,7 @@ module _ {T : Type 0} (at : ℕ → Option (SegmentOf T)) where
             before = take-append-le (suc place) (slots_of (at k)) (line at ks) inside;
           }
       by false f rest =
-          let behind : length (slots_of (at k)) ≤ place = grind (arith, nat_tests) in
+          let is_after : length (slots_of (at k)) ≤ place = grind (arith, nat_tests) in
           let sum : length (slots_of (at k)) + (place - length (slots_of (at k))) ≡ place = omega arith in
           let more : length (slots_of (at k)) + suc (place - length (slots_of (at k))) ≡ suc place = omega arith in
           let p = rest (place - length (slots_of (at k))) s (sym (slice_get_right (slots_of (at k)) (line at ks) place (place - length (slots_of (at k))) sum) ∙ e) in

@@ -66,10 +66,10 @@ before-here key up (k ∷ front) back h = by (nat_eq key k) refl (before-here ke
     by false e rest = ap (λ b. cond b up (before_key key (Some k) (front ++ key ∷ back))) e ∙ rest (sym (ap (λ c. c || has key front) e) ∙ h)
 
 -- a key that is right above another in each path is the one that `above_of` gives
-pub above_told : (ss : List KeyedBranch) (key : ℕ) (r : Option ℕ) → ((i : ℕ) (front back : List ℕ) → keys_in ss i ≡ front ++ key ∷ back → r ≡ last_of front)
+pub above_is : (ss : List KeyedBranch) (key : ℕ) (r : Option ℕ) → ((i : ℕ) (front back : List ℕ) → keys_in ss i ≡ front ++ key ∷ back → r ≡ last_of front)
     → (((i : ℕ) → has key (keys_in ss i) ≡ false) → r ≡ None) → r ≡ above_of ss key
-above_told [] key r each none = none (λ i. refl)
-above_told (s ∷ ss) key r each none = by (has key s.keys) refl (above_told ss key r (λ i front back e. each (suc i) front back e))
+above_is [] key r each none = none (λ i. refl)
+above_is (s ∷ ss) key r each none = by (has key s.keys) refl (above_is ss key r (λ i front back e. each (suc i) front back e))
   where
     lacks_all : has key s.keys ≡ false → ((i : ℕ) → has key (keys_in ss i) ≡ false) → (i : ℕ) → has key (keys_in (s ∷ ss) i) ≡ false
     lacks_all e rest zero = e

@@ -9,7 +9,7 @@ use Rattle.schedule_trie.proofs.lists.NoRepeats.{Once-from_linked, has-head, has
 use Rattle.schedule_trie.specs.Climbs.{keys_to, HasClimbedTo}
 use Rattle.schedule_trie.proofs.climbs.Climbs.{IsLast, IsStepUp, last_is, step_up, cells_up, shorter_up}
 use Rattle.schedule_trie.proofs.branches.Lines.{keys_are, line_fits, sound_short}
-use Rattle.schedule_trie.proofs.climbs.CellPlaces.{above_told, lacked_none}
+use Rattle.schedule_trie.proofs.climbs.CellPlaces.{above_is, lacked_none}
 use Rattle.schedule_trie.proofs.segments.StepSet.{item_there, none_there}
 use Rattle.schedule_trie.proofs.segments.TouchedSegments.{some_slots}
 use Rattle.branch_terms.specs.declared.limits.TheConstants.{MOST_CELLS_MADE}
@@ -104,7 +104,7 @@ module _ {T : Type 0} (t : Inside T) (c : TrieOf T) (seen : trie_of t ≡ c) (he
   pub first_up : IsAbove → (item_at t.segments key ≡ None → above ≡ None) → above ≡ above_of c.branches key
   first_up each none =
       subst (λ z. above ≡ above_of z.branches key) seen
-      (above_told (trie_of t).branches key above (λ i front back e. each i front back (sym (keys_are t held i) ∙ e))
+      (above_is (trie_of t).branches key above (λ i front back e. each i front back (sym (keys_are t held i) ∙ e))
       (λ lacks. none (none_there t key (lacked_none (segment_at (trie_of t).segments key) (trie_of t).branches key (held.whole.sound.live key) lacks))))
 
 -- a climb of a branch that finds no item has ended

@@ -183,8 +183,8 @@ module _ {T : Type 0} (at : ℕ → Option (SegmentOf T)) where
       let before = l.before in
       omega (arith, own, before)
 
-  pub stands_here : (keys : List ℕ) (place : ℕ) (spot : ℕ × ℕ) → SpotIsAt at keys place spot → SpotHasCellAt at keys place spot
-  stands_here keys place spot l =
+  pub spot_has_cell : (keys : List ℕ) (place : ℕ) (spot : ℕ × ℕ) → SpotIsAt at keys place spot → SpotHasCellAt at keys place spot
+  spot_has_cell keys place spot l =
       let whole : line at keys ≡ line at l.front ++ (slots_of (at spot.0) ++ line at l.back) = ap (line at) l.is ∙ line-append at l.front (spot.0 ∷ l.back) in
       record {
         member = ap (has spot.0) l.is ∙ has-in spot.0 l.front l.back;

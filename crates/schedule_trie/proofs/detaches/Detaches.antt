@@ -3,7 +3,7 @@ use Rattle.std.proofs.Common.{◌≡◌, ℕ, ◌+◌, ◌<◌, ◌≤◌, Bool,
 use Rattle.std.proofs.lemmas.List.{length-set, get_or-set_same}
 use Rattle.lineage.specs.Family.{item_at, path_in, IsOnPath, IsExchanged, IsFamily}
 use Rattle.lineage.proofs.Chains.{map_on}
-use Rattle.lineage.proofs.KeyLists.{stands}
+use Rattle.lineage.proofs.KeyLists.{cell_there}
 use Rattle.schedule_trie.specs.declared.segment.Segment.{Segment}
 use Rattle.schedule_trie.specs.declared.trie.Trie.TheInside.{Inside}
 use Rattle.branch_terms.specs.Forest.{slots_in}
@@ -16,7 +16,7 @@ use Rattle.schedule_trie.proofs.segments.StepSet.{segment_seen, cut_from_sound}
 use Rattle.schedule_trie.proofs.branches.KeyedBranches.{keys_in-of, length-keyed_branches, keyed_branches-set, length-set_keys}
 use Rattle.schedule_trie.proofs.detaches.Released.{IsReleased, IsSoundBut, released_sound, released_branches, released_notes}
 use Rattle.schedule_trie.proofs.detaches.Renumbered.{AreCopied, HaveValues, copied_from}
-use Rattle.schedule_trie.proofs.detaches.NewSegments.{old_kept, new_notes, new_apart, sound_beside, only_renumbered}
+use Rattle.schedule_trie.proofs.detaches.NewSegments.{old_kept, new_notes, new_apart, sound_with_new, only_renumbered}
 use Rattle.branch_terms.specs.declared.limits.TheConstants.{MOST_CELLS_MADE}
 
 -- a list has no key twice if for each key only one list of keys can be before it
@@ -24,7 +24,7 @@ once_from : (keys : List ℕ) → ((k : ℕ) (front back front2 back2 : List ℕ
 once_from [] h = tt
 once_from (x ∷ xs) h = (
   has_not_from x xs (λ g.
-      let s : IsOnPath xs x = stands x xs g in
+      let s : IsOnPath xs x = cell_there x xs g in
       let no : [] ≡ x ∷ s.front = h x [] xs (x ∷ s.front) s.back refl (ap (λ l. x ∷ l) s.is) in
       cc),
   once_from xs (λ k front back front2 back2 e f.
@@ -112,7 +112,7 @@ module _ {T : Type 0} (t u : Inside T) (index len : ℕ) (copies : List (Segment
   before =
       subst (λ n. IsSoundBut new (trie_of u).branches n) (sym made)
       (subst (λ l. IsSoundBut new l (t.made + len)) (sym branches)
-      (sound_beside at new (trie_of t).branches t.made (t.made + len) index fresh_keys held.whole.sound inside copied most vacant once others))
+      (sound_with_new at new (trie_of t).branches t.made (t.made + len) index fresh_keys held.whole.sound inside copied most vacant once others))
 
   sound : IsSoundTrie (segment_at (trie_of u).segments) (trie_of u).branches u.made
   sound = released_sound new (segment_at (trie_of u).segments) (trie_of u).branches segments u.made before
@@ -135,8 +135,8 @@ module _ {T : Type 0} (t u : Inside T) (index len : ℕ) (copies : List (Segment
     paths = many;
   }
 
-  pub detach_told : IsDetached (trie_of t) (trie_of u) index
-  detach_told = record {
+  pub is_detached : IsDetached (trie_of t) (trie_of u) index
+  is_detached = record {
     branches = released_branches new (segment_at (trie_of u).segments) (trie_of u).branches segments
         ∙ ap (branches_on new) branches
         ∙ only_renumbered at new (trie_of t).branches t.made (t.made + len) index fresh_keys held.whole.sound inside copied most vacant once others;

@@ -81,8 +81,8 @@ module _ {T : Type 0} (t u : Inside T) (index : ℕ) (held : IsHeldTrie t) (insi
     paths = many;
   }
 
-  pub drop_told : IsDropped (trie_of t) (trie_of u) index
-  drop_told = record {
+  pub is_dropped : IsDropped (trie_of t) (trie_of u) index
+  is_dropped = record {
     branches = released_branches (segment_at (trie_of t).segments) (segment_at (trie_of u).segments) (trie_of u).branches segments
         ∙ ap (branches_on (segment_at (trie_of t).segments)) left ∙ map-remove (branch_on (segment_at (trie_of t).segments)) (trie_of t).branches index;
     made = made;

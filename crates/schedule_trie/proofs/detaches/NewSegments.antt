@@ -121,8 +121,8 @@ module _ {T : Type 0} (at new : ℕ → Option (SegmentOf T)) (branches : List K
           let was : has k (keys_in branches i) ≡ true = subst (λ l. has k l ≡ true) (keys_in-set_other branches index i keys (eqb-false i index e)) h in
           subst IsSome (sym (held_kept i k was)) (sound.held i k was)
 
-  pub sound_beside : IsSoundBut new (set_keys branches index keys) more
-  sound_beside = record {
+  pub sound_with_new : IsSoundBut new (set_keys branches index keys) more
+  sound_with_new = record {
     held = held_now;
     segments = segments;
     apart = new_apart;

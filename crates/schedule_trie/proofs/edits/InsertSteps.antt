@@ -92,8 +92,8 @@ module _ {T : Type 0} (t : Inside T) (key offset : ℕ) (step : Step) (v w : Seg
   pub put_held : IsHeldTrie after
   put_held = record { whole = record { sound = sound; within = within_more t.limits t.made (length (trie_of t).branches) held.whole.within room }; paths = held.paths }
 
-  pub put_told : IsPutBefore (trie_of t) (trie_of after) key offset step
-  put_told = record {
+  pub is_put_before : IsPutBefore (trie_of t) (trie_of after) key offset step
+  is_put_before = record {
     everywhere_put = λ s at_cell. branches_changed old new key now change (put old (trie_of t).branches t.made key offset step s held.whole.sound at_cell) refl
         (put_through old (trie_of t).branches t.made key offset step s held.whole.sound at_cell)
         (grows ∙ grown_put old (trie_of t).branches t.made key offset step s held.whole.sound at_cell)
@@ -108,13 +108,13 @@ module _ {T : Type 0} (t : Inside T) (key offset : ℕ) (step : Step) (v w : Seg
   }
 
 -- the result of `insert_at`
-module _ {T : Type 0} (old new : TrieOf T) (index place key offset : ℕ) (step : Step) (stands : SpotHasCellAt (segment_at old.segments) (keys_in old.branches index) place (key, offset))
+module _ {T : Type 0} (old new : TrieOf T) (index place key offset : ℕ) (step : Step) (cell_there : SpotHasCellAt (segment_at old.segments) (keys_in old.branches index) place (key, offset))
     (sound : IsSoundTrie (segment_at old.segments) old.branches old.made) (put : IsPutBefore old new key offset step) where
   the_cell : (s : Slot) × (slice_get (slots_of (segment_at old.segments key)) offset ≡ Some s)
-  the_cell = slice_get_some (slots_of (segment_at old.segments key)) offset stands.within
+  the_cell = slice_get_some (slots_of (segment_at old.segments key)) offset cell_there.within
 
   at_place : slice_get (slots_in (forest old).branches index) place ≡ Some the_cell.0
-  at_place = ap (λ l. slice_get l place) (slots_in_on (segment_at old.segments) old.branches index) ∙ sym stands.same ∙ the_cell.1
+  at_place = ap (λ l. slice_get l place) (slots_in_on (segment_at old.segments) old.branches index) ∙ sym cell_there.same ∙ the_cell.1
 
   inner : nat_eq place (length (slots_in (forest old).branches index)) ≡ false
   inner = by (nat_eq place (length (slots_in (forest old).branches index))) refl
@@ -137,7 +137,7 @@ module _ {T : Type 0} (old new : TrieOf T) (index place key offset : ℕ) (step 
     forest_is = λ i. record { branches = branches i; made = put.made i };
     limits = put.limits;
     notes = λ name found.
-        let here = holds_cell old name place index key offset found stands in
+        let here = holds_cell old name place index key offset found cell_there in
         notes_but old new key (HoldsCellAt old name place) (MayGrowAt old new name place step) put.notes (λ k h. one_holder old name place k key sound h here) (inl here);
     unchanged = unchanged_kept old new put.notes.notes (λ k e. subst (HasChanged old new) (sym (put.notes.only k e)) put.changed);
     cut = put.cut;
@@ -230,8 +230,8 @@ module _ {T : Type 0} (c d : TrieOf T) (key fresh offset : ℕ) (step : Step) (a
   lacked = lacked-divided (segment_at c.segments) (segment_at d.segments) key fresh above below divides c.branches c.made (c.made + 1) whole.sound (omega arith)
       (omega (arith, least)) (omega (arith, most)) (omega (arith, sum, full, most)) (omega (arith, sum, few, least)) once cells
 
-  cut_told : IsPutBefore c d key offset step
-  cut_told = record {
+  is_put_after_cut : IsPutBefore c d key offset step
+  is_put_after_cut = record {
     everywhere_put = λ s at_cell. ap (branches_on (segment_at d.segments)) branches
         ∙ branches-divided (segment_at c.segments) (segment_at d.segments) key fresh above below divides
         (put (segment_at c.segments) c.branches c.made key offset step s whole.sound at_cell) refl
@@ -292,6 +292,6 @@ module _ {T : Type 0} (t d : Inside T) (view : TrieOf T) (view_is : trie_of t �
   pub divided : IsHeldTrie d × IsPutBefore (trie_of t) (trie_of d) key offset step
   divided = (
     held_divided,
-    cut_told (trie_of t) (trie_of d) key fresh offset step (segment above.items None) (segment below.items None) held.whole divides same_branches made limits
+    is_put_after_cut (trie_of t) (trie_of d) key fresh offset step (segment above.items None) (segment below.items None) held.whole divides same_branches made limits
         room_before inside_before full_before parts_before least most refl refl,
   )

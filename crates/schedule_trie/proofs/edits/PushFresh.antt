@@ -11,7 +11,7 @@ use Rattle.schedule_trie.specs.Trie.{segment, segment_at, slots_of, note_of, lin
 use Rattle.schedule_trie.specs.TrieFields.{segment_of, keyed_branches, names_of, trie_of, IsHeldTrie}
 use Rattle.schedule_trie.proofs.lists.NoRepeats.{has_not_from}
 use Rattle.schedule_trie.proofs.segments.Changes.{Changes}
-use Rattle.schedule_trie.proofs.segments.Notes.{notes_beside}
+use Rattle.schedule_trie.proofs.segments.Notes.{notes_with_new}
 use Rattle.schedule_trie.proofs.branches.Whole.{whole_pushed, is_pushed}
 use Rattle.schedule_trie.proofs.edits.PushSteps.{has_front}
 use Rattle.schedule_trie.proofs.segments.StepSet.{segment_seen}
@@ -101,4 +101,4 @@ module _ {T : Type 0} (t grown : Inside T) (index key : ℕ) (s : Segment T) (st
   pub segment_pushed : IsPushed (trie_of t) (trie_of grown) index step
   segment_pushed = is_pushed (trie_of t) (trie_of grown) index key step (keys_in (trie_of t).branches index) (segment s.slots.items s.note) held.whole room change note slots few made limits branches index_in was
       (λ k h. has_front k key (keys_in (trie_of t).branches index) h) (λ k h. h) (lacked index) (λ j ne. lacked j) shares
-      (notes_beside (trie_of t) (trie_of grown) key change.others (ap note_of change.here ∙ note) (IsExtendedEnd (trie_of t) (trie_of grown) index step) none)
+      (notes_with_new (trie_of t) (trie_of grown) key change.others (ap note_of change.here ∙ note) (IsExtendedEnd (trie_of t) (trie_of grown) index step) none)

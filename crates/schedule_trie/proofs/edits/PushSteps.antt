@@ -121,9 +121,9 @@ module _ {T : Type 0} (t : Inside T) (index key : ℕ) (held : IsHeldTrie t) (en
           (λ k h. absurd h) (record { front = end.front; last = end.last; some = some_slots t.made (segment_at (trie_of t).segments key) (subst IsSome (sym seen) refl) (held.whole.sound.segments key) }, ap slots_of change.here ∙ slots))
 
 -- the last segment of a branch, which no other branch has
-pub own_told : {T : Type 0} (t : Inside T) (index key : ℕ) → IsHeldTrie t → last_of (path_in t.segments index) ≡ Some key → EndsAlone t.segments index
+pub is_own_end : {T : Type 0} (t : Inside T) (index key : ℕ) → IsHeldTrie t → last_of (path_in t.segments index) ≡ Some key → EndsAlone t.segments index
     → length (slots_of (segment_at (trie_of t).segments key)) < 128 → IsOwnEnd (trie_of t) index key
-own_told t index key held last alone few =
+is_own_end t index key held last alone few =
     let p = last_parts (path_in t.segments index) key last in
     let one : Some alone.key ≡ Some key = sym alone.last ∙ last in
     let same : alone.key ≡ key = cc in

@@ -38,8 +38,8 @@ module _ {T : Type 0} (t : Inside T) (key offset : ℕ) (v w : Segment T) (held 
   pub within_held : IsHeldTrie after
   within_held = record { whole = record { sound = sound; within = held.whole.within }; paths = held.paths }
 
-  pub within_told : IsRemoved (trie_of t) (trie_of after) key offset
-  within_told = record {
+  pub is_removed_within : IsRemoved (trie_of t) (trie_of after) key offset
+  is_removed_within = record {
     everywhere_gone = λ s at_cell. gone_everywhere (segment_at (trie_of t).segments) (segment_at (trie_of after).segments) key offset s (trie_of t).branches t.made held.whole.sound here seen.change.others at_cell;
     made = refl;
     limits = refl;
@@ -94,8 +94,8 @@ module _ {T : Type 0} (t u : Inside T) (key : ℕ) (held : IsHeldTrie t) (one : 
     paths = many;
   }
 
-  pub gone_told : IsRemoved (trie_of t) (trie_of u) key 0
-  gone_told = record {
+  pub is_removed_whole : IsRemoved (trie_of t) (trie_of u) key 0
+  is_removed_whole = record {
     everywhere_gone = λ s at_cell. ap (branches_on (segment_at (trie_of u).segments)) branches
         ∙ gone_with_segment (segment_at (trie_of t).segments) (segment_at (trie_of u).segments) key 0 s (trie_of t).branches t.made held.whole.sound all_gone others at_cell gone;
     made = made;
@@ -108,7 +108,7 @@ module _ {T : Type 0} (t u : Inside T) (key : ℕ) (held : IsHeldTrie t) (one : 
 pub remove_ok : {T : Type 0} (old new : TrieOf T) (name : List ℕ) (place index key offset : ℕ) → index_of (forest old).branches name ≡ Some index
     → SpotHasCellAt (segment_at old.segments) (keys_in old.branches index) place (key, offset) → IsRemoved old new key offset
     → remove_cell (forest old) name place ≡ Ok (forest new)
-remove_ok old new name place index key offset found stands removed =
-    let cell = the_cell old new name place index key offset found stands in
-    command_at old new name place index key offset found stands without
+remove_ok old new name place index key offset found cell_there removed =
+    let cell = the_cell old new name place index key offset found cell_there in
+    command_at old new name place index key offset found cell_there without
     ∙ sym (λ i. Ok (record { branches = removed.everywhere_gone cell.0 cell.1 i; made = removed.made i }))

@@ -40,10 +40,10 @@ module _ (limits : Limits) (f : Forest) (name new : List ℕ) (place i : ℕ) (f
   forked = record { branches = f.branches ++ branch new (take place (slots_in f.branches i)) ∷ []; made = f.made }
 
   abbrev answer : Bool → Bool → Bool → Bool → Result Forest Refusal
-  answer taken formed behind full =
+  answer taken formed too_far full =
       if taken then Err NameTaken
       else (if not formed then Err BadName
-      else (if behind then Err NoPlace
+      else (if too_far then Err NoPlace
       else (if full then Err TooManyBranches
       else Ok forked)))
 

@@ -16,7 +16,7 @@ use Rattle.schedule_trie.specs.changes.Forks.{IsBranchForked}
 use Rattle.schedule_trie.proofs.forks.Division.{Divides, notes-divided}
 use Rattle.schedule_trie.proofs.forks.DivisionSteps.{divides_from}
 use Rattle.schedule_trie.proofs.forks.ForkCuts.{cut, cut_whole, same_branches, cut_front, cut_line}
-use Rattle.schedule_trie.proofs.forks.ForkSteps.{fork_held, fork_told}
+use Rattle.schedule_trie.proofs.forks.ForkSteps.{fork_held, is_branch_forked}
 use Rattle.schedule_trie.proofs.edits.InsertSteps.{unnoted}
 use Rattle.schedule_trie.proofs.segments.Notes.{notes_but}
 use Rattle.schedule_trie.proofs.segments.CellHolders.{one_holder}
@@ -100,17 +100,17 @@ module _ {T : Type 0} (t u : Inside T) (mid : Family (Segment T)) (name : List �
   abbrev place : ℕ
   place = length (line (segment_at c.segments) front) + rest
 
-  told : IsBranchForked middle (trie_of u) index place name
-  told = fork_told middle u name index (count + 1) t.branches.entries (map (divided_keys key new) t.segments.paths) forked.path more
+  middle_forked : IsBranchForked middle (trie_of u) index place name
+  middle_forked = is_branch_forked middle u name index (count + 1) t.branches.entries (map (divided_keys key new) t.segments.paths) forked.path more
       (keyed_branches-divided key new (names_of t) t.segments.paths) as_many refl made limits free_now path_now (paths ∙ forked.paths) entries middle_whole room_now place
       (cut_line c (segments_of u.segments.items) index count key new rest (segment above.items None) (segment below.items None) held.whole inside at_key divides parts len some within
       ∙ ap (λ l. length (line (segment_at c.segments) l) + rest) front_is)
 
-  cut_fork_told : IsBranchForked c (trie_of u) index place name
-  cut_fork_told = record {
-    branches = told.branches ∙ ap (λ l. l ++ branch name (take place (slots_in l index)) ∷ []) same;
-    made = told.made;
-    limits = told.limits;
+  is_forked_in_segment : IsBranchForked c (trie_of u) index place name
+  is_forked_in_segment = record {
+    branches = middle_forked.branches ∙ ap (λ l. l ++ branch name (take place (slots_in l index)) ∷ []) same;
+    made = middle_forked.made;
+    limits = middle_forked.limits;
     notes = λ source found.
         let here : IsParted c source place key = subst (IsParted c source place) (sym at_key)
         (parted c source index found count rest place inside some (subst (λ k. rest < length (slots_of (segment_at c.segments k))) at_key within)
@@ -118,8 +118,8 @@ module _ {T : Type 0} (t u : Inside T) (mid : Family (Segment T)) (name : List �
         notes_but c (trie_of u) key (IsParted c source place) (IsParted c source place)
         (notes-divided c (trie_of u) key new (segment above.items None) (segment below.items None) divides refl refl)
         (λ k h. one_holder c source place k key held.whole.sound h.below here.below) here;
-    cut = told.cut;
+    cut = middle_forked.cut;
   }
 
   pub cut_fork : IsHeldTrie u × IsBranchForked c (trie_of u) index place name
-  cut_fork = (cut_fork_held, cut_fork_told)
+  cut_fork = (cut_fork_held, is_forked_in_segment)

@@ -54,8 +54,8 @@ module _ {T : Type 0} (c : TrieOf T) (u : Inside T) (name : List ℕ) (index cou
     pub fork_held : IsHeldTrie u
     fork_held = record { whole = subst IsWhole (sym fork_seen) (front_whole c name index count whole room); paths = many }
 
-    pub fork_told : (place : ℕ) → length (line (segment_at c.segments) (take count (keys_in c.branches index))) ≡ place → IsBranchForked c (trie_of u) index place name
-    fork_told place e = subst (λ d. IsBranchForked c d index place name) (sym fork_seen) (front_forked c name index count whole room place e)
+    pub is_branch_forked : (place : ℕ) → length (line (segment_at c.segments) (take count (keys_in c.branches index))) ≡ place → IsBranchForked c (trie_of u) index place name
+    is_branch_forked place e = subst (λ d. IsBranchForked c d index place name) (sym fork_seen) (front_forked c name index count whole room place e)
 
 -- the keys down to `last` are the first n keys, n being their number
 pub taken_to : (keys : List ℕ) (last : Option ℕ) → HasClimbedTo keys last → keys_to keys last ≡ take (length (keys_to keys last)) keys
@@ -108,14 +108,14 @@ module _ {T : Type 0} (t u : Inside T) (name : List ℕ) (index : ℕ) (last : O
       path_forked t.segments u.segments index last forked (subst (λ l. HasClimbedTo l last) same reached)
       ∙ ap (λ l. take (length (keys_to l last)) l) (sym same)
 
-  pub behind_held : IsHeldTrie u
-  behind_held = fork_held (trie_of t) u name index count t.branches.entries t.segments.paths forked.path more refl held.paths (ap segments_of forked.items) made limits free path forked.paths entries
+  pub held_after_fork : IsHeldTrie u
+  held_after_fork = fork_held (trie_of t) u name index count t.branches.entries t.segments.paths forked.path more refl held.paths (ap segments_of forked.items) made limits free path forked.paths entries
       held.whole room
 
-  pub behind_told : IsBranchForked (trie_of t) (trie_of u) index (length (line (segment_at (trie_of t).segments) (keys_to keys last))) name
-  behind_told = fork_told (trie_of t) u name index count t.branches.entries t.segments.paths forked.path more refl held.paths (ap segments_of forked.items) made limits free path forked.paths entries
+  pub is_forked_at_end : IsBranchForked (trie_of t) (trie_of u) index (length (line (segment_at (trie_of t).segments) (keys_to keys last))) name
+  is_forked_at_end = is_branch_forked (trie_of t) u name index count t.branches.entries t.segments.paths forked.path more refl held.paths (ap segments_of forked.items) made limits free path forked.paths entries
       held.whole room (length (line (segment_at (trie_of t).segments) (keys_to keys last))) (ap (λ l. length (line (segment_at (trie_of t).segments) l)) (sym (taken_to keys last reached)))
 
-  pub behind_whole : keys_to keys last ≡ keys → IsForkedWhole (trie_of t) (trie_of u) index name
-  behind_whole every = fork_whole (trie_of t) u name index count t.branches.entries t.segments.paths forked.path more refl held.paths (ap segments_of forked.items) made limits free path forked.paths entries
+  pub is_forked_whole : keys_to keys last ≡ keys → IsForkedWhole (trie_of t) (trie_of u) index name
+  is_forked_whole every = fork_whole (trie_of t) u name index count t.branches.entries t.segments.paths forked.path more refl held.paths (ap segments_of forked.items) made limits free path forked.paths entries
       (sym (taken_to keys last reached) ∙ every)

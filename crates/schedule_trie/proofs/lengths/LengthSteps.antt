@@ -24,26 +24,26 @@ use Rattle.branch_terms.proofs.Lists.{slice_get_some}
 
 module _ {T : Type 0} (old new : TrieOf T) (es : List (List ℕ × Option ℕ)) (right : AreLengths es (forest old).branches) where
   pub set_lengths : (key offset : ℕ) (step : Step) → IsStepSet old new key offset step → offset < length (slots_of (segment_at old.segments key)) → AreLengths es (forest new).branches
-  set_lengths key offset step told inside =
+  set_lengths key offset step is_step inside =
       let p = slice_get_some (slots_of (segment_at old.segments key)) offset inside in
-      let set = told.everywhere_set p.0 p.1 in
+      let set = is_step.everywhere_set p.0 p.1 in
       same_lengths es (forest old).branches (forest new).branches
       (λ i. ap (λ l. length (slots_in l i)) set ∙ length-everywhere (replaced p.0.cell step) (λ slots. length-map slots (with_step p.0.cell step)) (forest old).branches i) right
 
   pub noted_lengths : (key : ℕ) (noted : Option T) → IsNoted old new key noted → AreLengths es (forest new).branches
-  noted_lengths key noted told = subst (λ f. AreLengths es f.branches) (sym told.unchanged) right
+  noted_lengths key noted is_step = subst (λ f. AreLengths es f.branches) (sym is_step.unchanged) right
 
   pub pushed_lengths : (index : ℕ) (step : Step) → IsPushed old new index step → AreLengths (set_value_at es index None) (forest new).branches
-  pushed_lengths index step told =
-      subst (AreLengths (set_value_at es index None)) (sym told.branches) (one_forgotten (put_last (slot old.made step)) es (forest old).branches index right)
+  pushed_lengths index step is_step =
+      subst (AreLengths (set_value_at es index None)) (sym is_step.branches) (one_forgotten (put_last (slot old.made step)) es (forest old).branches index right)
 
   pub detached_lengths : (index : ℕ) → IsDetached old new index → AreLengths es (forest new).branches
-  detached_lengths index told =
+  detached_lengths index is_step =
       same_lengths es (forest old).branches (forest new).branches
-      (λ i. ap (λ l. length (slots_in l i)) told.branches ∙ length-only_in (renumbered old.made) (length-renumbered old.made) (forest old).branches index i) right
+      (λ i. ap (λ l. length (slots_in l i)) is_step.branches ∙ length-only_in (renumbered old.made) (length-renumbered old.made) (forest old).branches index i) right
 
   pub dropped_lengths : (index : ℕ) → IsDropped old new index → AreLengths (remove es index) (forest new).branches
-  dropped_lengths index told = subst (AreLengths (remove es index)) (sym told.branches) (lengths_left es (forest old).branches index right)
+  dropped_lengths index is_step = subst (AreLengths (remove es index)) (sym is_step.branches) (lengths_left es (forest old).branches index right)
 
 -- the number of branches
 pub count_of : {T : Type 0} (t : Inside T) → length t.branches.entries ≡ length (trie_of t).branches
@@ -55,13 +55,13 @@ entry_within t c index view inside = subst (λ n. index < n) (ap (λ z. length z
 pub forked_lengths : {T : Type 0} (t : Inside T) (new : TrieOf T) (entries : List (List ℕ × Option ℕ)) (index place : ℕ) (name : List ℕ) → AreLengths t.branches.entries (forest (trie_of t)).branches
     → index_of (forest (trie_of t)).branches name ≡ None → entries ≡ insert_entry (pointwise nat_eq) t.branches.entries name None
     → IsBranchForked (trie_of t) new index place name → AreLengths entries (forest new).branches
-forked_lengths t new entries index place name right free is told =
+forked_lengths t new entries index place name right free is is_step =
     let es = t.branches.entries in
     let absent : position (pointwise nat_eq name) (names_of t) ≡ None = sym (index_is t name) ∙ free in
     let all : entries ≡ es ++ (name, None) ∷ [] = is ∙ insert_entry-absent (pointwise nat_eq) name None es (Missing-position (pointwise nat_eq name) es absent).absent in
     let count : length es ≡ length (forest (trie_of t)).branches = count_of t ∙ sym (length-map (trie_of t).branches (branch_on (segment_at (trie_of t).segments))) in
     subst (λ l. AreLengths l (forest new).branches) (sym all)
-    (subst (AreLengths (es ++ (name, None) ∷ [])) (sym told.branches) (lengths_more es (forest (trie_of t)).branches name _ count right))
+    (subst (AreLengths (es ++ (name, None) ∷ [])) (sym is_step.branches) (lengths_more es (forest (trie_of t)).branches name _ count right))
 
 -- no length is cached any more
 module _ {T : Type 0} (t u : Inside T) (names : names_of u ≡ names_of t) (segments : u.segments ≡ t.segments) (made : u.made ≡ t.made) (limits : u.limits ≡ t.limits) where

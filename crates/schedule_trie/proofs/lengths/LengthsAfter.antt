@@ -47,10 +47,10 @@ branch_count c = length-map c.branches (branch_on (segment_at c.segments))
 -- a place at which a cell is found is inside the branch
 pub place_inside : {T : Type 0} (c : TrieOf T) (index place : ℕ) (spot : ℕ × ℕ) → SpotHasCellAt (segment_at c.segments) (keys_in c.branches index) place spot
     → place < length (slots_in (forest c).branches index)
-place_inside c index place spot stands =
-    let p = slice_get_some (slots_of (segment_at c.segments spot.0)) spot.1 stands.within in
+place_inside c index place spot cell_there =
+    let p = slice_get_some (slots_of (segment_at c.segments spot.0)) spot.1 cell_there.within in
     slice_get_within (slots_in (forest c).branches index) place p.0
-    (ap (λ l. slice_get l place) (slots_in_on (segment_at c.segments) c.branches index) ∙ sym stands.same ∙ p.1)
+    (ap (λ l. slice_get l place) (slots_in_on (segment_at c.segments) c.branches index) ∙ sym cell_there.same ∙ p.1)
 
 module _ {T : Type 0} (old new : TrieOf T) (whole : IsWhole old) (index : ℕ) (inside : index < length old.branches) where
   abbrev slots : List Slot
@@ -60,7 +60,7 @@ module _ {T : Type 0} (old new : TrieOf T) (whole : IsWhole old) (index : ℕ) (
   within = subst (λ n. index < n) (sym (branch_count old)) inside
 
   pub longer : (place : ℕ) (step : Step) → IsInserted old new index place step → place ≤ length slots → length slots + 1 ≡ length (slots_in (forest new).branches index)
-  longer place step told fits = sym (ap (λ f. length (slots_in f.branches index)) told.forest_is ∙ by (nat_eq place (length slots)) refl)
+  longer place step is_step fits = sym (ap (λ f. length (slots_in f.branches index)) is_step.forest_is ∙ by (nat_eq place (length slots)) refl)
     where
       by : (b : Bool) → nat_eq place (length slots) ≡ b
           → length (slots_in (cond b (only_in index (put_last (slot old.made step)) (forest old).branches) (everywhere (put_before (cell_in slots place) (slot old.made step)) (forest old).branches)) index) ≡ length slots + 1
@@ -77,8 +77,8 @@ module _ {T : Type 0} (old new : TrieOf T) (whole : IsWhole old) (index : ℕ) (
           less a b le ne = omega (arith, le, ne)
 
   pub still_inserted : (place : ℕ) (step : Step) → IsInserted old new index place step → index < length new.branches
-  still_inserted place step told =
-      let same : length (forest new).branches ≡ length (forest old).branches = ap (λ f. length f.branches) told.forest_is ∙ by (nat_eq place (length slots)) in
+  still_inserted place step is_step =
+      let same : length (forest new).branches ≡ length (forest old).branches = ap (λ f. length f.branches) is_step.forest_is ∙ by (nat_eq place (length slots)) in
       omega (arith, same, within, branch_count new)
     where
       by : (b : Bool)
@@ -88,37 +88,37 @@ module _ {T : Type 0} (old new : TrieOf T) (whole : IsWhole old) (index : ℕ) (
       by false = length-map (forest old).branches (changed (put_before (cell_in slots place) (slot old.made step)))
 
   pub still_removed : (key offset : ℕ) → offset < length (slots_of (segment_at old.segments key)) → IsRemoved old new key offset → index < length new.branches
-  still_removed key offset inside_key told =
+  still_removed key offset inside_key is_step =
       let p = slice_get_some (slots_of (segment_at old.segments key)) offset inside_key in
-      let same : length (forest new).branches ≡ length (forest old).branches = ap length (told.everywhere_gone p.0 p.1) ∙ length-map (forest old).branches (changed (without p.0.cell)) in
+      let same : length (forest new).branches ≡ length (forest old).branches = ap length (is_step.everywhere_gone p.0 p.1) ∙ length-map (forest old).branches (changed (without p.0.cell)) in
       omega (arith, same, within, branch_count new)
 
   pub shorter : (place key offset : ℕ) → SpotHasCellAt (segment_at old.segments) (keys_in old.branches index) place (key, offset) → IsRemoved old new key offset
       → place < length slots → length slots ≡ length (slots_in (forest new).branches index) + 1
-  shorter place key offset stands told less =
-      let p = slice_get_some (slots_of (segment_at old.segments key)) offset stands.within in
+  shorter place key offset cell_there is_step less =
+      let p = slice_get_some (slots_of (segment_at old.segments key)) offset cell_there.within in
       let there : slice_get slots place ≡ Some p.0 =
-      ap (λ l. slice_get l place) (slots_in_on (segment_at old.segments) old.branches index) ∙ sym stands.same ∙ p.1 in
+      ap (λ l. slice_get l place) (slots_in_on (segment_at old.segments) old.branches index) ∙ sym cell_there.same ∙ p.1 in
       let rest : slots_in (forest new).branches index ≡ remove slots place =
-      ap (λ l. slots_in l index) (told.everywhere_gone p.0 p.1) ∙ slots_everywhere (without p.0.cell) (forest old).branches index within
+      ap (λ l. slots_in l index) (is_step.everywhere_gone p.0 p.1) ∙ slots_everywhere (without p.0.cell) (forest old).branches index within
       ∙ sym (without-at slots place p.0 (cells_once old whole index) there) in
       let one = length-remove slots place less in
       let same = ap length rest in
       omega (arith, one, same)
 
 -- a fork is the last branch, and its length is the place of the fork
-module _ {T : Type 0} (old new : TrieOf T) (index place : ℕ) (name : List ℕ) (told : IsBranchForked old new index place name) where
+module _ {T : Type 0} (old new : TrieOf T) (index place : ℕ) (name : List ℕ) (is_step : IsBranchForked old new index place name) where
   abbrev last : Branch
   last = branch name (take place (slots_in (forest old).branches index))
 
   pub fork_last : length old.branches < length new.branches
   fork_last =
-      let more = ap length told.branches ∙ length_push (forest old).branches last in
+      let more = ap length is_step.branches ∙ length_push (forest old).branches last in
       omega (arith, more, branch_count old, branch_count new)
 
   pub fork_long : place ≤ length (slots_in (forest old).branches index) → place ≡ length (slots_in (forest new).branches (length old.branches))
   fork_long fits =
-      sym (ap (λ l. length (slots_in l (length old.branches))) told.branches
+      sym (ap (λ l. length (slots_in l (length old.branches))) is_step.branches
       ∙ ap (λ n. length (slots_in ((forest old).branches ++ last ∷ []) n)) (sym (branch_count old))
       ∙ ap length (slots_in-last (forest old).branches last)
       ∙ length-take-le place (slots_in (forest old).branches index) fits)

@@ -33,9 +33,9 @@ slot_is_cell x (s ∷ xs) = (λ i. turned s.cell x i || slot_is_cell x xs i)
 once_apart : (xs ys : List ℕ) (k : ℕ) → Once (xs ++ ys) → has k ys ≡ true → has k xs ≡ false
 once_apart xs ys k once h = has_not_from k xs (λ g. Once-apart k xs ys once g h)
 
-up_to-behind : (k : ℕ) (xs ys : List ℕ) → has k xs ≡ false → keys_up_to k (xs ++ ys) ≡ xs ++ keys_up_to k ys
-up_to-behind k [] ys h = refl
-up_to-behind k (x ∷ xs) ys h = by (nat_eq k x) refl (up_to-behind k xs ys)
+keys_up_to-append : (k : ℕ) (xs ys : List ℕ) → has k xs ≡ false → keys_up_to k (xs ++ ys) ≡ xs ++ keys_up_to k ys
+keys_up_to-append k [] ys h = refl
+keys_up_to-append k (x ∷ xs) ys h = by (nat_eq k x) refl (keys_up_to-append k xs ys)
   where
     by : (b : Bool) → nat_eq k x ≡ b → (has k xs ≡ false → keys_up_to k (xs ++ ys) ≡ xs ++ keys_up_to k ys) → keys_up_to k (x ∷ (xs ++ ys)) ≡ x ∷ (xs ++ keys_up_to k ys)
     by true e rest = absurd (true≢false (sym (ap (λ c. c || has k xs) e) ∙ h))
@@ -220,8 +220,8 @@ module _ {T : Type 0} (c : TrieOf T) (whole : IsWhole c) (index : ℕ) (marks : 
   steps_are : map step_of (drop (shared_with earlier slots) slots) ≡ map step_of (line at own)
   steps_are = ap (λ n. map step_of (drop n slots)) shared_is ∙ ap (map step_of) (drop-append_seam (line at part.front) (line at own))
 
-  limb_told : (b : Branch) → slice_get bs index ≡ Some b → limb_of earlier b ≡ record { name = b.name; from = m.branch; shared = m.cells; steps = map step_of (line at own) }
-  limb_told b e =
+  limb_is : (b : Branch) → slice_get bs index ≡ Some b → limb_of earlier b ≡ record { name = b.name; from = m.branch; shared = m.cells; steps = map step_of (line at own) }
+  limb_is b e =
       let here : b.slots ≡ slots = sym (slots_at bs index b e) ∙ slots_are in
       let from : first_with earlier slots (shared_with earlier slots) ≡ m.branch = from_is (shared_with earlier slots) shared_is in
       let shared : shared_with earlier slots ≡ m.cells = shared_is ∙ sym cells_are in
@@ -237,13 +237,13 @@ module _ {T : Type 0} (c : TrieOf T) (whole : IsWhole c) (index : ℕ) (marks : 
       by (Some b) e =
           let one : Some b.name ≡ Some name = sym (slice_get-map name_of bs index ∙ ap (option_map name_of) e) ∙ named in
           let same : b.name ≡ name = cc in
-          limbs_at [] bs index b e ∙ ap Some (limb_told b e) ∙ ap (λ n. Some (record { name = n; from = m.branch; shared = m.cells; steps = map step_of (line at own) })) same
+          limbs_at [] bs index b e ∙ ap Some (limb_is b e) ∙ ap (λ n. Some (record { name = n; from = m.branch; shared = m.cells; steps = map step_of (line at own) })) same
 
   -- after the branch's own keys are marked
-  module _ (new : List (Option Mark)) (told : AreMarked at marks new own index m.cells) where
+  module _ (new : List (Option Mark)) (are_marked : AreMarked at marks new own index m.cells) where
     own_mark : (k : ℕ) → has k own ≡ true → IsMark at c.branches (index + 1) k (mark index (m.cells + length (line at (keys_up_to k own))))
     own_mark k h =
-        let up : keys_up_to k keys ≡ part.front ++ keys_up_to k own = ap (keys_up_to k) part.is ∙ up_to-behind k part.front own (once_apart part.front own k once h) in
+        let up : keys_up_to k keys ≡ part.front ++ keys_up_to k own = ap (keys_up_to k) part.is ∙ keys_up_to-append k part.front own (once_apart part.front own k once h) in
         let long : length (line at (keys_up_to k keys)) ≡ length (line at part.front) + length (line at (keys_up_to k own)) =
         ap (λ l. length (line at l)) up ∙ ap length (line-append at part.front (keys_up_to k own)) ∙ length-append (line at part.front) (line at (keys_up_to k own)) in
         record {
@@ -261,8 +261,8 @@ module _ {T : Type 0} (c : TrieOf T) (whole : IsWhole c) (index : ℕ) (marks : 
     right k = by (has k own) refl
       where
         by : (b : Bool) → has k own ≡ b → IfSome (mark_at new k) (IsMark at c.branches (index + 1) k)
-        by true h = subst (λ o. IfSome o (IsMark at c.branches (index + 1) k)) (sym (told.marked k h)) (own_mark k h)
-        by false h = subst (λ o. IfSome o (IsMark at c.branches (index + 1) k)) (sym (told.others k h)) (later k (mark_at marks k) (first.right k))
+        by true h = subst (λ o. IfSome o (IsMark at c.branches (index + 1) k)) (sym (are_marked.marked k h)) (own_mark k h)
+        by false h = subst (λ o. IfSome o (IsMark at c.branches (index + 1) k)) (sym (are_marked.others k h)) (later k (mark_at marks k) (first.right k))
 
     none : (j k : ℕ) → mark_at new k ≡ None → j < index + 1 → has k (keys_in c.branches j) ≡ false
     none j k e less = by (has k own) refl
@@ -282,8 +282,8 @@ module _ {T : Type 0} (c : TrieOf T) (whole : IsWhole c) (index : ℕ) (marks : 
             before f = let ne : j ≡ index → ⊥ = λ g. true≢false (sym (eq-eqb j index g) ∙ f) in omega (arith, ne, less)
 
         by : (b : Bool) → has k own ≡ b → has k (keys_in c.branches j) ≡ false
-        by true h = let clash : None ≡ Some (mark index (m.cells + length (line at (keys_up_to k own)))) = sym e ∙ told.marked k h in cc
-        by false h = which h (sym (told.others k h) ∙ e) (nat_eq j index) refl
+        by true h = let clash : None ≡ Some (mark index (m.cells + length (line at (keys_up_to k own)))) = sym e ∙ are_marked.marked k h in cc
+        by false h = which h (sym (are_marked.others k h) ∙ e) (nat_eq j index) refl
 
     pub marks_next : MarksFirst c (index + 1) new
-    marks_next = record { places = λ k h. let p = first.places k h in omega (arith, p, told.count); right = right; none = none }
+    marks_next = record { places = λ k h. let p = first.places k h in omega (arith, p, are_marked.count); right = right; none = none }

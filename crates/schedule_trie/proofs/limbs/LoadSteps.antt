@@ -40,8 +40,8 @@ module _ {T : Type 0} (a was b d : TrieOf T) (l : Limb) (steps : List Step) (ind
   pushed : ArePushed b d index l.steps
   pushed = subst (ArePushed b d index) own push
 
-  pub grown_told : forest d ≡ grown (forest a) l
-  grown_told =
+  pub forest_grown : forest d ≡ grown (forest a) l
+  forest_grown =
       let here : (forest d).branches ≡ (forest a).branches ++ branch l.name (slots_on (forest a) l) ∷ [] =
       pushed.branches
       ∙ ap (λ n. only_in index (put_all (numbered n l.steps)) (forest b).branches) forked.made
@@ -54,7 +54,7 @@ module _ {T : Type 0} (a was b d : TrieOf T) (l : Limb) (steps : List Step) (ind
   pub grown_long : l.shared + length steps ≡ length (slots_in (forest d).branches index)
   grown_long =
       ap (λ s. l.shared + length s) own
-      ∙ sym (ap (λ f. length (slots_in f.branches index)) grown_told
+      ∙ sym (ap (λ f. length (slots_in f.branches index)) forest_grown
       ∙ ap (λ n. length (slots_in ((forest a).branches ++ branch l.name (slots_on (forest a) l) ∷ []) n)) last
       ∙ ap length (slots_in-last (forest a).branches (branch l.name (slots_on (forest a) l)))
       ∙ length-append (take l.shared (slots_in (forest a).branches l.from)) (numbered a.made l.steps)
@@ -73,7 +73,7 @@ module _ {T : Type 0} (a was b d : TrieOf T) (l : Limb) (steps : List Step) (ind
 
   pub is_grown : IsForest (forest a) → IsGrown a d l
   is_grown held = record {
-    forest_is = grown_told;
+    forest_is = forest_grown;
     limits = pushed.limits ∙ forked.limits;
     blank = grown_blank held;
     cut = pushed.cut forked.cut;

@@ -13,19 +13,19 @@ use Rattle.branch_terms.proofs.Lists.{slice_get_some}
 pub cell_found : {T : Type 0} (c : TrieOf T) (name : List ℕ) (place index key offset : ℕ) (s : Slot) → index_of (forest c).branches name ≡ Some index
     → SpotHasCellAt (segment_at c.segments) (keys_in c.branches index) place (key, offset) → slice_get (slots_of (segment_at c.segments key)) offset ≡ Some s
     → cell_on_branch (forest c) name place ≡ Some s.cell
-cell_found c name place index key offset s found stands here =
+cell_found c name place index key offset s found cell_there here =
     ap (λ o. cell_by o (forest c) place) found
     ∙ ap (λ l. option_map cell_of (slice_get l place)) (slots_in_on (segment_at c.segments) c.branches index)
-    ∙ ap (option_map cell_of) (sym stands.same ∙ here)
+    ∙ ap (option_map cell_of) (sym cell_there.same ∙ here)
 
 -- the segment of the cell at a place of a branch
 pub holds_cell : {T : Type 0} (c : TrieOf T) (name : List ℕ) (place index key offset : ℕ) → index_of (forest c).branches name ≡ Some index
     → SpotHasCellAt (segment_at c.segments) (keys_in c.branches index) place (key, offset) → HoldsCellAt c name place key
-holds_cell c name place index key offset found stands =
-    let p = slice_get_some (slots_of (segment_at c.segments key)) offset stands.within in
+holds_cell c name place index key offset found cell_there =
+    let p = slice_get_some (slots_of (segment_at c.segments key)) offset cell_there.within in
     record {
       cell = p.0.cell;
-      there = cell_found c name place index key offset p.0 found stands p.1;
+      there = cell_found c name place index key offset p.0 found cell_there p.1;
       held = has_cell_get (slots_of (segment_at c.segments key)) offset p.0 p.1;
     }
 
@@ -41,6 +41,6 @@ one_holder c name place j k sound a b =
 pub notes_here : {T : Type 0} (old new : TrieOf T) (name : List ℕ) (place index key offset : ℕ) → IsSoundTrie (segment_at old.segments) old.branches old.made
     → index_of (forest old).branches name ≡ Some index → SpotHasCellAt (segment_at old.segments) (keys_in old.branches index) place (key, offset)
     → KeepsNotesOff old new (λ k. k ≡ key) → KeepsNotesOff old new (HoldsCellAt old name place)
-notes_here old new name place index key offset sound found stands notes =
-    let here = holds_cell old name place index key offset found stands in
+notes_here old new name place index key offset sound found cell_there notes =
+    let here = holds_cell old name place index key offset found cell_there in
     notes_but old new key (HoldsCellAt old name place) (HoldsCellAt old name place) notes (λ k h. one_holder old name place k key sound h here) here

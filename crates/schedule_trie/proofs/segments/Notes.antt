@@ -82,8 +82,8 @@ module _ {T : Type 0} (c d : TrieOf T) (key : ℕ) (others : (j : ℕ) → (j �
   }
 
   -- the segment at `key` is new
-  pub notes_beside : (May : ℕ → Type 0) → segment_at c.segments key ≡ None → KeepsNotesBut c d Nowhere May
-  notes_beside May vacant = record {
+  pub notes_with_new : (May : ℕ → Type 0) → segment_at c.segments key ≡ None → KeepsNotesBut c d Nowhere May
+  notes_with_new May vacant = record {
     notes = record {
       touched = None;
       kept = λ k ne h. inl (others k (λ e. true≢false (sym (subst IsSome (ap (segment_at c.segments) e ∙ vacant) h))));

@@ -112,8 +112,8 @@ module _ {T : Type 0} (t : Inside T) (key offset : ℕ) (step : Step) (v w : Seg
   pub set_held : IsHeldTrie after
   set_held = record { whole = record { sound = set_sound; within = held.whole.within }; paths = held.paths }
 
-  pub set_told : IsStepSet (trie_of t) (trie_of after) key offset step
-  set_told = record {
+  pub is_step_set : IsStepSet (trie_of t) (trie_of after) key offset step
+  is_step_set = record {
     everywhere_set = λ s at_cell. replaced_everywhere (segment_at (trie_of t).segments) (segment_at (trie_of after).segments) (trie_of t).branches t.made key offset step s held.whole.sound here seen.change.others at_cell;
     made = refl;
     limits = refl;
@@ -124,12 +124,12 @@ module _ {T : Type 0} (t : Inside T) (key offset : ℕ) (step : Step) (v w : Seg
 -- the result of a command at a cell
 module _ {T : Type 0} (old new : TrieOf T) (name : List ℕ) (place index key offset : ℕ)
     (found : index_of (forest old).branches name ≡ Some index)
-    (stands : SpotHasCellAt (segment_at old.segments) (keys_in old.branches index) place (key, offset)) where
+    (cell_there : SpotHasCellAt (segment_at old.segments) (keys_in old.branches index) place (key, offset)) where
   abbrev pub the_cell : (s : Slot) × (slice_get (slots_of (segment_at old.segments key)) offset ≡ Some s)
-  the_cell = slice_get_some (slots_of (segment_at old.segments key)) offset stands.within
+  the_cell = slice_get_some (slots_of (segment_at old.segments key)) offset cell_there.within
 
   at_place : slice_get (slots_in (forest old).branches index) place ≡ Some the_cell.0
-  at_place = ap (λ l. slice_get l place) (slots_in_on (segment_at old.segments) old.branches index) ∙ sym stands.same ∙ the_cell.1
+  at_place = ap (λ l. slice_get l place) (slots_in_on (segment_at old.segments) old.branches index) ∙ sym cell_there.same ∙ the_cell.1
 
   pub command_at : (change : ℕ → List Slot → List Slot) → on_found (index_of (forest old).branches name) (at_cell (forest old) place change)
       ≡ Ok (record { branches = everywhere (change the_cell.0.cell) (forest old).branches; made = old.made })
@@ -187,8 +187,8 @@ module _ {T : Type 0} (t : Inside T) (key : ℕ) (v w : Segment T) (held : IsHel
   branches_same [] = refl
   branches_same (s ∷ ss) = λ i. branch s.name (line_same s.keys i) ∷ branches_same ss i
 
-  pub note_told : IsNoted (trie_of t) (trie_of noted) key w.note
-  note_told = record {
+  pub is_noted : IsNoted (trie_of t) (trie_of noted) key w.note
+  is_noted = record {
     here = note_seen.change.here ∙ (λ i. Some (segment (same i).items w.note)) ∙ sym (ap (option_map (with_note w.note)) note_seen.was);
     others = note_seen.change.others;
     branches = refl;
@@ -196,8 +196,8 @@ module _ {T : Type 0} (t : Inside T) (key : ℕ) (v w : Segment T) (held : IsHel
     unchanged = λ i. record { branches = branches_same (trie_of t).branches i; made = t.made };
   }
 
-  pub note_told_as : (note : Option T) → w.note ≡ note → IsNoted (trie_of t) (trie_of noted) key note
-  note_told_as other e = subst (IsNoted (trie_of t) (trie_of noted) key) e note_told
+  pub is_noted_with : (note : Option T) → w.note ≡ note → IsNoted (trie_of t) (trie_of noted) key note
+  is_noted_with other e = subst (IsNoted (trie_of t) (trie_of noted) key) e is_noted
 
 pub not_there : {T : Type 0} (t : Inside T) (key : ℕ) (note : Option T) → (IsSome (item_at t.segments key) → ⊥) → IsNoted (trie_of t) (trie_of t) key note
 not_there {T} t key note none =

@@ -15,20 +15,20 @@ use Rattle.std.proofs.lemmas.Option.{slice_get_within}
 
 module _ {T : Type 0} (at : ℕ → Option (SegmentOf T)) where
   -- a cell's place is its offset plus the number of cells in the segments before its own
-  stands_behind : (keys : List ℕ) (count offset place : ℕ) → count < length keys → offset < length (slots_of (at (get_or keys count 0)))
+  spot_in_segment : (keys : List ℕ) (count offset place : ℕ) → count < length keys → offset < length (slots_of (at (get_or keys count 0)))
       → length (line at (take count keys)) + offset ≡ place → SpotHasCellAt at keys place (get_or keys count 0, offset)
-  stands_behind keys count offset place inside within behind = record {
+  spot_in_segment keys count offset place inside within place_is = record {
     member = has-get_or keys count inside;
     within = within;
     same = sym (slice_get_left (slots_of (at (get_or keys count 0))) (line at (drop (suc count) keys)) offset within)
         ∙ sym (ap (λ l. slice_get l offset) (line-drop at keys count inside))
-        ∙ sym (slice_get_right (line at (take count keys)) (line at (drop count keys)) place offset behind)
+        ∙ sym (slice_get_right (line at (take count keys)) (line at (drop count keys)) place offset place_is)
         ∙ ap (λ l. slice_get l place) (sym (line-append at (take count keys) (drop count keys)) ∙ ap (line at) (take-append-drop count keys));
   }
 
   -- a cell's place in the last segment
-  stands_last : (front : List ℕ) (key offset : ℕ) → offset < length (slots_of (at key)) → SpotHasCellAt at (front ++ key ∷ []) (length (line at front) + offset) (key, offset)
-  stands_last front key offset within = record {
+  spot_in_last : (front : List ℕ) (key offset : ℕ) → offset < length (slots_of (at key)) → SpotHasCellAt at (front ++ key ∷ []) (length (line at front) + offset) (key, offset)
+  spot_in_last front key offset within = record {
     member = has-in key front [];
     within = within;
     same = ap (λ l. slice_get l offset) (sym (append-nil (slots_of (at key))))
@@ -62,9 +62,9 @@ module _ {T : Type 0} (c : TrieOf T) (name : List ℕ) (index : ℕ) (found : in
       before = length (line at (take count keys)) + n;
       next = omega arith;
       holds = holds_cell c name (length (line at (take count keys)) + n) index (get_or keys count 0) n found
-          (stands_behind at keys count n (length (line at (take count keys)) + n) inside (omega arith) refl);
+          (spot_in_segment at keys count n (length (line at (take count keys)) + n) inside (omega arith) refl);
     };
-    below = holds_cell c name place index (get_or keys count 0) (suc n) found (stands_behind at keys count (suc n) place inside within lies);
+    below = holds_cell c name place index (get_or keys count 0) (suc n) found (spot_in_segment at keys count (suc n) place inside within lies);
   }
 
   -- the last segment of a branch has the cell before the branch's length
@@ -78,7 +78,7 @@ module _ {T : Type 0} (c : TrieOf T) (name : List ℕ) (index : ℕ) (found : in
         next = omega arith;
         holds = holds_cell c name (length (line at end.front) + (length (slots_of (at key)) - 1)) index key (length (slots_of (at key)) - 1) found
             (subst (λ l. SpotHasCellAt at l (length (line at end.front) + (length (slots_of (at key)) - 1)) (key, length (slots_of (at key)) - 1)) (sym end.last)
-            (stands_last at end.front key (length (slots_of (at key)) - 1) (omega arith)));
+            (spot_in_last at end.front key (length (slots_of (at key)) - 1) (omega arith)));
       }
 
 -- a cell that is read is one of a list

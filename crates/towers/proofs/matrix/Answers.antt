@@ -9,10 +9,10 @@ use Rattle.towers.proofs.matrix.Goals as goal
 
 pub unwrap-requires : goal.unwrap-requires
 unwrap-requires c =
-    let stands =
+    let is_value =
     ap (λ (b : Behaviour StampedPoint). matrix_refusal c.args.processes c.args.values c.args.tag b) c.stamped-part.ensures
     ∙ matrix_fits c.args.processes c.args.values c.args.tag c.args.stamp c.requires.two c.requires.four c.requires.some c.requires.few c.requires.tags c.requires.most c.requires.cells in
-    ok_unless_refused _ c.new.result _ stands c.new.ensures.refused
+    ok_unless_refused _ c.new.result _ is_value c.new.ensures.refused
 
 pub returns : goal.returns
 returns c = rw c.unwrap.ensures at c.new.ensures.built ∙ ap (layered (matrix_table c.args.processes c.args.values c.args.tag)) c.stamped-part.ensures

@@ -1,13 +1,13 @@
 use Rattle.std.proofs.Common.{ap, map}
 use Rattle.std.specs.String.{string_bytes}
-use Rattle.command_line.proofs.CommandLines.{bare, branches, cells, free, never, says, tells, workers}
+use Rattle.command_line.proofs.CommandLines.{bare, branches, cells, free, never, says, fault_explained, workers}
 use Rattle.command_line.specs.declared.invocation.Invocation.TheVariants.{Run}
 use Rattle.command_line.proofs.invocation.parse_words.Goals as goal
 
 pub returns-in-Err : goal.returns-in-Err
 returns-in-Err c =
     let words = map string_bytes c.args.words.now in
-    let asked = tells c.in-Ok.command words c.in-Err.error c.invocation_of.result c.in-Ok.ensures (c.in-Err.ensures.kinds (free c.in-Ok.command c.in-Ok.ensures)) c.invocation_of.ensures in
+    let asked = fault_explained c.in-Ok.command words c.in-Err.error c.invocation_of.result c.in-Ok.ensures (c.in-Err.ensures.kinds (free c.in-Ok.command c.in-Ok.ensures)) c.invocation_of.ensures in
     record { asked = asked; bare = λ none. bare words c.invocation_of.result (ap (map string_bytes) none) asked }
 
 pub unreachable-requires : goal.unreachable-requires

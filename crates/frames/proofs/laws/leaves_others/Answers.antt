@@ -1,4 +1,4 @@
-use Rattle.frames.specs.laws.Beside.{init_leaves, begin_leaves, go_leaves}
+use Rattle.frames.specs.laws.OwnMemory.{init_leaves, begin_leaves, go_leaves}
 use Rattle.frames.proofs.laws.leaves_others.Goals as goal
 
 pub returns-clause-init : goal.returns-clause-init

@@ -2,7 +2,7 @@ use Rattle.std.proofs.Common.{◌∙◌, sym, subst}
 use Rattle.schedule_trie.specs.Trie.{forest}
 use Rattle.views.specs.Looks.{steps_in}
 use Rattle.pages.specs.Strays.{Judges}
-use Rattle.views.proofs.Slips.{slip_told}
+use Rattle.views.proofs.Slips.{slip_is}
 use Rattle.views.proofs.Strays.{judges_its, slip_judges}
 use Rattle.views.proofs.slip.place_slip.Goals as goal
 
@@ -10,7 +10,7 @@ pub returns-clause-page : goal.returns-clause-page
 returns-clause-page g c =
     let s = c.in_ok-len.ensures.spot in
     s.2.page _
-    ∙ slip_told g.R.Behaves.behaviour c.args.chart.now.start c.args.chart.now.value (steps_in (forest c.args.chart.now.trie) c.args.branch) c.args.place c.in_ok-len.len
+    ∙ slip_is g.R.Behaves.behaviour c.args.chart.now.start c.args.chart.now.value (steps_in (forest c.args.chart.now.trie) c.args.branch) c.args.place c.in_ok-len.len
     s.0 s.1 c.args.kind c.args.branch
 
 pub returns-clause-judges : goal.returns-clause-judges

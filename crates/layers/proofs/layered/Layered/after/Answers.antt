@@ -4,7 +4,7 @@ use Rattle.layers.specs.laws.Nested.{rest_sound}
 use Rattle.layers.specs.laws.Over.{over}
 use Rattle.layers.specs.laws.Running.{rest_left}
 use Rattle.layers.specs.InPlace.{own}
-use Rattle.layers.proofs.Runs.{settles_there}
+use Rattle.layers.proofs.Runs.{settled_in_store}
 use Rattle.layers.proofs.layered.Layered.after.Goals as goal
 
 pub after-requires-clause-answers : goal.after-requires-clause-answers
@@ -18,11 +18,11 @@ returns g c =
     let l = over (g.met.S.Register.lawful r.below) (g.met.L.Construction.sound r.layer) r.fit in
     let who = c.requires.may_be_at.0 in
     let o = c.requires.may_be_at.1.0 in
-    let stands = c.requires.may_be_at.1.1 in
-    let sound = rest_sound l who o c.args.task c.args.outcome stands c.requires.answers c.requires.goes_on in
-    let there = settles_there l c.args.at who o _ c.args.store.now c.requires.lies sound c.words_at-base.result c.words_at-base.ensures c.after.result c.after.new.store c.after.ensures.continuation c.after.ensures.memory in
+    let at_task = c.requires.may_be_at.1.1 in
+    let sound = rest_sound l who o c.args.task c.args.outcome at_task c.requires.answers c.requires.goes_on in
+    let there = settled_in_store l c.args.at who o _ c.args.store.now c.requires.lies sound c.words_at-base.result c.words_at-base.ensures c.after.result c.after.new.store c.after.ensures.continuation c.after.ensures.memory in
     record {
       continuation = there.0;
       memory = there.1;
-      fewer = rw there.0 (rest_left l who o c.args.task c.args.outcome (own l.table l.below c.args.at c.args.store.now) stands c.requires.answers c.requires.goes_on);
+      fewer = rw there.0 (rest_left l who o c.args.task c.args.outcome (own l.table l.below c.args.at c.args.store.now) at_task c.requires.answers c.requires.goes_on);
     }

@@ -1,6 +1,6 @@
 use Rattle.std.proofs.Common.{[], ◌∷◌, ◌++◌, length, length-append, sym, ap, ◌∙◌, arith}
 use Rattle.layers.specs.laws.Over.{over}
-use Rattle.layers.proofs.PartSteps.{part_keeps, part_lies, part_asked, behind_long}
+use Rattle.layers.proofs.PartSteps.{part_keeps, part_lies, part_asked, stack_long}
 use Rattle.layers.proofs.layered.Layered.ask.Goals as goal
 
 pub begin_on-end-requires-clause-holds : goal.begin_on-end-requires-clause-holds
@@ -30,5 +30,5 @@ returns g c =
 
 pub close-requires : goal.close-requires
 close-requires g c =
-    behind_long c.args.stack.now _ c.push.new.self c.begin_on-end.new.stack _ c.len-first.result
+    stack_long c.args.stack.now _ c.push.new.self c.begin_on-end.new.stack _ c.len-first.result
     (c.push.ensures ∙ ap (λ f. c.args.stack.now ++ f ∷ []) c.frame.ensures) (sym c.len-first.ensures) c.begin_on-end.ensures.stack

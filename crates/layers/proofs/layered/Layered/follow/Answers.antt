@@ -1,7 +1,7 @@
 use Rattle.layers.specs.laws.Nested.{rest_sound}
 use Rattle.layers.specs.laws.Over.{over}
 use Rattle.layers.specs.Driver.{own_memory}
-use Rattle.layers.proofs.Runs.{follows_spent, settles_stands, settles_lies, settles, advances}
+use Rattle.layers.proofs.Runs.{follows_spent, settled_sound, settled_lies, settled_lands, advances}
 use Rattle.layers.proofs.layered.Layered.follow.Goals as goal
 
 pub returns-then-is_spent : goal.returns-then-is_spent
@@ -15,7 +15,7 @@ run-requires-clause-lies g c =
     let r = c.args.self.now in
     let l = over (g.met.S.Register.lawful r.below) (g.met.L.Construction.sound r.layer) r.fit in
     let sound = rest_sound l c.requires.may_be_at.0 c.requires.may_be_at.1.0 c.args.task c.args.outcome c.requires.may_be_at.1.1 c.requires.answers (c.is_spent.ensures.goes_on c.if-is_spent.false) in
-    settles_lies l c.args.at _ _ _ c.args.store.now c.requires.lies sound c.after-continuation.result c.after-continuation.new.store c.after-continuation.ensures.continuation c.after-continuation.ensures.memory
+    settled_lies l c.args.at _ _ _ c.args.store.now c.requires.lies sound c.after-continuation.result c.after-continuation.new.store c.after-continuation.ensures.continuation c.after-continuation.ensures.memory
 
 pub run-requires-clause-may_be_at : goal.run-requires-clause-may_be_at
 run-requires-clause-may_be_at g c =
@@ -25,7 +25,7 @@ run-requires-clause-may_be_at g c =
       c.requires.may_be_at.0,
       (
         c.requires.may_be_at.1.0,
-        settles_stands l c.args.at _ _ _ c.args.store.now c.requires.lies sound c.after-continuation.result c.after-continuation.new.store c.after-continuation.ensures.continuation c.after-continuation.ensures.memory,
+        settled_sound l c.args.at _ _ _ c.args.store.now c.requires.lies sound c.after-continuation.result c.after-continuation.new.store c.after-continuation.ensures.continuation c.after-continuation.ensures.memory,
       ),
     )
 
@@ -35,5 +35,5 @@ returns g c =
     let l = over (g.met.S.Register.lawful r.below) (g.met.L.Construction.sound r.layer) r.fit in
     let goes_on = c.is_spent.ensures.goes_on c.if-is_spent.false in
     let sound = rest_sound l c.requires.may_be_at.0 c.requires.may_be_at.1.0 c.args.task c.args.outcome c.requires.may_be_at.1.1 c.requires.answers goes_on in
-    settles l c.args.at _ _ _ c.args.store.now c.requires.lies sound c.after-continuation.result c.after-continuation.new.store c.after-continuation.ensures.continuation c.after-continuation.ensures.memory
+    settled_lands l c.args.at _ _ _ c.args.store.now c.requires.lies sound c.after-continuation.result c.after-continuation.new.store c.after-continuation.ensures.continuation c.after-continuation.ensures.memory
     _ (advances l c.args.at c.args.task c.args.outcome (own_memory r c.args.at c.args.store.now) goes_on) c.args.stack.now c.run.result c.run.new.stack c.run.new.store c.run.ensures

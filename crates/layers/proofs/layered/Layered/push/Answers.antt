@@ -1,7 +1,7 @@
 use Rattle.std.proofs.Common.{refl}
 use Rattle.layers.specs.laws.Over.{over}
 use Rattle.layers.specs.Flat.{cut_where_ended}
-use Rattle.layers.proofs.PartSteps.{part_keeps, part_lies, part_stands, part_chooses, part_moved, part_ended}
+use Rattle.layers.proofs.PartSteps.{part_keeps, part_lies, part_has_frames, part_chooses, part_moved, part_ended}
 use Rattle.layers.proofs.layered.Layered.push.Goals as goal
 
 pub go_on-requires-clause-holds : goal.go_on-requires-clause-holds
@@ -18,7 +18,7 @@ pub go_on-requires-clause-may_be_at : goal.go_on-requires-clause-may_be_at
 go_on-requires-clause-may_be_at g c =
     let l = over (g.met.S.Register.lawful c.args.self.now.below) (g.met.L.Construction.sound c.args.self.now.layer) c.args.self.now.fit in
     let s = c.requires.may_be_at in
-    (c.asks-ask.result.op, (s.1.1.0, part_stands l c.args.at c.args.store.now c.requires.lies c.args.task c.asks-ask.result c.asks-ask.ensures c.part_place-place.result c.part_place-place.ensures c.args.choice c.args.first c.args.stack.now s.0 s.1.0 s.1.1.0 s.1.1.1))
+    (c.asks-ask.result.op, (s.1.1.0, part_has_frames l c.args.at c.args.store.now c.requires.lies c.args.task c.asks-ask.result c.asks-ask.ensures c.part_place-place.result c.part_place-place.ensures c.args.choice c.args.first c.args.stack.now s.0 s.1.0 s.1.1.0 s.1.1.1))
 
 pub returns-clause-lands : goal.returns-clause-lands
 returns-clause-lands g c =

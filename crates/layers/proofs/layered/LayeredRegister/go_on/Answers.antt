@@ -1,14 +1,14 @@
 use Rattle.std.proofs.Common.{rules, ◌≡◌, None, length, ap, arith, length-take}
 use Rattle.layers.specs.laws.Flat.{index_there}
 use Rattle.layers.specs.laws.Over.{over}
-use Rattle.layers.proofs.Runs.{stands_at, stands_still, found_again, chooses, waits, ended_lies, again_stands, ended_goes_on}
+use Rattle.layers.proofs.Runs.{at_found_task, frame_still_there, found_again, chooses, waits, ended_lies, again_suits, ended_goes_on}
 use Rattle.layers.proofs.layered.LayeredRegister.go_on.Goals as goal
 
 pub push-progress-requires-clause-may_be_at : goal.push-progress-requires-clause-may_be_at
 push-progress-requires-clause-may_be_at g c =
     let l = over (g.met.S.Register.lawful c.args.self.now.below) (g.met.L.Construction.sound c.args.self.now.layer) c.args.self.now.fit in
     let n = c.requires.may_be_at.1.0 in
-    let on = stands_at l c.lemma_lies.ensures c.args.who c.args.first c.args.stack.now c.args.choice c.frame.ensures c.find-task.ensures
+    let on = at_found_task l c.lemma_lies.ensures c.args.who c.args.first c.args.stack.now c.args.choice c.frame.ensures c.find-task.ensures
     c.requires.may_be_at.0 n c.requires.may_be_at.1.1 in
     (c.args.who, (c.requires.may_be_at.0, (n.below, on)))
 
@@ -28,13 +28,13 @@ returns-in_default-clause-chosen g c =
 pub frame-requires-2 : goal.frame-requires-2
 frame-requires-2 g c =
     let l = over (g.met.S.Register.lawful c.args.self.now.below) (g.met.L.Construction.sound c.args.self.now.layer) c.args.self.now.fit in
-    stands_still l c.lemma_lies.ensures c.args.who c.args.first c.args.stack.now c.args.choice c.frame.ensures c.find-task.ensures
+    frame_still_there l c.lemma_lies.ensures c.args.who c.args.first c.args.stack.now c.args.choice c.frame.ensures c.find-task.ensures
     c.push-progress.new.stack c.in-Some.is c.push-progress.ensures.own
 
 pub truncate-requires : goal.truncate-requires
 truncate-requires g c =
     let l = over (g.met.S.Register.lawful c.args.self.now.below) (g.met.L.Construction.sound c.args.self.now.layer) c.args.self.now.fit in
-    let there = stands_still l c.lemma_lies.ensures c.args.who c.args.first c.args.stack.now c.args.choice c.frame.ensures c.find-task.ensures
+    let there = frame_still_there l c.lemma_lies.ensures c.args.who c.args.first c.args.stack.now c.args.choice c.frame.ensures c.find-task.ensures
     c.push-progress.new.stack c.in-Some.is c.push-progress.ensures.own in
     omega (arith, there)
 
@@ -49,7 +49,7 @@ follow-end-requires-clause-may_be_at g c =
     let l = over (g.met.S.Register.lawful c.args.self.now.below) (g.met.L.Construction.sound c.args.self.now.layer) c.args.self.now.fit in
     let same = found_again l c.lemma_lies.ensures c.args.who c.args.first c.args.stack.now c.args.choice c.frame.ensures c.find-task.ensures
     c.push-progress.new.stack c.in-Some.is c.push-progress.ensures.own c.frame-2.ensures c.find-ended.ensures in
-    let ended = again_stands l c.lemma_lies.ensures c.args.who c.args.first c.args.stack.now c.args.choice c.frame.ensures c.find-task.ensures
+    let ended = again_suits l c.lemma_lies.ensures c.args.who c.args.first c.args.stack.now c.args.choice c.frame.ensures c.find-task.ensures
     c.push-progress.new.stack (c.push-progress.ensures.lands c.args.who) c.requires.may_be_at.1.1 c.in-Some.is c.find-ended.result same in
     (c.args.who, (c.requires.may_be_at.0, ended.0))
 
@@ -58,7 +58,7 @@ follow-end-requires-clause-answers g c =
     let l = over (g.met.S.Register.lawful c.args.self.now.below) (g.met.L.Construction.sound c.args.self.now.layer) c.args.self.now.fit in
     let same = found_again l c.lemma_lies.ensures c.args.who c.args.first c.args.stack.now c.args.choice c.frame.ensures c.find-task.ensures
     c.push-progress.new.stack c.in-Some.is c.push-progress.ensures.own c.frame-2.ensures c.find-ended.ensures in
-    (again_stands l c.lemma_lies.ensures c.args.who c.args.first c.args.stack.now c.args.choice c.frame.ensures c.find-task.ensures
+    (again_suits l c.lemma_lies.ensures c.args.who c.args.first c.args.stack.now c.args.choice c.frame.ensures c.find-task.ensures
     c.push-progress.new.stack (c.push-progress.ensures.lands c.args.who) c.requires.may_be_at.1.1 c.in-Some.is c.find-ended.result same).1
 
 pub follow-end-requires-clause-room : goal.follow-end-requires-clause-room

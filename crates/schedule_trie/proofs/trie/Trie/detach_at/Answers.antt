@@ -3,7 +3,7 @@ use Rattle.std.proofs.Common.{◌≡◌, ◌+◌, ◌<◌, ◌≤◌, length, re
 use Rattle.branch_terms.specs.Forest.{slots_in}
 use Rattle.schedule_trie.specs.Trie.{forest, segment_at, keys_in}
 use Rattle.schedule_trie.specs.changes.Copies.{AreCopies}
-use Rattle.schedule_trie.proofs.detaches.Detaches.{detach_held, detach_told}
+use Rattle.schedule_trie.proofs.detaches.Detaches.{detach_held, is_detached}
 use Rattle.schedule_trie.proofs.branches.Lines.{path_within}
 use Rattle.schedule_trie.proofs.lengths.LengthSteps.{detached_lengths}
 use Rattle.schedule_trie.proofs.edits.PushSteps.{roomed_held, roomed_err}
@@ -36,7 +36,7 @@ invariant_of-self-2 g c =
           (subst (λ z. AreCopies (segment_at z.segments) z.made (keys_in z.branches c.args.index) c.in_ok-copies.copies.items) (sym view) c.in_ok-copies.ensures)
           c.in_ok-replace_path.ensures.ok c.lemma_invariant.ensures refl refl refl size (subst (λ n. t.made + n ≤ t.limits.cells) (sym size) room);
       lengths = detached_lengths (trie_of t) (trie_of u) t.branches.entries c.self.invariant.lengths c.args.index
-          (detach_told t u c.args.index c.len_at-len.result c.in_ok-copies.copies.items c.self.invariant.held
+          (is_detached t u c.args.index c.len_at-len.result c.in_ok-copies.copies.items c.self.invariant.held
           (subst (λ z. c.args.index < length z.branches) (sym view) c.requires.index)
           (subst (λ z. AreCopies (segment_at z.segments) z.made (keys_in z.branches c.args.index) c.in_ok-copies.copies.items) (sym view) c.in_ok-copies.ensures)
           c.in_ok-replace_path.ensures.ok c.lemma_invariant.ensures refl refl refl size);
@@ -49,7 +49,7 @@ returns-clause-ok g c =
     let view = c.self.view_is in
     let size = subst (λ z. c.len_at-len.result ≡ length (slots_in (forest z).branches c.args.index)) (sym view) c.len_at-len.ensures.len in
     rw (← c.self.view_is)
-    (detach_told t (record t { segments = c.replace_path.new.self; made = t.made + c.len_at-len.result }) c.args.index c.len_at-len.result c.in_ok-copies.copies.items c.self.invariant.held
+    (is_detached t (record t { segments = c.replace_path.new.self; made = t.made + c.len_at-len.result }) c.args.index c.len_at-len.result c.in_ok-copies.copies.items c.self.invariant.held
     (subst (λ z. c.args.index < length z.branches) (sym view) c.requires.index)
     (subst (λ z. AreCopies (segment_at z.segments) z.made (keys_in z.branches c.args.index) c.in_ok-copies.copies.items) (sym view) c.in_ok-copies.ensures)
     c.in_ok-replace_path.ensures.ok c.lemma_invariant.ensures refl refl refl size)

@@ -4,7 +4,7 @@ use Rattle.std.specs.Map.{keys_of}
 use Rattle.schedule_trie.proofs.branches.NamesKept.{names_left}
 use Rattle.std.proofs.Common.{◌<◌, length, refl, sym, subst}
 use Rattle.schedule_trie.proofs.branches.Lines.{path_within}
-use Rattle.schedule_trie.proofs.detaches.Drops.{drop_held, drop_told}
+use Rattle.schedule_trie.proofs.detaches.Drops.{drop_held, is_dropped}
 use Rattle.schedule_trie.proofs.lengths.LengthSteps.{dropped_lengths}
 use Rattle.schedule_trie.proofs.trie.Trie.drop_at.Goals as goal
 
@@ -23,7 +23,7 @@ invariant_of-self g c =
           c.shift_remove_index.ensures.entries c.drop_path.ensures.paths c.drop_path.ensures.items refl refl;
       lengths = subst (λ es. AreLengths es (forest (trie_of u)).branches) (sym c.shift_remove_index.ensures.entries)
           (dropped_lengths (trie_of t) (trie_of u) t.branches.entries c.self.invariant.lengths c.args.index
-          (drop_told t u c.args.index c.self.invariant.held index_in several
+          (is_dropped t u c.args.index c.self.invariant.held index_in several
           c.shift_remove_index.ensures.entries c.drop_path.ensures.paths c.drop_path.ensures.items refl refl));
       names = subst (λ es. AreNames (keys_of es)) (sym c.shift_remove_index.ensures.entries) (names_left t.branches.entries c.args.index c.self.invariant.names);
     }
@@ -35,5 +35,5 @@ returns g c =
     let index_in = subst (λ z. c.args.index < length z.branches) (sym c.self.view_is) c.requires.index in
     let several = subst (λ z. 1 < length z.branches) (sym c.self.view_is) c.requires.several in
     rw (← c.self.view_is)
-    (drop_told t u c.args.index c.self.invariant.held index_in several
+    (is_dropped t u c.args.index c.self.invariant.held index_in several
     c.shift_remove_index.ensures.entries c.drop_path.ensures.paths c.drop_path.ensures.items refl refl)

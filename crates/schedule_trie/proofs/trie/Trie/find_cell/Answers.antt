@@ -2,7 +2,7 @@ use Rattle.std.proofs.Common.{◌≤◌, ◌-◌, length, ap, ◌∙◌, arith, 
 use Rattle.std.specs.Bool.{FalseIff}
 use Rattle.schedule_trie.specs.Trie.{segment_at, keys_in, line}
 use Rattle.schedule_trie.specs.Climbs.{keys_to}
-use Rattle.schedule_trie.proofs.climbs.Climbs.{lies_here, stands_here}
+use Rattle.schedule_trie.proofs.climbs.Climbs.{lies_here, spot_has_cell}
 use Rattle.schedule_trie.proofs.climbs.ClimbSteps.{path_last, turn}
 use Rattle.schedule_trie.proofs.branches.Lines.{slots_in_on}
 use Rattle.schedule_trie.proofs.trie.Trie.find_cell.Goals as goal
@@ -29,7 +29,7 @@ returns-then-is_here-clause-lies g c =
 
 pub returns-then-is_here-clause-found : goal.returns-then-is_here-clause-found
 returns-then-is_here-clause-found g c =
-    stands_here (segment_at c.args.self.now.segments) (keys_in c.args.self.now.branches c.args.index) c.args.place
+    spot_has_cell (segment_at c.args.self.now.segments) (keys_in c.args.self.now.branches c.args.index) c.args.place
     (c.in-Some.up.0, 18446744073709551615 - c.overflowing_sub-left.result.0) (returns-then-is_here-clause-lies g c)
 
 pub loop-up-smaller : goal.loop-up-smaller

@@ -5,7 +5,7 @@ use Rattle.indexmap.specs.IndexMap.{insert_entry}
 use Rattle.branch_terms.specs.Forest.{index_of}
 use Rattle.schedule_trie.specs.Trie.{forest, keys_in}
 use Rattle.schedule_trie.specs.Climbs.{keys_to, HasClimbedTo}
-use Rattle.schedule_trie.proofs.forks.ForkSteps.{reached_there, behind_held, behind_told, behind_whole}
+use Rattle.schedule_trie.proofs.forks.ForkSteps.{reached_there, held_after_fork, is_forked_at_end, is_forked_whole}
 use Rattle.schedule_trie.proofs.lengths.LengthSteps.{forked_lengths}
 use Rattle.schedule_trie.proofs.branches.NamesKept.{forked_names}
 use Rattle.schedule_trie.proofs.edits.PushSteps.{roomed_held}
@@ -32,13 +32,13 @@ invariant_of-self-2 g c =
     let u = record t { segments = c.fork.new.self; branches = c.insert_reserved.new.branches } in
     let entries = c.insert_reserved.ensures ∙ ap (λ es. insert_entry (pointwise nat_eq) es c.args.name None) c.in_ok-reserve.ensures.entries in
     record {
-      held = behind_held t (record t { segments = c.fork.new.self; branches = c.insert_reserved.new.branches }) c.args.name c.args.index c.args.last None c.self.invariant.held
+      held = held_after_fork t (record t { segments = c.fork.new.self; branches = c.insert_reserved.new.branches }) c.args.name c.args.index c.args.last None c.self.invariant.held
           (subst (λ z. length z.branches < z.limits.branches) (sym view) c.requires.room) (subst (λ z. index_of (forest z).branches c.args.name ≡ None) (sym view) c.requires.name)
           (subst (λ z. HasClimbedTo (keys_in z.branches c.args.index) c.args.last) (sym view) c.requires.last) c.in_ok-fork.ensures.ok
           (c.insert_reserved.ensures ∙ ap (λ es. insert_entry (pointwise nat_eq) es c.args.name None) c.in_ok-reserve.ensures.entries) refl refl;
       lengths = forked_lengths t (trie_of u) u.branches.entries c.args.index _ c.args.name c.self.invariant.lengths
           (subst (λ z. index_of (forest z).branches c.args.name ≡ None) (sym view) c.requires.name) entries
-          (behind_told t (record t { segments = c.fork.new.self; branches = c.insert_reserved.new.branches }) c.args.name c.args.index c.args.last None c.self.invariant.held
+          (is_forked_at_end t (record t { segments = c.fork.new.self; branches = c.insert_reserved.new.branches }) c.args.name c.args.index c.args.last None c.self.invariant.held
           (subst (λ z. length z.branches < z.limits.branches) (sym view) c.requires.room) (subst (λ z. index_of (forest z).branches c.args.name ≡ None) (sym view) c.requires.name)
           (subst (λ z. HasClimbedTo (keys_in z.branches c.args.index) c.args.last) (sym view) c.requires.last) c.in_ok-fork.ensures.ok
           (c.insert_reserved.ensures ∙ ap (λ es. insert_entry (pointwise nat_eq) es c.args.name None) c.in_ok-reserve.ensures.entries) refl refl);
@@ -51,14 +51,14 @@ returns-clause-ok g c =
     let t = c.self.inside in
     let view = c.self.view_is in
     rw (← c.self.view_is)
-    (behind_told t (record t { segments = c.fork.new.self; branches = c.insert_reserved.new.branches }) c.args.name c.args.index c.args.last None c.self.invariant.held
+    (is_forked_at_end t (record t { segments = c.fork.new.self; branches = c.insert_reserved.new.branches }) c.args.name c.args.index c.args.last None c.self.invariant.held
     (subst (λ z. length z.branches < z.limits.branches) (sym view) c.requires.room) (subst (λ z. index_of (forest z).branches c.args.name ≡ None) (sym view) c.requires.name)
     (subst (λ z. HasClimbedTo (keys_in z.branches c.args.index) c.args.last) (sym view) c.requires.last) c.in_ok-fork.ensures.ok
     (c.insert_reserved.ensures ∙ ap (λ es. insert_entry (pointwise nat_eq) es c.args.name None) c.in_ok-reserve.ensures.entries) refl refl)
 
 pub returns-clause-end : goal.returns-clause-end
 returns-clause-end g c every =
-    rw (← c.self.view_is) (behind_whole c.self.inside (record c.self.inside { segments = c.fork.new.self; branches = c.insert_reserved.new.branches }) c.args.name c.args.index c.args.last None
+    rw (← c.self.view_is) (is_forked_whole c.self.inside (record c.self.inside { segments = c.fork.new.self; branches = c.insert_reserved.new.branches }) c.args.name c.args.index c.args.last None
     c.self.invariant.held (subst (λ z. length z.branches < z.limits.branches) (sym c.self.view_is) c.requires.room)
     (subst (λ z. index_of (forest z).branches c.args.name ≡ None) (sym c.self.view_is) c.requires.name) (subst (λ z. HasClimbedTo (keys_in z.branches c.args.index) c.args.last) (sym c.self.view_is) c.requires.last)
     c.in_ok-fork.ensures.ok (c.insert_reserved.ensures ∙ ap (λ es. insert_entry (pointwise nat_eq) es c.args.name None) c.in_ok-reserve.ensures.entries) refl refl

@@ -4,7 +4,7 @@ use Rattle.schedule_trie.specs.TrieFields.{trie_of}
 use Rattle.std.proofs.Common.{sym, subst, refl, ◌∙◌, ◌+◌, ◌<◌, length, arith}
 use Rattle.schedule_trie.proofs.edits.PushSteps.{on_err, kept_held, cut_written}
 use Rattle.schedule_trie.proofs.segments.StepSet.{held_there, inside_from}
-use Rattle.schedule_trie.proofs.edits.InsertSteps.{slots_seen, put_held, put_told}
+use Rattle.schedule_trie.proofs.edits.InsertSteps.{slots_seen, put_held, is_put_before}
 use Rattle.schedule_trie.proofs.lengths.Lengths.{relength_seen}
 use Rattle.schedule_trie.proofs.lengths.LengthSteps.{none_held}
 use Rattle.schedule_trie.proofs.trie.Trie.put_in.Goals as goal
@@ -45,7 +45,7 @@ returns-clause-ok g c =
     rw (← c.self.view_is)
     (subst (λ z. IsPutBefore (trie_of t) z c.args.key c.args.offset c.args.step)
     (sym (relength_seen p (record p { branches = c.forget_lengths.new.branches }) c.forget_lengths.ensures.names refl refl refl))
-    (put_told c.self.inside c.args.key c.args.offset c.args.step c.item_mut.result.now c.insert.new.self c.self.invariant.held c.item_mut.ensures.value
+    (is_put_before c.self.inside c.args.key c.args.offset c.args.step c.item_mut.result.now c.insert.new.self c.self.invariant.held c.item_mut.ensures.value
     (inside_from c.self.inside c.args.key c.args.offset c.item_mut.result.now c.args.self.now c.self.view_is c.item_mut.ensures.value c.requires.offset)
     (subst (λ l. length l < 128) (slots_seen c.self.inside c.args.key c.item_mut.result.now c.args.self.now c.self.view_is c.item_mut.ensures.value) c.requires.few)
     (subst (λ z. z.made < z.limits.cells) (sym c.self.view_is) c.requires.room)

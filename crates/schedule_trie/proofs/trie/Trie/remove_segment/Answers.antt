@@ -1,7 +1,7 @@
 use Rattle.schedule_trie.specs.TrieFields.{trie_of}
 use Rattle.std.proofs.Common.{◌≡◌, length, refl, sym, subst}
 use Rattle.schedule_trie.specs.Trie.{segment_at, slots_of, IsRemoved}
-use Rattle.schedule_trie.proofs.edits.RemoveSteps.{gone_held, gone_told}
+use Rattle.schedule_trie.proofs.edits.RemoveSteps.{gone_held, is_removed_whole}
 use Rattle.schedule_trie.proofs.lengths.Lengths.{relength_seen}
 use Rattle.schedule_trie.proofs.lengths.LengthSteps.{none_held}
 use Rattle.schedule_trie.proofs.trie.Trie.remove_segment.Goals as goal
@@ -20,6 +20,6 @@ returns g c =
     rw (← c.self.view_is)
     (subst (λ z. IsRemoved (trie_of c.self.inside) z c.args.key 0)
     (sym (relength_seen p (record p { branches = c.forget_lengths.new.branches }) c.forget_lengths.ensures.names refl refl refl))
-    (gone_told c.self.inside (record c.self.inside { segments = c.take_out.new.self }) c.args.key c.self.invariant.held
+    (is_removed_whole c.self.inside (record c.self.inside { segments = c.take_out.new.self }) c.args.key c.self.invariant.held
     (subst (λ z. length (slots_of (segment_at z.segments c.args.key)) ≡ 1) (sym c.self.view_is) c.requires)
     c.take_out.ensures.gone c.take_out.ensures.others c.take_out.ensures.paths refl refl refl))

@@ -3,7 +3,7 @@ use Rattle.schedule_trie.specs.TrieFields.{trie_of}
 use Rattle.std.proofs.Common.{refl, sym, subst, ◌<◌, length}
 use Rattle.schedule_trie.specs.Trie.{segment_at, slots_of, IsRemoved}
 use Rattle.schedule_trie.proofs.segments.StepSet.{inside_from}
-use Rattle.schedule_trie.proofs.edits.RemoveSteps.{within_held, within_told}
+use Rattle.schedule_trie.proofs.edits.RemoveSteps.{within_held, is_removed_within}
 use Rattle.schedule_trie.proofs.lengths.Lengths.{relength_seen}
 use Rattle.schedule_trie.proofs.lengths.LengthSteps.{none_held}
 use Rattle.schedule_trie.proofs.trie.Trie.remove_within.Goals as goal
@@ -29,7 +29,7 @@ returns g c =
     rw (← c.self.view_is)
     (subst (λ z. IsRemoved (trie_of t) z c.args.key c.args.offset)
     (sym (relength_seen p (record p { branches = c.forget_lengths.new.branches }) c.forget_lengths.ensures.names refl refl refl))
-    (within_told c.self.inside c.args.key c.args.offset c.item_mut.result.now c.remove.new.self c.self.invariant.held c.item_mut.ensures.value
+    (is_removed_within c.self.inside c.args.key c.args.offset c.item_mut.result.now c.remove.new.self c.self.invariant.held c.item_mut.ensures.value
     (subst (λ z. c.args.offset < length (slots_of (segment_at z.segments c.args.key))) (sym c.self.view_is) c.requires.offset)
     (subst (λ z. 1 < length (slots_of (segment_at z.segments c.args.key))) (sym c.self.view_is) c.requires.more)
     c.remove.ensures.slots c.remove.ensures.note))

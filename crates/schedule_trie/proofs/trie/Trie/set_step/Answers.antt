@@ -2,7 +2,7 @@ use Rattle.std.proofs.Common.{◌<◌, length, sym, subst}
 use Rattle.lineage.specs.Family.{with_item}
 use Rattle.schedule_trie.specs.Trie.{segment_at, slots_of}
 use Rattle.schedule_trie.specs.TrieFields.{trie_of}
-use Rattle.schedule_trie.proofs.segments.StepSet.{held_there, inside_from, set_held, set_told}
+use Rattle.schedule_trie.proofs.segments.StepSet.{held_there, inside_from, set_held, is_step_set}
 use Rattle.schedule_trie.proofs.lengths.LengthSteps.{set_lengths}
 use Rattle.schedule_trie.proofs.trie.Trie.set_step.Goals as goal
 
@@ -22,7 +22,7 @@ invariant_of-self g c =
           (inside_from t c.args.key c.args.offset c.item_mut.result.now c.args.self.now c.self.view_is c.item_mut.ensures.value c.requires)
           c.set_step.ensures.slots c.set_step.ensures.note;
       lengths = set_lengths (trie_of t) (trie_of (record t { segments = with_item t.segments c.args.key c.set_step.new.self })) t.branches.entries c.self.invariant.lengths c.args.key c.args.offset c.args.step
-          (set_told t c.args.key c.args.offset c.args.step c.item_mut.result.now c.set_step.new.self c.self.invariant.held c.item_mut.ensures.value
+          (is_step_set t c.args.key c.args.offset c.args.step c.item_mut.result.now c.set_step.new.self c.self.invariant.held c.item_mut.ensures.value
           (inside_from t c.args.key c.args.offset c.item_mut.result.now c.args.self.now c.self.view_is c.item_mut.ensures.value c.requires)
           c.set_step.ensures.slots c.set_step.ensures.note)
           (subst (λ z. c.args.offset < length (slots_of (segment_at z.segments c.args.key))) (sym c.self.view_is) c.requires);
@@ -31,6 +31,6 @@ invariant_of-self g c =
 
 pub returns : goal.returns
 returns g c =
-    rw (← c.self.view_is) (set_told c.self.inside c.args.key c.args.offset c.args.step c.item_mut.result.now c.set_step.new.self c.self.invariant.held c.item_mut.ensures.value
+    rw (← c.self.view_is) (is_step_set c.self.inside c.args.key c.args.offset c.args.step c.item_mut.result.now c.set_step.new.self c.self.invariant.held c.item_mut.ensures.value
     (inside_from c.self.inside c.args.key c.args.offset c.item_mut.result.now c.args.self.now c.self.view_is c.item_mut.ensures.value c.requires)
     c.set_step.ensures.slots c.set_step.ensures.note)

@@ -13,8 +13,8 @@ invariant_of-self g c =
     let own = part at b.size c.self.inside.store in
     let side = subst (λ (n : Neighbours _). (at ≡ origin) ⊎ (at ≡ (g.R.Behaves.behaviour n.register).size)) (sym c.self.view_is) c.place-at.ensures.side in
     let holds = subst (λ (n : Neighbours _). g.R.Register.Holds n.register (part at (g.R.Behaves.behaviour n.register).size n.memory)) (sym c.self.view_is) c.place-at.ensures.holds in
-    let stands = subst (λ (n : Neighbours _). IsAtPoint (g.R.Behaves.behaviour n.register) (g.R.Register.Reaches n.register) c.args.who c.args.stack.now) (sym c.self.view_is) c.requires in
-    let lands = c.go_on-progress.ensures.lands stands.0 stands.1.0 stands.1.1 in
+    let at_point = subst (λ (n : Neighbours _). IsAtPoint (g.R.Behaves.behaviour n.register) (g.R.Register.Reaches n.register) c.args.who c.args.stack.now) (sym c.self.view_is) c.requires in
+    let lands = c.go_on-progress.ensures.lands at_point.0 at_point.1.0 at_point.1.1 in
     neighbours_after b (g.R.Register.Holds r) (g.R.Register.Reaches r) (laws.lawful r) at c.self.inside.store
-    (b.goes stands.1.0 false own).memory c.go_on-progress.new.store side c.self.invariant
-    (((laws.lawful r).goes_well c.args.who stands.0 stands.1.0 false own holds stands.1.1.reached).holds) lands.memory
+    (b.goes at_point.1.0 false own).memory c.go_on-progress.new.store side c.self.invariant
+    (((laws.lawful r).goes_well c.args.who at_point.0 at_point.1.0 false own holds at_point.1.1.reached).holds) lands.memory

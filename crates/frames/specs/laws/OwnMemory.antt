@@ -3,7 +3,7 @@ use Rattle.std.specs.Prelude.{◌≡◌, ℕ, ◌<◌, Bool, true}
 use Rattle.safe_bit.specs.declared.Place.{Place}
 use Rattle.safe_bit.specs.Memory.{Memory}
 use Rattle.safe_bit.specs.Parts.{LiesIn, part, with_part}
-use Rattle.safe_bit.specs.laws.Parts.{part-with_part_beside}
+use Rattle.safe_bit.specs.laws.Parts.{part-with_part_apart}
 use Rattle.schedule_steps.specs.declared.types.Op.{Op}
 use Rattle.frames.specs.Behaviour.{Behaviour, IsLawful}
 use Rattle.frames.specs.Others.{LeavesOthers}
@@ -12,7 +12,7 @@ module _ {P : Type 0} (b : Behaviour P) (Holds : Memory → Type 0) (Reaches : �
   -- if a register's own memory is replaced by one that satisfies `Holds`, all parts that don't
   -- overlap it stay as they were
   pub put_in_leaves : (at : Place) (m inner : Memory) → LiesIn at b.size m → Holds inner → LeavesOthers at b.size m (with_part at inner m)
-  put_in_leaves at m inner lies holds beside other there apart = part-with_part_beside at b.size beside other inner m (lawful.size_holds inner holds) lies there apart
+  put_in_leaves at m inner lies holds other_place other_size there apart = part-with_part_apart at b.size other_place other_size inner m (lawful.size_holds inner holds) lies there apart
 
   pub init_leaves : (at : Place) (m : Memory) (v : ℕ) → LiesIn at b.size m → v < b.values → LeavesOthers at b.size m (with_part at (b.initial v) m)
   init_leaves at m v lies few = put_in_leaves at m (b.initial v) lies (lawful.initial_holds v few)
