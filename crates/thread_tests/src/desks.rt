@@ -68,26 +68,26 @@ fn insert_at(rt: &impl Abort, place: u32) -> Command {
 
 /// A desk, with the runtime and the memory that its calls need.
 #[derive(Drop)]
-struct Room<'a, R> {
+struct Tester<'a, R> {
     rt: &'a R,
     alloc: Global,
     desk: &'a Desk<Safe>,
 }
 
-impl<'a, R> Room<'a, R> {
-    fn new(rt: &'a R, alloc: Global, desk: &'a Desk<Safe>) -> Room<'a, R>
+impl<'a, R> Tester<'a, R> {
+    fn new(rt: &'a R, alloc: Global, desk: &'a Desk<Safe>) -> Tester<'a, R>
         ensures { result.desk.now ≡ desk.now }
     {
-        Room { rt, alloc, desk }
+        Tester { rt, alloc, desk }
     }
 }
 
 /// A session, its guard and its command.
 type Call<'a> = (u32, Option<u64>, &'a Command);
 
-impl<R: Wait> Room<'_, R> {
+impl<R: Wait> Tester<'_, R> {
     /// Gives the desk a command. Unlike the desk's, this contract promises nothing about histories.
-    fn bring(&self, chair: &mut Chair<Safe>, call: Call<'_>) -> Receipt
+    fn act(&self, chair: &mut Chair<Safe>, call: Call<'_>) -> Receipt
         requires { IsChairOf (λ _. safe_behaviour) self.now.desk.now chair.old }
         ensures { IsChairOf (λ _. safe_behaviour) self.now.desk.now chair.new }
     {
@@ -101,7 +101,7 @@ impl<R: Wait> Room<'_, R> {
         requires { IsChairOf (λ _. safe_behaviour) self.now.desk.now chair.old }
         ensures { IsChairOf (λ _. safe_behaviour) self.now.desk.now chair.new }
     {
-        let receipt = self.bring(chair, (0, None, edit));
+        let receipt = self.act(chair, (0, None, edit));
         matches!(receipt.reply, Reply::Edited(_))
     }
 
@@ -243,10 +243,10 @@ fn log_and_text<R: Abort + Threads + Wait + Sync>(
 {
     let (desk, chair) = opened;
     let (mut first, second) = halves(&desk, chair);
-    let room = Room::new(rt, alloc, &desk);
-    let edited = room.bring_all(&mut first, edits);
-    let (mut chair, fine) = room.side_by_side((first, works.0), (second, works.1));
-    let text = room.text_at(&mut chair, query);
+    let tester = Tester::new(rt, alloc, &desk);
+    let edited = tester.act_all(&mut first, edits);
+    let (mut chair, fine) = tester.side_by_side((first, works.0), (second, works.1));
+    let text = tester.text_at(&mut chair, query);
     let log = closed(desk, chair);
     both(edited && fine, log, text)
 }

@@ -1,4 +1,4 @@
--- Outcomes that are put into slots and trays.
+-- Outcomes that thieves list, and that are put into slots.
 use Rattle.std.proofs.Common.{◌≡◌, ◌≢◌, ℕ, zero, suc, ◌+◌, ◌-◌, ◌<◌, ◌≤◌, All, drop, List, [], ◌∷◌, ◌++◌, length, map, replicate, set, get_or, sym, refl, ap, ◌∙◌, subst, append_assoc, append-nil, length-append, arith}
 use Rattle.std.specs.Prelude.{Option, Some, None}
 use Rattle.std.proofs.lemmas.List.{map-append, length-map}
@@ -9,7 +9,7 @@ use Rattle.workers.specs.declared.job.Done.{Done}
 use Rattle.workers.specs.declared.thief.Taken.{Taken}
 use Rattle.workers.specs.Hands.{weigh, one_at, hand, HasTaken, HasAllJobs}
 use Rattle.workers.specs.Outcomes.{IsOutcomeOf, OneForEach}
-use Rattle.workers.specs.Slots.{IsOutcomeAt, IsSlot, AreSlots, AreFull, IsAtWork, HasTray, with_all}
+use Rattle.workers.specs.Slots.{IsOutcomeAt, IsSlot, AreSlots, AreFull, IsAtWork, HasRunItsJobs, with_all}
 use Rattle.workers.proofs.DequeRule.{weigh-append, one_elsewhere, one_below}
 
 pub next_below : (v w : Hand) (x : ℕ) → HasTaken v (x ∷ []) w → x < v.count
@@ -23,11 +23,11 @@ nearer v w x took =
     omega (arith, length-append v.taken (x ∷ []))
 
 module _ {R : Type 0} where
-  pub tray_within : (n : ℕ) (tray rest : List (Taken R)) (t : Taken R) → tray ≡ t ∷ rest → All (λ x. x.index < n) tray → t.index < n
-  tray_within n tray rest t is all = let now : All (λ (x : Taken R). x.index < n) (t ∷ rest) = subst (All (λ (x : Taken R). x.index < n)) is all in now 0 t (omega arith)
+  pub ran_within : (n : ℕ) (ran rest : List (Taken R)) (t : Taken R) → ran ≡ t ∷ rest → All (λ x. x.index < n) ran → t.index < n
+  ran_within n ran rest t is all = let now : All (λ (x : Taken R). x.index < n) (t ∷ rest) = subst (All (λ (x : Taken R). x.index < n)) is all in now 0 t (omega arith)
 
-  pub tray_later : (n m : ℕ) (tray rest : List (Taken R)) (t : Taken R) → tray ≡ t ∷ rest → m ≡ n → All (λ x. x.index < n) tray → All (λ x. x.index < m) rest
-  tray_later n m tray rest t is same all =
+  pub ran_later : (n m : ℕ) (ran rest : List (Taken R)) (t : Taken R) → ran ≡ t ∷ rest → m ≡ n → All (λ x. x.index < n) ran → All (λ x. x.index < m) rest
+  ran_later n m ran rest t is same all =
       let now : All (λ (x : Taken R). x.index < n) (t ∷ rest) = subst (All (λ (x : Taken R). x.index < n)) is all in
       let rest_now : All (λ (x : Taken R). x.index < n) rest = All-tail (λ (x : Taken R). x.index < n) t rest now in
       subst (λ (k : ℕ). All (λ (x : Taken R). x.index < k) rest) (sym same) rest_now
@@ -75,8 +75,8 @@ module _ {J R : Type 0} (gives : J → R → Type 0) where
       → AreSlots gives 0 (taken ++ i ∷ []) jobs (set slots i (Some o))
   slots_put taken jobs slots i o s at = slots_put_from 0 taken jobs slots i i o (omega arith) s at
 
-  pub slots_put_all : (taken : List ℕ) (jobs : List J) (slots : List (Option (JobOutcome R))) (tray : List (Taken R)) → AreSlots gives 0 taken jobs slots → All (λ t. IsOutcomeAt gives jobs t.index t.outcome) tray
-      → AreSlots gives 0 (taken ++ map (λ t. t.index) tray) jobs (with_all slots tray)
+  pub slots_put_all : (taken : List ℕ) (jobs : List J) (slots : List (Option (JobOutcome R))) (ran : List (Taken R)) → AreSlots gives 0 taken jobs slots → All (λ t. IsOutcomeAt gives jobs t.index t.outcome) ran
+      → AreSlots gives 0 (taken ++ map (λ t. t.index) ran) jobs (with_all slots ran)
   slots_put_all taken jobs slots [] s at = subst (λ (xs : List ℕ). AreSlots gives 0 xs jobs slots) (sym (append-nil taken)) s
   slots_put_all taken jobs slots (t ∷ ts) s at =
       let first = slots_put taken jobs slots t.index t.outcome s (at 0 t (omega arith)) in
@@ -201,42 +201,42 @@ module _ {J R : Type 0} (gives : J → R → Type 0) where
           subst (λ (n : ℕ). AreFull gives (drop n jobs) slots) k_is (full_next jobs k o slots now),
         )
 
-  -- a thief takes one more job, and puts its outcome on its tray
-  pub steals_on : (jobs : List J) (v w : Hand) (tray : List (Taken R)) (x : ℕ) (o : JobOutcome R) → HasTray gives jobs v tray → HasTaken v (x ∷ []) w → IsOutcomeAt gives jobs x o
-      → HasTray gives jobs w (tray ++ record { index = x; outcome = o } ∷ [])
-  steals_on jobs v w tray x o h took at =
+  -- a thief takes one more job, and adds its outcome to its list
+  pub steals_on : (jobs : List J) (v w : Hand) (ran : List (Taken R)) (x : ℕ) (o : JobOutcome R) → HasRunItsJobs gives jobs v ran → HasTaken v (x ∷ []) w → IsOutcomeAt gives jobs x o
+      → HasRunItsJobs gives jobs w (ran ++ record { index = x; outcome = o } ∷ [])
+  steals_on jobs v w ran x o h took at =
       let t : Taken R = record { index = x; outcome = o } in
-      let P : Hand → Type 0 = λ u. HasTray gives jobs u (tray ++ t ∷ []) in
+      let P : Hand → Type 0 = λ u. HasRunItsJobs gives jobs u (ran ++ t ∷ []) in
       subst P (sym took.hand_is) (record {
         part = h.part;
         count = h.count;
-        taken = map-append (λ (y : Taken R). y.index) tray (t ∷ []) ∙ ap (λ (ys : List ℕ). ys ++ x ∷ []) h.taken;
-        outcomes = All-append (λ (y : Taken R). IsOutcomeAt gives jobs y.index y.outcome) tray (t ∷ []) h.outcomes (All-cons (λ (y : Taken R). IsOutcomeAt gives jobs y.index y.outcome) t [] at (λ k d none. absurd (omega arith)));
+        taken = map-append (λ (y : Taken R). y.index) ran (t ∷ []) ∙ ap (λ (ys : List ℕ). ys ++ x ∷ []) h.taken;
+        outcomes = All-append (λ (y : Taken R). IsOutcomeAt gives jobs y.index y.outcome) ran (t ∷ []) h.outcomes (All-cons (λ (y : Taken R). IsOutcomeAt gives jobs y.index y.outcome) t [] at (λ k d none. absurd (omega arith)));
       })
 
   -- a hand that takes one more job had taken fewer than there are
-  pub tray_room : (jobs : List J) (v w : Hand) (tray : List (Taken R)) (x : ℕ) → HasTray gives jobs v tray → HasTaken v (x ∷ []) w → length tray < length jobs
-  tray_room jobs v w tray x h took =
+  pub ran_room : (jobs : List J) (v w : Hand) (ran : List (Taken R)) (x : ℕ) → HasRunItsJobs gives jobs v ran → HasTaken v (x ∷ []) w → length ran < length jobs
+  ran_room jobs v w ran x h took =
       let count = h.count in
-      let len : length tray ≡ length v.taken = sym (length-map tray (λ (t : Taken R). t.index)) ∙ ap length h.taken in
+      let len : length ran ≡ length v.taken = sym (length-map ran (λ (t : Taken R). t.index)) ∙ ap length h.taken in
       let more : length w.taken ≡ length (v.taken ++ x ∷ []) = ap (λ (u : Hand). length u.taken) took.hand_is in
       let within = took.within in
       omega (arith, length-append v.taken (x ∷ []))
 
-  -- each outcome on a tray has its slot
-  pub tray_slots : (jobs : List J) (v u : Hand) (slots : List (Option (JobOutcome R))) (tray : List (Taken R)) → IsAtWork gives jobs v slots → HasTray gives jobs u tray → All (λ t. t.index < length slots) tray
-  tray_slots jobs v u slots tray h t k d within =
+  -- each of a thief's outcomes has its slot
+  pub ran_slots : (jobs : List J) (v u : Hand) (slots : List (Option (JobOutcome R))) (ran : List (Taken R)) → IsAtWork gives jobs v slots → HasRunItsJobs gives jobs u ran → All (λ t. t.index < length slots) ran
+  ran_slots jobs v u slots ran h t k d within =
       let len = slots_length 0 v.taken jobs slots h.slotted in
-      let below = at_below jobs (get_or tray k d).index (get_or tray k d).outcome (t.outcomes k d within) in
+      let below = at_below jobs (get_or ran k d).index (get_or ran k d).outcome (t.outcomes k d within) in
       omega arith
 
   -- the caller takes over the jobs of a thief, and their outcomes go into their slots
-  pub comes_over : (jobs : List J) (v u w : Hand) (slots : List (Option (JobOutcome R))) (tray : List (Taken R)) → IsAtWork gives jobs v slots → HasTray gives jobs u tray → w ≡ hand (v.parts + u.parts) v.count (v.taken ++ u.taken)
-      → IsAtWork gives jobs w (with_all slots tray)
-  comes_over jobs v u w slots tray h t is =
-      let P : Hand → Type 0 = λ x. IsAtWork gives jobs x (with_all slots tray) in
+  pub comes_over : (jobs : List J) (v u w : Hand) (slots : List (Option (JobOutcome R))) (ran : List (Taken R)) → IsAtWork gives jobs v slots → HasRunItsJobs gives jobs u ran → w ≡ hand (v.parts + u.parts) v.count (v.taken ++ u.taken)
+      → IsAtWork gives jobs w (with_all slots ran)
+  comes_over jobs v u w slots ran h t is =
+      let P : Hand → Type 0 = λ x. IsAtWork gives jobs x (with_all slots ran) in
       subst P (sym is) (record {
         part = let p = h.part in omega arith;
         count = h.count;
-        slotted = subst (λ (xs : List ℕ). AreSlots gives 0 (v.taken ++ xs) jobs (with_all slots tray)) t.taken (slots_put_all v.taken jobs slots tray h.slotted t.outcomes);
+        slotted = subst (λ (xs : List ℕ). AreSlots gives 0 (v.taken ++ xs) jobs (with_all slots ran)) t.taken (slots_put_all v.taken jobs slots ran h.slotted t.outcomes);
       })

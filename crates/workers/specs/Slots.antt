@@ -1,5 +1,5 @@
--- Outcomes while a crew is at work. The caller has a slot for each job; each thief has a tray,
--- which is a list of the outcomes of the jobs that it ran.
+-- Outcomes while a crew is at work. The caller has a slot for each job; each thief has a list of the
+-- outcomes of the jobs that it ran.
 use Rattle.std.specs.Prelude.{◌≡◌, ℕ, zero, suc, ◌<◌, List, [], ◌∷◌, All, map, length, slice_set, Option, Some, None}
 use Rattle.workers.specs.declared.job.JobOutcome.{JobOutcome}
 use Rattle.workers.specs.declared.thief.Taken.{Taken}
@@ -7,7 +7,7 @@ use Rattle.workers.specs.declared.hand.Hand.{Hand}
 use Rattle.workers.specs.Outcomes.{IsOutcomeOf}
 use Rattle.workers.specs.Hands.{weigh, one_at}
 
--- these slots after each outcome on a tray is put into its job's slot
+-- these slots after each of a thief's outcomes is put into its job's slot
 abbrev pub with_all : {R : Type 0} → List (Option (JobOutcome R)) → List (Taken R) → List (Option (JobOutcome R))
 with_all slots [] = slots
 with_all slots (t ∷ ts) = with_all (slice_set slots t.index (Some t.outcome)) ts
@@ -46,11 +46,10 @@ module _ {J R : Type 0} (gives : J → R → Type 0) where
     pub count : v.count ≡ length jobs
     pub slotted : AreSlots 0 v.taken jobs slots
 
-  -- A thief's hand (what it knows of the deque) has one part and knows how many jobs there are. The
-  -- thief's tray has an outcome of each job that the hand has taken, in the order in which they
-  -- were taken.
-  pub record HasTray (jobs : List J) (v : Hand) (tray : List (Taken R)) : Type 0 where
+  -- A thief's hand (what it knows of the deque) has one part and knows how many jobs there are.
+  -- `ran` has an outcome of each job that the hand has taken, in the order in which they were taken.
+  pub record HasRunItsJobs (jobs : List J) (v : Hand) (ran : List (Taken R)) : Type 0 where
     pub part : v.parts ≡ 1
     pub count : v.count ≡ length jobs
-    pub taken : map (λ t. t.index) tray ≡ v.taken
-    pub outcomes : All (λ t. IsOutcomeAt jobs t.index t.outcome) tray
+    pub taken : map (λ t. t.index) ran ≡ v.taken
+    pub outcomes : All (λ t. IsOutcomeAt jobs t.index t.outcome) ran

@@ -8,7 +8,7 @@ ghost use Rattle.crossbeam_deque.specs.Handles.{view, IsPassOf, stealer_deque, w
 ghost use Rattle.workers.specs.Hands.{hand, HasAllJobs};
 ghost use Rattle.workers.specs.Outcomes.{OneForEach};
 ghost use Rattle.workers.specs.Owner.{SameOwner};
-ghost use Rattle.workers.specs.Slots.{HasTray, IsAtWork};
+ghost use Rattle.workers.specs.Slots.{HasRunItsJobs, IsAtWork};
 
 use crate::gate::Gate;
 use crate::hand::{ComesBack, Deals, Owner, Pops};
@@ -97,10 +97,10 @@ where
         rt,
         move ||
             requires pass { IsPassOf (stealer_deque thief.deque) thief.pass }
-            requires room { length jobs.now ≤ vec_capacity thief.tray }
-            requires tray { HasTray J.gives jobs.now (view thief.pass) thief.tray.items }
+            requires room { length jobs.now ≤ vec_capacity thief.ran }
+            requires ran { HasRunItsJobs J.gives jobs.now (view thief.pass) thief.ran.items }
             ensures { IsPassOf (stealer_deque thief.deque) result.pass
-                × HasTray J.gives jobs.entry.now (view result.pass) result.tray.items }
+                × HasRunItsJobs J.gives jobs.entry.now (view result.pass) result.ran.items }
         { steal_all(rt, alloc, gate, jobs, thief) },
         move ||
             requires sync { IsSync R.row × IsSync J.row × IsSync G.row × IsSend J.Run.row }
@@ -112,7 +112,7 @@ where
         { share(rt, alloc, gate, jobs, thieves - 1, (owner, slots)) },
     );
     owner.absorb::<ComesBack>(thief.pass);
-    put_all(&mut slots, thief.tray);
+    put_all(&mut slots, thief.ran);
     (owner, slots)
 }
 

@@ -30,13 +30,12 @@ pub(crate) fn put<R: Drop>(slots: &mut Slots<R>, index: usize, outcome: JobOutco
     slots[index] = Some(outcome);
 }
 
-/// Takes the outcomes from a thief's tray, and puts each into the slot of its job. The tray has the
-/// outcomes of the jobs that the thief ran.
-pub(crate) fn put_all<R: Drop>(slots: &mut Slots<R>, tray: Vec<Taken<R>>)
-    requires { All (λ t. t.index < length slots.old.items) tray.items }
-    ensures { slots.new.items ≡ with_all slots.old.items tray.items }
+/// Puts each outcome of the jobs that a thief ran into the slot of its job.
+pub(crate) fn put_all<R: Drop>(slots: &mut Slots<R>, ran: Vec<Taken<R>>)
+    requires { All (λ t. t.index < length slots.old.items) ran.items }
+    ensures { slots.new.items ≡ with_all slots.old.items ran.items }
 {
-    for taken in tray {
+    for taken in ran {
         put(slots, taken.index, taken.outcome);
     }
 }

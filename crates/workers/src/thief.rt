@@ -3,7 +3,7 @@
 ghost use Rattle.std.specs.Prelude.{◌≡◌, ◌<◌, ◌≤◌, ◌-◌, [], length, vec_capacity, IfOk, OnOk, OnErr};
 ghost use Rattle.crossbeam_deque.specs.Handles.{view, IsPassOf, stealer_deque, worker_deque, worker_view, SameWorker};
 ghost use Rattle.workers.specs.Hands.{hand};
-ghost use Rattle.workers.specs.Slots.{HasTray, IsOutcomeAt};
+ghost use Rattle.workers.specs.Slots.{HasRunItsJobs, IsOutcomeAt};
 
 use crate::gate::Gate;
 use crate::hand::{Hires, Other, Owner, Part, Steals};
@@ -12,20 +12,20 @@ use crossbeam_deque::Steal;
 use std::alloc::{AllocError, Global};
 use std::sync::Wait;
 
-/// A job's outcome, with the job's index, as a thief keeps it on its tray.
+/// A job's outcome, with the job's index.
 #[derive(Drop)]
 pub(crate) struct Taken<R> {
     pub index: usize,
     pub outcome: JobOutcome<R>,
 }
 
-/// What a thief works with: its end of the deque, its pass (its right to steal), and a tray, which
-/// is a list for the outcomes of the jobs that it runs.
+/// What a thief works with: its end of the deque, its pass (its right to steal), and the outcomes of
+/// the jobs that it has run.
 #[derive(Drop)]
 pub(crate) struct Thief<R> {
     pub deque: Other,
     pub pass: Part,
-    pub tray: Vec<Taken<R>>,
+    pub ran: Vec<Taken<R>>,
 }
 
 /// A new thief, with one of the owner's parts (the owner, which is the caller's end of the deque,
@@ -41,15 +41,15 @@ pub(crate) fn hire<R: Drop>(
     ensures hired { let v = worker_view owner.old in
         IfOk result (λ t. IsPassOf (worker_deque owner.old) t.pass
         × (stealer_deque t.deque ≡ worker_deque owner.old)
-        × (view t.pass ≡ hand 1 v.count []) × (t.tray.items ≡ []) × (vec_capacity t.tray ≡ jobs)) }
+        × (view t.pass ≡ hand 1 v.count []) × (t.ran.items ≡ []) × (vec_capacity t.ran ≡ jobs)) }
     ensures left { let v = worker_view owner.old in OnOk result
         (worker_view owner.new ≡ hand (v.parts - 1) v.count v.taken) }
     ensures alone { OnErr result (worker_view owner.new ≡ worker_view owner.old) }
 {
     let deque = owner.stealer()?;
-    let tray = Vec::with_capacity(alloc, jobs)?;
+    let ran = Vec::with_capacity(alloc, jobs)?;
     let pass = owner.another::<Hires>();
-    Ok(Thief { deque, pass, tray })
+    Ok(Thief { deque, pass, ran })
 }
 
 /// Offers the job with this index to the gate, then runs it, and returns its outcome.
@@ -71,7 +71,7 @@ pub(crate) fn run_job<W: Wait, J: Runnable, G: Gate<W>>(
 }
 
 /// The thief takes jobs from the deque and runs them, until the deque is empty. Returns the thief,
-/// with an outcome on its tray for each job that it has taken.
+/// with an outcome of each job that it has taken.
 pub(crate) fn steal_all<W: Wait, J: Runnable, G: Gate<W>>(
     rt: &W,
     alloc: Global,
@@ -82,25 +82,25 @@ pub(crate) fn steal_all<W: Wait, J: Runnable, G: Gate<W>>(
 where
     J::Run: Drop,
     requires pass { IsPassOf (stealer_deque thief.deque) thief.pass }
-    requires room { length jobs.now ≤ vec_capacity thief.tray }
-    requires tray { HasTray J.gives jobs.now (view thief.pass) thief.tray.items }
+    requires room { length jobs.now ≤ vec_capacity thief.ran }
+    requires ran { HasRunItsJobs J.gives jobs.now (view thief.pass) thief.ran.items }
     ensures pass { IsPassOf (stealer_deque thief.deque) result.pass }
-    ensures tray { HasTray J.gives jobs.now (view result.pass) result.tray.items }
+    ensures ran { HasRunItsJobs J.gives jobs.now (view result.pass) result.ran.items }
 {
     let Thief {
         deque,
         mut pass,
-        mut tray,
+        mut ran,
     } = thief;
     for _ in rt.forever() {
         match deque.steal_as::<Steals>(&mut pass) {
             Steal::Success(index) => {
                 let outcome = run_job(rt, alloc, gate, jobs, index);
-                tray.push_reserved(Taken { index, outcome });
+                ran.push_reserved(Taken { index, outcome });
             }
             Steal::Retry => {}
             Steal::Empty => break,
         }
     }
-    Thief { deque, pass, tray }
+    Thief { deque, pass, ran }
 }

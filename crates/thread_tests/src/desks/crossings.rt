@@ -7,7 +7,7 @@ ghost use Rattle.turn.specs.Chairs.{view};
 ghost use Rattle.desk.specs.Chairs.{IsChairOf};
 
 use super::openings::{limits, thousand};
-use super::{READ, Room, halves, is_text, name};
+use super::{READ, Tester, halves, is_text, name};
 use desk::{Chair, Desk, Item, Journal, Report};
 use frames::register::Register;
 use frames::safe::Safe;
@@ -133,18 +133,18 @@ const STATE: &[u8] =
 
 /// Fills by one chair while the other edits, and then looks.
 fn cross_and_look<R: Abort + Threads + Wait + Sync>(
-    room: &Room<'_, R>,
+    tester: &Tester<'_, R>,
     first: &mut Chair<Safe>,
     second: Chair<Safe>,
 ) -> Result<(), Refusal>
-    requires { IsChairOf (λ _. safe_behaviour) room.now.desk.now first.old
-        × IsChairOf (λ _. safe_behaviour) room.now.desk.now second }
+    requires { IsChairOf (λ _. safe_behaviour) tester.now.desk.now first.old
+        × IsChairOf (λ _. safe_behaviour) tester.now.desk.now second }
 {
-    let report = filled_beside(room.rt, room.alloc, room.desk, first, second)?;
-    assert!(room.rt; is_crossed(report));
-    let (at, text) = room.text_at(first, &state_at(room.rt, 2))?;
-    assert_eq!(room.rt; at, 1);
-    assert!(room.rt; is_text(&text, STATE));
+    let report = filled_beside(tester.rt, tester.alloc, tester.desk, first, second)?;
+    assert!(tester.rt; is_crossed(report));
+    let (at, text) = tester.text_at(first, &state_at(tester.rt, 2))?;
+    assert_eq!(tester.rt; at, 1);
+    assert!(tester.rt; is_text(&text, STATE));
     Ok(())
 }
 
@@ -160,7 +160,7 @@ fn state_at(rt: &impl Abort, place: u32) -> Query {
 fn crossing_install(rt: HostRuntime) -> Result<(), Fail> {
     let (desk, first) = of_one_read(rt.alloc())?;
     let (mut first, second) = halves(&desk, first);
-    cross_and_look(&Room::new(&rt, rt.alloc(), &desk), &mut first, second)?;
+    cross_and_look(&Tester::new(&rt, rt.alloc(), &desk), &mut first, second)?;
     Ok(())
 }
 
@@ -187,29 +187,29 @@ fn crossing_a_long_branch(rt: HostRuntime) -> Result<(), Fail> {
 
 /// Fills by one chair while the other edits. Either the report is allowed, or memory ran out.
 fn cross<R: Abort + Threads + Wait + Sync>(
-    room: &Room<'_, R>,
+    tester: &Tester<'_, R>,
     first: &mut Chair<Safe>,
     second: Chair<Safe>,
 )
-    requires { IsChairOf (λ _. safe_behaviour) room.now.desk.now first.old
-        × IsChairOf (λ _. safe_behaviour) room.now.desk.now second }
-    ensures { IsChairOf (λ _. safe_behaviour) room.now.desk.now first.new }
+    requires { IsChairOf (λ _. safe_behaviour) tester.now.desk.now first.old
+        × IsChairOf (λ _. safe_behaviour) tester.now.desk.now second }
+    ensures { IsChairOf (λ _. safe_behaviour) tester.now.desk.now first.new }
 {
-    match filled_beside(room.rt, room.alloc, room.desk, first, second) {
-        Ok(report) => assert!(room.rt; report.memory <= 1),
-        Err(refusal) => assert!(room.rt; refusal == Refusal::Memory),
+    match filled_beside(tester.rt, tester.alloc, tester.desk, first, second) {
+        Ok(report) => assert!(tester.rt; report.memory <= 1),
+        Err(refusal) => assert!(tester.rt; refusal == Refusal::Memory),
     }
 }
 
 /// Fills and looks by one of two chairs of a new desk.
-fn cross_at<R: Abort + Threads + Wait + Sync>(room: &Room<'_, R>, chair: Chair<Safe>)
-    requires chair { IsChairOf (λ _. safe_behaviour) room.now.desk.now chair }
+fn cross_at<R: Abort + Threads + Wait + Sync>(tester: &Tester<'_, R>, chair: Chair<Safe>)
+    requires chair { IsChairOf (λ _. safe_behaviour) tester.now.desk.now chair }
     requires every { (view chair).shares ≡ every_share }
 {
-    let (mut first, second) = halves(room.desk, chair);
-    cross(room, &mut first, second);
-    let (at, _) = room.text_again(&mut first, &state_at(room.rt, 0));
-    assert!(room.rt; at <= 1);
+    let (mut first, second) = halves(tester.desk, chair);
+    cross(tester, &mut first, second);
+    let (at, _) = tester.text_again(&mut first, &state_at(tester.rt, 0));
+    assert!(tester.rt; at <= 1);
 }
 
 /// If memory runs out, the other chair's edit may be refused, and a run may be missing. The desk
@@ -217,6 +217,6 @@ fn cross_at<R: Abort + Threads + Wait + Sync>(room: &Room<'_, R>, chair: Chair<S
 #[test]
 fn crossing_out_of_memory(rt: HostRuntime) {
     if let Ok((desk, chair)) = of_one_read(rt.alloc()) {
-        cross_at(&Room::new(&rt, rt.alloc(), &desk), chair);
+        cross_at(&Tester::new(&rt, rt.alloc(), &desk), chair);
     }
 }

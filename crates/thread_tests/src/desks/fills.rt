@@ -9,7 +9,7 @@ ghost use Rattle.desk.specs.Chairs.{IsChairOf};
 
 use super::openings::{thousand, writes, written};
 use super::side_by_side::Work;
-use super::{Room, book_of, is_text, log_and_text, name, replies_to, text_of};
+use super::{Tester, book_of, is_text, log_and_text, name, replies_to, text_of};
 use desk::{Chair, Report};
 use frames::safe::Safe;
 use frames::types::Step;
@@ -29,7 +29,7 @@ use views::page::Page;
 use views::query::Query;
 use views::slip::Slip;
 
-impl<R: Threads + Wait + Sync> Room<'_, R> {
+impl<R: Threads + Wait + Sync> Tester<'_, R> {
     /// Fills a branch. Unlike the desk's, this contract promises nothing about histories.
     pub(super) fn filled(
         &self,
@@ -56,7 +56,7 @@ pub(super) fn all_installed(count: u64) -> Report {
     }
 }
 
-impl<R: Threads + Wait + Sync> Room<'_, R> {
+impl<R: Threads + Wait + Sync> Tester<'_, R> {
     /// Fills a branch, and returns whether the report has `count` jobs, all of them installed.
     fn installs(
         &self,
@@ -85,18 +85,18 @@ impl<R: Threads + Wait + Sync> Room<'_, R> {
 
 /// Fills a branch that isn't there, and `main` twice, at a desk of the thousand steps.
 fn fill_at<R: Abort + Threads + Wait + Sync>(
-    room: &Room<'_, R>,
+    tester: &Tester<'_, R>,
     chair: &mut Chair<Safe>,
     thieves: u32,
 ) -> Result<(), Refusal>
-    requires at { IsChairOf (λ _. safe_behaviour) room.now.desk.now chair.old }
+    requires at { IsChairOf (λ _. safe_behaviour) tester.now.desk.now chair.old }
     requires thieves { thieves ≤ 4 }
 {
-    let (main, zed) = (name(room.rt, b"main"), name(room.rt, b"zed"));
-    let missing = room.refused(chair, &zed, thieves);
-    assert!(room.rt; missing == Some(Refusal::NoBranch));
-    assert!(room.rt; room.installs(chair, &main, thieves, 8)?);
-    assert!(room.rt; room.installs(chair, &main, thieves, 0)?);
+    let (main, zed) = (name(tester.rt, b"main"), name(tester.rt, b"zed"));
+    let missing = tester.refused(chair, &zed, thieves);
+    assert!(tester.rt; missing == Some(Refusal::NoBranch));
+    assert!(tester.rt; tester.installs(chair, &main, thieves, 8)?);
+    assert!(tester.rt; tester.installs(chair, &main, thieves, 0)?);
     Ok(())
 }
 
@@ -109,7 +109,7 @@ fn fill_thousand<R: Abort + Threads + Wait + Sync>(
     requires { thieves ≤ 4 }
 {
     let (desk, mut chair) = thousand(alloc, 1024)?;
-    fill_at(&Room::new(rt, alloc, &desk), &mut chair, thieves)
+    fill_at(&Tester::new(rt, alloc, &desk), &mut chair, thieves)
 }
 
 /// A segment has at most 128 cells, so the thousand steps have 8 segments. Each round installs the
@@ -135,14 +135,14 @@ fn long() -> Limits
 
 /// Fills 66 segments in two fills.
 fn fill_long<R: Abort + Threads + Wait + Sync>(
-    room: &Room<'_, R>,
+    tester: &Tester<'_, R>,
     chair: &mut Chair<Safe>,
 ) -> Result<(), Refusal>
-    requires { IsChairOf (λ _. safe_behaviour) room.now.desk.now chair.old }
+    requires { IsChairOf (λ _. safe_behaviour) tester.now.desk.now chair.old }
 {
-    let main = name(room.rt, b"main");
-    assert!(room.rt; room.installs(chair, &main, 0, 64)?);
-    assert!(room.rt; room.installs(chair, &main, 0, 2)?);
+    let main = name(tester.rt, b"main");
+    assert!(tester.rt; tester.installs(chair, &main, 0, 64)?);
+    assert!(tester.rt; tester.installs(chair, &main, 0, 2)?);
     Ok(())
 }
 
@@ -150,7 +150,7 @@ fn fill_long<R: Abort + Threads + Wait + Sync>(
 #[test]
 fn sixty_four_rounds(rt: HostRuntime) -> Result<(), Fail> {
     let (desk, mut chair) = written(rt.alloc(), 66 * 128, long())?;
-    fill_long(&Room::new(&rt, rt.alloc(), &desk), &mut chair)?;
+    fill_long(&Tester::new(&rt, rt.alloc(), &desk), &mut chair)?;
     Ok(())
 }
 
@@ -176,7 +176,7 @@ fn is_sum_or_gone(reported: Result<Report, Refusal>) -> bool {
     }
 }
 
-impl<R: Abort + Threads + Wait + Sync> Room<'_, R> {
+impl<R: Abort + Threads + Wait + Sync> Tester<'_, R> {
     /// Fills branch `a` over and over. Returns whether the result of each fill is one that
     /// `is_sum_or_gone` accepts.
     pub(super) fn fill_all(&self, chair: &mut Chair<Safe>) -> bool

@@ -10,7 +10,7 @@ ghost use Rattle.desk.specs.Chairs.{IsChairOf};
 use super::fills::all_installed;
 use super::openings::written;
 use super::rounds::Offers;
-use super::{READ, Room, name};
+use super::{READ, Tester, name};
 use desk::Chair;
 use frames::safe::Safe;
 use schedule_trie::limits::Limits;
@@ -275,9 +275,9 @@ impl<W: Wait> Gate<W> for OffersByRound {
     }
 }
 
-impl<R: Abort + Threads + Wait + Sync> Room<'_, R> {
+impl<R: Abort + Threads + Wait + Sync> Tester<'_, R> {
     /// Gives the desk edits, and returns whether each was accepted.
-    pub(super) fn bring_all(&self, chair: &mut Chair<Safe>, commands: &[Command]) -> bool
+    pub(super) fn act_all(&self, chair: &mut Chair<Safe>, commands: &[Command]) -> bool
         requires { IsChairOf (λ _. safe_behaviour) self.now.desk.now chair.old }
         ensures { IsChairOf (λ _. safe_behaviour) self.now.desk.now chair.new }
     {
@@ -327,19 +327,19 @@ impl Tally for Offers {
 /// Makes a forest by its commands at a new desk, and fills it by the caller and `thieves` thieves.
 /// Returns whether the report and the gate agree with the model's counts of jobs.
 fn is_filled_at<R: Abort + Threads + Wait + Sync, G: Gate<R> + Tally + Sync>(
-    room: &Room<'_, R>,
+    tester: &Tester<'_, R>,
     chair: &mut Chair<Safe>,
     commands: &[Command],
     counts: &[u64],
     thieves: u32,
     offers: &G,
 ) -> Result<bool, Refusal>
-    requires at { IsChairOf (λ _. safe_behaviour) room.now.desk.now chair.old }
+    requires at { IsChairOf (λ _. safe_behaviour) tester.now.desk.now chair.old }
     requires thieves { thieves ≤ 4 }
 {
-    let brought = room.bring_all(chair, commands);
-    let report = room.filled_with(chair, thieves, offers)?;
-    Ok(brought && report == all_installed(sum_of(counts)) && offers.agrees(counts))
+    let all_edited = tester.act_all(chair, commands);
+    let report = tester.filled_with(chair, thieves, offers)?;
+    Ok(all_edited && report == all_installed(sum_of(counts)) && offers.agrees(counts))
 }
 
 /// Makes a forest by its commands, and fills it by the caller and `thieves` thieves. Returns
@@ -355,8 +355,8 @@ fn is_filled_by<R: Abort + Threads + Wait + Sync, G: Gate<R> + Tally + Sync>(
     requires { thieves ≤ 4 }
 {
     let (desk, mut chair) = written(alloc, 0, wide())?;
-    let room = Room::new(rt, alloc, &desk);
-    is_filled_at(&room, &mut chair, commands, counts, thieves, offers)
+    let tester = Tester::new(rt, alloc, &desk);
+    is_filled_at(&tester, &mut chair, commands, counts, thieves, offers)
 }
 
 /// Whether a forest is filled as in the model, without thieves and with two.

@@ -11,7 +11,7 @@ ghost use Rattle.desk.specs.Chairs.{IsChairOf};
 
 use super::openings::{opened, thousand};
 use super::rows::{STATE, insert_by_both, state_after_one};
-use super::{Room, asked, halves, insert_at, is_text, name};
+use super::{Tester, asked, halves, insert_at, is_text, name};
 use desk::{Chair, Receipt};
 use frames::safe::Safe;
 use schedule_trie::refusal::Refusal;
@@ -36,49 +36,49 @@ fn are_allowed(first: Receipt, second: Receipt) -> bool {
 
 /// Looks at the state after the first step of `main`, and compares the page's text, unless memory
 /// runs out.
-fn look_once<R: Abort + Wait>(room: &Room<'_, R>, chair: &mut Chair<Safe>)
-    requires { IsChairOf (λ _. safe_behaviour) room.now.desk.now chair.old }
+fn look_once<R: Abort + Wait>(tester: &Tester<'_, R>, chair: &mut Chair<Safe>)
+    requires { IsChairOf (λ _. safe_behaviour) tester.now.desk.now chair.old }
 {
-    match room.text_at(chair, &state_after_one(room.rt)) {
-        Ok((_, text)) => assert!(room.rt; is_text(&text, STATE)),
-        Err(refusal) => assert!(room.rt; refusal == Refusal::Memory),
+    match tester.text_at(chair, &state_after_one(tester.rt)) {
+        Ok((_, text)) => assert!(tester.rt; is_text(&text, STATE)),
+        Err(refusal) => assert!(tester.rt; refusal == Refusal::Memory),
     }
 }
 
 /// Two chairs each insert a read at the beginning. Returns the length of the history in the last
 /// receipt.
 fn insert_once_each<R: Abort + Wait>(
-    room: &Room<'_, R>,
+    tester: &Tester<'_, R>,
     first: &mut Chair<Safe>,
     second: &mut Chair<Safe>,
 ) -> u64
-    requires { IsChairOf (λ _. safe_behaviour) room.now.desk.now first.old
-        × IsChairOf (λ _. safe_behaviour) room.now.desk.now second.old }
-    ensures { IsChairOf (λ _. safe_behaviour) room.now.desk.now first.new }
+    requires { IsChairOf (λ _. safe_behaviour) tester.now.desk.now first.old
+        × IsChairOf (λ _. safe_behaviour) tester.now.desk.now second.old }
+    ensures { IsChairOf (λ _. safe_behaviour) tester.now.desk.now first.new }
 {
-    let insert = insert_at(room.rt, 0);
-    let done = room.bring(first, (0, Some(0), &insert));
-    let late = room.bring(second, (1, Some(0), &insert));
+    let insert = insert_at(tester.rt, 0);
+    let done = tester.act(first, (0, Some(0), &insert));
+    let late = tester.act(second, (1, Some(0), &insert));
     let at = late.at;
-    assert!(room.rt; are_allowed(done, late));
+    assert!(tester.rt; are_allowed(done, late));
     at
 }
 
 /// Two chairs of a new desk each make an insert; then the first asks for news and looks.
-fn insert_and_look<R: Abort + Wait>(room: &Room<'_, R>, chair: Chair<Safe>)
-    requires chair { IsChairOf (λ _. safe_behaviour) room.now.desk.now chair }
+fn insert_and_look<R: Abort + Wait>(tester: &Tester<'_, R>, chair: Chair<Safe>)
+    requires chair { IsChairOf (λ _. safe_behaviour) tester.now.desk.now chair }
     requires every { (view chair).shares ≡ every_share }
 {
-    let (mut first, mut second) = halves(room.desk, chair);
-    let at = insert_once_each(room, &mut first, &mut second);
-    assert_eq!(room.rt; asked(room.desk, &mut first), at);
-    look_once(room, &mut first);
+    let (mut first, mut second) = halves(tester.desk, chair);
+    let at = insert_once_each(tester, &mut first, &mut second);
+    assert_eq!(tester.rt; asked(tester.desk, &mut first), at);
+    look_once(tester, &mut first);
 }
 
 #[test]
 fn two_chairs_out_of_memory(rt: HostRuntime) {
     match opened(rt.alloc(), 16) {
-        Ok((desk, chair)) => insert_and_look(&Room::new(&rt, rt.alloc(), &desk), chair),
+        Ok((desk, chair)) => insert_and_look(&Tester::new(&rt, rt.alloc(), &desk), chair),
         Err(refusal) => assert!(rt; refusal == Refusal::Memory),
     }
 }
@@ -86,10 +86,10 @@ fn two_chairs_out_of_memory(rt: HostRuntime) {
 /// The most times that a call is tried. Fewer growths are refused in a row.
 const TRIES: u32 = 10;
 
-impl<R: Abort + Wait> Room<'_, R> {
+impl<R: Abort + Wait> Tester<'_, R> {
     /// Gives the desk a command guarded by edit count 0, at most `tries` times, until it isn't
     /// refused as Memory.
-    pub(super) fn bring_again(
+    pub(super) fn act_again(
         &self,
         chair: &mut Chair<Safe>,
         who: u32,
@@ -100,7 +100,7 @@ impl<R: Abort + Wait> Room<'_, R> {
         ensures { IsChairOf (λ _. safe_behaviour) self.now.desk.now chair.new }
     {
         for _ in 0..tries {
-            let receipt = self.bring(chair, (who, Some(0), command));
+            let receipt = self.act(chair, (who, Some(0), command));
             if receipt.reply != Reply::No(Refusal::Memory) {
                 return receipt;
             }
@@ -127,36 +127,36 @@ impl<R: Abort + Wait> Room<'_, R> {
 /// Looks again and again until there is memory, and compares the length of the history and the
 /// text of the page.
 fn look_again<R: Abort + Wait>(
-    room: &Room<'_, R>,
+    tester: &Tester<'_, R>,
     chair: &mut Chair<Safe>,
     query: &Query,
     expected: (u64, &[u8]),
 )
-    requires { IsChairOf (λ _. safe_behaviour) room.now.desk.now chair.old }
+    requires { IsChairOf (λ _. safe_behaviour) tester.now.desk.now chair.old }
 {
-    let (at, text) = room.text_again(chair, query);
-    assert!(room.rt; at == expected.0 && is_text(&text, expected.1));
+    let (at, text) = tester.text_again(chair, query);
+    assert!(tester.rt; at == expected.0 && is_text(&text, expected.1));
 }
 
 /// Two chairs of a new desk each make an insert, and then the first looks. All calls are made again
 /// and again until there is memory.
-fn insert_and_look_again<R: Abort + Wait>(room: &Room<'_, R>, chair: Chair<Safe>)
-    requires chair { IsChairOf (λ _. safe_behaviour) room.now.desk.now chair }
+fn insert_and_look_again<R: Abort + Wait>(tester: &Tester<'_, R>, chair: Chair<Safe>)
+    requires chair { IsChairOf (λ _. safe_behaviour) tester.now.desk.now chair }
     requires every { (view chair).shares ≡ every_share }
 {
-    let (mut first, mut second) = halves(room.desk, chair);
-    insert_by_both(room, &mut first, &mut second, TRIES);
-    look_again(room, &mut first, &state_after_one(room.rt), (2, STATE));
+    let (mut first, mut second) = halves(tester.desk, chair);
+    insert_by_both(tester, &mut first, &mut second, TRIES);
+    look_again(tester, &mut first, &state_after_one(tester.rt), (2, STATE));
 }
 
 #[test]
 fn two_chairs_asking_again(rt: HostRuntime) {
     if let Ok((desk, chair)) = opened(rt.alloc(), 16) {
-        insert_and_look_again(&Room::new(&rt, rt.alloc(), &desk), chair);
+        insert_and_look_again(&Tester::new(&rt, rt.alloc(), &desk), chair);
     }
 }
 
-impl<R: Abort + Threads + Wait + Sync> Room<'_, R> {
+impl<R: Abort + Threads + Wait + Sync> Tester<'_, R> {
     /// Fills `main` until no job is left; every run fits. Returns how many runs were installed, and
     /// whether no fill was refused.
     fn fill_again(&self, chair: &mut Chair<Safe>, thieves: u32) -> (u64, bool)
@@ -193,20 +193,20 @@ const FILLED: &[u8] =
 /// Fills a desk of the thousand steps, counts the installed runs, and looks at the state at the end
 /// of the steps.
 fn fill_and_look<R: Abort + Threads + Wait + Sync>(
-    room: &Room<'_, R>,
+    tester: &Tester<'_, R>,
     chair: &mut Chair<Safe>,
     thieves: u32,
 )
-    requires at { IsChairOf (λ _. safe_behaviour) room.now.desk.now chair.old }
+    requires at { IsChairOf (λ _. safe_behaviour) tester.now.desk.now chair.old }
     requires thieves { thieves ≤ 4 }
 {
-    let (installed, all) = room.fill_again(chair, thieves);
-    assert!(room.rt; installed == 8 || (installed < 8 && !all));
+    let (installed, all) = tester.fill_again(chair, thieves);
+    assert!(tester.rt; installed == 8 || (installed < 8 && !all));
     let state = Query::State {
-        b: name(room.rt, b"main"),
+        b: name(tester.rt, b"main"),
         k: 1000,
     };
-    look_again(room, chair, &state, (0, FILLED));
+    look_again(tester, chair, &state, (0, FILLED));
 }
 
 /// Fills and looks at a new desk of a thousand steps.
@@ -214,7 +214,7 @@ fn thousand_with<R: Abort + Threads + Wait + Sync>(rt: &R, alloc: Global, thieve
     requires { thieves ≤ 4 }
 {
     if let Ok((desk, mut chair)) = thousand(alloc, 1024) {
-        fill_and_look(&Room::new(rt, alloc, &desk), &mut chair, thieves);
+        fill_and_look(&Tester::new(rt, alloc, &desk), &mut chair, thieves);
     }
 }
 

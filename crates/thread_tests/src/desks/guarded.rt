@@ -7,7 +7,7 @@ ghost use Rattle.desk.specs.Chairs.{IsChairOf};
 use super::fills::is_replayed;
 use super::openings::opened;
 use super::side_by_side::Work;
-use super::{READ, Room, log_and_text, name};
+use super::{READ, Tester, log_and_text, name};
 use desk::{Chair, Receipt};
 use frames::safe::Safe;
 use frames::types::Step;
@@ -46,7 +46,7 @@ fn count_reported(receipt: Receipt) -> Option<(u64, bool)> {
     }
 }
 
-impl<R: Abort + Wait> Room<'_, R> {
+impl<R: Abort + Wait> Tester<'_, R> {
     /// Makes `EDITS` inserts of a session, each guarded by the edit count that the previous reply
     /// reports. Returns whether all were made within `2 * EDITS` calls: each refusal is due to an
     /// edit of the other chair, which also makes `EDITS`.
@@ -58,7 +58,7 @@ impl<R: Abort + Wait> Room<'_, R> {
         let mut guard = 0u64;
         let mut made = 0u32;
         for _ in 0..2 * EDITS {
-            let receipt = self.bring(chair, (who, Some(guard), &insert));
+            let receipt = self.act(chair, (who, Some(guard), &insert));
             let Some((count, is_made)) = count_reported(receipt) else {
                 return false;
             };

@@ -9,7 +9,7 @@ ghost use Rattle.cutoff.specs.Charts.{LimbsFit};
 ghost use Rattle.desk.specs.Chairs.{IsChairOf};
 
 use super::openings::limits;
-use super::{READ, Room};
+use super::{READ, Tester};
 use cutoff::chart::Chart;
 use desk::{Chair, Desk, Saved};
 use frames::safe::Safe;
@@ -137,7 +137,7 @@ fn is_first_with(saved: &Saved, limbs: &[Limb]) -> bool {
     saved.at == 0 && are_same(saved.limbs.as_slice(), limbs)
 }
 
-impl<R: Wait> Room<'_, R> {
+impl<R: Wait> Tester<'_, R> {
     /// Saves the desk. Unlike the desk's, this contract promises nothing about the limbs.
     fn saved(&self, chair: &mut Chair<Safe>) -> Result<Saved, Refusal>
         requires { IsChairOf (λ _. safe_behaviour) self.now.desk.now chair.old }
@@ -162,7 +162,7 @@ fn desk_keeps<R: Wait>(rt: &R, alloc: Global, limbs: &[Limb]) -> Result<bool, Re
         × LimbsFit safe_behaviour limbs.now }
 {
     let (desk, mut chair) = loaded_desk(alloc, limbs)?;
-    Room::new(rt, alloc, &desk).has_limbs(&mut chair, limbs)
+    Tester::new(rt, alloc, &desk).has_limbs(&mut chair, limbs)
 }
 
 /// Whether a chart, a book and a desk that are loaded from limbs have the same limbs.

@@ -9,7 +9,7 @@ ghost use Rattle.desk.specs.Chairs.{IsChairOf};
 ghost use Rattle.schedule_trie.specs.Trie.{AreLimits};
 
 use super::threads::inserted_by_two;
-use super::{Room, insert_at};
+use super::{Tester, insert_at};
 use desk::{Chair, Desk};
 use frames::safe::Safe;
 use schedule_trie::limits::Limits;
@@ -79,7 +79,7 @@ fn on_a_book(rt: HostRuntime) -> Result<(), Fail> {
 /// Makes `count` inserts at a new desk, and returns whether each was accepted.
 fn insert_at_a_desk<R: Abort + Wait>(rt: &R, alloc: Global, count: u32) -> Result<bool, Refusal> {
     let (desk, mut chair) = opened_wide(alloc)?;
-    Ok(Room::new(rt, alloc, &desk).insert_all(&mut chair, count))
+    Ok(Tester::new(rt, alloc, &desk).insert_all(&mut chair, count))
 }
 
 #[test]

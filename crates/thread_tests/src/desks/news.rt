@@ -4,7 +4,7 @@ ghost use Rattle.frames.specs.SafeBit.{safe_behaviour};
 ghost use Rattle.desk.specs.Chairs.{IsChairOf};
 
 use super::openings::thousand;
-use super::{Room, asked, halves, take_in};
+use super::{Tester, asked, halves, take_in};
 use crate::flags::Flags;
 use desk::{Chair, Desk};
 use frames::safe::Safe;
@@ -26,15 +26,15 @@ const NEWS: u32 = 1_000_000;
 
 const SEEKS: u32 = 20_000;
 
-impl<R: Wait> Room<'_, R> {
+impl<R: Wait> Tester<'_, R> {
     /// Session 0 joins, and sets a breakpoint that no step meets.
     fn set_break(&self, chair: &mut Chair<Safe>)
         requires { IsChairOf (λ _. safe_behaviour) self.now.desk.now chair.old }
         ensures { IsChairOf (λ _. safe_behaviour) self.now.desk.now chair.new }
     {
         let unmet = Command::Break(Break::Refused);
-        self.bring(chair, (0, None, &Command::Join));
-        self.bring(chair, (0, None, &unmet));
+        self.act(chair, (0, None, &Command::Join));
+        self.act(chair, (0, None, &unmet));
     }
 
     /// Seeks, at most `SEEKS` times, until the other chair signals that it has all its news.
@@ -44,7 +44,7 @@ impl<R: Wait> Room<'_, R> {
         ensures { IsChairOf (λ _. safe_behaviour) self.now.desk.now chair.new }
     {
         for _ in 0..SEEKS {
-            let receipt = self.bring(chair, (0, None, &Command::Seek));
+            let receipt = self.act(chair, (0, None, &Command::Seek));
             flags.say_held();
             if flags.is_released() {
                 return matches!(receipt.reply, Reply::NoHit);
@@ -74,23 +74,23 @@ fn ask_often(desk: &Desk<Safe>, chair: &mut Chair<Safe>, flags: &Flags) -> Optio
 /// One thread seeks while another asks for news; then the chairs join. Returns the chair, whether
 /// the seeks ended by the signal, and the last news.
 fn news_beside_seeks<R: Threads + Wait + Sync>(
-    room: &Room<'_, R>,
+    tester: &Tester<'_, R>,
     mut first: Chair<Safe>,
     mut second: Chair<Safe>,
     flags: &Flags,
 ) -> (Chair<Safe>, bool, Option<u64>)
-    requires { IsChairOf (λ _. safe_behaviour) room.now.desk.now first
-        × IsChairOf (λ _. safe_behaviour) room.now.desk.now second }
-    ensures { IsChairOf (λ _. safe_behaviour) room.now.desk.now result.0 }
+    requires { IsChairOf (λ _. safe_behaviour) tester.now.desk.now first
+        × IsChairOf (λ _. safe_behaviour) tester.now.desk.now second }
+    ensures { IsChairOf (λ _. safe_behaviour) tester.now.desk.now result.0 }
 {
-    let (rt, alloc, desk) = (room.rt, room.alloc, room.desk);
+    let (rt, alloc, desk) = (tester.rt, tester.alloc, tester.desk);
     let ((mut first, released), (second, news)) = thread::join(
         rt,
         move || -> (Chair<Safe>, bool)
             requires { IsChairOf (λ _. safe_behaviour) desk.now first }
             ensures { IsChairOf (λ _. safe_behaviour) desk.entry.now result.0 }
         {
-            let released = Room::new(rt, alloc, desk).seek_until_released(&mut first, flags);
+            let released = Tester::new(rt, alloc, desk).seek_until_released(&mut first, flags);
             (first, released)
         },
         move || -> (Chair<Safe>, Option<u64>)
@@ -108,17 +108,17 @@ fn news_beside_seeks<R: Threads + Wait + Sync>(
 /// One thread seeks while another asks for news at a desk of the thousand steps. Returns whether
 /// the seeks ended by the signal, the last news, and the news after the chairs join.
 fn news_of_two<R: Abort + Threads + Wait + Sync>(
-    room: &Room<'_, R>,
+    tester: &Tester<'_, R>,
     mut first: Chair<Safe>,
     second: Chair<Safe>,
 ) -> (bool, Option<u64>, u64)
-    requires { IsChairOf (λ _. safe_behaviour) room.now.desk.now first
-        × IsChairOf (λ _. safe_behaviour) room.now.desk.now second }
+    requires { IsChairOf (λ _. safe_behaviour) tester.now.desk.now first
+        × IsChairOf (λ _. safe_behaviour) tester.now.desk.now second }
 {
     let flags = Flags::new();
-    room.set_break(&mut first);
-    let (mut chair, released, news) = news_beside_seeks(room, first, second, &flags);
-    (released, news, asked(room.desk, &mut chair))
+    tester.set_break(&mut first);
+    let (mut chair, released, news) = news_beside_seeks(tester, first, second, &flags);
+    (released, news, asked(tester.desk, &mut chair))
 }
 
 /// The result of `news_of_two` at a new desk.
@@ -128,7 +128,7 @@ fn news_at_a_desk<R: Abort + Threads + Wait + Sync>(
 ) -> Result<(bool, Option<u64>, u64), Refusal> {
     let (desk, chair) = thousand(alloc, 65_536)?;
     let (first, second) = halves(&desk, chair);
-    Ok(news_of_two(&Room::new(rt, alloc, &desk), first, second))
+    Ok(news_of_two(&Tester::new(rt, alloc, &desk), first, second))
 }
 
 #[test]

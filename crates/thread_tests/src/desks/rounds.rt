@@ -8,7 +8,7 @@ ghost use Rattle.desk.specs.Chairs.{IsChairOf};
 
 use super::fills::all_installed;
 use super::openings::written;
-use super::{READ, Room, name};
+use super::{READ, Tester, name};
 use desk::{Chair, Report};
 use frames::safe::Safe;
 use schedule_trie::limits::Limits;
@@ -69,7 +69,7 @@ fn two_long() -> Limits
     }
 }
 
-impl<R: Abort + Threads + Wait + Sync> Room<'_, R> {
+impl<R: Abort + Threads + Wait + Sync> Tester<'_, R> {
     /// Forks `a` after the first segment of `main`, and gives it 40 segments of its own. Returns
     /// whether each edit was accepted.
     fn grow_a(&self, chair: &mut Chair<Safe>) -> bool
@@ -115,16 +115,16 @@ impl<R: Abort + Threads + Wait + Sync> Room<'_, R> {
 /// thieves. Returns whether all 81 runs were installed, how many offers there were, and in how many
 /// rounds.
 fn grown_and_filled<R: Abort + Threads + Wait + Sync>(
-    room: &Room<'_, R>,
+    tester: &Tester<'_, R>,
     chair: &mut Chair<Safe>,
     thieves: u32,
 ) -> Result<(bool, (u64, u64)), Refusal>
-    requires at { IsChairOf (λ _. safe_behaviour) room.now.desk.now chair.old }
+    requires at { IsChairOf (λ _. safe_behaviour) tester.now.desk.now chair.old }
     requires thieves { thieves ≤ 4 }
 {
-    let grown = room.grow_a(chair);
+    let grown = tester.grow_a(chair);
     let offers = Offers::new();
-    let report = room.filled_with(chair, thieves, &offers)?;
+    let report = tester.filled_with(chair, thieves, &offers)?;
     Ok((grown && report == all_installed(81), offers.counted()))
 }
 
@@ -138,7 +138,7 @@ fn filled_by<R: Abort + Threads + Wait + Sync>(
     requires { thieves ≤ 4 }
 {
     let (desk, mut chair) = written(alloc, 41 * FULL, two_long())?;
-    grown_and_filled(&Room::new(rt, alloc, &desk), &mut chair, thieves)
+    grown_and_filled(&Tester::new(rt, alloc, &desk), &mut chair, thieves)
 }
 
 /// The two branches share one segment, and have 40 each of their own. So the first round has one

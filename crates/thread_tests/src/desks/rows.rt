@@ -5,7 +5,7 @@ ghost use Rattle.frames.specs.SafeBit.{safe_behaviour};
 ghost use Rattle.desk.specs.Chairs.{IsChairOf};
 
 use super::openings::opened;
-use super::{Call, Room, asked, closed_with, halves, insert_at, is_text, name};
+use super::{Call, Tester, asked, closed_with, halves, insert_at, is_text, name};
 use desk::{Chair, Desk, Receipt};
 use frames::safe::Safe;
 use schedule_trie::refusal::Refusal;
@@ -22,13 +22,13 @@ use views::query::Query;
 pub(super) const STATE: &[u8] =
     b"0: state main 1 of 1\n  p0 idle\n  p1 read next rs 0\n  bits 0\n  words -\n";
 
-impl<R: Wait> Room<'_, R> {
+impl<R: Wait> Tester<'_, R> {
     /// Gives the desk a command, and returns whether it gets this receipt.
     fn gets(&self, chair: &mut Chair<Safe>, call: Call<'_>, receipt: Receipt) -> bool
         requires { IsChairOf (λ _. safe_behaviour) self.now.desk.now chair.old }
         ensures { IsChairOf (λ _. safe_behaviour) self.now.desk.now chair.new }
     {
-        self.bring(chair, call) == receipt
+        self.act(chair, call) == receipt
     }
 }
 
@@ -40,21 +40,21 @@ fn receipt(at: u64, reply: Reply) -> Receipt {
 /// Two chairs each insert a read at the beginning, and try this at most `tries` times while there
 /// is no memory. Both inserts are guarded by edit count 0, so the second is refused.
 pub(super) fn insert_by_both<R: Abort + Wait>(
-    room: &Room<'_, R>,
+    tester: &Tester<'_, R>,
     first: &mut Chair<Safe>,
     second: &mut Chair<Safe>,
     tries: u32,
 )
-    requires { IsChairOf (λ _. safe_behaviour) room.now.desk.now first.old
-        × IsChairOf (λ _. safe_behaviour) room.now.desk.now second.old }
-    ensures { IsChairOf (λ _. safe_behaviour) room.now.desk.now first.new
-        × IsChairOf (λ _. safe_behaviour) room.now.desk.now second.new }
+    requires { IsChairOf (λ _. safe_behaviour) tester.now.desk.now first.old
+        × IsChairOf (λ _. safe_behaviour) tester.now.desk.now second.old }
+    ensures { IsChairOf (λ _. safe_behaviour) tester.now.desk.now first.new
+        × IsChairOf (λ _. safe_behaviour) tester.now.desk.now second.new }
 {
-    let insert = insert_at(room.rt, 0);
-    let done = room.bring_again(first, 0, &insert, tries);
-    assert!(room.rt; done == receipt(1, Reply::Edited(1)));
-    let late = room.bring_again(second, 1, &insert, tries);
-    assert!(room.rt; late == receipt(2, Reply::No(Refusal::Newer(1))));
+    let insert = insert_at(tester.rt, 0);
+    let done = tester.act_again(first, 0, &insert, tries);
+    assert!(tester.rt; done == receipt(1, Reply::Edited(1)));
+    let late = tester.act_again(second, 1, &insert, tries);
+    assert!(tester.rt; late == receipt(2, Reply::No(Refusal::Newer(1))));
 }
 
 /// A desk and two chairs of it, after the inserts of `insert_by_both`.
@@ -67,7 +67,7 @@ fn two_inserts<R: Abort + Wait>(
 {
     let (desk, first) = opened(alloc, 16)?;
     let (mut first, mut second) = halves(&desk, first);
-    insert_by_both(&Room::new(rt, alloc, &desk), &mut first, &mut second, 1);
+    insert_by_both(&Tester::new(rt, alloc, &desk), &mut first, &mut second, 1);
     Ok((desk, first, second))
 }
 
@@ -82,15 +82,15 @@ pub(super) fn state_after_one(rt: &impl Abort) -> Query {
 /// Looks at the state after the first step of `main`, and compares the length of the history and
 /// the text of the page with those after two inserts.
 fn look_after_two<R: Abort + Wait>(
-    room: &Room<'_, R>,
+    tester: &Tester<'_, R>,
     chair: &mut Chair<Safe>,
 ) -> Result<(), Refusal>
-    requires { IsChairOf (λ _. safe_behaviour) room.now.desk.now chair.old }
-    ensures { IsChairOf (λ _. safe_behaviour) room.now.desk.now chair.new }
+    requires { IsChairOf (λ _. safe_behaviour) tester.now.desk.now chair.old }
+    ensures { IsChairOf (λ _. safe_behaviour) tester.now.desk.now chair.new }
 {
-    let (at, text) = room.text_at(chair, &state_after_one(room.rt))?;
-    assert_eq!(room.rt; at, 2);
-    assert!(room.rt; is_text(&text, STATE));
+    let (at, text) = tester.text_at(chair, &state_after_one(tester.rt))?;
+    assert_eq!(tester.rt; at, 2);
+    assert!(tester.rt; is_text(&text, STATE));
     Ok(())
 }
 
@@ -98,7 +98,7 @@ fn look_after_two<R: Abort + Wait>(
 fn two_chairs(rt: HostRuntime) -> Result<(), Fail> {
     let (desk, mut first, second) = two_inserts(&rt, rt.alloc())?;
     assert_eq!(rt; asked(&desk, &mut first), 2);
-    look_after_two(&Room::new(&rt, rt.alloc(), &desk), &mut first)?;
+    look_after_two(&Tester::new(&rt, rt.alloc(), &desk), &mut first)?;
     assert!(rt; first.shares() == 8 && second.shares() == 8);
     Ok(())
 }
@@ -130,20 +130,20 @@ fn is_by_both(log: &Log) -> bool {
 }
 
 /// Two sessions join at a desk whose log has place for one call, so the second is refused.
-fn join_twice<R: Abort + Wait>(room: &Room<'_, R>, chair: &mut Chair<Safe>)
-    requires { IsChairOf (λ _. safe_behaviour) room.now.desk.now chair.old }
-    ensures { IsChairOf (λ _. safe_behaviour) room.now.desk.now chair.new }
+fn join_twice<R: Abort + Wait>(tester: &Tester<'_, R>, chair: &mut Chair<Safe>)
+    requires { IsChairOf (λ _. safe_behaviour) tester.now.desk.now chair.old }
+    ensures { IsChairOf (λ _. safe_behaviour) tester.now.desk.now chair.new }
 {
     let joined = receipt(1, Reply::Joined);
-    assert!(room.rt; room.gets(chair, (0, None, &Command::Join), joined));
+    assert!(tester.rt; tester.gets(chair, (0, None, &Command::Join), joined));
     let full = receipt(1, Reply::No(Refusal::LogFull));
-    assert!(room.rt; room.gets(chair, (0, None, &Command::Join), full));
+    assert!(tester.rt; tester.gets(chair, (0, None, &Command::Join), full));
 }
 
 /// Fills the log of a new desk.
 fn fill_a_log<R: Abort + Wait>(rt: &R, alloc: Global) -> Result<(), Fail> {
     let (desk, mut chair) = opened(alloc, 1)?;
-    join_twice(&Room::new(rt, alloc, &desk), &mut chair);
+    join_twice(&Tester::new(rt, alloc, &desk), &mut chair);
     Ok(())
 }
 

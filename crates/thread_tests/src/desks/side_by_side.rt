@@ -4,7 +4,7 @@ ghost use denote.Param.Send.{IsSync};
 ghost use Rattle.frames.specs.SafeBit.{safe_behaviour};
 ghost use Rattle.desk.specs.Chairs.{IsChairOf};
 
-use super::{Room, take_in};
+use super::{Tester, take_in};
 use desk::Chair;
 use frames::safe::Safe;
 use std::process::Abort;
@@ -27,7 +27,7 @@ pub(super) enum Work {
     InsertsAndDrop(u32),
 }
 
-impl<R: Abort + Threads + Wait + Sync> Room<'_, R> {
+impl<R: Abort + Threads + Wait + Sync> Tester<'_, R> {
     /// Does a thread's work with its chair. Returns the chair, and whether everything went well.
     fn done(&self, task: (Chair<Safe>, Work)) -> (Chair<Safe>, bool)
         requires { IsChairOf (λ _. safe_behaviour) self.now.desk.now task.0 }
@@ -62,12 +62,12 @@ impl<R: Abort + Threads + Wait + Sync> Room<'_, R> {
                 requires sync { IsSync R.row }
                 requires chair { IsChairOf (λ _. safe_behaviour) desk.now first.0 }
                 ensures { IsChairOf (λ _. safe_behaviour) desk.entry.now result.0 }
-            { Room::new(rt, alloc, desk).done(first) },
+            { Tester::new(rt, alloc, desk).done(first) },
             move || -> (Chair<Safe>, bool)
                 requires sync { IsSync R.row }
                 requires chair { IsChairOf (λ _. safe_behaviour) desk.now second.0 }
                 ensures { IsChairOf (λ _. safe_behaviour) desk.entry.now result.0 }
-            { Room::new(rt, alloc, desk).done(second) },
+            { Tester::new(rt, alloc, desk).done(second) },
         );
         take_in(desk, &mut first, second);
         (first, one && other)

@@ -11,7 +11,7 @@ ghost use Rattle.thread_tests.specs.Chairs.{AreChairsOf};
 use super::openings::opened;
 use super::side_by_side::Work;
 use super::{
-    Room, asked, book_of, closed, closed_with, halves, insert_at, name, replies_to, take_in,
+    Tester, asked, book_of, closed, closed_with, halves, insert_at, name, replies_to, take_in,
 };
 use desk::{Chair, Desk};
 use frames::safe::Safe;
@@ -27,7 +27,7 @@ use std::thread::Threads;
 use views::lens::Lens;
 use views::query::Query;
 
-impl<R: Abort + Wait> Room<'_, R> {
+impl<R: Abort + Wait> Tester<'_, R> {
     /// Inserts `count` reads, at place 0, at place 1, and so on. Returns whether each insert was
     /// accepted.
     pub(super) fn insert_all(&self, chair: &mut Chair<Safe>, count: u32) -> bool
@@ -55,9 +55,9 @@ pub(super) fn inserted_by_two<R: Abort + Threads + Wait + Sync>(
     requires every { (view chair).shares ≡ every_share }
 {
     let (first, second) = halves(&desk, chair);
-    let room = Room::new(rt, alloc, &desk);
+    let tester = Tester::new(rt, alloc, &desk);
     let work = Work::Inserts(count);
-    let (chair, all) = room.side_by_side((first, work), (second, work));
+    let (chair, all) = tester.side_by_side((first, work), (second, work));
     let log = closed(desk, chair);
     if all { log } else { None }
 }
@@ -119,7 +119,7 @@ fn part(desk: &Desk<Safe>, chair: &mut Chair<Safe>, shares: u32) -> Option<Chair
     Some(desk.split(chair, shares))
 }
 
-impl<R: Abort + Wait> Room<'_, R> {
+impl<R: Abort + Wait> Tester<'_, R> {
     /// Looks at the steps of `main`, and returns the length of the history.
     fn looked(&self, chair: &mut Chair<Safe>, lens: &mut Lens<Safe>) -> u64
         requires { IsChairOf (λ _. safe_behaviour) self.now.desk.now chair.old }
@@ -145,12 +145,12 @@ impl<R: Abort + Wait> Room<'_, R> {
             × IsChairOf (λ _. safe_behaviour) self.now.desk.now other.new }
     {
         let insert = insert_at(self.rt, 0);
-        let edited = self.bring(other, (who, None, &insert)).at;
+        let edited = self.act(other, (who, None, &insert)).at;
         let news = asked(self.desk, other);
         let seen = self.looked(chair, lens);
         let later = asked(self.desk, chair);
         let insert = insert_at(self.rt, 1);
-        let guarded = self.bring(chair, (who, Some(later), &insert)).at;
+        let guarded = self.act(chair, (who, Some(later), &insert)).at;
         edited <= news && seen <= later && later <= guarded
     }
 
@@ -198,14 +198,14 @@ type Two = (Chair<Safe>, Chair<Safe>);
 /// Two chairs make the rounds of two sessions, each on a thread. Returns the chair joined from
 /// them, and whether everything went well.
 fn rounds_of_two<R: Abort + Threads + Wait + Sync>(
-    room: &Room<'_, R>,
+    tester: &Tester<'_, R>,
     chairs: Two,
     sessions: (u32, u32),
 ) -> (Chair<Safe>, bool)
-    requires { AreChairsOf room.now.desk.now chairs }
-    ensures { IsChairOf (λ _. safe_behaviour) room.now.desk.now result.0 }
+    requires { AreChairsOf tester.now.desk.now chairs }
+    ensures { IsChairOf (λ _. safe_behaviour) tester.now.desk.now result.0 }
 {
-    room.side_by_side(
+    tester.side_by_side(
         (chairs.0, Work::Rounds(sessions.0)),
         (chairs.1, Work::Rounds(sessions.1)),
     )
@@ -230,12 +230,12 @@ fn rounds_of_four<R: Abort + Threads + Wait + Sync>(
             requires sync { IsSync R.row }
             requires chairs { AreChairsOf shared.now one }
             ensures { IsChairOf (λ _. safe_behaviour) shared.entry.now result.0 }
-        { rounds_of_two(&Room::new(rt, alloc, shared), one, (0, 1)) },
+        { rounds_of_two(&Tester::new(rt, alloc, shared), one, (0, 1)) },
         move || -> (Chair<Safe>, bool)
             requires sync { IsSync R.row }
             requires chairs { AreChairsOf shared.now other }
             ensures { IsChairOf (λ _. safe_behaviour) shared.entry.now result.0 }
-        { rounds_of_two(&Room::new(rt, alloc, shared), other, (2, 3)) },
+        { rounds_of_two(&Tester::new(rt, alloc, shared), other, (2, 3)) },
     );
     let log = closed_with(desk, chair, last);
     if fine && well { log } else { None }

@@ -1,6 +1,6 @@
 use Rattle.frames.specs.SafeBit.{safe_behaviour}
 use Rattle.desk.specs.Chairs.{IsChairOf}
-use Rattle.thread_tests.proofs.desks.Room.rounds_by.Given as goal
+use Rattle.thread_tests.proofs.desks.Tester.fill_again.Given as goal
 
 abbrev pub invariant-loop : goal.invariant-loop
 invariant-loop g l = IsChairOf (λ _. safe_behaviour) l.fn.self.desk.now l.chair

@@ -1,6 +1,6 @@
 use Rattle.frames.specs.SafeBit.{safe_behaviour}
 use Rattle.desk.specs.Chairs.{IsChairOf}
-use Rattle.thread_tests.proofs.desks.Room.grow_a.Given as goal
+use Rattle.thread_tests.proofs.desks.Tester.grow_a.Given as goal
 
 abbrev pub invariant-loop-place : goal.invariant-loop-place
 invariant-loop-place g l = IsChairOf (λ _. safe_behaviour) l.fn.self.desk.now l.chair

@@ -1,6 +1,6 @@
 use Rattle.frames.specs.SafeBit.{safe_behaviour}
 use Rattle.desk.specs.Chairs.{IsChairOf}
-use Rattle.thread_tests.proofs.desks.Room.text_again.Given as goal
+use Rattle.thread_tests.proofs.desks.Tester.seek_until_released.Given as goal
 
 abbrev pub invariant-loop : goal.invariant-loop
 invariant-loop g l = IsChairOf (λ _. safe_behaviour) l.fn.self.desk.now l.chair
