@@ -45,10 +45,10 @@ class Transfer {
     }
     throw new Error("An operation on the other tower has no end in sight.");
   }
-  // makes an operation's next actions, until as many are done as wanted, or it ends
-  async goOn(flight, wanted) {
+  // makes an operation's next actions, until `count` are done, or it ends
+  async goOn(flight, count) {
     const { process } = flight;
-    while (!flight.isOver && flight.done < wanted) {
+    while (!flight.isOver && flight.done < count) {
       const at = this.steps.push(`g ${process} 0`) - 1, run = await this.run();
       const isHit = run.marks.some((it) => it.kind === "chosen" && it.step === at);
       const choice = isHit ? flight.choices[flight.hits++] || "0" : "0";

@@ -112,7 +112,7 @@ function eachRow(guessed, panel, acts) {
   const rows = [...all].map(([key, it]) => foundRow(key, it, byKey.get(key), panel, acts));
   return [...rows, all.size > byKey.size && element("p", { class: "no-schedule" }, NONE)];
 }
-// of more lists than one looks at: what each process's reads gave
+// if there are more lists than one looks at: what each process's reads gave
 function groupRows({ question, lists, shown }, { load }) {
   const { operations } = question, everyone = between(0, operations.length);
   const words = (process, list) =>

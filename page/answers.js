@@ -34,7 +34,7 @@ function change(make) {
   restart({ question: { operations, stops: next.stops.filter((it) => operations[it].length),
     after: next.after.filter(isThere) } });
 }
-// one search after another, each with more room, so that one sees how far it is
+// one search after another, each with a higher limit, so that one sees how far it is
 async function searched(turn) {
   for (const most of LIMITS) {
     const made = await found(textOf(panel.tower, panel.question, most), MOST_SECONDS);

@@ -48,7 +48,7 @@ function predictedCell({ predicted }) {
 }
 function cellsOf(it, many, open) {
   const given = { "data-class": it.name }, words = it.student || it.name;
-  // (in a damaged file is nothing to open)
+  // (a damaged file has nothing to open)
   const named = it.isDamaged ? element("span", given, words)
     : element("button", { ...given, onclick: open }, words);
   const name = element("td", {}, named, it.student && element("small", {}, ` ${it.name}`));
@@ -75,7 +75,7 @@ function printTable() {
   print();
 }
 addEventListener("afterprint", () => document.body.classList.remove("printing-table"));
-// by what the files are judged, in words
+// what the files are judged by, in words
 function saidOfJudges() {
   const by = (kind) => rows.filter(({ judge }) => judge?.by === kind).length, own = by("own");
   if (by("open")) return "Judged by the exercise that is open here.";

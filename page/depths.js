@@ -15,7 +15,7 @@ export function depthForAll() {
   return Math.min(deepest(), chosen.depth ?? first);
 }
 export const depthOf = (process) => chosen.byProcess.get(process) ?? depthForAll();
-// what all of it comes from, as a text
+// all choices of depth, as a text that changes if one of them does
 export const depthKey = () =>
   JSON.stringify([depthForAll(), [...chosen.byProcess], [...chosen.folds]]);
 export function forgetDepths() {

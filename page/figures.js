@@ -68,7 +68,7 @@ class Figure {
     const rows = await picture(model, branch, this.place, Math.max(LEAST_WIDTH, wide));
     if (turn === this.turn) drawn.replaceChildren(...rows);
   }
-  // (nothing as long as a prediction is asked for)
+  // (nothing while a prediction is asked for)
   explain({ target }) {
     const read = target.closest(".operation.read");
     if (!read || target.closest(".covered")) return;

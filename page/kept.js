@@ -1,5 +1,5 @@
-// What isn't lost: documents that another one took the place of, and small notes. They are kept in
-// memory, and in the browser if it lets a page keep them; `forget` removes all of them.
+// What is kept: documents that another one replaced, and small notes. They are kept in memory, and in
+// the browser if it lets a page keep them; `forget` removes all of them.
 const DOCUMENTS = "towerbench.recent", NOTES = "towerbench.note ", MOST = 12, MOST_TEXT = 100000;
 const memory = new Map();
 function stored(key) {
@@ -23,7 +23,7 @@ export function keptDocuments() {
     return JSON.parse(stored(DOCUMENTS) || "[]").filter(isDocument);
   } catch { return []; }
 }
-// (of one that is still open, what it was earlier makes room for it)
+// (an earlier version of a document that is still open is replaced)
 export function keepDocumentOf({ tower, script, title, when }, isOpen = false) {
   if (tower.length + script.length > MOST_TEXT) return;
   const isOlder = (it) => it.script === script || (isOpen && script.startsWith(it.script));

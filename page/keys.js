@@ -57,7 +57,7 @@ function gestureOf({ key: name, ctrlKey, metaKey }) {
   if (ctrlKey || metaKey) return heldKeys[name];
   return /^[0-9]$/.test(name) ? () => digit(name) : keys[name];
 }
-// (a key waits for what the last one does, as what it means hangs on that)
+// (a key waits for what the last one does, as its meaning depends on that)
 let lastKey = Promise.resolve();
 function press(event) {
   const { target, shiftKey } = event;

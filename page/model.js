@@ -1,5 +1,5 @@
 // What the program says of a document: its answer to each line, the branches, the cursors, and
-// pages as they are wanted.
+// the pages that were asked for.
 import { placeOf } from "./document.js";
 import { SESSIONS } from "./grammar.js";
 import { looksAfterEdits, looksAfterMove } from "./guesses.js";
@@ -29,8 +29,8 @@ async function answered(ask, tower, script, isSaved = false) {
 }
 const linesOf = (lines) => lines.map((line) => `${line}\n`).join("");
 export class Model {
-  // The answers to a document; a fault of the file, or of the whole run, is thrown. What `before`
-  // has of it stays.
+  // The answers to a document; throws a fault of the file, or of the whole run. Keeps the pages of
+  // `before` that are still right.
   static async of(document, ask, before) {
     const isEdited = !before?.document.isEditedAs(document);
     const guess = isEdited ? looksAfterEdits : looksAfterMove;
@@ -43,7 +43,7 @@ export class Model {
     const forest = isSame ? before : forestIn(bench), pages = isSame ? before.pages : new Map();
     const model = new Model(document, ask, bench, forest, pages);
     const found = pairedAnswers(asked, answersIn(made.output));
-    model.understand(found);
+    model.readAnswers(found);
     if (before && !isSame) model.keep(before);
     guessed.forEach((look, at) => model.take(look, found.at(at - guessed.length)));
     return model;
@@ -55,12 +55,13 @@ export class Model {
     Object.assign(this, { notes: [], sought: [] });
     this.byName = new Map(branches.map((it) => [it.name, it]));
   }
-  understand(found) {
-    const { document } = this, many = document.lines.length;
-    this.answers = found.slice(0, many);
-    this.cursors = EVERY_SESSION.map((who) => this.cursorOf(found[many + who]));
+  // `found`: the answers to the document's lines, then to `cursor` of each session, then to `branches`
+  readAnswers(found) {
+    const { document } = this, count = document.lines.length;
+    this.answers = found.slice(0, count);
+    this.cursors = EVERY_SESSION.map((who) => this.cursorOf(found[count + who]));
     // (the page branches: what its first line says, and each branch)
-    const { first = "", lines = [] } = found[many + SESSIONS] || {};
+    const { first = "", lines = [] } = found[count + SESSIONS] || {};
     this.branchLines = [first.replace(/^[0-9]+: /, ""), ...lines];
     const wordsOf = (it, index) => it && refusalOf(it.first, document.lines[index]);
     const refused = this.answers.map((it, index) =>

@@ -74,6 +74,6 @@ export function startOf(lines) {
   const many = Number(taskOf(lines).start) || 0;
   return [...head, ...(many ? commandsIn(lines).slice(0, many) : ["0 join"])];
 }
-// whether a script has nothing that somebody did: comments and moves alone
+// whether a script has comments and moves alone, so that nobody has worked on it
 export const isUntouched = (lines) => lines.every((it) =>
   it === "" || (isComment(it) && !isAnswer(it)) || /^[0-9]+ (join|go)\b/.test(it));

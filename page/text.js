@@ -87,7 +87,7 @@ function eventsIn({ run, branch, actions }, step) {
   if (kind !== "g" || !found?.action || events.some((it) => it.startsWith("void"))) return events;
   return [`p${process} ${ACTIONS[found.action]} ${found.bit}`, ...events];
 }
-// the columns in sight as a table, for those who read or hear it
+// the columns in sight as a table, for screen readers and for those who prefer text
 function putTable() {
   const { name, place, branch } = here(), reading = now.readings.get(name);
   const { from, to, processes } = reading, isSmall = now.model.shape.cells <= FEW_CELLS;

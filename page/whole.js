@@ -13,7 +13,7 @@ import { now } from "./state.js";
 import { goalLooks, putTask } from "./task.js";
 import { putText } from "./text.js";
 
-// what was asked of the program since the page began, for the tests
+// for the tests: what was asked of the program since the page began
 export const putSpent = () => Object.assign(one("#inner").dataset, spent);
 export async function drawWhole(does, taskDoes, isFollowing = true) {
   await look(isFollowing);

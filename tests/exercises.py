@@ -64,27 +64,28 @@ def judged(program, names, tried):
     """Returns what page/goals.js finds of each script and its attempts, by the script's name."""
     asked = []
     for name in names:
-        its = [(number, *it) for (of, number), each in tried.items() if of == name for it in each]
-        made = [
+        attempts = [
             {"number": number, "isRight": is_right, "what": what, "lines": lines}
-            for number, is_right, what, lines in its
+            for (script, number), each in tried.items()
+            if script == name
+            for is_right, what, lines in each
         ]
         asked.append(
             {
                 "name": name,
                 "tower": file_of(name),
                 "script": text_of(f"{name}.script"),
-                "attempts": made,
+                "attempts": attempts,
             }
         )
-    with tempfile.TemporaryDirectory() as room:
-        shutil.copytree(f"{TOP}/page", f"{room}/page")
-        shutil.copy(f"{TOP}/tests/pages/goals.mjs", room)
+    with tempfile.TemporaryDirectory() as temporary:
+        shutil.copytree(f"{TOP}/page", f"{temporary}/page")
+        shutil.copy(f"{TOP}/tests/pages/goals.mjs", temporary)
         # (so that node takes each file for a module)
-        with open(f"{room}/package.json", "w", encoding="ascii") as file:
+        with open(f"{temporary}/package.json", "w", encoding="ascii") as file:
             file.write('{ "type": "module" }')
         done = subprocess.run(
-            ["node", f"{room}/goals.mjs", os.path.abspath(program), room],
+            ["node", f"{temporary}/goals.mjs", os.path.abspath(program), temporary],
             input=json.dumps(asked),
             capture_output=True,
             text=True,

@@ -234,8 +234,8 @@ def fault_of_save(case, ran):
 def fault_of_script(trial, program, refuse, scratch):
     """Refuses each growth of a case's run in turn; returns what is wrong, or None."""
     # (other trials of the case make its files side by side)
-    room = tempfile.mkdtemp(dir=scratch)
-    case = cases.case_of(trial.name, room)
+    temporary = tempfile.mkdtemp(dir=scratch)
+    case = cases.case_of(trial.name, temporary)
     words = [*trial.words, *case.words]
     ran = cases.run(program, words, case.script)
     if cases.difference(case, ran):
@@ -253,7 +253,7 @@ def fault_of_script(trial, program, refuse, scratch):
             raise Odd(f"from growth {number} on, {refused()} refused: {wrong}: {said(ran)}")
         return ran.status == 0 and ran.output == case.output
 
-    total = each_refused(refuse, f"{room}/mark", trial.in_a_row, work)
+    total = each_refused(refuse, f"{temporary}/mark", trial.in_a_row, work)
     if trial.words == ["--workers", "0"]:
         REFUSED_BY_TRIAL[said_of(trial)] = total
     return None

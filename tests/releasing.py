@@ -54,8 +54,8 @@ def other_order():
 def two_builds():
     """One changed byte in any file that is compared is a difference, and so is a file that isn't there."""
     twice = loaded("tools/twice")
-    with tempfile.TemporaryDirectory() as room:
-        one, other = f"{room}/one", f"{room}/other"
+    with tempfile.TemporaryDirectory() as temporary:
+        one, other = f"{temporary}/one", f"{temporary}/other"
         for path in twice.products():
             put(f"{one}/{path}", f"bytes of {path}\n")
             put(f"{other}/{path}", f"bytes of {path}\n")
@@ -104,14 +104,14 @@ def sums_of_a_release():
 
 def program_of_another_system():
     tried = loaded("tools/handout")
-    with tempfile.TemporaryDirectory() as room:
-        tried.releases.FOLDER = f"{room}/release"
-        put(f"{room}/release/towerbench.html", page_of(b"module"))
-        put(f"{room}/release/towerbench", "of another system\n", 0o755)
-        os.makedirs(f"{room}/folder")
+    with tempfile.TemporaryDirectory() as temporary:
+        tried.releases.FOLDER = f"{temporary}/release"
+        put(f"{temporary}/release/towerbench.html", page_of(b"module"))
+        put(f"{temporary}/release/towerbench", "of another system\n", 0o755)
+        os.makedirs(f"{temporary}/folder")
         with contextlib.redirect_stderr(io.StringIO()) as said:
-            needs = tried.put_released(f"{room}/folder", room)["needs"]
-        same("left out", (needs, os.listdir(f"{room}/folder")), ("", ["towerbench.html"]))
+            needs = tried.put_released(f"{temporary}/folder", temporary)["needs"]
+        same("left out", (needs, os.listdir(f"{temporary}/folder")), ("", ["towerbench.html"]))
         same("said", "don't run here" in said.getvalue(), True)
 
 

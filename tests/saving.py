@@ -33,9 +33,9 @@ def looks_at(program, words):
     return "".join(lines).encode()
 
 
-def fault_of_saving(case, words, program, room):
+def fault_of_saving(case, words, program, temporary):
     """Returns what is wrong with the branches that a case's run saves, or nothing."""
-    first, second = f"{room}/first", f"{room}/second"
+    first, second = f"{temporary}/first", f"{temporary}/second"
     fault = cases.difference(case, cases.run(program, [*words, SAVE, first], case.script))
     if fault:
         return f"with {SAVE}: {fault}"
@@ -60,13 +60,13 @@ def fault_of_saving(case, words, program, room):
 
 def fault_of(name, program, scratch):
     """Returns what is wrong with saving after a case, or nothing."""
-    room = tempfile.mkdtemp(dir=scratch)
-    case = cases.case_of(name, room)
+    temporary = tempfile.mkdtemp(dir=scratch)
+    case = cases.case_of(name, temporary)
     if case.status == cases.REFUSED_WORDS or {SAVE, "--help"} & set(case.words):
         return None
     if case.status == 0:
-        return fault_of_saving(case, case.words, program, room)
-    path = f"{room}/kept"
+        return fault_of_saving(case, case.words, program, temporary)
+    path = f"{temporary}/kept"
     cases.put_kept(path)
     fault = cases.difference(case, cases.run(program, [*case.words, SAVE, path], case.script))
     if fault:
@@ -76,9 +76,9 @@ def fault_of(name, program, scratch):
 
 def fault_of_place(name, program, scratch):
     """Returns what is wrong with saving over the file that was read, or nothing."""
-    room = tempfile.mkdtemp(dir=scratch)
-    case = cases.case_of(name, room)
-    path = f"{room}/lesson.bench"
+    temporary = tempfile.mkdtemp(dir=scratch)
+    case = cases.case_of(name, temporary)
+    path = f"{temporary}/lesson.bench"
     shutil.copyfile(case.words[0], path)
     ran = cases.run(program, [path, SAVE, path], case.script)
     if ran.status != 0 or ran.output != case.output:

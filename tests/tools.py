@@ -289,10 +289,10 @@ def words_of_first_run():
         same(f"{words} without its save", first.without_save(words), left)
     twice = ["--save", "s", "--save=t"]
     same("two saves", first.without_save(twice), twice)
-    with tempfile.TemporaryDirectory() as room:
-        first.kept(io.BytesIO(b"abcdef"), f"{room}/kept", 3)
-        same("kept of a long stream", cases.read(f"{room}/kept"), b"abcd")
-        same("a folder is kept", first.kept_file(room, f"{room}/none"), False)
+    with tempfile.TemporaryDirectory() as temporary:
+        first.kept(io.BytesIO(b"abcdef"), f"{temporary}/kept", 3)
+        same("kept of a long stream", cases.read(f"{temporary}/kept"), b"abcd")
+        same("a folder is kept", first.kept_file(temporary, f"{temporary}/none"), False)
 
 
 def first_run(early, program, words=(), has_rt=True):
@@ -379,15 +379,15 @@ def table_of_shares():
 
 def edits_of_copies():
     tool = loaded(".ci/shares")
-    with tempfile.TemporaryDirectory() as room:
+    with tempfile.TemporaryDirectory() as temporary:
         for folder, text in (("crate", "is well\n"), ("other", "is lost\n"), ("same", "is well\n")):
-            os.makedirs(f"{room}/{folder}/src")
-            with open(f"{room}/{folder}/src/lib.rt", "w") as file:
+            os.makedirs(f"{temporary}/{folder}/src")
+            with open(f"{temporary}/{folder}/src/lib.rt", "w") as file:
                 file.write(text)
-        with open(f"{room}/lost.edit", "w") as file:
+        with open(f"{temporary}/lost.edit", "w") as file:
             file.write("file: src/lib.rt\nold: well\nnew: lost\n")
         found = [
-            tool.is_made_by(f"{room}/lost.edit", f"{room}/crate", f"{room}/{it}")
+            tool.is_made_by(f"{temporary}/lost.edit", f"{temporary}/crate", f"{temporary}/{it}")
             for it in ("other", "same")
         ]
         same("copies that an edit made", found, [True, False])
@@ -395,14 +395,14 @@ def edits_of_copies():
 
 def shares_of(command):
     """Returns the status of a command under .ci/shares, and the lines of its table, if there is one."""
-    with tempfile.TemporaryDirectory() as room:
+    with tempfile.TemporaryDirectory() as temporary:
         status = subprocess.run(
-            [f"{TOP}/.ci/shares", f"{room}/table", "bash", "-c", command], check=False
+            [f"{TOP}/.ci/shares", f"{temporary}/table", "bash", "-c", command], check=False
         ).returncode
         return (
             status,
-            cases.read(f"{room}/table").decode().splitlines()
-            if os.path.exists(f"{room}/table")
+            cases.read(f"{temporary}/table").decode().splitlines()
+            if os.path.exists(f"{temporary}/table")
             else [],
         )
 
@@ -461,13 +461,13 @@ def places_of_changes():
 
 
 def selections_of_edits():
-    with tempfile.TemporaryDirectory() as room:
-        put(f"{room}/src/cell.rt", SOURCE)
-        put(f"{room}/src/lib.rt", "pub mod cell;\n")
+    with tempfile.TemporaryDirectory() as temporary:
+        put(f"{temporary}/src/cell.rt", SOURCE)
+        put(f"{temporary}/src/lib.rt", "pub mod cell;\n")
 
         def of(*lines):
-            put(f"{room}/edit", "\n".join(lines) + "\n")
-            return refusals.selections(f"{room}/edit", room)
+            put(f"{temporary}/edit", "\n".join(lines) + "\n")
+            return refusals.selections(f"{temporary}/edit", temporary)
 
         method, value = ["file: src/cell.rt", "old:         self.value", "new:         0"], [
             "old:     MOST",
@@ -512,11 +512,11 @@ def floors_of_proofs():
 
 
 def quotes_of_files():
-    with tempfile.TemporaryDirectory() as room:
-        put(f"{room}/lib.rt", "one\ntwo\nthree\nfour\n")
+    with tempfile.TemporaryDirectory() as temporary:
+        put(f"{temporary}/lib.rt", "one\ntwo\nthree\nfour\n")
 
         def is_quote(*lines, file="lib.rt"):
-            block = documents.Block(1, "rust", f"{room}/{file}", "", [*lines])
+            block = documents.Block(1, "rust", f"{temporary}/{file}", "", [*lines])
             return documents.quote_fault(block) is None
 
         same("lines in a row", is_quote("two", "three"), True)

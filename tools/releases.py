@@ -71,11 +71,11 @@ def lines_of(sums):
     return "".join(f"{it}  {name}\n" for name, it in sorted(sums.items()))
 
 
-def put_modules(room):
+def put_modules(folder):
     """Writes the modules inside the release's page into a folder, and returns their paths by program."""
     found = {}
     for program, content in modules_of(read(PAGE).decode()).items():
-        found[program] = f"{room}/{module_name(program)}"
+        found[program] = f"{folder}/{module_name(program)}"
         with open(found[program], "wb") as file:
             file.write(content)
     return found

@@ -135,9 +135,9 @@ fn shows(
     alloc: Global,
     book: &mut Book<Safe>,
     query: Query,
-    wanted: &[u8],
+    expected: &[u8],
 ) -> Result<bool, Refusal> {
-    Ok(text(alloc, book, query)?.as_slice() == wanted)
+    Ok(text(alloc, book, query)?.as_slice() == expected)
 }
 
 /// Whether a look is refused for this reason.

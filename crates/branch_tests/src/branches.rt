@@ -188,9 +188,9 @@ fn changed(
 
 /// The index of the first row with wrong numbers.
 fn first_wrong(rt: &impl Abort, alloc: Global) -> Result<Option<usize>, Refusal> {
-    for (i, (count, change, wanted)) in CUTS.iter().enumerate() {
+    for (i, (count, change, expected)) in CUTS.iter().enumerate() {
         let reported = changed(rt, alloc, *count, *change)?;
-        if (reported.segments, reported.steps.len(), reported.made) != *wanted {
+        if (reported.segments, reported.steps.len(), reported.made) != *expected {
             return Ok(Some(i));
         }
     }

@@ -107,7 +107,7 @@ HasFitting-fails h =
 IsSettledLast-holds : IsSettledLast same safe_behaviour (chart_with None) (chart_with (Some writing)) (codes "main") 1 (Some part) 1
 IsSettledLast-holds = (part ∷ [], record { settles = settled; sum = refl }, refl)
 
--- there is no last run, although one step was wanted
+-- there is no last run, although the place is 1
 IsSettledLast-fails : IsSettledLast same safe_behaviour (chart_with None) (chart_with (Some writing)) (codes "main") 1 None 1 → ⊥
 IsSettledLast-fails h = by h.0 h.1.settles h.2
   where

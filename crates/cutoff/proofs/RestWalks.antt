@@ -27,7 +27,7 @@ use Rattle.cutoff.proofs.Prefixes.{down_same, down_more}
 use Rattle.cutoff.proofs.Segments.{noted_still}
 use Rattle.cutoff.proofs.Walks.{reached_none, IsWalking, walk_starts, walk_on, fits_here, exit_of, exit_of-last}
 
--- once a run is stored at a key, it is the run noted there
+-- a segment whose note is set to s has the note s, and the cells that it had
 pub noted_at : {T : Type 0} (s : T) (o p : Option (SegmentOf T)) → p ≡ option_map (with_note (Some s)) o → IsSome o → note_of p ≡ Some s
 noted_at s None p e h = absurd (true≢false (sym h))
 noted_at s (Some q) p e h = ap note_of e
@@ -36,7 +36,7 @@ pub noted_cells : {T : Type 0} (s : T) (o p : Option (SegmentOf T)) → p ≡ op
 noted_cells s None p e = ap slots_of e
 noted_cells s (Some q) p e = ap slots_of e
 
--- runs stay stored if nothing is stored at their keys
+-- runs stay stored if the segments at their keys stay as they are
 pub down_kept : {R P : Type 0} (E : R → R → Bool) (is : R → Behaviour P) (trie new : TrieOf (StoredRun R P)) (b : Behaviour P) (c : Configuration R P) (keys : List ℕ) (end : Configuration R P)
     → ((j : ℕ) → has j keys ≡ true → segment_at new.segments j ≡ segment_at trie.segments j) → RunsDown E is trie b c keys end → RunsDown E is new b c keys end
 down_kept E is trie new b c [] end same d = d
@@ -70,7 +70,7 @@ pub record IsGoing {R P : Type 0} (E : R → R → Bool) (is : R → Behaviour P
   pub some : 0 < count
   pub few : count ≤ length (slots_of (segment_at old.segments key))
 
--- `rest` cells are still wanted
+-- the place is `rest` cells further on, which is at least one
 more : {R P : Type 0} (old : TrieOf (StoredRun R P)) (key count rest : ℕ) (left : List ℕ) → 0 < count → EndsIn old key count rest left → 0 < rest
 more old key count rest left some ends = let s = ends.sum in omega arith
 

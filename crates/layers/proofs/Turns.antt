@@ -72,14 +72,14 @@ tasks_put p q x f at h =
     ]
 
 module _ {Task P U : Type 0} (l : LayerOver Task P) (user : ℕ → ℕ → ℕ) (value : ℕ → ℕ) (halted : ℕ → Bool) (w : Watch Task U) where
-  abbrev At : Type 0
-  At = ℕ → Option (Running (Nested Task P))
+  abbrev PendingOps : Type 0
+  PendingOps = ℕ → Option (Running (Nested Task P))
 
-  abbrev RanTo : ℕ → Op → (Option Event → U → Type 0) → Begun (Nested Task P) → At → Type 0
+  abbrev RanTo : ℕ → Op → (Option Event → U → Type 0) → Begun (Nested Task P) → PendingOps → Type 0
   RanTo p o Out begun at = Ran l user value halted w p o Out begun at
 
   -- what holds after p's turn doesn't depend on what p had pending before it
-  ran_from : (p : ℕ) (o : Op) (Out : Option Event → U → Type 0) (begun : Begun (Nested Task P)) (at : At) → RanTo p o Out begun (put p None at) → RanTo p o Out begun at
+  ran_from : (p : ℕ) (o : Op) (Out : Option Event → U → Type 0) (begun : Begun (Nested Task P)) (at : PendingOps) → RanTo p o Out begun (put p None at) → RanTo p o Out begun at
   ran_from p o Out begun at r = record {
     u = r.u;
     out = r.out;
@@ -94,7 +94,7 @@ module _ {Task P U : Type 0} (l : LayerOver Task P) (user : ℕ → ℕ → ℕ)
   }
 
   -- the turn of p goes on after a part's step
-  pub after_part_ran : (p : ℕ) (o : Op) (task : Task) (m : Memory) (at : At) (j c : View Task) (s : Seen) (next : Next P) (Out : Option Event → U → Type 0) (go_on : Outcome → Memory → Begun (Nested Task P))
+  pub after_part_ran : (p : ℕ) (o : Op) (task : Task) (m : Memory) (at : PendingOps) (j c : View Task) (s : Seen) (next : Next P) (Out : Option Event → U → Type 0) (go_on : Outcome → Memory → Begun (Nested Task P))
       → LayerHolds l.table l.below l.Holds m
       → ((i : ℕ) → i < l.table.words → j.words i ≡ word_at (own_words l.table l.below.size + i) m)
       → ((q : ℕ) → (q ≡ p → ⊥) → j.tasks q ≡ task_in_progress (at q))
@@ -136,7 +136,7 @@ module _ {Task P U : Type 0} (l : LayerOver Task P) (user : ℕ → ℕ → ℕ)
   suits_by_table task next h = subst (λ n. ReachedOrAnswered (l.Reaches (l.table.asks task).who (l.table.asks task).op) (Answers n (l.table.asks task).op) next) l.fit.same_values h
 
   -- the part that is asked takes the operation, or refuses it at once
-  pub asked_ends : (rule : Admission) (p : ℕ) (o : Op) (task : Task) (m : Memory) (at : At) (j : View Task) (next : Next P) (Out : Option Event → U → Type 0) (go_on : Outcome → Memory → Begun (Nested Task P))
+  pub asked_ends : (rule : Admission) (p : ℕ) (o : Op) (task : Task) (m : Memory) (at : PendingOps) (j : View Task) (next : Next P) (Out : Option Event → U → Type 0) (go_on : Outcome → Memory → Begun (Nested Task P))
       → at p ≡ None → LayerHolds l.table l.below l.Holds m
       → ((i : ℕ) → i < l.table.words → j.words i ≡ word_at (own_words l.table l.below.size + i) m)
       → ((q : ℕ) → (q ≡ p → ⊥) → j.tasks q ≡ task_in_progress (at q))
@@ -196,7 +196,7 @@ module _ {Task P U : Type 0} (l : LayerOver Task P) (user : ℕ → ℕ → ℕ)
 
   -- a turn of p that runs this program keeps the invariant and the links
   pub run_on : (rule : Admission) → IsUser l.table l.MayBeAt user → AlwaysAdmits w.Good rule l.below → ((k : ℕ) → k < l.table.parts → value k < l.below.values)
-      → (p : ℕ) (o : Op) (Out : Option Event → U → Type 0) (prog : Program Task) (m : Memory) (at : At) (j : View Task)
+      → (p : ℕ) (o : Op) (Out : Option Event → U → Type 0) (prog : Program Task) (m : Memory) (at : PendingOps) (j : View Task)
       → halted p ≡ false → at p ≡ None → IsSound l.table (l.MayBeAt p o) (Answers l.table.values o) prog
       → Mid l user value halted w m at p j → RunsUnder rule l.table w p o Out prog j
       → RanTo p o Out (advance l.table l.below prog m) at

@@ -17,15 +17,15 @@ fn split(alloc: Global, line: &str) -> Result<Vec<String>, Fail> {
 /// What a command line asks for: the program's file, its options, and the path that it saves to.
 type Run<'a> = (Option<&'a str>, Options, Option<&'a str>);
 
-/// Asserts that a line asks the program for `wanted`.
-fn check_run(rt: &impl Abort, alloc: Global, line: &str, wanted: Run<'_>) -> Result<(), Fail> {
+/// Asserts that a line asks the program for `expected`.
+fn check_run(rt: &impl Abort, alloc: Global, line: &str, expected: Run<'_>) -> Result<(), Fail> {
     let words = split(alloc, line)?;
     match parse_words(alloc, words.as_slice()) {
         Invocation::Run {
             file,
             options,
             save,
-        } => assert_eq!(rt; (file, options, save), wanted, "{line}"),
+        } => assert_eq!(rt; (file, options, save), expected, "{line}"),
         _ => panic!(rt; "{line}"),
     }
     Ok(())

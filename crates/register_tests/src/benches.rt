@@ -27,9 +27,9 @@ pub(crate) const SAMPLE: Sample = Sample {
 type Numbers = (u32, u32, usize);
 
 /// Asserts a limb's name and numbers.
-fn assert_limb(rt: &impl Abort, name: &[u8], numbers: Numbers, wanted: (&[u8], Numbers)) {
-    assert_eq!(rt; name, wanted.0);
-    assert_eq!(rt; numbers, wanted.1);
+fn assert_limb(rt: &impl Abort, name: &[u8], numbers: Numbers, expected: (&[u8], Numbers)) {
+    assert_eq!(rt; name, expected.0);
+    assert_eq!(rt; numbers, expected.1);
 }
 
 /// Asserts what `THREE_BRANCHES` says of each branch.

@@ -61,9 +61,9 @@ fn write_and_read(alloc: Global) -> Result<Question, AllocError> {
 }
 
 /// Whether process `p` has these outcomes.
-fn has(answers: &[Outcomes], p: usize, wanted: &[Outcome]) -> bool {
+fn has(answers: &[Outcomes], p: usize, expected: &[Outcome]) -> bool {
     match answers.get(p) {
-        Some(outcomes) => outcomes.as_slice() == wanted,
+        Some(outcomes) => outcomes.as_slice() == expected,
         None => false,
     }
 }
@@ -80,9 +80,9 @@ fn length(found: &Found, first: &[Outcome], second: &[Outcome]) -> Option<usize>
 }
 
 /// Asserts that the listed schedule in which process 0 writes and process 1 reads these values has
-/// `wanted` steps.
-fn assert_length(rt: &impl Abort, found: &Found, read: &[Outcome], wanted: usize) {
-    assert_eq!(rt; length(found, &[WRITTEN], read), Some(wanted));
+/// `expected` steps.
+fn assert_length(rt: &impl Abort, found: &Found, read: &[Outcome], expected: usize) {
+    assert_eq!(rt; length(found, &[WRITTEN], read), Some(expected));
 }
 
 /// Asserts that two reads can give each of two values, in schedules of 9 steps.

@@ -21,17 +21,17 @@ type History = Result<Vec<(usize, Event)>, AllocError>;
 fn assert_history(
     rt: &impl Abort,
     history: History,
-    wanted: &[(usize, Event)],
+    expected: &[(usize, Event)],
 ) -> Result<(), Fail> {
     let history = history?;
-    assert_eq!(rt; history.as_slice(), wanted);
+    assert_eq!(rt; history.as_slice(), expected);
     Ok(())
 }
 
 /// Asserts the operations that processes 0 and 1 have pending.
-fn assert_pending(rt: &impl Abort, config: &Config<Safe>, wanted: [Option<Op>; 2]) {
-    assert_eq!(rt; config.op(0), wanted[0]);
-    assert_eq!(rt; config.op(1), wanted[1]);
+fn assert_pending(rt: &impl Abort, config: &Config<Safe>, expected: [Option<Op>; 2]) {
+    assert_eq!(rt; config.op(0), expected[0]);
+    assert_eq!(rt; config.op(1), expected[1]);
 }
 
 /// Asserts that the bit is 1, and is neither written nor read.

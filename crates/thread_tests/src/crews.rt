@@ -191,7 +191,7 @@ fn run_by_two<W: Threads + Wait + Sync>(
 }
 
 /// The keys of a plan's two jobs, each with its one step.
-fn wanted_of(rt: &impl Abort, jobs: &[plan::Job<Safe>]) -> [Option<(SegKey, Step)>; 2] {
+fn expected_of(rt: &impl Abort, jobs: &[plan::Job<Safe>]) -> [Option<(SegKey, Step)>; 2] {
     let [read, write] = jobs else {
         panic!(rt; "a job of each branch")
     };
@@ -199,8 +199,8 @@ fn wanted_of(rt: &impl Abort, jobs: &[plan::Job<Safe>]) -> [Option<(SegKey, Step
 }
 
 /// Whether the outcomes are runs of these jobs, each of this one step.
-fn have_steps(all: &[Ran], wanted: [Option<(SegKey, Step)>; 2]) -> bool {
-    all.iter().map(only_step).eq(wanted)
+fn have_steps(all: &[Ran], expected: [Option<(SegKey, Step)>; 2]) -> bool {
+    all.iter().map(only_step).eq(expected)
 }
 
 /// Runs the jobs of a plan of two, and compares the outcomes with the jobs. The offers have to
@@ -211,10 +211,10 @@ fn run_plan<W: Abort + Threads + Wait + Sync>(
     jobs: Vec<plan::Job<Safe>>,
 ) -> Result<(), AllocError> {
     let gate = Meeting::new();
-    let wanted = wanted_of(rt, &jobs);
+    let expected = expected_of(rt, &jobs);
     let all = run_by_two(rt, alloc, jobs, &gate)?;
     assert!(rt; gate.both_met());
-    assert!(rt; have_steps(&all, wanted));
+    assert!(rt; have_steps(&all, expected));
     Ok(())
 }
 

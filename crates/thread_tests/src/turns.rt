@@ -188,8 +188,8 @@ fn written_in_turn<R: Abort + Wait>(rt: &R, alloc: Global) -> Result<Option<Note
 
 /// Whether these are the notes of `write_in_turn`.
 fn are_in_turn(notes: &Notes) -> bool {
-    let wanted = [Note { chair: 0, value: 7 }, Note { chair: 1, value: 9 }];
-    notes.all.as_slice() == wanted.as_slice()
+    let expected = [Note { chair: 0, value: 7 }, Note { chair: 1, value: 9 }];
+    notes.all.as_slice() == expected.as_slice()
 }
 
 #[test]

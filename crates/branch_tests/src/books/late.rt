@@ -129,35 +129,35 @@ fn verdicts<R: Register>(
     verdicts_after(rt, alloc, &mut book, steps)
 }
 
-/// Fails unless the verdicts on these steps, from an initial value, have the text `wanted`.
+/// Fails unless the verdicts on these steps, from an initial value, have the text `expected`.
 fn judges<R: Register>(
     rt: &impl Abort,
     alloc: Global,
     register: R,
     value: u32,
     runs: &[(Step, u32)],
-    wanted: &[u8],
+    expected: &[u8],
 ) -> Result<(), Refusal> {
     let Ok(steps) = in_a_row(alloc, runs) else {
         return Err(Refusal::Memory);
     };
     let text = verdicts(rt, alloc, register, value, &steps)?;
-    assert_eq!(rt; text.as_slice(), wanted);
+    assert_eq!(rt; text.as_slice(), expected);
     Ok(())
 }
 
 #[test]
 fn refused_before_clearing(rt: HostRuntime) -> Result<(), Fail> {
     let register = Unary::new(RegularBit::new(stamped(2, 1))?, 3)?;
-    let wanted = b"0: verdict main 21 of 21\n  19 p1 1 stray\n";
-    judges(&rt, rt.alloc(), register, 2, &BEFORE_CLEARING, wanted)?;
+    let expected = b"0: verdict main 21 of 21\n  19 p1 1 stray\n";
+    judges(&rt, rt.alloc(), register, 2, &BEFORE_CLEARING, expected)?;
     Ok(())
 }
 
 #[test]
 fn refused_after_two_writes(rt: HostRuntime) -> Result<(), Fail> {
     let register = Unary::new(stamped(2, 2), 3)?;
-    let wanted = b"0: verdict main 160 of 160\n  158 p1 2 stray\n";
-    judges(&rt, rt.alloc(), register, 1, &AFTER_TWO_WRITES, wanted)?;
+    let expected = b"0: verdict main 160 of 160\n  158 p1 2 stray\n";
+    judges(&rt, rt.alloc(), register, 1, &AFTER_TWO_WRITES, expected)?;
     Ok(())
 }

@@ -31,13 +31,13 @@ const SETTLES: [Row; 6] = [
     (Branch::Main, Ask::Left(0)),
 ];
 
-fn settles_again(rt: &impl Abort, alloc: Global, wanted: Wanted) {
+fn settles_again(rt: &impl Abort, alloc: Global, expected: Wanted) {
     let Ok(steps) = writes(alloc) else {
         return;
     };
     none_wrong(
         rt,
-        first_wrong_if(rt, alloc, &steps, wanted, TRIES, &SETTLES),
+        first_wrong_if(rt, alloc, &steps, expected, TRIES, &SETTLES),
     );
 }
 

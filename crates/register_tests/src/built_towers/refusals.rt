@@ -42,8 +42,8 @@ fn shape_of<R: Register>(built: Result<R, LayerError>) -> Built {
 }
 
 /// Asserts the result of a constructor, which got these numbers.
-fn assert_built(rt: &impl Abort, built: Built, wanted: Built, numbers: &[u32]) {
-    assert_eq!(rt; built, wanted, "{numbers:?}");
+fn assert_built(rt: &impl Abort, built: Built, expected: Built, numbers: &[u32]) {
+    assert_eq!(rt; built, expected, "{numbers:?}");
 }
 
 /// Asserts for how many readers a safe bit can be copied.
@@ -57,8 +57,8 @@ fn copies_of<S: Register>(rt: &impl Abort, bit: S) {
         );
     }
     for (readers, cells, processes) in [(1, 1, 2), (2, 2, 3), (3, 3, 4), (4, 4, 5)] {
-        let wanted = Ok((size(cells, 0), 2, processes, 2));
-        assert_built(rt, shape_of(Copies::new(bit, readers)), wanted, &[readers]);
+        let expected = Ok((size(cells, 0), 2, processes, 2));
+        assert_built(rt, shape_of(Copies::new(bit, readers)), expected, &[readers]);
     }
 }
 
@@ -85,8 +85,8 @@ fn numbers_of<S: Register>(rt: &impl Abort, bits: S) {
         assert_built(rt, shape_of(Unary::new(bits, values)), BAD_SIZE, &[values]);
     }
     for (values, cells, words) in [(2, 8, 2), (3, 12, 3), (512, 2048, 512)] {
-        let wanted = Ok((size(cells, words), values, 5, 4));
-        assert_built(rt, shape_of(Unary::new(bits, values)), wanted, &[values]);
+        let expected = Ok((size(cells, words), values, 5, 4));
+        assert_built(rt, shape_of(Unary::new(bits, values)), expected, &[values]);
     }
 }
 
@@ -136,7 +136,7 @@ fn at_most_4096_cells(rt: HostRuntime) -> Result<(), Fail> {
 /// Asserts which stamped registers can be built over registers of 4 and of 512 codes for one
 /// reader, and over one of 4 codes for two readers.
 fn stamped_of<S: Register>(rt: &impl Abort, of_4: S, of_512: S, of_two_readers: S) {
-    for (values, last, wanted) in [
+    for (values, last, expected) in [
         (0, 0, BAD_SIZE),
         (1, 511, BAD_SIZE),
         (513, 0, BAD_SIZE),
@@ -148,7 +148,7 @@ fn stamped_of<S: Register>(rt: &impl Abort, of_4: S, of_512: S, of_two_readers: 
         (512, 0, Ok((size(512, 514), 512, 2, 5))),
     ] {
         let built = shape_of(Stamped::new(of_512, values, last));
-        assert_built(rt, built, wanted, &[values, last]);
+        assert_built(rt, built, expected, &[values, last]);
     }
     let small = Ok((size(4, 6), 2, 2, 5));
     assert_built(rt, shape_of(Stamped::new(of_4, 2, 1)), small, &[2, 1]);
@@ -168,10 +168,10 @@ fn over_unary_numbers(rt: HostRuntime) {
 /// Asserts the results of building matrices over parts. A row has the numbers of processes and
 /// values, the last tag, and the result.
 fn matrices_of<S: Register>(rt: &impl Abort, parts: S, rows: &[([u32; 3], Built)]) {
-    for (numbers, wanted) in rows {
+    for (numbers, expected) in rows {
         let [processes, values, last_tag] = *numbers;
         let built = shape_of(Matrix::new(parts, processes, values, last_tag));
-        assert_built(rt, built, *wanted, numbers);
+        assert_built(rt, built, *expected, numbers);
     }
 }
 

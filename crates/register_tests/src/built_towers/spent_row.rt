@@ -60,8 +60,8 @@ fn assert_first_part_written(
     alloc: Global,
     store: &Store,
 ) -> Result<(), AllocError> {
-    let wanted = first_part_written(alloc)?;
-    assert!(rt; *store == wanted);
+    let expected = first_part_written(alloc)?;
+    assert!(rt; *store == expected);
     Ok(())
 }
 

@@ -83,14 +83,14 @@ impl<T: Drop> Trie<T> {
         if len <= place {
             return None;
         }
-        // the number of cells after the wanted cell, except those of segments already passed
+        // the number of cells after the one at `place`, except those of segments already passed
         let mut following = (len - place - 1) as usize;
         let mut at = self.segments.tip(index);
         while let Some(up) = self.slots_up(at) {
             let (key, slots, above) = up;
             let (left, is_here) = following.overflowing_sub(slots.len());
             if is_here {
-                // `left` is 2^64 - n; the wanted cell is the n-th of `slots`, at offset n - 1
+                // `left` is 2^64 - n; the cell at `place` is the n-th of `slots`, at offset n - 1
                 return Some((key, usize::MAX - left));
             }
             following = left;
