@@ -55,7 +55,7 @@ export class Model {
     Object.assign(this, { notes: [], sought: [] });
     this.byName = new Map(branches.map((it) => [it.name, it]));
   }
-  // `found`: the answers to the document's lines, then to `cursor` of each session, then to `branches`
+  // `found`: the answers to the document's lines, to each session's `cursor`, and to `branches`
   readAnswers(found) {
     const { document } = this, count = document.lines.length;
     this.answers = found.slice(0, count);

@@ -1,5 +1,5 @@
 #!/usr/bin/env python3
-"""The built tests of a crate, which serve only as long as no source is newer than they are.
+"""The built tests of a crate, which are used only while no source is newer than they are.
 
 usage: tests/built.py NAME..   builds the tests of these crates if it must (`rt test`), and
                                prints where they are

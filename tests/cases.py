@@ -164,7 +164,7 @@ def fault_of_kept(path):
 
 
 def difference(case, ran):
-    """Returns in what a run isn't as its case wants it; None: it is."""
+    """Returns how a run differs from what its case expects; None: it doesn't."""
     texts = [("", case.output, ran.output), ("standard error, ", case.errors, ran.errors)]
     if case.save:
         texts.append(("saved, ", case.saved, saved_by(case) or b""))

@@ -31,7 +31,7 @@ def text_of(path):
 
 
 def attempts():
-    """Returns of each script and number its attempts: whether it is right, what it is, and lines."""
+    """Returns the attempts at each exercise, by script and number: whether it is right, what it is, and lines."""
     found, its = {}, []
     for line in text_of("tests/attempts.txt").partition("\n\n")[2].splitlines():
         exercise, attempt = OF_EXERCISE.match(line), ATTEMPT.match(line)

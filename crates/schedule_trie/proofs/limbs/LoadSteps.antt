@@ -79,7 +79,7 @@ module _ {T : Type 0} (a was b d : TrieOf T) (l : Limb) (steps : List Step) (ind
     cut = pushed.cut forked.cut;
   }
 
--- the length of a limb's branch is at most the most cells
+-- the length of a limb's branch is at most the limit of cells
 pub grown_small : {T : Type 0} (a : TrieOf T) (l : Limb) → IsWhole a → CanGrow a l → l.shared + length l.steps ≤ MOST_CELLS_MADE
 grown_small a l whole can =
     let few = cells_few a whole l.from in

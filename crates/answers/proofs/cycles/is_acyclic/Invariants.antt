@@ -4,7 +4,7 @@ use Rattle.answers.specs.States.{ended_counts}
 use Rattle.answers.proofs.Ranked.{IsRankedTo, missing}
 use Rattle.answers.proofs.cycles.is_acyclic.Given as goal
 
--- no process has ended more than all, and what has ended is ranked
+-- no process has ended more operations than it has, and those that have ended are ranked
 abbrev pub invariant-loop-p : goal.invariant-loop-p
 invariant-loop-p l = record {
   each : length l.answers.items ≡ l.processes;
