@@ -102,8 +102,8 @@ module _ (m values : ℕ) where
   abbrev w : Watch CopiesTask Seen
   w = copies_watch m
 
-  runs_writes : (behind r v p : ℕ) (op : Op) (Out : Option Event → Seen → Type 0) (u : Seen) (j : View CopiesTask) → p ≡ 0 → 1 ≤ r → r + behind ≡ m + 1 → WriteReached m r v u j.parts → Alone m u j.parts
-      → Out None u → Out (Some (Wrote p)) (sees (Some (Wrote p)) u) → Runs t w p op Out (write_from v r behind) j
+  runs_writes : (copies_left r v p : ℕ) (op : Op) (Out : Option Event → Seen → Type 0) (u : Seen) (j : View CopiesTask) → p ≡ 0 → 1 ≤ r → r + copies_left ≡ m + 1 → WriteReached m r v u j.parts → Alone m u j.parts
+      → Out None u → Out (Some (Wrote p)) (sees (Some (Wrote p)) u) → Runs t w p op Out (write_from v r copies_left) j
   runs_writes zero r v p op Out u j zp lo room h a on oe =
       let z : Seen = sees (Some (Wrote p)) u in (
         z,
@@ -119,7 +119,7 @@ module _ (m values : ℕ) where
           },
         ),
       )
-  runs_writes (suc behind) r v p op Out u j zp lo room h a on oe =
+  runs_writes (suc copies_left) r v p op Out u j zp lo room h a on oe =
       let i : ℕ = r - 1 in
       let n : Option (TaskInProgress CopiesTask) = Some (record { op = op; task = Writing v r }) in
       let s : Seen = sees (Some (Invoke 0 (Write v))) (j.parts i) in
@@ -139,9 +139,9 @@ module _ (m values : ℕ) where
             },
           ),
         ),
-        λ o ans pass good. elim o as (λ o. Answers values (Write v) o → IsNotSpent o → Runs t w p op Out (write_from v (r + 1) behind) (record j { parts = put i (sees (Some (ended 0 o)) s) j.parts })) [
+        λ o ans pass good. elim o as (λ o. Answers values (Write v) o → IsNotSpent o → Runs t w p op Out (write_from v (r + 1) copies_left) (record j { parts = put i (sees (Some (ended 0 o)) s) j.parts })) [
           | Value x ↦ λ ans pass. absurd ans
-          | Written ↦ λ ans pass. runs_writes behind (r + 1) v p op Out u (record j { parts = put i e j.parts }) zp (omega (arith, lo)) (omega (arith, room))
+          | Written ↦ λ ans pass. runs_writes copies_left (r + 1) v p op Out u (record j { parts = put i e j.parts }) zp (omega (arith, lo)) (omega (arith, room))
               (record {
                 writing = h.writing;
                 last = put_all (λ k x. k + 1 < r + 1 → x.last ≡ v) i e j.parts (λ lk. refl) (λ k ne lk. h.last k (omega (arith, lk, ne, lo)));

@@ -23,7 +23,7 @@ use Rattle.reader_copies.specs.declared.task.CopiesTask.TheVariants.{Writing, Re
 -- with the copy of `reader`; the last argument is the number of copies that remain
 abbrev pub write_from : ℕ → ℕ → ℕ → Program CopiesTask
 write_from v reader zero = Ends Written
-write_from v reader (suc behind) = Asks (Writing v reader) (λ o. write_from v (reader + 1) behind)
+write_from v reader (suc left) = Asks (Writing v reader) (λ o. write_from v (reader + 1) left)
 
 -- the program of an operation: a write writes the copies of readers 1 to `readers`, in this order;
 -- a read by process `who` reads the copy of `who`

@@ -31,13 +31,13 @@ copies_left readers (Reading reader) = 0
 pub settled_more : (base v reader copies : ℕ) (m : Memory) → 0 < copies
     → settled base (write_from v reader copies) m ≡ record { continuation = continuation.Asks (Writing v reader); memory = m }
 settled_more base v reader zero m some = absurd (omega arith)
-settled_more base v reader (suc behind) m some = refl
+settled_more base v reader (suc left_after) m some = refl
 
 -- if a write has no copies left to write, the rest of the write ends at once and changes no memory
 pub settled_none : (base v reader copies : ℕ) (m : Memory) → copies ≡ 0
     → settled base (write_from v reader copies) m ≡ record { continuation = continuation.Ends Written; memory = m }
 settled_none base v reader zero m none = refl
-settled_none base v reader (suc behind) m none = absurd (omega arith)
+settled_none base v reader (suc left_after) m none = absurd (omega arith)
 
 module _ (readers values : ℕ) (some : 1 ≤ readers) (few : readers ≤ MOST_READERS) where
   -- the rest of a write, if it writes the copies of `reader` and of all later readers, is sound: it
@@ -45,12 +45,12 @@ module _ (readers values : ℕ) (some : 1 ≤ readers) (few : readers ≤ MOST_R
   write_sound : (who w v reader copies : ℕ) → who ≡ 0 → v ≡ w → v < values → 1 ≤ reader → reader + copies ≡ readers + 1
       → IsSound (copies_table readers values) (CopiesMayBeAt readers values who (op.Write w)) (Answers values (op.Write w)) (write_from v reader copies)
   write_sound who w v reader zero writer same lt first all = tt
-  write_sound who w v reader (suc behind) writer same lt first all =
+  write_sound who w v reader (suc left_after) writer same lt first all =
       ((writer, same, lt, first, omega arith), λ o. ap (write_from v (reader + 1)) (omega arith))
 
   write_falls : (v reader copies : ℕ) → reader + copies ≡ readers + 1 → Falls (copies_left readers) copies (write_from v reader copies)
   write_falls v reader zero all = tt
-  write_falls v reader (suc behind) all = omega arith
+  write_falls v reader (suc left_after) all = omega arith
 
   begins_sound : (who : ℕ) (o : Op) → one_writer values (readers + 1) who o ≡ true
       → IsSound (copies_table readers values) (CopiesMayBeAt readers values who o) (Answers values o) (copies_program readers who o)

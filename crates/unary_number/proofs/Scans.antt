@@ -156,10 +156,10 @@ module _ {P : Type 0} (b : Behaviour P) (values processes : ℕ) (layer : Layer)
 
   goes_on : (who : ℕ) (o : Op) (task : UnaryTask) (next : Next P) (m : Memory) → UnaryMayBeAt values processes who o task → Goes (after_part (λ o n. advance r b (unary_rest (Spent layer) task o) n) task next m).next
       → AlikeAfter task (unary_rest top task) (unary_rest (Spent layer) task) next m
-  goes_on who (op.Write w) (Setting x) next m stands goes = after_write (Setting x) (clears_below x x) next m (λ o. tt) (λ n. clears x x n)
-  goes_on who (op.Write w) (Clearing x i) next m stands goes = after_write (Clearing x i) (clears_below x i) next m (λ o. tt) (λ n. clears x i n)
-  goes_on who op.Read (Looking q i left) next m stands goes = after_look_at q i left next m stands.3 (λ n. looks left q i n stands.3) goes
-  goes_on who _ _ next m stands goes = absurd stands
+  goes_on who (op.Write w) (Setting x) next m at_task goes = after_write (Setting x) (clears_below x x) next m (λ o. tt) (λ n. clears x x n)
+  goes_on who (op.Write w) (Clearing x i) next m at_task goes = after_write (Clearing x i) (clears_below x i) next m (λ o. tt) (λ n. clears x i n)
+  goes_on who op.Read (Looking q i left) next m at_task goes = after_look_at q i left next m at_task.3 (λ n. looks left q i n at_task.3) goes
+  goes_on who _ _ next m at_task goes = absurd at_task
 
   abbrev N : Type 0
   N = Nested UnaryTask P
@@ -179,19 +179,19 @@ module _ {P : Type 0} (b : Behaviour P) (values processes : ℕ) (layer : Layer)
     AlikeIn halted s running m = (acting_unless halted L s running m ≡ acting_unless halted R s running m) × AllFind (ended_unless t b halted s running m)
 
     acts : (s : Step) (halted : Bool) (running : Option (Running N)) (m : Memory) → IsReachedBy (process_of s) running → AreQuiet (acting_unless halted R s running m).events → AlikeIn halted s running m
-    acts s true running m stands quiet = (refl, tt)
-    acts (step.Write p v) false None m stands quiet =
+    acts s true running m at_task quiet = (refl, tt)
+    acts (step.Write p v) false None m at_task quiet =
         let o : Op = op.Write v in
         let same = begins p o m (step_goes p (Some (Invoke p o)) (advance r b (unary_program (Spent layer) values p o) m).next quiet) in
         (ap (λ (x : Begun N). acted p o (Some (Invoke p o)) x.next x.memory) same.0, same.1)
-    acts (step.Read p) false None m stands quiet =
+    acts (step.Read p) false None m at_task quiet =
         let same = begins p op.Read m (step_goes p (Some (Invoke p op.Read)) (advance r b (unary_program (Spent layer) values p op.Read) m).next quiet) in
         (ap (λ (x : Begun N). acted p op.Read (Some (Invoke p op.Read)) x.next x.memory) same.0, same.1)
-    acts (step.Go p c) false (Some x) m stands quiet =
+    acts (step.Go p c) false (Some x) m at_task quiet =
         let moved : Moved P = pushed b (unary_asks x.point.task).part x.point.below (c == 1) m in
-        let same = goes_on p x.op x.point.task moved.next moved.memory stands.may_be_at (step_goes p (chosen_of p moved.chosen) (resume r b x.point (c == 1) m).next quiet) in
+        let same = goes_on p x.op x.point.task moved.next moved.memory at_task.may_be_at (step_goes p (chosen_of p moved.chosen) (resume r b x.point (c == 1) m).next quiet) in
         (ap (λ (y : Begun N). acted p x.op (chosen_of p moved.chosen) y.next y.memory) same.0, same.1)
-    acts _ false _ m stands quiet = (refl, tt)
+    acts _ false _ m at_task quiet = (refl, tt)
 
     module _ (Holds : Memory → Type 0) (left : UnaryTask → ℕ) (lawful : IsLawful b Holds Reaches) (sound : IsSoundTable r (UnaryMayBeAt values processes) left) (fit : FitsBelow r b) where
       abbrev Well : Alone N → Type 0

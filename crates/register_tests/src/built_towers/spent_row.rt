@@ -17,8 +17,8 @@ use unary_number::{NewUnary, Unary};
 
 /// The cells and words after process 0 has written 1 to the first part of its row.
 fn first_part_written(alloc: Global) -> Result<Store, AllocError> {
-    // Part k is a number of 8 values in cells 8k to 8k + 7, and word k says that it has been read. Part 0
-    // holds the code 5 (tag 1, writer 0, value 1), the others 0; process 0 has read its column, 0 and 2.
+    // Part k is a number of 8 values in cells 8k to 8k + 7; word k is 1 once it has been read. Part 0
+    // holds the code 5 (tag 1, writer 0, value 1), the others 0. Process 0 has read parts 0 and 2.
     let mut store = Store::new(alloc, 32, 4)?;
     store.set_value(5, true);
     store.set_value(8, true);

@@ -152,7 +152,7 @@ module _ {A : Type 0} where
 
 -- a window stays as it was if an item after it is set
 pub window-set_after : {A : Type 0} (i n k : ℕ) (x : A) (xs : List A) → i + n ≤ length xs → i + n ≤ k → window i n (set xs k x) ≡ window i n xs
-window-set_after i n k x xs h behind =
+window-set_after i n k x xs h is_after =
     let l = length-set xs k x in
     let h' : i + n ≤ length (set xs k x) = omega arith in
     same_lists (window i n (set xs k x)) (window i n xs) (length-window i n (set xs k x) h' ∙ sym (length-window i n xs h))

@@ -157,8 +157,8 @@ module _ {T : Type 0} (at : ℕ → Option (SegmentOf T)) where
   -- a place lies in the key's segment if it is the number of cells above the segment plus an offset
   pub lies_here : (keys : List ℕ) (last : Option ℕ) (key place offset : ℕ) → HasClimbedTo keys last → last ≡ Some key
       → length (line at (keys_to keys last)) + offset ≡ place + length (slots_of (at key)) → offset < length (slots_of (at key)) → SpotIsAt at keys place (key, offset)
-  lies_here keys None key place offset h e behind within = absurd (cc)
-  lies_here keys (Some k) key place offset h e behind within =
+  lies_here keys None key place offset h e place_is within = absurd (cc)
+  lies_here keys (Some k) key place offset h e place_is within =
       let one : k ≡ key = cc in
       let p = parting keys k h in
       let own : length (line at (keys_up_to k keys)) ≡ length (line at p.front) + length (slots_of (at k)) =
@@ -169,7 +169,7 @@ module _ {T : Type 0} (at : ℕ → Option (SegmentOf T)) where
         back = p.back;
         is = p.is ∙ ap (λ j. p.front ++ j ∷ p.back) one;
         first = subst (λ j. has j p.front ≡ false) one p.lacks;
-        before = omega (arith, own, named, behind);
+        before = omega (arith, own, named, place_is);
         within = within;
       }
 

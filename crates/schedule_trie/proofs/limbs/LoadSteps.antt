@@ -183,8 +183,8 @@ module _ (ls : List Limb) (lawful : AreLawfulLimbs ls) (n : ℕ) (l : Limb) (les
         }
 
     pub grown_next : (d : TrieOf T) → IsGrown c d l → forest d ≡ forest_of (take (n + 1) ls)
-    grown_next d told =
-        told.forest_is ∙ ap (λ f. grown f l) is ∙ sym (grow-last no_branches xs l) ∙ ap forest_of (sym more)
+    grown_next d change =
+        change.forest_is ∙ ap (λ f. grown f l) is ∙ sym (grow-last no_branches xs l) ∙ ap forest_of (sym more)
 
 -- an item of the rest
 -- the first limb

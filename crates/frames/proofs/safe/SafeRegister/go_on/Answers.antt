@@ -43,9 +43,9 @@ read_ended : (place : Place) (m : Memory) (who first : ℕ) (stack : List Frame)
     → m' ≡ on_cell place.cell end_read m → LiesIn place safe_size m
     → (o : Op) (p : SafePoint) → HasFramesFrom safe_behaviour.frames SafeReaches who first stack o p
     → Lands safe_behaviour.frames place (safe_goes p choice (part place safe_size m)).next (safe_goes p choice (part place safe_size m)).memory (take first stack) m (Some (Value value)) (take first stack) m'
-read_ended place m who first stack choice frame found is gave value m' told byte after inside =
+read_ended place m who first stack choice frame found is gave value m' value_is byte after inside =
     let given : value_of (read_gives choice (cell_at 0 (part place safe_size m))) ≡ value =
-    ap value_of (ap (read_gives choice) (cell_at-part place safe_size 0 m (omega arith) ∙ ap (λ i. cell_at i m) (add-zero place.cell)) ∙ sym told) ∙ sym (byte ∙ byte_value gave) in
+    ap value_of (ap (read_gives choice) (cell_at-part place safe_size 0 m (omega arith) ∙ ap (λ i. cell_at i m) (add-zero place.cell)) ∙ sym value_is) ∙ sym (byte ∙ byte_value gave) in
     ends_there place m who first stack choice frame at.ReadEnd found is (Value value) m' (ap (λ v. Done (Value v)) given) (after ∙ on_own_cell place end_read m inside)
 
 pub returns-then-hit-clause-lands : goal.returns-then-hit-clause-lands

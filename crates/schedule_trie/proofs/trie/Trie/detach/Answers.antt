@@ -10,14 +10,14 @@ pub returns-clause-ok : goal.returns-clause-ok
 returns-clause-ok g c =
     let now = c.args.self.now in
     let view = c.self.view_is ∙ c.learn_len.ensures.same in
-    let told = subst (λ z. IsDetached z c.detach_at.new.self c.in-Some.index) c.learn_len.ensures.same c.in_ok-detach_at.ensures.ok in
+    let change = subst (λ z. IsDetached z c.detach_at.new.self c.in-Some.index) c.learn_len.ensures.same c.in_ok-detach_at.ensures.ok in
     let fits : now.made + length (slots_in (forest now).branches c.in-Some.index) ≤ now.limits.cells =
     omega (arith, ap (λ z. z.limits.cells) view, ap (λ z. z.made) view, c.if-learn_len-self.false, c.learn_len.ensures.len, c.learn_len.ensures.whole.within.cells) in
     record {
       forest = ap (λ o. on_found o (detach_at now.limits (forest now))) (sym c.in-Some.ensures.index)
           ∙ (λ i. cond (le-ltb now.limits.cells (now.made + length (slots_in (forest now).branches c.in-Some.index)) fits i) (Err Full)
-          (Ok (record { branches = sym told.branches i; made = sym told.made i })));
-      notes = told.notes;
-      cut = told.cut;
-      limits = told.limits;
+          (Ok (record { branches = sym change.branches i; made = sym change.made i })));
+      notes = change.notes;
+      cut = change.cut;
+      limits = change.limits;
     }

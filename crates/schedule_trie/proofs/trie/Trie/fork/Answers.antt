@@ -96,16 +96,16 @@ pub returns-clause-ok : goal.returns-clause-ok
 returns-clause-ok g c =
     let most = ap (λ z. z.limits.branches) (c.self.view_is ∙ c.learn_len.ensures.same) in
     let branches = c.branches-count.ensures.count ∙ ap (λ z. length (forest z).branches) c.learn_len.ensures.same in
-    let told = subst (λ z. IsBranchForked z c.fork_at.new.self c.in-Some.index c.args.place c.args.name) c.learn_len.ensures.same c.in_ok-fork_at.ensures.ok in
+    let change = subst (λ z. IsBranchForked z c.fork_at.new.self c.in-Some.index c.args.place c.args.name) c.learn_len.ensures.same c.in_ok-fork_at.ensures.ok in
     subst (λ z. IsEdited c.args.self.now z (Fork c.args.branch.now c.args.place c.args.name)) (sym c.keep_len.ensures)
     (record {
       forest = is_forked c.args.self.now.limits (forest c.args.self.now) c.args.branch.now c.args.name c.args.place c.in-Some.index (sym c.in-Some.ensures.index)
           (ap is_some (sym c.index-2.ensures.index) ∙ sym c.is_some.ensures ∙ c.if-is_some.false) (sym c.is_well_formed.ensures ∙ c.if-not-is_well_formed.false)
           (omega (arith, c.learn_len.ensures.len, c.if-learn_len-place.false)) (omega (arith, most, branches, c.if-count-self.false))
-          ∙ sym (λ i. Ok (record { branches = told.branches i; made = told.made i }));
-      notes = told.notes c.args.branch.now (sym c.in-Some.ensures.index);
-      cut = told.cut;
-      limits = told.limits;
+          ∙ sym (λ i. Ok (record { branches = change.branches i; made = change.made i }));
+      notes = change.notes c.args.branch.now (sym c.in-Some.ensures.index);
+      cut = change.cut;
+      limits = change.limits;
     })
 
 pub returns-in_err-fork_at-clause-ok : goal.returns-in_err-fork_at-clause-ok
@@ -127,7 +127,7 @@ pub returns-clause-end : goal.returns-clause-end
 returns-clause-end g c index found long =
     let at : Some c.in-Some.index ≡ Some index = c.in-Some.ensures.index ∙ found in
     let here : c.in-Some.index ≡ index = cc in
-    let told = subst (λ z. c.args.place ≡ length (slots_in (forest z).branches c.in-Some.index) → IsForkedWhole z c.fork_at.new.self c.in-Some.index c.args.name) c.learn_len.ensures.same
+    let change = subst (λ z. c.args.place ≡ length (slots_in (forest z).branches c.in-Some.index) → IsForkedWhole z c.fork_at.new.self c.in-Some.index c.args.name) c.learn_len.ensures.same
     c.in_ok-fork_at.ensures.end in
     subst (λ z. IsForkedWhole c.args.self.now z index c.args.name) (sym c.keep_len.ensures)
-    (subst (λ i. c.args.place ≡ length (slots_in (forest c.args.self.now).branches i) → IsForkedWhole c.args.self.now c.fork_at.new.self i c.args.name) here told long)
+    (subst (λ i. c.args.place ≡ length (slots_in (forest c.args.self.now).branches i) → IsForkedWhole c.args.self.now c.fork_at.new.self i c.args.name) here change long)

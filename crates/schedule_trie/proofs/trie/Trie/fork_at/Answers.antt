@@ -23,7 +23,7 @@ returns-then-place-eq0-clause-end g c =
     let now = c.args.self.now in
     let all = ap length (slots_in_on (segment_at now.segments) now.branches c.args.index) in
     on_ok c.fork_after.result
-    (λ told long. told (sym (no_keys (segment_at now.segments) (keys_in now.branches c.args.index) (have_cells now c.lemma_invariant.ensures.whole c.args.index) (omega (arith, all, long, c.if-place-eq0.true)))))
+    (λ change long. change (sym (no_keys (segment_at now.segments) (keys_in now.branches c.args.index) (have_cells now c.lemma_invariant.ensures.whole c.args.index) (omega (arith, all, long, c.if-place-eq0.true)))))
     c.fork_after.ensures.end
 
 pub returns-then-count-slots_at-clause-end : goal.returns-then-count-slots_at-clause-end
@@ -33,7 +33,7 @@ returns-then-count-slots_at-clause-end g c =
     let all = ap length (slots_in_on (segment_at now.segments) now.branches c.args.index) in
     let own = ap length c.slots_at.ensures in
     on_ok forked.result
-    (λ told long. told (all_to (segment_at now.segments) (keys_in now.branches c.args.index) (have_cells now c.lemma_invariant.ensures.whole c.args.index) c.in-Some.key (c.args.place - 1) c.in-Some.offset c.in-Some.ensures.lies
+    (λ change long. change (all_to (segment_at now.segments) (keys_in now.branches c.args.index) (have_cells now c.lemma_invariant.ensures.whole c.args.index) c.in-Some.key (c.args.place - 1) c.in-Some.offset c.in-Some.ensures.lies
     (omega (arith, own, c.if-count-slots_at.true)) (omega (arith, all, long, c.if-place-eq0.false))))
     forked.ensures.end
 

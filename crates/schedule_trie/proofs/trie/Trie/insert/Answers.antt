@@ -28,13 +28,13 @@ keep_len-requires-clause-len g c =
 pub returns-clause-ok : goal.returns-clause-ok
 returns-clause-ok g c =
     let view = c.self.view_is ∙ c.learn_len-len.ensures.same in
-    let told = subst (λ z. IsInserted z c.insert_at.new.self c.in-Some.index c.args.place c.args.step) c.learn_len-len.ensures.same c.in_ok-insert_at.ensures.ok in
+    let change = subst (λ z. IsInserted z c.insert_at.new.self c.in-Some.index c.args.place c.args.step) c.learn_len-len.ensures.same c.in_ok-insert_at.ensures.ok in
     subst (λ z. IsEdited c.args.self.now z (Insert c.args.branch.now c.args.place c.args.step)) (sym c.keep_len.ensures)
     (record {
       forest = is_inserted c.args.self.now.limits (forest c.args.self.now) _ c.args.branch.now c.args.place c.args.step c.in-Some.index (sym c.in-Some.ensures.index)
           (omega (arith, c.learn_len-len.ensures.len, c.if-len-place.false)) (omega (arith, ap (λ z. z.limits.cells) view, ap (λ z. z.made) view, c.if-self.false))
-          told.forest_is;
-      notes = (told.notes c.args.branch.now (sym c.in-Some.ensures.index), told.unchanged);
-      cut = told.cut;
-      limits = told.limits;
+          change.forest_is;
+      notes = (change.notes c.args.branch.now (sym c.in-Some.ensures.index), change.unchanged);
+      cut = change.cut;
+      limits = change.limits;
     })

@@ -41,20 +41,20 @@ returns-clause-limbs g c =
 
 pub returns-clause-kept : goal.returns-clause-kept
 returns-clause-kept g c =
-    let told = c.loop-index.invariant.reported ∙ taken_whole c.loop-index.index (limbs (forest c.args.self.now)) (past_all (forest c.args.self.now) c.branches-index-end.ensures.count c.loop-index-test.false) in
-    subst (λ l. IsRenumbered (forest c.args.self.now) (forest_of l)) (sym told) (limbs_kept (forest c.args.self.now) c.lemma_invariant.ensures.forest)
+    let change = c.loop-index.invariant.reported ∙ taken_whole c.loop-index.index (limbs (forest c.args.self.now)) (past_all (forest c.args.self.now) c.branches-index-end.ensures.count c.loop-index-test.false) in
+    subst (λ l. IsRenumbered (forest c.args.self.now) (forest_of l)) (sym change) (limbs_kept (forest c.args.self.now) c.lemma_invariant.ensures.forest)
 
 pub returns-clause-lawful : goal.returns-clause-lawful
 returns-clause-lawful g c =
-    let told = c.loop-index.invariant.reported ∙ taken_whole c.loop-index.index (limbs (forest c.args.self.now)) (past_all (forest c.args.self.now) c.branches-index-end.ensures.count c.loop-index-test.false) in
-    subst AreLawfulLimbs (sym told) (limbs_lawful (forest c.args.self.now) c.lemma_invariant.ensures.forest c.lemma_invariant.ensures.names)
+    let change = c.loop-index.invariant.reported ∙ taken_whole c.loop-index.index (limbs (forest c.args.self.now)) (past_all (forest c.args.self.now) c.branches-index-end.ensures.count c.loop-index-test.false) in
+    subst AreLawfulLimbs (sym change) (limbs_lawful (forest c.args.self.now) c.lemma_invariant.ensures.forest c.lemma_invariant.ensures.names)
 
 pub returns-clause-some : goal.returns-clause-some
 returns-clause-some g c =
-    let told = c.loop-index.invariant.reported ∙ taken_whole c.loop-index.index (limbs (forest c.args.self.now)) (past_all (forest c.args.self.now) c.branches-index-end.ensures.count c.loop-index-test.false) in
-    subst (λ l. 0 < length l) (sym told) (omega (arith, length-limbs (forest c.args.self.now), c.branches-index-end.ensures.count, c.branches-index-end.ensures.some))
+    let change = c.loop-index.invariant.reported ∙ taken_whole c.loop-index.index (limbs (forest c.args.self.now)) (past_all (forest c.args.self.now) c.branches-index-end.ensures.count c.loop-index-test.false) in
+    subst (λ l. 0 < length l) (sym change) (omega (arith, length-limbs (forest c.args.self.now), c.branches-index-end.ensures.count, c.branches-index-end.ensures.some))
 
 pub returns-clause-near : goal.returns-clause-near
 returns-clause-near g c =
-    let told = c.loop-index.invariant.reported ∙ taken_whole c.loop-index.index (limbs (forest c.args.self.now)) (past_all (forest c.args.self.now) c.branches-index-end.ensures.count c.loop-index-test.false) in
-    subst (FitLimits c.args.self.now.limits) (sym told) (limbs_near c.args.self.now c.lemma_invariant.ensures.whole)
+    let change = c.loop-index.invariant.reported ∙ taken_whole c.loop-index.index (limbs (forest c.args.self.now)) (past_all (forest c.args.self.now) c.branches-index-end.ensures.count c.loop-index-test.false) in
+    subst (FitLimits c.args.self.now.limits) (sym change) (limbs_near c.args.self.now c.lemma_invariant.ensures.whole)

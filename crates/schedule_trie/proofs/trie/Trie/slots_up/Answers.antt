@@ -7,7 +7,7 @@ use Rattle.schedule_trie.proofs.trie.Trie.slots_up.Goals as goal
 
 pub returns-in-Some-clause-each : goal.returns-in-Some-clause-each
 returns-in-Some-clause-each g c i front back e =
-    let told = each_up c.self.inside c.args.self.now c.self.view_is c.self.invariant.held c.in-Some.key c.in-Some.above c.in-Some.ensures.each i front back e in
+    let change = each_up c.self.inside c.args.self.now c.self.view_is c.self.invariant.held c.in-Some.key c.in-Some.above c.in-Some.ensures.each i front back e in
     cc
 
 pub returns-in-None-clause-end : goal.returns-in-None-clause-end

@@ -31,12 +31,12 @@ loop-limb-preserved g c =
     let i = c.loop-limb.invariant in
     let ls = c.args.limbs.now in
     let item = item_of_rest ls c.loop-limb.limb-index c.limb-item.result c.requires.some c.loop-limb-test.true c.limb-item.is in
-    let told = c.in_ok-grow.ensures in
+    let change = c.in_ok-grow.ensures in
     record {
-      grown = grown_next ls c.requires.lawful (c.loop-limb.limb-index + 1) c.limb-item.result item.0 item.1 c.loop-limb.trie i.grown c.grow.new.self told;
-      limits = told.limits ∙ i.limits;
-      cut = told.cut;
-      blank = told.blank i.blank;
+      grown = grown_next ls c.requires.lawful (c.loop-limb.limb-index + 1) c.limb-item.result item.0 item.1 c.loop-limb.trie i.grown c.grow.new.self change;
+      limits = change.limits ∙ i.limits;
+      cut = change.cut;
+      blank = change.blank i.blank;
     }
 
 pub returns-clause-forest : goal.returns-clause-forest
