@@ -47,7 +47,7 @@ pub record IsMark {T : Type 0} (at : ℕ → Option (SegmentOf T)) (branches : L
 
 -- each segment of the first `count` branches has its right mark (`IsMark`), no other segment is
 -- marked, and the list is long enough for the mark of each segment
-pub record MarksFirst {T : Type 0} (c : TrieOf T) (count : ℕ) (marks : List (Option Mark)) : Type 0 where
-  pub places : HasPlaces c marks
-  pub right : (k : ℕ) → IfSome (mark_at marks k) (IsMark (segment_at c.segments) c.branches count k)
-  pub none : (j k : ℕ) → mark_at marks k ≡ None → j < count → has k (keys_in c.branches j) ≡ false
+pub record MarksFirst {T : Type 0} (trie : TrieOf T) (count : ℕ) (marks : List (Option Mark)) : Type 0 where
+  pub places : HasPlaces trie marks
+  pub right : (k : ℕ) → IfSome (mark_at marks k) (IsMark (segment_at trie.segments) trie.branches count k)
+  pub none : (j k : ℕ) → mark_at marks k ≡ None → j < count → has k (keys_in trie.branches j) ≡ false

@@ -5,21 +5,21 @@ use Rattle.branch_terms.specs.Forest.{index_of, slots_in}
 use Rattle.schedule_trie.specs.Trie.{TrieOf, forest, IsBlank, IsCut}
 use Rattle.branch_terms.specs.Limbs.{is_name, grown}
 
--- a limb's branch can be added to a trie: there is a branch at index `l.from`, with at least
--- `l.shared` cells; the limb's name has the form of a branch's name, and no branch has this name;
+-- a limb's branch can be added to a trie: there is a branch at index `limb.from`, with at least
+-- `limb.shared` cells; the limb's name has the form of a branch's name, and no branch has this name;
 -- and the limits allow one more branch and the limb's own cells
-pub record CanGrow {T : Type 0} (c : TrieOf T) (l : Limb) : Type 0 where
-  pub from : l.from < length c.branches
-  pub place : l.shared ≤ length (slots_in (forest c).branches l.from)
-  pub free : index_of (forest c).branches l.name ≡ None
-  pub form : is_name l.name ≡ true
-  pub room : length c.branches < c.limits.branches
-  pub cells : c.made + length l.steps ≤ c.limits.cells
+pub record CanGrow {T : Type 0} (trie : TrieOf T) (limb : Limb) : Type 0 where
+  pub from : limb.from < length trie.branches
+  pub place : limb.shared ≤ length (slots_in (forest trie).branches limb.from)
+  pub free : index_of (forest trie).branches limb.name ≡ None
+  pub form : is_name limb.name ≡ true
+  pub room : length trie.branches < trie.limits.branches
+  pub cells : trie.made + length limb.steps ≤ trie.limits.cells
 
 -- from trie `old` to trie `new`, the limb's branch is added at the end of the list of branches; if
 -- `old` has no note, `new` has none
-pub record IsGrown {T : Type 0} (old new : TrieOf T) (l : Limb) : Type 0 where
-  pub forest_is : forest new ≡ grown (forest old) l
+pub record IsGrown {T : Type 0} (old new : TrieOf T) (limb : Limb) : Type 0 where
+  pub forest_is : forest new ≡ grown (forest old) limb
   pub limits : new.limits ≡ old.limits
   pub blank : IsBlank old → IsBlank new
   pub cut : IsCut new
