@@ -54,6 +54,7 @@ fn step_at<'q, R: Register>(moves: &Moves<'q, R>, state: &State<R>, mark: Mark) 
     ensures { result ≡ spec.step_by moves.now.question.now state.now.answers (mark.label / 4)
         (mark.label % 4) }
 {
+    // for the proof: reading a field opens the model, so what its invariant says is known
     let _processes = moves.register.processes();
     step_by(
         moves.question,

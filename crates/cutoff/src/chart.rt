@@ -145,6 +145,7 @@ impl<R: Register> Chart<R> {
         ensures fit { StepsFit (R.behaviour self.now.start.register) (forest self.now.trie) }
         ensures within { self.now.value < (R.behaviour self.now.start.register).values }
     {
+        // for the proof: reading a field opens the model, so what its invariant says is known
         let _start = &self.start;
     }
 

@@ -95,6 +95,7 @@ fn hung_from<R: Register>(trie: &Trie<Stored<R>>, mark: Option<SegKey>, key: Seg
             above,
         };
     };
+    // for the proof: by its contract, the run is a replay of its steps
     let _entry = stored.entry();
     let mut hung = key;
     let mut lower = stored;
@@ -114,6 +115,7 @@ fn hung_from<R: Register>(trie: &Trie<Stored<R>>, mark: Option<SegKey>, key: Seg
         if !stored.is_linked_from(lower) {
             break;
         }
+        // for the proof: by its contract, the run is a replay of its steps
         let _entry = stored.entry();
         hung = key;
         lower = stored;

@@ -80,6 +80,7 @@ pub(crate) fn replay_segment<R: Register>(
     let cells = segment_cells(trie, key);
     let replayed = cells.len() as u32;
     let made = run_of(alloc, config, cells)?;
+    // for the proof: by its contract, the run is a replay of its steps
     let _steps = made.steps();
     let run = Arc::new(alloc, made)?;
     let shared = Arc::try_clone(&run)?;

@@ -113,6 +113,7 @@ impl Store {
     pub fn lemma_numbered(&self)
         ensures { IsNumbered self.now }
     {
+        // for the proof: reading a field opens the model, so what its invariant says is known
         let _cells = &self.cells;
     }
 
