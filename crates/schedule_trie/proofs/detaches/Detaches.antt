@@ -3,7 +3,7 @@ use Rattle.std.proofs.Common.{◌≡◌, ℕ, ◌+◌, ◌<◌, ◌≤◌, Bool,
 use Rattle.std.proofs.lemmas.List.{length-set, get_or-set_same}
 use Rattle.lineage.specs.Family.{item_at, path_in, IsOnPath, IsExchanged, IsFamily}
 use Rattle.lineage.proofs.Chains.{map_on}
-use Rattle.lineage.proofs.KeyLists.{cell_there}
+use Rattle.lineage.proofs.KeyLists.{on_path}
 use Rattle.schedule_trie.specs.declared.segment.Segment.{Segment}
 use Rattle.schedule_trie.specs.declared.trie.Trie.TheInside.{Inside}
 use Rattle.branch_terms.specs.Forest.{slots_in}
@@ -24,7 +24,7 @@ once_from : (keys : List ℕ) → ((k : ℕ) (front back front2 back2 : List ℕ
 once_from [] h = tt
 once_from (x ∷ xs) h = (
   has_not_from x xs (λ g.
-      let s : IsOnPath xs x = cell_there x xs g in
+      let s : IsOnPath xs x = on_path x xs g in
       let no : [] ≡ x ∷ s.front = h x [] xs (x ∷ s.front) s.back refl (ap (λ l. x ∷ l) s.is) in
       cc),
   once_from xs (λ k front back front2 back2 e f.
