@@ -58,7 +58,12 @@ fn copies_of<S: Register>(rt: &impl Abort, bit: S) {
     }
     for (readers, cells, processes) in [(1, 1, 2), (2, 2, 3), (3, 3, 4), (4, 4, 5)] {
         let expected = Ok((size(cells, 0), 2, processes, 2));
-        assert_built(rt, shape_of(Copies::new(bit, readers)), expected, &[readers]);
+        assert_built(
+            rt,
+            shape_of(Copies::new(bit, readers)),
+            expected,
+            &[readers],
+        );
     }
 }
 
