@@ -1,18 +1,16 @@
 // The looks that a document will need, guessed by what was in sight before a gesture, so that they
 // are asked in the run of its script. A wrong guess costs its lines and changes nothing.
-import { CHANGES } from "./grammar.js";
+import { isChange } from "./document.js";
 import { between } from "./pages.js";
 
 const MOST_GUESSED = 2000;
-const COMMAND = /^[0-9]+ (?:@[0-9]+ )?([a-z]+)/;
 const EDIT = /^[0-9]+ (insert|remove|replace) (\S+) ([0-9]+)(?: |$)/;
 const GO = /^[0-9]+ go (\S+) ([0-9]+)$/;
 const IN_A_RUN = ["history", "verdict"];
-const isEdit = (line) => CHANGES.includes(COMMAND.exec(line)?.[1]);
 // the edits that were added to a document, if they are of the steps of one branch
 function editsAdded(before, { lines }) {
   const many = before.lines.length, isAdded = before.lines.every((it, at) => it === lines[at]);
-  const found = lines.slice(many).filter(isEdit).map((it) => EDIT.exec(it));
+  const found = lines.slice(many).filter(isChange).map((it) => EDIT.exec(it));
   const isOne = found.every((it) => it && it[2] === found[0][2]);
   return isAdded && isOne ? found.map(([, how, name, place]) => ({ how, name, place })) : [];
 }

@@ -2,6 +2,7 @@
 // the pages that were asked for.
 import { placeOf } from "./document.js";
 import { SESSIONS } from "./grammar.js";
+import { grown } from "./grown.js";
 import { looksAfterEdits, looksAfterMove } from "./guesses.js";
 import { Codes } from "./layers.js";
 import { LOOK, answersIn, between, cursorIn, firstDifference, forestIn } from "./pages.js";
@@ -27,28 +28,37 @@ async function answered(ask, tower, script, isSaved = false) {
   if (made.status !== 0) throw new Error(faultInWords(made.errors, made.status));
   return made;
 }
+// The branches that a run of a document leaves: the expected ones, if the program's page of branches
+// has their names and lengths, as it does if no line is refused; or else those that it saves.
+async function forestAfter(document, ask, made, expected, listed) {
+  const names = expected?.branches.map((it) => `${it.name} ${it.length}`);
+  if (expected && names.join() === listed?.lines.join()) return expected;
+  const saved = expected ? await answered(ask, document.tower, document.script, true) : made;
+  return forestIn(saved.bench);
+}
 const linesOf = (lines) => lines.map((line) => `${line}\n`).join("");
 export class Model {
   // The answers to a document; throws a fault of the file, or of the whole run. Keeps the pages of
   // `before` that are still right.
   static async of(document, ask, before) {
-    const isEdited = !before?.document.isEditedAs(document);
-    const guess = isEdited ? looksAfterEdits : looksAfterMove;
+    const expected = before && grown(before, document);
+    const guess = expected === before ? looksAfterMove : looksAfterEdits;
     const guessed = before ? guess(before, document) : [];
     const looks = [...EVERY_SESSION.map((who) => `${who} cursor`), `${LOOK} branches`,
       ...guessed.map((it) => `${LOOK} ${it}`)];
     const asked = [...document.lines, ...looks];
-    const made = await answered(ask, document.tower, linesOf(asked), isEdited);
-    const bench = isEdited ? made.bench : before.bench, isSame = before?.bench === bench;
-    const forest = isSame ? before : forestIn(bench), pages = isSame ? before.pages : new Map();
-    const model = new Model(document, ask, bench, forest, pages);
+    const made = await answered(ask, document.tower, linesOf(asked), !expected);
     const found = pairedAnswers(asked, answersIn(made.output));
-    model.readAnswers(found);
+    const listed = found[document.lines.length + SESSIONS];
+    const forest = await forestAfter(document, ask, made, expected, listed);
+    const isSame = before?.bench === forest.bench;
+    const model = new Model(document, ask, forest, isSame ? before.pages : new Map());
+    model.understand(found);
     if (before && !isSame) model.keep(before);
     guessed.forEach((look, at) => model.take(look, found.at(at - guessed.length)));
     return model;
   }
-  constructor(document, ask, bench, { tower, branches }, pages) {
+  constructor(document, ask, { bench, tower, branches }, pages) {
     const shape = shapeOf(tower), codes = new Codes(shape);
     // (`sought`: the looks of the picture)
     Object.assign(this, { document, ask, bench, tower, branches, pages, shape, codes });

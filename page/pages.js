@@ -54,7 +54,7 @@ class Branch {
   // the branch that had the first cells, up to a place, before all others
   owner(place) { return this.shared && place <= this.shared ? this.parent.owner(place) : this; }
 }
-// the tower and the branches of a bench file, with what they share
+// the tower and the branches of a bench file, which they keep, with what they share
 export function forestIn(bench) {
   const [, tower = "", ...lines] = bench.split("\n").slice(0, -1), branches = [];
   for (const line of lines) {
@@ -68,7 +68,22 @@ export function forestIn(bench) {
     else throw new Error(`The saved branches have a line that isn't known: ${begin}`);
   }
   if (!branches.length) throw new Error("The program saved no branches.");
-  return { tower, branches };
+  return { bench, tower, branches };
+}
+// the same branches as new ones, which may be changed
+export function copiesOf(branches) {
+  const copies = [];
+  for (const { name, parent, shared, index, own } of branches) {
+    const copy = new Branch(name, parent && copies[parent.index], shared, index);
+    copies.push(Object.assign(copy, { own: own.slice() }));
+  }
+  return copies;
+}
+// the bench file that a tower and its branches are saved as
+export function benchOf(tower, branches) {
+  const lines = branches.map(({ name, parent, shared, own }) =>
+    [`branch ${name} ${parent ? parent.index : 0} ${shared}`, ...own]);
+  return `${["bench 1", tower, ...lines.flat()].join("\n")}\n`;
 }
 // how many cells two branches share: the later one begins with cells of its parent, and shares no
 // others

@@ -1,0 +1,166 @@
+"""The branches that the page has after each change, under node: byte for byte those that the program saves.
+
+Scripts change at random, as by gestures and by undo, on branches that share steps; the native program says what is saved.
+After steps at the ends of branches, or once these are undone, the page has asked for one run, which saved nothing.
+"""
+import collections
+import functools
+import json
+import os
+import random
+import re
+import shutil
+import tempfile
+from concurrent.futures import ThreadPoolExecutor
+
+import cases
+from commands import output_of
+from pages import build
+from trials import Test
+
+SEED, CHAINS, CHANGES, SHOWN = 5, 60, 40, 3
+TOWERS = {
+    "safe 0": ("w 0 1", "r 1", "g 0 0", "g 1 1", "x 0"),
+    "copies 2 1": ("w 0 0", "r 2", "g 0 0", "g 2 0", "x 1"),
+    "regular 2 0": ("w 0 1", "r 1", "g 0 1", "g 1 0", "x 2"),
+    "unary 3 1 2": ("w 0 2", "r 1", "g 0 0", "g 1 1", "x 0"),
+    "stamped 2 1": ("w 0 1", "r 1", "g 0 0", "g 1 0", "x 1"),
+    "matrix 2 2 1 3": ("w 1 1", "r 0", "g 1 0", "g 0 1", "x 1"),
+}
+# how often there is a change of each kind, next to the others
+KINDS = {"ends": 40, "undo": 20, "idle": 6, "refused": 8, "mixed": 10, "insert": 8, "fork": 8}
+KINDS.update({"remove": 4, "replace": 4, "detach": 2, "drop": 2})
+MIXED = ("ends", "ends", "refused", "insert", "fork", "remove", "replace", "detach", "drop")
+QUIET = ("ends", "idle")
+IDLE = ("# a remark", "", "0 join", "1 join", "0 go main 0", "7 branches", "0 state main 0", "0 help")
+# (a dropped branch's name is taken again)
+NAMES = ("main", *"abcde")
+BAD_STEP = "w 0 9"
+LISTED = re.compile(r"^  ([a-z]+) ([0-9]+)$", re.M)
+
+# saved: the branches as bytes; is_quiet: the page needs nothing saved after the script before
+Link = collections.namedtuple("Link", "script saved is_quiet")
+
+
+class Chain:
+    """A file, and scripts over it, each of which is a change of the one before."""
+
+    def __init__(self, program, room, seed):
+        self.program, self.room, self.chance = program, f"{room}/{seed}", random.Random(seed)
+        os.mkdir(self.room)
+        tower, self.steps = self.chance.choice(list(TOWERS.items()))
+        steps = [f"{self.step()}\n" for _ in range(self.chance.randrange(6))]
+        self.file = f"tower 2\n{tower}\n{''.join(steps)}"
+        if self.chance.random() < 0.5:
+            self.file = self.saved(["0 fork main 0 d", "0 fork main 0 e", "0 drop d"]).decode()
+        # each line, and whether it needs no saving
+        self.lines = [("0 join", True)]
+        self.links = [self.link(False)]
+        self.links += [self.changed() for _ in range(CHANGES)]
+
+    def saved(self, lines):
+        """Returns what a script saves, and keeps its branches' lengths and its number of edits."""
+        path, saved = cases.written(f"{self.room}/file", self.file), f"{self.room}/saved"
+        script = "".join(f"{it}\n" for it in [*lines, "0 branches"]).encode()
+        ran = cases.run(self.program, [path, "--save", saved], script)
+        if ran.status:
+            raise ValueError(f"the program ended with status {ran.status}: {ran.errors.decode()}")
+        listed = ran.output.decode().rpartition("branches")[2]
+        self.lengths = {name: int(length) for name, length in LISTED.findall(listed)}
+        self.edits = ran.output.count(b": edit ")
+        return cases.read(saved)
+
+    def link(self, is_quiet):
+        lines = [it for it, _ in self.lines]
+        return Link("".join(f"{it}\n" for it in lines), self.saved(lines), is_quiet)
+
+    def changed(self):
+        """Returns the next script, whose last lines are others."""
+        (kind,) = self.chance.choices(list(KINDS), KINDS.values())
+        if kind == "undo":
+            many = min(self.chance.randrange(1, 8), len(self.lines) - 1)
+            taken = [self.lines.pop() for _ in range(many)]
+            return self.link(all(is_quiet for _, is_quiet in taken))
+        is_quiet = kind in QUIET
+        kinds = self.chance.choices(MIXED, k=3) if kind == "mixed" else [kind]
+        self.lines += [(line, is_quiet) for it in kinds for line in self.lines_of(it)]
+        return self.link(is_quiet)
+
+    def step(self):
+        return self.chance.choice(self.steps)
+
+    def end(self):
+        """Returns an insert at a branch's end, as long as all lines before it are done."""
+        name, guard = self.chance.choice(list(self.lengths)), self.chance.random() < 0.2
+        line = f"0 {f'@{self.edits} ' * guard}insert {name} {self.lengths[name]} {self.step()}"
+        self.lengths[name] += 1
+        self.edits += 1
+        return [line, *[f"0 go {name} {self.lengths[name]}"] * (self.chance.random() < 0.7)]
+
+    def lines_of(self, kind):
+        """Returns the lines of a kind of change."""
+        if kind == "ends":
+            return [it for _ in range(self.chance.choice((1, 1, 1, 2, 5))) for it in self.end()]
+        if kind == "idle":
+            return [self.chance.choice(IDLE)]
+        name, other = self.chance.choice(list(self.lengths)), self.chance.choice(NAMES)
+        length = self.lengths[name]
+        place = self.chance.choice((0, length, self.chance.randrange(length + 1)))
+        if kind == "refused":
+            return [
+                self.chance.choice(
+                    (
+                        f"0 insert {name} {length} {BAD_STEP}",
+                        f"0 insert {name} {length + 1} {self.step()}",
+                        f"0 insert none {length} {self.step()}",
+                        f"0 @{self.edits + 1} insert {name} {length} {self.step()}",
+                        f"16 insert {name} {length} {self.step()}",
+                        f"0 insert  {name} {length} {self.step()}",
+                    )
+                )
+            ]
+        words = {
+            "insert": f"{place} {self.step()}",
+            "replace": f"{place} {self.step()}",
+            "remove": place,
+            "fork": f"{place} {other}",
+        }
+        return [f"0 {kind} {name} {words.get(kind, '')}".rstrip()]
+
+
+def fault_of_link(link, found):
+    """Returns what is wrong with what the page makes of a script; None: nothing."""
+    bench, runs, saves, fault = found
+    if bench.encode() != link.saved:
+        return cases.first_difference(link.saved, bench.encode())
+    if link.is_quiet and (runs, saves) != (1, 0):
+        return f"{runs} runs, of which {saves} saved"
+    return fault or None
+
+
+def fault_of_branches(program):
+    """Returns after which scripts the page has other branches; None: after none."""
+    with tempfile.TemporaryDirectory() as room, ThreadPoolExecutor(os.cpu_count()) as pool:
+        seeds = range(SEED, SEED + CHAINS)
+        chains = list(pool.map(lambda it: Chain(program, room, it), seeds))
+        build.put_modules(room, "grown.mjs")
+        with open(f"{room}/chains", "w", encoding="ascii") as file:
+            for it in chains:
+                print(json.dumps([it.file, [link.script for link in it.links]]), file=file)
+        words = ["node", f"{room}/grown.mjs", build.made_module(), f"{room}/chains"]
+        found = [json.loads(it) for it in output_of(words).splitlines()]
+    links = [link for it in chains for link in it.links]
+    if len(found) != len(links) or sum(it.is_quiet for it in links) < len(links) // 3:
+        return f"{len(found)} of {len(links)} scripts, {sum(it.is_quiet for it in links)} quiet"
+    faults = [
+        f"{link.script[-200:]!r}: {fault}"
+        for link, each in zip(links, found)
+        for fault in [fault_of_link(link, each)]
+        if fault
+    ]
+    return f"{len(faults)} of {len(links)}: {'; '.join(faults[:SHOWN])}"[:900] if faults else None
+
+
+def tests(program):
+    name, work = "grown branches", functools.partial(fault_of_branches, program)
+    return [Test(name, work if shutil.which("node") else None)]
