@@ -28,8 +28,8 @@ async function answered(ask, tower, script, isSaved = false) {
   if (made.status !== 0) throw new Error(faultInWords(made.errors, made.status));
   return made;
 }
-// The branches that a run of a document leaves: the expected ones, if the program's page of branches
-// has their names and lengths, as it does if no line is refused; or else those that it saves.
+// The branches that a run of a document leaves: the expected ones, if the program's page of
+// branches has their names and lengths, as it does if it refuses no line; else those that it saves.
 async function forestAfter(document, ask, made, expected, listed) {
   const names = expected?.branches.map((it) => `${it.name} ${it.length}`);
   if (expected && names.join() === listed?.lines.join()) return expected;

@@ -1,6 +1,6 @@
 // Follows documents as the page does, and prints what it takes their branches for.
-// usage: node grown.mjs MODULE CHAINS     in a folder where page/ is; a line of CHAINS is a tower or
-// bench file and scripts, one after the other, as JSON; for each script a line is printed: the
+// usage: node grown.mjs MODULE CHAINS     in a folder where page/ is; a line of CHAINS is a tower
+// or bench file and scripts, one after the other, as JSON; for each script a line is printed: the
 // branches as a bench file, how many runs there were, how many of them saved, and a fault or none
 import { readFileSync } from "node:fs";
 import { answerBy } from "./page/machine.js";
@@ -24,9 +24,9 @@ function faultOf({ bench, tower, branches }) {
   const isOurs = ({ parent }) => !parent || branches[parent.index] === parent;
   return branches.every(isOurs) ? "" : "a branch has a parent of another model";
 }
+let before;
 for (const line of readFileSync(chains, "utf8").trim().split("\n")) {
   const [tower, scripts] = JSON.parse(line);
-  let before;
   for (const script of scripts) {
     Object.assign(spent, { runs: 0, saves: 0 });
     const model = await Model.of(Document.of(tower, script), ask, before);

@@ -1,7 +1,8 @@
-"""The branches that the page has after each change, under node: byte for byte those that the program saves.
+"""The page's branches after each change, under node: byte for byte those that the program saves.
 
-Scripts change at random, as by gestures and by undo, on branches that share steps; the native program says what is saved.
-After steps at the ends of branches, or once these are undone, the page has asked for one run, which saved nothing.
+Scripts change at random, as by gestures and by undo, on branches that share steps; the native
+program says what is saved. After steps at the ends of branches, or once these are undone, the page
+has asked for one run, which saved nothing.
 """
 import collections
 import functools
@@ -18,7 +19,7 @@ from commands import output_of
 from pages import build
 from trials import Test
 
-SEED, CHAINS, CHANGES, SHOWN = 5, 60, 40, 3
+SEED, CHAINS, CHANGES, SHOWN = 5, 40, 40, 3
 TOWERS = {
     "safe 0": ("w 0 1", "r 1", "g 0 0", "g 1 1", "x 0"),
     "copies 2 1": ("w 0 0", "r 2", "g 0 0", "g 2 0", "x 1"),
@@ -32,10 +33,17 @@ KINDS = {"ends": 40, "undo": 20, "idle": 6, "refused": 8, "mixed": 10, "insert":
 KINDS.update({"remove": 4, "replace": 4, "detach": 2, "drop": 2})
 MIXED = ("ends", "ends", "refused", "insert", "fork", "remove", "replace", "detach", "drop")
 QUIET = ("ends", "idle")
-IDLE = ("# a remark", "", "0 join", "1 join", "0 go main 0", "7 branches", "0 state main 0", "0 help")
+IDLE = ("# a remark", "", "0 join", "1 join", "0 go main 0", "7 branches", "0 help")
 # (a dropped branch's name is taken again)
 NAMES = ("main", *"abcde")
 BAD_STEP = "w 0 9"
+FIXED = (
+    # a refused line in place of another one
+    ("tower 2\nsafe 0\nr 1\n", ("", "0 insert main 0 w 0 9\n", "0 insert main 0 w 0 8\n")),
+    # a document of another tower after this one's
+    ("tower 2\nsafe 0\n", ("0 join\n0 insert main 0 r 1\n",)),
+    ("tower 2\nsafe 1\n", ("0 join\n",)),
+)
 LISTED = re.compile(r"^  ([a-z]+) ([0-9]+)$", re.M)
 
 # saved: the branches as bytes; is_quiet: the page needs nothing saved after the script before
@@ -43,36 +51,43 @@ Link = collections.namedtuple("Link", "script saved is_quiet")
 
 
 class Chain:
-    """A file, and scripts over it, each of which is a change of the one before."""
+    """A file, and scripts over it, one after the other."""
 
-    def __init__(self, program, room, seed):
-        self.program, self.room, self.chance = program, f"{room}/{seed}", random.Random(seed)
-        os.mkdir(self.room)
-        tower, self.steps = self.chance.choice(list(TOWERS.items()))
-        steps = [f"{self.step()}\n" for _ in range(self.chance.randrange(6))]
-        self.file = f"tower 2\n{tower}\n{''.join(steps)}"
-        if self.chance.random() < 0.5:
-            self.file = self.saved(["0 fork main 0 d", "0 fork main 0 e", "0 drop d"]).decode()
-        # each line, and whether it needs no saving
-        self.lines = [("0 join", True)]
-        self.links = [self.link(False)]
-        self.links += [self.changed() for _ in range(CHANGES)]
+    def __init__(self, program, room, file, scripts=()):
+        self.program, self.room, self.file = program, tempfile.mkdtemp(dir=room), file
+        self.links = [self.link(it, False) for it in scripts]
 
-    def saved(self, lines):
-        """Returns what a script saves, and keeps its branches' lengths and its number of edits."""
+    def link(self, script, is_quiet):
+        """Returns a script with what it saves, and keeps how long branches are and its edits."""
         path, saved = cases.written(f"{self.room}/file", self.file), f"{self.room}/saved"
-        script = "".join(f"{it}\n" for it in [*lines, "0 branches"]).encode()
-        ran = cases.run(self.program, [path, "--save", saved], script)
+        asked = f"{script}0 branches\n".encode()
+        ran = cases.run(self.program, [path, "--save", saved], asked)
         if ran.status:
             raise ValueError(f"the program ended with status {ran.status}: {ran.errors.decode()}")
         listed = ran.output.decode().rpartition("branches")[2]
         self.lengths = {name: int(length) for name, length in LISTED.findall(listed)}
         self.edits = ran.output.count(b": edit ")
-        return cases.read(saved)
+        return Link(script, cases.read(saved), is_quiet)
 
-    def link(self, is_quiet):
-        lines = [it for it, _ in self.lines]
-        return Link("".join(f"{it}\n" for it in lines), self.saved(lines), is_quiet)
+
+class Changing(Chain):
+    """A chain of scripts each of which is a random change of the one before."""
+
+    def __init__(self, program, room, seed):
+        self.chance = random.Random(seed)
+        tower, self.steps = self.chance.choice(list(TOWERS.items()))
+        steps = [f"{self.step()}\n" for _ in range(self.chance.randrange(6))]
+        super().__init__(program, room, f"tower 2\n{tower}\n{''.join(steps)}")
+        if self.chance.random() < 0.5:
+            forks = "0 fork main 0 d\n0 fork main 0 e\n0 drop d\n"
+            self.file = self.link(forks, False).saved.decode()
+        # each line, and whether it needs no saving
+        self.lines = [("0 join", True)]
+        self.links = [self.next_link(False)]
+        self.links += [self.changed() for _ in range(CHANGES)]
+
+    def next_link(self, is_quiet):
+        return self.link("".join(f"{it}\n" for it, _ in self.lines), is_quiet)
 
     def changed(self):
         """Returns the next script, whose last lines are others."""
@@ -80,11 +95,11 @@ class Chain:
         if kind == "undo":
             many = min(self.chance.randrange(1, 8), len(self.lines) - 1)
             taken = [self.lines.pop() for _ in range(many)]
-            return self.link(all(is_quiet for _, is_quiet in taken))
+            return self.next_link(all(is_quiet for _, is_quiet in taken))
         is_quiet = kind in QUIET
         kinds = self.chance.choices(MIXED, k=3) if kind == "mixed" else [kind]
         self.lines += [(line, is_quiet) for it in kinds for line in self.lines_of(it)]
-        return self.link(is_quiet)
+        return self.next_link(is_quiet)
 
     def step(self):
         return self.chance.choice(self.steps)
@@ -142,7 +157,8 @@ def fault_of_branches(program):
     """Returns after which scripts the page has other branches; None: after none."""
     with tempfile.TemporaryDirectory() as room, ThreadPoolExecutor(os.cpu_count()) as pool:
         seeds = range(SEED, SEED + CHAINS)
-        chains = list(pool.map(lambda it: Chain(program, room, it), seeds))
+        chains = list(pool.map(lambda it: Changing(program, room, it), seeds))
+        chains += [Chain(program, room, *it) for it in FIXED]
         build.put_modules(room, "grown.mjs")
         with open(f"{room}/chains", "w", encoding="ascii") as file:
             for it in chains:
