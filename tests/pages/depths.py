@@ -22,14 +22,16 @@ FOUR = "".join(
 )
 # How many pages a gesture may ask for, on a schedule that is open already, in how many runs, and how many lines these
 # write: the pages of the columns in sight, of what the cursor's place shows, and of a read that is explained. An edit
-# takes the whole history again, and the saved branches. Whether a read is hit is on the page of bits alone, which has
-# 4,096 lines for four processes.
+# takes the whole history again, and the saved branches unless it is at a branch's end. Whether a read is hit is on the
+# page of bits alone, which has 4,096 lines for four processes.
 MOST_SPENT = {
     "a move in lesson 8": (20, 2, 200),
     "a step in lesson 8": (20, 1, 1000),
     "a move in 30,000 steps": (10, 3, 40),
     "the other end of 30,000 steps": (150, 2, 31000),
-    "a step after 30,000": (20, 1, 61000),
+    "a step after 30,000": (20, 1, 31000),
+    "undo of a step after 30,000": (10, 1, 40),
+    "a step before 30,000": (150, 2, 65000),
     "a click on a read": (20, 1, 100),
     "the other end of four processes": (150, 2, 1500),
     "a move of four processes": (10, 1, 100),
@@ -287,6 +289,10 @@ def counted_pages(page):
     page.button("p1 r 1")
     cost(page, lambda: page.button("p1 g 1 0"), "a step after 30,000")
     cost(page, lambda: click_in(page, ".operation.read.returned"), "a click on a read")
+    page.value("document.querySelector('#scroll').focus()")
+    cost(page, lambda: page.do("undo"), "undo of a step after 30,000")
+    page.key("Home")
+    cost(page, lambda: page.button("p1 r 1"), "a step before 30,000")
     page.open(FOUR)
     focused_key("End", "the other end of four processes")
     focused_key("ArrowLeft", "a move of four processes")

@@ -37,7 +37,10 @@ IDLE = ("# a remark", "", "0 join", "1 join", "0 go main 0", "7 branches", "0 he
 # (a dropped branch's name is taken again)
 NAMES = ("main", *"abcde")
 BAD_STEP = "w 0 9"
+FORKS = "0 fork main 1 a\n0 insert a 1 r 1\n0 fork a 2 b\n"
 FIXED = (
+    # a branch grows at whose end another one begins
+    ("tower 2\nsafe 0\nr 1\n", (FORKS, f"{FORKS}0 insert a 2 x 1\n0 insert b 2 x 0\n")),
     # a refused line in place of another one
     ("tower 2\nsafe 0\nr 1\n", ("", "0 insert main 0 w 0 9\n", "0 insert main 0 w 0 8\n")),
     # a document of another tower after this one's

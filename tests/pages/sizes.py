@@ -14,17 +14,17 @@ GESTURES = {
     "undo": "#undo:enabled",
 }
 # How many calls and lines more a gesture may take for each step of a schedule, about twice of what
-# it does: an edit takes the whole history and the saved branches again, and each line of the script
-# is answered.
-MOST_OF_A_STEP = {"step": (40, 3.5), "move": (14, 0.1), "undo": (40, 2)}
-MOST_OF_AN_INSERT = {"step": (60, 5), "move": (26, 2), "undo": (66, 4)}
+# it does: an edit takes the whole history again, and each line of the script is answered. These
+# edits are at a branch's end, so no branch is saved.
+MOST_OF_A_STEP = {"step": (40, 1.6), "move": (14, 0.1), "undo": (40, 0.1)}
+MOST_OF_AN_INSERT = {"step": (60, 2.6), "move": (26, 1.9), "undo": (66, 1.9)}
 # Each column is narrower if there are many, so that more are drawn.
 MOST_ELEMENTS_MORE = 400
 # likewise the most calls, lines and elements of any gesture
 MOST = {
-    "60 branches more": (350_000, 4_500, 2_600),
-    "4,096 bits": (450_000, 5_000, 3_300),
-    "100,000 steps": (4_300_000, 300_000, 1_500),
+    "60 branches more": (350_000, 2_100, 2_600),
+    "4,096 bits": (450_000, 350, 3_300),
+    "100,000 steps": (4_300_000, 160_000, 1_500),
 }
 
 
