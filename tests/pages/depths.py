@@ -31,7 +31,7 @@ MOST_SPENT = {
     "the other end of 30,000 steps": (150, 2, 31000),
     "a step after 30,000": (20, 1, 31000),
     "undo of a step after 30,000": (10, 1, 40),
-    "a step before 30,000": (150, 2, 65000),
+    "a step before 30,000": (150, 2, 31000),
     "a click on a read": (20, 1, 100),
     "the other end of four processes": (150, 2, 1500),
     "a move of four processes": (10, 1, 100),
