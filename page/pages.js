@@ -54,7 +54,7 @@ class Branch {
   // the branch that had the first cells, up to a place, before all others
   owner(place) { return this.shared && place <= this.shared ? this.parent.owner(place) : this; }
 }
-// the tower and the branches of a bench file, which they keep, with what they share
+// a bench file as data: its text, its tower, and its branches with what they share
 export function forestIn(bench) {
   const [, tower = "", ...lines] = bench.split("\n").slice(0, -1), branches = [];
   for (const line of lines) {
