@@ -25,7 +25,7 @@ fn is_over<R: Register>(question: &Question, state: &State<R>, p: u32) -> bool
     ensures { result ≡ is_over question.now state.now p }
 {
     state.config.stopped(p)
-        || (state.config.op(p).is_none() && ended(&state.answers, p) == op_count(question, p))
+        || (state.config.op(p).is_none() && ended(state.answers(), p) == op_count(question, p))
 }
 
 /// Whether each process has stopped, or is idle and has ended all its operations.

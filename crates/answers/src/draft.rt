@@ -131,10 +131,10 @@ impl<R: Register> Draft<R> {
 
     /// Whether process `p`'s outcomes are the first ones that it has in `whole`.
     pub(crate) fn agrees(&self, whole: &Draft<R>, p: u32) -> bool {
-        let Some(outcomes) = self.state.answers.get(p as usize) else {
+        let Some(outcomes) = self.state.answers().get(p as usize) else {
             return false;
         };
-        let Some(list) = whole.state.answers.get(p as usize) else {
+        let Some(list) = whole.state.answers().get(p as usize) else {
             return false;
         };
         is_beginning(outcomes.as_slice(), list.as_slice())
@@ -187,7 +187,7 @@ pub(crate) fn step_after<'q, R: Register>(
     ensures fits { IfSome result (λ step.
         fits_step (R.behaviour draft.now.state.configuration.register) step ≡ true) }
 {
-    let step = step_by(moves.question, &draft.state.answers, p, kind)?;
+    let step = step_by(moves.question, draft.state.answers(), p, kind)?;
     if draft.state.config.fits(step) && is_enabled(&draft.state.config, step) {
         Some(step)
     } else {

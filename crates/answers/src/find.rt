@@ -37,7 +37,7 @@ impl<R: Register> State<R> {
     {
         let config = Config::initial(alloc, register, value)?;
         let answers = no_answers(alloc, register.processes())?;
-        Ok(State { config, answers })
+        State::new(alloc, config, answers)
     }
 }
 
@@ -58,9 +58,9 @@ fn step_at<'q, R: Register>(moves: &Moves<'q, R>, state: &State<R>, mark: Mark) 
     let _processes = moves.register.processes();
     step_by(
         moves.question,
-        &state.answers,
-        (mark.label / KINDS) as u32,
-        mark.label % KINDS,
+        state.answers(),
+        (mark.label / 4) as u32,
+        mark.label % 4,
     )
 }
 
@@ -176,10 +176,10 @@ fn gather_one<'q, R: Register>(
         return Err(AllocError);
     };
     let Walk { state, steps } = walk;
-    if is_listed(found, &state.answers) {
+    if is_listed(found, state.answers()) {
         return Ok(());
     }
-    let Ok(answers) = copies(alloc, &state.answers) else {
+    let Ok(answers) = copies(alloc, state.answers()) else {
         return Err(AllocError);
     };
     let Ok(()) = found.push(Possible { answers, steps }) else {

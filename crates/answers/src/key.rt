@@ -59,7 +59,7 @@ impl StateKey {
         ensures { IfOk result (λ k. k
             ≡ state_bytes (R.behaviour state.now.configuration.register) state.now) }
     {
-        let bytes = bytes_of(alloc, &state.config, &state.answers)?;
+        let bytes = bytes_of(alloc, &state.config, state.answers())?;
         Ok(StateKey { bytes })
     }
 

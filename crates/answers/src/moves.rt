@@ -1,6 +1,6 @@
 //! The moves of a question: the graph that is searched.
 
-ghost use Rattle.std.specs.Prelude.{◌≡◌, ◌<◌, ◌++◌, [], true, IfOk, OnOk, slice_get, slice_index_or, slice_set};
+ghost use Rattle.std.specs.Prelude.{◌≡◌, ◌<◌, ◌++◌, [], true, false, IfOk, OnOk, slice_get, slice_index_or, slice_set};
 ghost use Rattle.std.specs.List.{list_all};
 ghost use Rattle.frames.specs.Configuration.{events_of, is_enabled, fits_step};
 ghost use Rattle.answers.specs.Questions.{allows, next_of, operations_of, stops_in, outcomes_by, event_in, events_in};
@@ -53,8 +53,8 @@ impl<'q, R: Register> Graph for Moves<'q, R> {
     ) -> Result<Option<Arrival<State<R>>>, AllocError> {
         // for the proof: reading a field opens the model, so what its invariant says is known
         let _count = self.register.processes();
-        let process = (label / KINDS) as u32;
-        let Some(step) = step_by(self.question, &node.answers, process, label % KINDS) else {
+        let process = (label / 4) as u32;
+        let Some(step) = step_by(self.question, node.answers(), process, label % 4) else {
             return Ok(None);
         };
         if !node.config.fits(step) || !is_enabled(&node.config, step) {
@@ -202,34 +202,6 @@ pub(crate) fn is_enabled<R: Register>(config: &Config<R>, step: Step) -> bool
     }
 }
 
-impl<R: Register> State<R> {
-    /// The state after a step that fits. `AllocError` if memory runs out.
-    pub(crate) fn advanced(&self, alloc: Global, step: Step) -> Result<State<R>, AllocError>
-        requires { fits_step (R.behaviour self.now.configuration.register) step ≡ true }
-        ensures { IfOk result
-            (λ s. s ≡ advanced (R.behaviour self.now.configuration.register) self.now step) }
-    {
-        let (state, _) = self.made(alloc, step)?;
-        Ok(state)
-    }
-
-    /// The state after a step that fits, and the step's events. `AllocError` if memory runs out.
-    #[inline(always)]
-    fn made(&self, alloc: Global, step: Step) -> Result<(State<R>, StepEvents), AllocError>
-        requires { fits_step (R.behaviour self.now.configuration.register) step ≡ true }
-        ensures state { IfOk result
-            (λ m. m.0 ≡ advanced (R.behaviour self.now.configuration.register) self.now step) }
-        ensures events { IfOk result (λ m. m.1
-            ≡ events_of (R.behaviour self.now.configuration.register) self.now.configuration step) }
-    {
-        let mut config = self.config.copy(alloc)?;
-        let events = config.step(step);
-        let mut answers = copies(alloc, &self.answers)?;
-        add_events(&mut answers, step.process(), events)?;
-        Ok((State { config, answers }, events))
-    }
-}
-
 /// Whether a step reports a choice, which is then its first event.
 fn has_choice(events: StepEvents) -> bool
     ensures { result ≡ has_choice events }
@@ -252,6 +224,13 @@ pub(crate) fn copies(alloc: Global, answers: &[Outcomes]) -> Result<Vec<Outcomes
     Ok(copied)
 }
 
+/// Whether an operation of process `p` ends in these events.
+pub(crate) fn ends(p: u32, events: StepEvents) -> bool
+    ensures { result ≡ false → outcomes_by p (events_in events) ≡ [] }
+{
+    outcomes_in(p, events.first).is_some() || outcomes_in(p, events.second).is_some()
+}
+
 /// The outcome of process `p`'s operation that ends in this event, if one does.
 fn outcomes_in(p: u32, event: Option<Event>) -> Option<Outcome>
     ensures { option_list result ≡ outcomes_by p (event_in event) }
@@ -265,7 +244,11 @@ fn outcomes_in(p: u32, event: Option<Event>) -> Option<Outcome>
 }
 
 /// Adds to process `p`'s outcomes that of its operation that ends in these events, if one does.
-fn add_events(answers: &mut [Outcomes], p: u32, events: StepEvents) -> Result<(), AllocError>
+pub(crate) fn add_events(
+    answers: &mut [Outcomes],
+    p: u32,
+    events: StepEvents,
+) -> Result<(), AllocError>
     ensures { OnOk result (answers.new ≡ with_events p events answers.old) }
 {
     if (p as usize) < answers.len() {

@@ -1,6 +1,6 @@
 //! The bytes of a state, under which the search keeps it.
 
-ghost use Rattle.std.specs.Prelude.{◌≡◌, ◌+◌, ◌*◌, ◌^◌, ◌<◌, ◌≤◌, ℕ, List, [], ◌∷◌, ◌++◌, length, map, slice_index_or, if◌then◌else◌, IfOk, OnOk};
+ghost use Rattle.std.specs.Prelude.{◌≡◌, ◌+◌, ◌*◌, ◌^◌, ◌<◌, ◌≤◌, ℕ, List, [], ◌∷◌, ◌++◌, length, map, slice_index_or, if◌then◌else◌, IfOk, OnOk, vec_len, vec_capacity};
 ghost use Rattle.frames.specs.Configuration.{is_stopped, running_at};
 ghost use Rattle.frames.specs.Flat.{stack_of};
 ghost use Rattle.frames.specs.declared.types.Outcome.TheVariants.{Spent};
@@ -12,6 +12,9 @@ use frames::register::Register;
 use frames::types::{Frame, FrameLayer, Layer, Op, Outcome};
 use safe_bit::{Cell, Store};
 use std::alloc::{AllocError, Global};
+
+/// Room for the bytes of most states.
+const ROOM: usize = 256;
 
 #[inline]
 fn cell_code(cell: Cell) -> u64
@@ -73,15 +76,38 @@ fn spent_code(layer: Layer) -> u64
     }
 }
 
+/// Adds a byte.
+// (inlined: `push` makes a call to see whether there is room)
+#[inline(always)]
+fn add_byte(bytes: &mut Vec<u8>, byte: u8) -> Result<(), AllocError>
+    ensures { OnOk result (bytes.new.items ≡ bytes.old.items ++ byte ∷ []) }
+{
+    if bytes.len() == bytes.capacity() {
+        take_room(bytes)?;
+    }
+    bytes.push_reserved(byte);
+    Ok(())
+}
+
+/// Reserves memory for `ROOM` more bytes.
+#[cold]
+#[inline(never)]
+fn take_room(bytes: &mut Vec<u8>) -> Result<(), AllocError>
+    ensures items { bytes.new.items ≡ bytes.old.items }
+    ensures room { OnOk result (vec_len bytes.new < vec_capacity bytes.new) }
+{
+    bytes.reserve(ROOM)
+}
+
 /// Adds the four bytes of a number below 2^32, the lowest first.
 fn add_half(bytes: &mut Vec<u8>, number: u64) -> Result<(), AllocError>
     requires { number < 4294967296 }
     ensures { OnOk result (bytes.new.items ≡ bytes.old.items ++ spec.half_bytes number) }
 {
-    bytes.push((number % 256) as u8)?;
-    bytes.push((number / 256 % 256) as u8)?;
-    bytes.push((number / 256 / 256 % 256) as u8)?;
-    bytes.push((number / 256 / 256 / 256) as u8)?;
+    add_byte(bytes, (number % 256) as u8)?;
+    add_byte(bytes, (number / 256 % 256) as u8)?;
+    add_byte(bytes, (number / 256 / 256 % 256) as u8)?;
+    add_byte(bytes, (number / 256 / 256 / 256) as u8)?;
     Ok(())
 }
 
@@ -93,11 +119,11 @@ fn add_large(bytes: &mut Vec<u8>, number: u64) -> Result<(), AllocError>
     ensures { OnOk result (bytes.new.items ≡ bytes.old.items ++ spec.number_bytes number) }
 {
     if number < 16128 {
-        bytes.push((192 + number / 256) as u8)?;
-        bytes.push((number % 256) as u8)?;
+        add_byte(bytes, (192 + number / 256) as u8)?;
+        add_byte(bytes, (number % 256) as u8)?;
         return Ok(());
     }
-    bytes.push(255)?;
+    add_byte(bytes, 255)?;
     add_half(bytes, number % 4294967296)?;
     add_half(bytes, number / 4294967296)
 }
@@ -107,7 +133,7 @@ fn add_number(bytes: &mut Vec<u8>, number: u64) -> Result<(), AllocError>
     ensures { OnOk result (bytes.new.items ≡ bytes.old.items ++ spec.number_bytes number) }
 {
     if number < 192 {
-        bytes.push(number as u8)?;
+        add_byte(bytes, number as u8)?;
         return Ok(());
     }
     add_large(bytes, number)
@@ -262,9 +288,6 @@ fn add_process<R: Register>(
     add_pending(bytes, config, p)?;
     add_answers(bytes, answers, p)
 }
-
-/// Room for the bytes of most states.
-const ROOM: usize = 256;
 
 /// The bytes of a configuration and answers: of all cells, words, frames, stops and answers.
 pub(crate) fn bytes_of<R: Register>(

@@ -139,7 +139,7 @@ fn easiest<'d, 'q, R: Register>(
 fn has_answers<R: Register>(state: &State<R>, answers: &[Outcomes]) -> bool
     ensures { result ≡ answers_eq state.now.answers answers.now }
 {
-    state.answers.as_slice() == answers
+    state.answers() == answers
 }
 
 /// The draft's steps, if they are a schedule with the answers listed, as long as the one listed.

@@ -1,8 +1,7 @@
-use Rattle.std.proofs.Common.{◌≡◌, ◌+◌, refl, sym, subst, ap, ◌∙◌}
+use Rattle.std.proofs.Common.{◌≡◌, ◌+◌, refl, sym, subst, ◌∙◌}
 use Rattle.std.specs.List.{list_any}
 use Rattle.answers.specs.declared.found.Possible.{Possible}
 use Rattle.answers.specs.Gathered.{IsGathered}
-use Rattle.answers.specs.States.{StateOf}
 use Rattle.answers.specs.laws.StateLaws.{answers_eq}
 use Rattle.answers.proofs.Goals.{passed_over}
 use Rattle.answers.proofs.Listed.{listed_before, listed_now}
@@ -16,7 +15,7 @@ returns-then-not-index g c s h =
 pub returns-then-is_listed : goal.returns-then-is_listed
 returns-then-is_listed g c s h =
     let state = c.in-Ok.walk.state in
-    let answers : c.deref-2.result.now ≡ state.answers = c.deref-2.ensures.value ∙ ap (λ (x : StateOf _ _). x.answers) c.state.view_is in
+    let answers : c.answers.result.now ≡ state.answers = c.answers.ensures in
     listed_before g.R.Behaves.behaviour (g.R.Behaves.behaviour c.args.moves.now.register) c.args.moves.now.question.now s.nodes c.args.reached.now.goals.items c.args.reached.now.marks.items s.all.trail.marked s.kept.by_goal
     c.args.index c.index.result.now c.index.ensures s.all.sorted c.args.found.now.items h c.requires.there c.if-not-index.false state
     c.in-Ok.walk.steps.items (c.in-Ok.ensures.led s)
@@ -25,8 +24,8 @@ returns-then-is_listed g c s h =
 pub returns : goal.returns
 returns g c s h =
     let state = c.in-Ok.walk.state in
-    let answers : c.deref-2.result.now ≡ state.answers = c.deref-2.ensures.value ∙ ap (λ (x : StateOf _ _). x.answers) c.state.view_is in
-    let copied : c.in-Ok-copies.answers.items ≡ state.answers = c.in-Ok-copies.ensures ∙ (c.deref-3.ensures.value ∙ ap (λ (x : StateOf _ _). x.answers) c.state.view_is) in
+    let answers : c.answers.result.now ≡ state.answers = c.answers.ensures in
+    let copied : c.in-Ok-copies.answers.items ≡ state.answers = c.in-Ok-copies.ensures ∙ c.answers-2.ensures in
     subst (IsGathered (g.R.Behaves.behaviour c.args.moves.now.register) c.args.moves.now.question.now s.nodes c.args.reached.now.marks.items (c.args.index + 1)) (sym c.in-Ok-push.ensures.items)
     (listed_now g.R.Behaves.behaviour (g.R.Behaves.behaviour c.args.moves.now.register) c.args.moves.now.question.now s.nodes c.args.reached.now.goals.items c.args.reached.now.marks.items s.all.trail.marked s.kept.by_goal
     c.args.index c.index.result.now c.index.ensures s.all.sorted c.args.found.now.items h c.requires.there c.if-not-index.false state
