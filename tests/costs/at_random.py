@@ -1,4 +1,6 @@
 """What random whole operations cost on three towers, against those of plain Rust."""
+import json
+import os
 import subprocess
 
 from costs import runs
@@ -13,65 +15,9 @@ EDITS = 10
 FEW, FEW_STEPS, MANY, MANY_STEPS, SHARED_EDITS = 200, 10_000, 1_000, 100_000, 100
 INSERTS = (5_000, 5_000, 10_000)
 WORDS = ["--cells", "2000000", "--branches", "1024"]
-# Those of the plain Rust program of `plain`, which wrote the same bytes, taken once by this script
-PLAIN = {
-    "instructions, safe 0": {
-        "opening": (2_993_675, 27_197_944, 267_009_601),
-        "the first look at the end": (537_260, 4_956_227, 49_777_821),
-        "the same look again": (4_081, 4_125, 4_161),
-        "a replacement near the front": (3_069, 12_208, 103_606),
-        "a replacement near the front: the look after it": (15_339, 59_672, 502_680),
-        "a replacement near the middle": (2_563, 7_163, 52_883),
-        "a replacement near the middle: the look after it": (15_287, 59_684, 502_655),
-        "a replacement near the end": (2_061, 2_093, 2_112),
-        "a replacement near the end: the look after it": (15_314, 59_627, 502_652),
-        "an insert near the front": (3_423, 18_773, 166_453),
-        "an insert near the front: the look after it": (13_482, 57_923, 500_964),
-    },
-    "instructions, safe 0, inserts that 200 forks share": {
-        "an insert at 0": (3_646, 4_663, 6_188),
-        "an insert at any place": (3_159, 3_278, 4_104),
-    },
-    "instructions, safe 0, 1,000 forks": {
-        "a fork": (3_170, 9_838),
-        "a replacement that all share": (9_720, 22_515),
-        "an insert at 0": (13_088, 25_255),
-        "an insert at any place": (11_201, 24_000),
-        "a removal at 0": (13_100, 25_892),
-        "a look at `main` after these": (1_196_317, 4_501_635),
-        "a look at the 500th fork then": (19_723, 25_910),
-    },
-    "bytes that are resident, safe 0": {
-        "a fork": (172.0, 172.0),
-        "a fork, less its log entry": (163.8, 163.8),
-    },
-    "instructions, stamped 4 15": {
-        "opening": (3_212_491, 29_384_373, 288_872_564),
-        "the first look at the end": (1_138_960, 10_814_902, 107_991_459),
-        "the same look again": (23_306, 23_199, 23_226),
-        "a replacement near the front": (3_053, 12_192, 103_584),
-        "a replacement near the front: the look after it": (44_017, 88_350, 531_330),
-        "a replacement near the middle": (2_566, 7_178, 52_890),
-        "a replacement near the middle: the look after it": (42_892, 87_161, 530_173),
-        "a replacement near the end": (2_080, 2_100, 2_125),
-        "a replacement near the end: the look after it": (42_860, 87_193, 530_205),
-        "an insert near the front": (3_430, 18_766, 166_456),
-        "an insert near the front: the look after it": (38_567, 83_040, 526_035),
-    },
-    "instructions, matrix 2 2 1 3": {
-        "opening": (3_099_038, 28_225_456, 277_261_283),
-        "the first look at the end": (1_795_183, 17_244_780, 172_064_779),
-        "the same look again": (43_609, 44_174, 43_463),
-        "a replacement near the front": (3_054, 12_184, 103_583),
-        "a replacement near the front: the look after it": (73_765, 118_619, 560_865),
-        "a replacement near the middle": (2_568, 7_172, 52_890),
-        "a replacement near the middle: the look after it": (72_491, 117_482, 559_761),
-        "a replacement near the end": (2_080, 2_106, 2_131),
-        "a replacement near the end: the look after it": (72_681, 117_365, 559_831),
-        "an insert near the front": (3_427, 18_775, 166_442),
-        "an insert near the front: the look after it": (65_027, 109_977, 552_224),
-    },
-}
+# What the plain Rust program of `plain` took, which wrote the same bytes; taken once by this script
+with open(f"{os.path.dirname(__file__)}/at_random.json", encoding="ascii") as file:
+    PLAIN = json.load(file)
 
 
 class Table:
