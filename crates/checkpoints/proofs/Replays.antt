@@ -58,6 +58,29 @@ module _ {R P : Type 0} (b : Behaviour P) (c d : Configuration R P) (step : Step
       ∙ ap (λ e. told ++ e ∷ history b d rest) is ∙ ap (λ e. told ++ events_of b c step ∷ history b e rest) after
       ∙ sym (ap (λ l. told ++ history b c l) first)
 
+-- a replay of the steps `whole` from `entry` has reached `now` and reported `told`; the steps `left`
+-- are still to be made, and give from `now` the rest of what the whole gives
+pub record IsUnderWay {R P : Type 0} (is : R → Behaviour P) (entry now : Configuration R P) (whole left : List Step) (told : List StepEvents) : Type 0 where
+  pub register : now.register ≡ entry.register
+  pub fit : AllFit (is entry.register) left
+  pub config : replayed (is entry.register) now left ≡ replayed (is entry.register) entry whole
+  pub events : told ++ history (is entry.register) now left ≡ history (is entry.register) entry whole
+
+-- the first of the steps that are left is made by the register of c, from c to d
+pub goes_on : {R P : Type 0} (is : R → Behaviour P) (entry c d : Configuration R P) (step : Step) (whole left rest : List Step) (told more : List StepEvents) (one : StepEvents)
+    → left ≡ step ∷ rest → d ≡ stepped (is c.register) c step → one ≡ events_of (is c.register) c step → more ≡ told ++ one ∷ []
+    → IsUnderWay is entry c whole left told → IsUnderWay is entry d whole rest more
+goes_on is entry c d step whole left rest told more one first after events is_more so_far =
+    let b = is entry.register in
+    let goes : d ≡ stepped b c step = after ∙ ap (λ r. stepped (is r) c step) so_far.register in
+    let reports : one ≡ events_of b c step = events ∙ ap (λ r. events_of (is r) c step) so_far.register in
+    record {
+      register = ap (λ e. e.register) after ∙ so_far.register;
+      fit = rest_fits step left rest first b so_far.fit;
+      config = step_replayed b c d step left rest first goes ∙ so_far.config;
+      events = step_reported b c d step left rest first goes told more one reports is_more ∙ so_far.events;
+    }
+
 -- what steps give from a configuration, if each step is an item item holds itself
 pub from_same : {R P T : Type 0} (is : R → Behaviour P) (come_to : Behaviour P → Configuration R P → List Step → T) (c d : Configuration R P) (steps : List Step) → c ≡ d
     → come_to (is c.register) c (map (λ s. s) steps) ≡ come_to (is d.register) d steps

@@ -1,24 +1,19 @@
-use Rattle.std.proofs.Common.{◌≡◌, ◌++◌, length, take, drop, vec_len, vec_capacity}
-use Rattle.frames.specs.Configuration.{replayed, history}
-use Rattle.frames.specs.Recorded.{AllFit}
+use Rattle.std.proofs.Common.{◌≡◌, length, take, drop, vec_len, vec_capacity}
 use Rattle.checkpoints.specs.Kept.{kept_events}
 use Rattle.checkpoints.specs.Reports.{reported_events}
 use Rattle.checkpoints.proofs.MarkedEvents.{IsTold}
+use Rattle.checkpoints.proofs.Replays.{IsUnderWay}
 use Rattle.checkpoints.proofs.replaying.replay_all.Given as goal
 
 -- the replay so far, and that of the steps still to be made, are together the whole replay
 abbrev pub invariant-loop-item : goal.invariant-loop-item
 invariant-loop-item g l =
-    let b = g.R.Behaves.behaviour l.fn.entry.register in
     let all = l.fn.steps.items in
     let made = take l.item-index all in
     let left = drop l.item-index all in
     record {
-      register : l.config.register ≡ l.fn.entry.register;
-      fit : AllFit b left;
-      config : replayed b l.config left ≡ replayed b l.fn.entry all;
+      under_way : IsUnderWay g.R.Behaves.behaviour l.fn.entry l.config all left (reported_events made l.marks.items (kept_events l.events.items));
       are_reported : IsTold made l.marks.items (kept_events l.events.items);
-      events : reported_events made l.marks.items (kept_events l.events.items) ++ history b l.config left ≡ history b l.fn.entry all;
       marks_room : vec_capacity l.marks ≡ length all;
       marked : vec_len l.marks ≡ l.item-index;
     }

@@ -1,24 +1,19 @@
 use Rattle.std.proofs.Common.{◌≡◌, ◌++◌, map, length, drop, vec_len, vec_capacity}
-use Rattle.frames.specs.Configuration.{replayed, history}
-use Rattle.frames.specs.Recorded.{AllFit}
 use Rattle.checkpoints.specs.Kept.{kept_events}
 use Rattle.checkpoints.specs.Reports.{reported_events}
 use Rattle.checkpoints.proofs.MarkedEvents.{IsTold}
+use Rattle.checkpoints.proofs.Replays.{IsUnderWay}
 use Rattle.checkpoints.proofs.replaying.replay_from.Given as goal
 
 -- the replay so far, and that of the steps still to be made, are together the whole replay
 abbrev pub invariant-loop-item : goal.invariant-loop-item
 invariant-loop-item g l =
-    let b = g.R.Behaves.behaviour l.fn.entry.register in
     let all = map g.S.HasStep.step_in l.items in
     let left = map g.S.HasStep.step_in (drop l.item-index l.items) in
     record {
-      register : l.config.register ≡ l.fn.entry.register;
-      fit : AllFit b left;
+      under_way : IsUnderWay g.R.Behaves.behaviour l.fn.entry l.config all left (reported_events l.steps.items l.marks.items (kept_events l.events.items));
       steps : l.steps.items ++ left ≡ all;
-      config : replayed b l.config left ≡ replayed b l.fn.entry all;
       are_reported : IsTold l.steps.items l.marks.items (kept_events l.events.items);
-      events : reported_events l.steps.items l.marks.items (kept_events l.events.items) ++ history b l.config left ≡ history b l.fn.entry all;
       steps_room : vec_capacity l.steps ≡ length l.items;
       made : vec_len l.steps ≡ l.item-index;
       marks_room : vec_capacity l.marks ≡ length l.items;
