@@ -50,10 +50,9 @@ pub struct Trie<T> {
 
 impl<T> Model for Trie<T> {
     ghost use Rattle.schedule_trie.specs.Trie.{TrieOf};
+    ghost use Rattle.schedule_trie.specs.TrieFields.{trie_of, IsKept};
 
     ghost Value = { TrieOf T };
-
-    ghost use Rattle.schedule_trie.specs.TrieFields.{trie_of, IsKept};
 
     ghost view = { trie_of };
 

@@ -57,11 +57,10 @@ impl<T: Drop> Trie<T> {
         ensures ok { OnOk result (IsPushed self.old self.new index step) }
         ensures err { OnErr result (self.new ≡ self.old) }
     {
-        let slot = Slot {
+        self.segments.item_mut(key).push(Slot {
             cell: self.made,
             step,
-        };
-        self.segments.item_mut(key).push(slot)?;
+        })?;
         set_length(&mut self.branches, index, None);
         self.made += 1;
         Ok(())
