@@ -82,13 +82,11 @@ module _ {R P : Type 0} (is : R → Behaviour P) (b : Behaviour P) (q : Question
         let w = walk is b q.value q Holds Reach lawful (first_state b q.value r) steps [] (first_state b q.value r) 0 (at_first is b q.value r e) refl schedule.fit schedule.allowed in
         let f = all.complete w.moves w.state w.reached in
         let same : SameState E w.state f.key = (state_decides E F d w.state f.key).0 f.same in
-        let near = f.within in
-        let few = w.few in
         record {
           index = f.index;
           key = f.key;
           stored = f.stored;
           done = λ p lt. sym (same_over w.state f.key p same) ∙ through_over steps w.state p w.at (schedule.through p lt);
           answers = subst (HasAnswers b q.value steps) same.answers (at_answers steps w.state w.at);
-          within = omega (arith, near, few);
+          within = omega (arith, f.within, w.few);
         }

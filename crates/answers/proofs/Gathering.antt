@@ -159,12 +159,10 @@ module _ {R P : Type 0} (b : Behaviour P) (q : Question) (keys : List (StateOf R
       listed steps m =
           let lt = slice_get_within keys m.index m.key m.stored in
           let c = g.covers m.index m.key (omega (arith, lt, all)) m.stored m.done in
-          let short = c.shortest in
-          let within = m.within in
           record {
             index = c.index;
             possible = c.possible;
             stored = c.stored;
             answers = subst (HasAnswers b q.value steps) (sym c.answers) m.answers;
-            shortest = omega (arith, short, within);
+            shortest = omega (arith, c.shortest, m.within);
           }

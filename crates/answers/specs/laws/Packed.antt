@@ -171,35 +171,28 @@ writing_of n = if n == 0 then None else if n == 1 then Some false else Some true
 abbrev cell_of : ℕ → Cell
 cell_of n = record { value = n % 2 == 1; writing = writing_of (n / 2 % 4); reading = n / 8 % 2 == 1; hit = n / 16 == 1 }
 
-decoded_by : (v : Bool) (w : Option Bool) (r h : Bool)
-    → cell_of (cell_code (record { value = v; writing = w; reading = r; hit = h })) ≡ record { value = v; writing = w; reading = r; hit = h }
-decoded_by false None false false = refl
-decoded_by false None false true = refl
-decoded_by false None true false = refl
-decoded_by false None true true = refl
-decoded_by false (Some false) false false = refl
-decoded_by false (Some false) false true = refl
-decoded_by false (Some false) true false = refl
-decoded_by false (Some false) true true = refl
-decoded_by false (Some true) false false = refl
-decoded_by false (Some true) false true = refl
-decoded_by false (Some true) true false = refl
-decoded_by false (Some true) true true = refl
-decoded_by true None false false = refl
-decoded_by true None false true = refl
-decoded_by true None true false = refl
-decoded_by true None true true = refl
-decoded_by true (Some false) false false = refl
-decoded_by true (Some false) false true = refl
-decoded_by true (Some false) true false = refl
-decoded_by true (Some false) true true = refl
-decoded_by true (Some true) false false = refl
-decoded_by true (Some true) false true = refl
-decoded_by true (Some true) true false = refl
-decoded_by true (Some true) true true = refl
+abbrev IsDecoded : Cell → Type 0
+IsDecoded c = cell_of (cell_code c) ≡ c
 
-decoded : (c : Cell) → cell_of (cell_code c) ≡ c
-decoded c = decoded_by c.value c.writing c.reading c.hit
+-- what holds of three bits in each of the eight cases
+by_cases : (A : Bool → Bool → Bool → Type 0) → A false false false → A false false true → A false true false → A false true true
+    → A true false false → A true false true → A true true false → A true true true → (x y z : Bool) → A x y z
+by_cases A a b c d e f g h false false false = a
+by_cases A a b c d e f g h false false true = b
+by_cases A a b c d e f g h false true false = c
+by_cases A a b c d e f g h false true true = d
+by_cases A a b c d e f g h true false false = e
+by_cases A a b c d e f g h true false true = f
+by_cases A a b c d e f g h true true false = g
+by_cases A a b c d e f g h true true true = h
+
+decoded_by : (w : Option Bool) (v r h : Bool) → IsDecoded (record { value = v; writing = w; reading = r; hit = h })
+decoded_by None = by_cases (λ v r h. IsDecoded (record { value = v; writing = None; reading = r; hit = h })) refl refl refl refl refl refl refl refl
+decoded_by (Some false) = by_cases (λ v r h. IsDecoded (record { value = v; writing = Some false; reading = r; hit = h })) refl refl refl refl refl refl refl refl
+decoded_by (Some true) = by_cases (λ v r h. IsDecoded (record { value = v; writing = Some true; reading = r; hit = h })) refl refl refl refl refl refl refl refl
+
+decoded : (c : Cell) → IsDecoded c
+decoded c = decoded_by c.writing c.value c.reading c.hit
 
 pub same_cells : (xs ys : List Cell) → map cell_code xs ≡ map cell_code ys → xs ≡ ys
 same_cells [] [] h = refl
