@@ -370,6 +370,10 @@ written_by e = 0
 invokes_write : {history : Events} (v : ℕ) (a : Operation history) → a.op ≡ Write v → written_by (linear.event_at history a.number) ≡ v + 1
 invokes_write v a is = ap written_by (a.invoked ∙ ap (λ o. Some (Invoke a.process o)) is)
 
+-- 1 isn't the initial value, 0
+not_initial : ◌≡◌ {A = ℕ} 1 0 → ⊥
+not_initial e = omega (arith, e)
+
 -- while process 0 is writing 1, process 1 reads it, and then process 2 the older 0
 abbrev new_then_old : Events
 new_then_old = writes ∷ reads ∷ (3, Got 1 1) ∷ (4, Invoke 2 Read) ∷ (5, Got 2 0) ∷ []
@@ -389,9 +393,6 @@ HasLinearization-fails h = ⊎_elim older (λ none. ⊎_elim (newer none.0) (λ 
 
     ends : EndsAt second 4 (Got 2 0)
     ends = record { later = omega arith; there = refl; own = refl; first = λ k other low high. absurd (omega (arith, low, high)) }
-
-    not_initial : ◌≡◌ {A = ℕ} 1 0 → ⊥
-    not_initial e = omega (arith, e)
 
     no_zero : (n : ℕ) → written_by (linear.event_at new_then_old n) ≡ 0 + 1 → ⊥
     no_zero zero e = omega (arith, e)
@@ -457,9 +458,6 @@ early_read-fails h = ⊎_elim later (λ none. not_initial none.1) (h.reads read 
     ends : EndsAt read 1 (Got 1 1)
     ends = record { later = omega arith; there = refl; own = refl; first = λ k other low high. absurd (omega (arith, low, high)) }
 
-    not_initial : ◌≡◌ {A = ℕ} 1 0 → ⊥
-    not_initial e = omega (arith, e)
-
     is_later : (n : ℕ) → written_by (linear.event_at early_read n) ≡ 1 + 1 → 1 < n
     is_later zero e = absurd (omega (arith, e))
     is_later (suc zero) e = absurd (omega (arith, e))
@@ -487,9 +485,6 @@ refused_was_read-fails h = ⊎_elim from_it (λ none. not_initial none.1) (h.rea
 
     ends : EndsAt read 2 (Got 1 1)
     ends = record { later = omega arith; there = refl; own = refl; first = λ k other low high. absurd (omega (arith, low, high)) }
-
-    not_initial : ◌≡◌ {A = ℕ} 1 0 → ⊥
-    not_initial e = omega (arith, e)
 
     between : (k : ℕ) (other : Event) → 0 < k → k < 3 → linear.event_at refused_was_read k ≡ Some other → begins_or_ends 0 other ≡ false
     between zero other low high e = absurd (omega (arith, low))
