@@ -15,6 +15,7 @@ use Rattle.cutoff.specs.Links.{IsGiven, IsStored, IsTrueSegment, IsLinked, run_c
 use Rattle.cutoff.specs.Prefixes.{HasTrueRun, RunsDown, RunsTo, IsMarked, AreFresh, exit_or_start, exit_or}
 use Rattle.cutoff.specs.Charts.{Charted, IsCharted, StepsFit}
 use Rattle.cutoff.proofs.Fits.{register_kept, exit_same, stored_at}
+use Rattle.cutoff.proofs.Prefixes.{down_after}
 use Rattle.cutoff.proofs.SameBranches.{cut_kept}
 use Rattle.cutoff.proofs.Walks.{by_key}
 
@@ -107,15 +108,10 @@ module _ {R P : Type 0} (old new : TrieOf (StoredRun R P)) (number : Option ℕ)
           fits = subst (λ s. RunFits E c s h.stored.run) (steps_same k) h.fits;
         }
 
-    down_still : (b : Behaviour P) (c : Configuration R P) (keys : List ℕ) (end : Configuration R P) → RunsDown E is old b c keys end → RunsDown E is new b c keys end
-    down_still b c [] end d = d
-    down_still b c (k ∷ keys) end d =
-        (true_same c k d.0, subst (λ s. RunsDown E is new b (replayed b c s) keys end) (steps_same k) (down_still b (replayed b c (steps_at old k)) keys end d.1))
-
     marked_still : (start : Configuration R P) (k : ℕ) → IsMarked E is old start (Some k) → IsMarked E is new start (Some k)
     marked_still start k marked = λ i h.
         let there : has k (keys_in old.branches i) ≡ true = subst (λ ss. has k (keys_in ss i) ≡ true) checked.branches h in
-        let down = down_still (is start.register) start (keys_up_to k (keys_in old.branches i)) (exit_or_start old start (Some k)) (marked i there) in
+        let down = down_after E is old new steps_same true_same (is start.register) start (keys_up_to k (keys_in old.branches i)) (exit_or_start old start (Some k)) (marked i there) in
         subst (λ ss. RunsTo E is new start (Some k) (keys_in ss i)) (sym checked.branches)
         (subst (RunsDown E is new (is start.register) start (keys_up_to k (keys_in old.branches i))) (ap (exit_or start) (sym (run_same k))) down)
 

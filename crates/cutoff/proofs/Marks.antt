@@ -13,6 +13,7 @@ use Rattle.cutoff.specs.Fitting.{StoredRun, RunFits, run_of, steps_at}
 use Rattle.cutoff.specs.Prefixes.{HasTrueRun, RunsDown, RunsTo, IsMarked, exit_or_start, exit_or}
 use Rattle.cutoff.specs.Charts.{Charted, IsCharted}
 use Rattle.cutoff.proofs.Edited.{charted}
+use Rattle.cutoff.proofs.Prefixes.{down_after}
 use Rattle.schedule_trie.proofs.branches.KeyedBranches.{keys_in-last}
 use Rattle.cutoff.proofs.SameBranches.{charted_marked}
 
@@ -28,15 +29,10 @@ module _ {R P : Type 0} (E : R → R → Bool) (is : R → Behaviour P) (old new
     fits = subst (λ s. RunFits E c s h.stored.run) (steps_same k) h.fits;
   }
 
-  runs_same : (b : Behaviour P) (c : Configuration R P) (keys : List ℕ) (end : Configuration R P) → RunsDown E is old b c keys end → RunsDown E is new b c keys end
-  runs_same b c [] end d = d
-  runs_same b c (k ∷ keys) end d =
-      (run_same c k d.0, subst (λ s. RunsDown E is new b (replayed b c s) keys end) (steps_same k) (runs_same b (replayed b c (steps_at old k)) keys end d.1))
-
   to_same : (start : Configuration R P) (k : ℕ) (keys : List ℕ) → RunsTo E is old start (Some k) keys → RunsTo E is new start (Some k) keys
   to_same start k keys d =
       subst (RunsDown E is new (is start.register) start (keys_to keys (Some k))) (ap (λ ps. exit_or start (option_map run_of (note_of (segment_at ps k)))) (sym same))
-      (runs_same (is start.register) start (keys_to keys (Some k)) (exit_or_start old start (Some k)) d)
+      (down_after E is old new steps_same run_same (is start.register) start (keys_to keys (Some k)) (exit_or_start old start (Some k)) d)
 
 -- a branch with the same segments as another has the same runs
 module _ {R P : Type 0} (E : R → R → Bool) (is : R → Behaviour P) (old new : TrieOf (StoredRun R P)) (start : Configuration R P) (index : ℕ) (name : List ℕ) (forked : IsForkedWhole old new index name) where

@@ -12,10 +12,20 @@ use Rattle.schedule_trie.proofs.climbs.Climbs.{IsStepUp}
 use Rattle.schedule_trie.proofs.lists.NoRepeats.{has_cases, has-head, has-tail}
 use Rattle.cutoff.specs.Fitting.{StoredRun, run_of, RunFits, steps_at}
 use Rattle.cutoff.specs.Links.{without_register, run_number, IsLinkedAt}
-use Rattle.cutoff.specs.Prefixes.{RunsDown, RunsTo, IsKnown, note_named, exit_or_start, exit_or}
+use Rattle.cutoff.specs.Prefixes.{HasTrueRun, RunsDown, RunsTo, IsKnown, note_named, exit_or_start, exit_or}
 use Rattle.cutoff.specs.Plans.{FitsDownTo}
 use Rattle.cutoff.proofs.Fits.{register_kept, same_trans, exit_same, stored_at, fits_to_note}
 use Rattle.cutoff.proofs.Walks.{linked_home}
+
+-- true runs that fit lead as far down after a change that keeps each segment's steps and true run
+pub down_after : {R P : Type 0} (E : R → R → Bool) (is : R → Behaviour P) (old new : TrieOf (StoredRun R P)) → ((k : ℕ) → steps_at old k ≡ steps_at new k)
+    → ((c : Configuration R P) (k : ℕ) → HasTrueRun E is old c k → HasTrueRun E is new c k)
+    → (b : Behaviour P) (c : Configuration R P) (keys : List ℕ) (end : Configuration R P) → RunsDown E is old b c keys end → RunsDown E is new b c keys end
+down_after E is old new steps runs b c [] end d = d
+down_after E is old new steps runs b c (k ∷ keys) end d = (
+  runs c k d.0,
+  subst (λ s. RunsDown E is new b (replayed b c s) keys end) (steps k) (down_after E is old new steps runs b (replayed b c (steps_at old k)) keys end d.1),
+)
 
 module _ {R P : Type 0} (E : R → R → Bool) (per : IsPartialEquivalence E) (is : R → Behaviour P) (alike : (x y : R) → E x y ≡ true → is x ≡ is y) (trie : TrieOf (StoredRun R P)) where
   -- stored runs that lead to a configuration lead to each equal one
