@@ -53,7 +53,7 @@ export class Model {
     const forest = await forestAfter(document, ask, made, expected, listed);
     const isSame = before?.bench === forest.bench;
     const model = new Model(document, ask, forest, isSame ? before.pages : new Map());
-    model.understand(found);
+    model.readAnswers(found);
     if (before && !isSame) model.keep(before);
     guessed.forEach((look, at) => model.take(look, found.at(at - guessed.length)));
     return model;

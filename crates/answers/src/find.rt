@@ -59,8 +59,8 @@ fn step_at<'q, R: Register>(moves: &Moves<'q, R>, state: &State<R>, mark: Mark) 
     step_by(
         moves.question,
         state.answers(),
-        (mark.label / 4) as u32,
-        mark.label % 4,
+        (mark.label / KINDS) as u32,
+        mark.label % KINDS,
     )
 }
 

@@ -53,8 +53,8 @@ impl<'q, R: Register> Graph for Moves<'q, R> {
     ) -> Result<Option<Arrival<State<R>>>, AllocError> {
         // for the proof: reading a field opens the model, so what its invariant says is known
         let _count = self.register.processes();
-        let process = (label / 4) as u32;
-        let Some(step) = step_by(self.question, node.answers(), process, label % 4) else {
+        let process = (label / KINDS) as u32;
+        let Some(step) = step_by(self.question, node.answers(), process, label % KINDS) else {
             return Ok(None);
         };
         if !node.config.fits(step) || !is_enabled(&node.config, step) {

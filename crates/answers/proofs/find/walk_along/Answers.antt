@@ -1,10 +1,8 @@
-use Rattle.std.proofs.Common.{◌+◌, [], List, drop, length, sym, ap, subst, ◌∙◌}
+use Rattle.std.proofs.Common.{◌+◌, List, drop, length, sym, ap, subst, ◌∙◌}
 use Rattle.std.proofs.lemmas.List.{drop_all, length_push}
 use Rattle.frames.specs.declared.types.Step.{Step}
 use Rattle.answers.specs.Gathered.{IsBuilding}
-use Rattle.answers.specs.States.{StateOf}
-use Rattle.answers.proofs.Building.{IsTaken, label_at, taken_at, taken_fits, taken_step, none_taken}
-use Rattle.answers.proofs.find.walk_along.Given.{Over}
+use Rattle.answers.proofs.Building.{label_at, taken_at, taken_fits, taken_step, none_taken}
 use Rattle.answers.proofs.find.walk_along.Goals as goal
 
 pub loop-mark-init : goal.loop-mark-init
@@ -20,34 +18,38 @@ step_at-requires g c = record {
       c.loop-mark.steps.items c.args.path.now c.loop-mark.mark-index _ c.loop-mark-test.true (c.loop-mark.invariant.building c.requires.0 c.requires.1);
 }
 
--- the next mark gives a step, on each way to a state
-taken : (g : Over) (c : goal.After-step_at g) (key : StateOf g.row.R.Denot g.row.R-Pending.Denot)
-    → IsBuilding g.R.Behaves.behaviour (g.R.Behaves.behaviour c.args.moves.now.register) c.args.moves.now.question.now key c.args.start [] c.args.path.now
-    → IsTaken g.R.Behaves.behaviour (g.R.Behaves.behaviour c.args.moves.now.register) c.args.moves.now.question.now key c.loop-mark.state c.loop-mark.steps.items c.step_at.result
-    (drop (c.loop-mark.mark-index + 1) c.args.path.now)
-taken g c key h =
-    let r = c.args.moves.now.register in
-    let is = g.R.Behaves.behaviour in
-    taken_at is (is r) c.args.moves.now.question.now key c.loop-mark.state (g.R.Register.Holds r) (g.R.Register.Reaches r) (g.met.R.Register.lawful r)
-    c.loop-mark.steps.items c.args.path.now c.loop-mark.mark-index _ c.step_at.result c.loop-mark-test.true (c.loop-mark.invariant.building key h) c.step_at.ensures
-
 pub unreachable-requires : goal.unreachable-requires
 unreachable-requires g c =
-    none_taken g.R.Behaves.behaviour _ _ c.requires.0 _ c.loop-mark.steps.items _ c.step_at.result (taken g c c.requires.0 c.requires.1) c.in_default.is
+    let r = c.args.moves.now.register in
+    let is = g.R.Behaves.behaviour in
+    let q = c.args.moves.now.question.now in
+    let i = c.loop-mark.mark-index in
+    none_taken is (is r) q c.requires.0 c.loop-mark.state c.loop-mark.steps.items (drop (i + 1) c.args.path.now) c.step_at.result
+    (taken_at is (is r) q c.requires.0 c.loop-mark.state (g.R.Register.Holds r) (g.R.Register.Reaches r) (g.met.R.Register.lawful r)
+    c.loop-mark.steps.items c.args.path.now i _ c.step_at.result c.loop-mark-test.true (c.loop-mark.invariant.building c.requires.0 c.requires.1) c.step_at.ensures) c.in_default.is
 
 pub advanced-requires : goal.advanced-requires
 advanced-requires g c =
-    taken_fits g.R.Behaves.behaviour _ _ c.requires.0 _ c.loop-mark.steps.items c.in-Some.step _ c.step_at.result (taken g c c.requires.0 c.requires.1) c.in-Some.is
+    let r = c.args.moves.now.register in
+    let is = g.R.Behaves.behaviour in
+    let q = c.args.moves.now.question.now in
+    let i = c.loop-mark.mark-index in
+    taken_fits is (is r) q c.requires.0 c.loop-mark.state c.loop-mark.steps.items c.in-Some.step (drop (i + 1) c.args.path.now) c.step_at.result
+    (taken_at is (is r) q c.requires.0 c.loop-mark.state (g.R.Register.Holds r) (g.R.Register.Reaches r) (g.met.R.Register.lawful r)
+    c.loop-mark.steps.items c.args.path.now i _ c.step_at.result c.loop-mark-test.true (c.loop-mark.invariant.building c.requires.0 c.requires.1) c.step_at.ensures) c.in-Some.is
 
 pub loop-mark-preserved : goal.loop-mark-preserved
 loop-mark-preserved g c =
+    let r = c.args.moves.now.register in
     let is = g.R.Behaves.behaviour in
-    let b = is c.args.moves.now.register in
     let q = c.args.moves.now.question.now in
-    let left = drop (c.loop-mark.mark-index + 1) c.args.path.now in
+    let i = c.loop-mark.mark-index in
+    let path = c.args.path.now in
     record {
-      building = λ key h. subst (λ (s : List Step). IsBuilding is b q key c.in-Ok.next s left) (sym c.in-Ok-push.ensures.items)
-          (taken_step is b q key c.loop-mark.state c.loop-mark.steps.items c.in-Some.step c.in-Ok.next left c.step_at.result (taken g c key h) c.in-Some.is c.in-Ok.ensures);
+      building = λ key h. subst (λ (s : List Step). IsBuilding is (is r) q key c.in-Ok.next s (drop (i + 1) path)) (sym c.in-Ok-push.ensures.items)
+          (taken_step is (is r) q key c.loop-mark.state c.loop-mark.steps.items c.in-Some.step c.in-Ok.next (drop (i + 1) path) c.step_at.result
+          (taken_at is (is r) q key c.loop-mark.state (g.R.Register.Holds r) (g.R.Register.Reaches r) (g.met.R.Register.lawful r)
+          c.loop-mark.steps.items path i _ c.step_at.result c.loop-mark-test.true (c.loop-mark.invariant.building key h) c.step_at.ensures) c.in-Some.is c.in-Ok.ensures);
       long = ap length c.in-Ok-push.ensures.items ∙ (length_push c.loop-mark.steps.items c.in-Some.step ∙ ap (λ n. n + 1) c.loop-mark.invariant.long);
     }
 
