@@ -1,5 +1,5 @@
-// Documents that another one replaced: Undo then reads Back and opens the last one again, Redo reads
-// Forward, and the dialog Open lists the latest.
+// Documents that another one replaced: Undo then reads Back and opens the last one again, Redo
+// reads Forward, and the dialog Open lists the latest.
 import { keepDocumentOf } from "./kept.js";
 import { isUntouched, taskOf } from "./tasks.js";
 import { one } from "./elements.js";

@@ -6,8 +6,8 @@ import { lengthen } from "./reading.js";
 import { rounded, shape, textAt } from "./shapes.js";
 
 const TEXT_EVERY = 16;
-// the bits that have a row, by the register they are in: all if they are few, else those that change
-// or are used
+// the bits that have a row, by the register they are in: all if they are few, else those that
+// change or are used
 export function groupsOf({ tower, codes }, readings) {
   const used = new Set(), { cells, side } = tower, groups = new Map();
   const isUsed = (runs) => cells <= FEW_CELLS || runs.length > 1 || !runs[0][2].endsWith("- -");

@@ -1,5 +1,5 @@
-// What is kept: documents that another one replaced, and small notes. They are kept in memory, and in
-// the browser if it lets a page keep them; `forget` removes all of them.
+// What is kept: documents that another one replaced, and small notes. They are kept in memory, and
+// in the browser if it lets a page keep them; `forget` removes all of them.
 const DOCUMENTS = "towerbench.recent", NOTES = "towerbench.note ", MOST = 12, MOST_TEXT = 100000;
 const memory = new Map();
 function stored(key) {
