@@ -3,6 +3,10 @@
 `rt must-fail` first proves the crate once more, which takes longer than all trials after it. Here the prover checks the functions that
 a wrong body changes, and those that they call, over the libraries that `rt ci` built: if one of them isn't proved, the crate isn't. If
 all are proved, or the names don't show which they are, it checks the whole crate.
+
+Much of such a check goes on what it loads, so edits of the bodies of different functions, of which none calls another, are first tried
+together. A proof rests on its own function's body, and only on the contracts of others: what is refused there, by a fault of its own
+function, would be refused alone. Every other edit is tried alone.
 """
 import collections
 import importlib.machinery
@@ -12,11 +16,16 @@ import re
 import shutil
 import sys
 
-# An item that begins at the margin or in an impl: a function, with the margin before it, an impl, or the end of one.
+# An item that begins at the margin or in an impl: a function, with the margin before it, an impl or trait, or the end of one.
 ITEM = re.compile(
-    r"^(?:( *)(?:pub(?:\([a-z]+\))? )?(?:const )?fn (\w+)|impl(?:<[^{]*?>)? ([^{]*?)\s*(?:\{|\bwhere\b)|\})",
+    r"^(?:( *)(?:pub(?:\([a-z]+\))? )?(?:const )?fn (\w+)"
+    r"|(?:impl(?:<[^{]*?>)?|(?:pub(?:\([a-z]+\))? )?trait) ([^{]*?)\s*(?:\{|\bwhere\b)|\})",
     re.M,
 )
+# What a body's line could begin that other functions can see.
+INNER_ITEM = re.compile(r"\b(?:const|enum|fn|impl|mod|static|struct|trait|type|use)\b")
+# A name that may be a function's, as it is called or passed.
+CALL = re.compile(r"(?<=::)\w+|\w+(?=\()")
 OLD, NEW, FILE = "old: ", "new:", "file: "
 FLAGS = ["--jobs", "1"]
 # What a check says of a place, and what it says of a proof that names what the edit took away.
@@ -30,6 +39,11 @@ TRIES_OF_A_CHECK = 2
 
 # said: what the prover said, or why it judged nothing; is_refused: whether it refused the wrong body.
 Result = collections.namedtuple("Result", "is_refused said")
+# A function whose body an edit changes: the end of its name, its file, and there the line that it begins in and its `}`, counted from 0.
+Body = collections.namedtuple("Body", "name path first last")
+# texts: the files that an edit changes; bodies: what they change, if they change only bodies of functions, or else nothing; calls: the
+# names of all functions that those may call.
+Change = collections.namedtuple("Change", "edit texts bodies calls")
 
 
 def toolchain():
@@ -75,11 +89,73 @@ def place_of(path, text, at):
             margin, function = item.group(1), item.group(2)
         else:
             function, impl = "", item.group(3) or ""
-    if not function or " for " in impl:
+    if not function or (impl and not margin):
         return module, ""
-    if impl and margin:
-        return module, f"{re.sub('<.*', '', impl)}::{function}"
+    if impl:
+        return module, f"{name_of_impl(impl)}::{function}"
     return module, f"{module}::{function}" if module else function
+
+
+def name_of_impl(head):
+    """Returns how a check names an impl, or a trait: `Work<Journal<R>> for Act<'_>` is ActWorkJournal."""
+    trait, _, name = head.rpartition(" for ")
+    # (type parameters have one letter)
+    words = re.findall(r"\b[A-Z]\w+", trait)
+    name = re.match(r"(?:\w+::)*(\w*)", name)[1]
+    return "".join([name if len(name) > 1 else "Any", *words])
+
+
+def body_at(path, text, at):
+    """Returns the function whose body a line of a source is in, by the place at which the line begins, or None if none is sure to be."""
+    items = [*ITEM.finditer(text)]
+    item = next((it for it in reversed(items) if it.start() <= at), None)
+    name = place_of(path, text, at)[1]
+    if not name or not path.startswith("src/") or "const fn" in item.group():
+        return None
+    begins = re.compile(f"^{item.group(1)}(?:\\S.* )?{{$", re.M).search(text, item.start())
+    ends = re.compile(f"^{item.group(1)}}}$", re.M).search(text, item.start())
+    following = next((it.start() for it in items if it.start() > item.start()), len(text))
+    if not begins or not ends or not begins.end() < at < ends.start() <= following:
+        return None
+    return Body(name, path, *(text.count("\n", 0, it.start()) for it in (item, ends)))
+
+
+def bodies_of(texts, crate):
+    """Returns the functions whose bodies these texts of a crate's files change, or nothing if they change more than bodies."""
+    found = {}
+    for path, text in texts.items():
+        old, at = text_of(f"{crate}/{path}"), 0
+        for line, new in zip(old.split("\n"), text.split("\n")):
+            if line != new:
+                found[None if INNER_ITEM.search(new) else body_at(path, old, at)] = True
+            at += len(line) + 1
+    return [] if None in found else [*found]
+
+
+def calls_of(crate):
+    """Returns the names that the functions of one name may call in a crate, by that name."""
+    found = collections.defaultdict(set)
+    for folder, _, files in os.walk(f"{crate}/src"):
+        for text in (text_of(f"{folder}/{it}") for it in files):
+            items = [*ITEM.finditer(text)]
+            ends = [*[it.start() for it in items[1:]], len(text)]
+            for item, end in zip(items, ends):
+                found[item.group(2)].update(CALL.findall(text[item.end() : end]))
+    return found
+
+
+def all_called(bodies, calls):
+    """Returns the names of all functions that these may call, and that those may."""
+    found, left = set(), [name_in(it) for it in bodies]
+    while left:
+        new = calls.get(left.pop(), set()) - found
+        found |= new
+        left += new
+    return found
+
+
+def name_in(body):
+    return body.name.rpartition("::")[2]
 
 
 def selections(edit, crate):
@@ -98,8 +174,8 @@ def selections(edit, crate):
     ]
 
 
-def refusal_in(rt, ran, texts):
-    """Returns the first line in which a check refuses a wrong body, or None if it judged nothing or found no fault."""
+def judged_by(rt, ran, texts):
+    """Returns the lines of a check that refuses something, and those of faults at places, or nothing if it judged nothing."""
     lines = ran.stdout.rstrip("\n").split("\n")
     is_read = not any(rt.unread(it, texts) for it in lines)
     if (
@@ -107,12 +183,92 @@ def refusal_in(rt, ran, texts):
         or not is_read
         or not lines[-1].startswith(("only=", "logic=not-proved"))
     ):
-        return None
-    faults = [
+        return [], []
+    return lines, [
         it for it in lines if OF_A_PLACE.match(it) and (": error" in it or it.startswith("note: "))
     ]
+
+
+def refusal_in(rt, ran, texts):
+    """Returns the first line in which a check refuses a wrong body, or None if it judged nothing or found no fault."""
+    lines, faults = judged_by(rt, ran, texts)
     refused = [it for it in lines if it.startswith("fn ") and not it.endswith(": proved")]
-    return next((it for it in faults if not NAMES.match(it)), [*faults, *refused, lines[-1]][0])
+    return next(
+        (it for it in faults if not NAMES.match(it)), [*faults, *refused, *lines[-1:], None][0]
+    )
+
+
+def own_refusal(lines, faults, body):
+    """Returns the first line in which a check refuses a function by a fault of its own, or None if it doesn't, or not surely."""
+    about = re.compile(
+        rf"fn \w+::((?:\S+::)?{body.name}): (?:not proved|no proof: )(?!.*it calls `)"
+    )
+    said = [it for it in map(about.match, lines) if it]
+    if len(said) != 1:
+        return None
+    folder = said[0][1].replace("::", "/")
+    places = [
+        f"proofs/{folder}/",
+        *[f"{body.path}:{it}:" for it in range(body.first + 1, body.last + 2)],
+    ]
+    is_own = lambda it: it.removeprefix("note: ").removeprefix("./").startswith((*places,))
+    return next((it for it in faults if is_own(it) and not NAMES.match(it)), None)
+
+
+def with_all(changes, crate):
+    """Returns the texts of a crate's files with each of these changes made, none in the function of another."""
+    texts = {}
+    for it in changes:
+        for _, path, first, last in it.bodies:
+            lines = texts.setdefault(path, text_of(f"{crate}/{path}").split("\n"))
+            lines[first:last] = it.texts[path].split("\n")[first:last]
+    return {path: "\n".join(lines) for path, lines in texts.items()}
+
+
+def are_apart(one, other):
+    """Returns whether two changes are of different functions, of which none calls another."""
+    return not {*one.bodies} & {*other.bodies} and not any(
+        name_in(body) in its.calls for it, its in ((one, other), (other, one)) for body in it.bodies
+    )
+
+
+def batches_of(changes):
+    """Returns the changes in lists, each of changes that are apart."""
+    found = []
+    for it in changes:
+        batch = next((its for its in found if all(are_apart(it, other) for other in its)), [])
+        found += [] if batch else [batch]
+        batch.append(it)
+    return found
+
+
+def changes_by(rt, crate, edits):
+    """Yields what each edit changes that changes only bodies of functions."""
+    calls = calls_of(crate.folder)
+    for edit in edits:
+        texts, _ = rt.read_edit(edit, crate.folder)
+        bodies = bodies_of(texts or {}, crate.folder)
+        if bodies:
+            yield Change(edit, texts, bodies, all_called(bodies, calls))
+
+
+def refused_together(rt, crate, edits, proved):
+    """Has the prover check a crate with several wrong bodies in it at once, and returns the results of those that are surely refused."""
+    found = {}
+    for batch in batches_of(changes_by(rt, crate, edits)):
+        if len(batch) > 1:
+            texts = with_all(batch, crate.folder)
+            names = [body.name for it in batch for body in it.bodies]
+            judged = judged_by(rt, rt.checked(crate, texts, [*FLAGS, *only(names)], proved), texts)
+            for it in batch:
+                said = [*filter(None, (own_refusal(*judged, body) for body in it.bodies))]
+                if said:
+                    found[it.edit] = Result(True, f"refused: {said[0]}")
+    return found
+
+
+def only(names):
+    return [word for it in names for word in ("--only", it)]
 
 
 def tried(rt, crate, edit, proved):
@@ -122,9 +278,8 @@ def tried(rt, crate, edit, proved):
         return Result(False, f"BAD EDIT: {why}")
     said = ""
     for names in selections(edit, crate.folder):
-        only = [word for it in names for word in ("--only", it)]
         for _ in range(TRIES_OF_A_CHECK):
-            ran = rt.checked(crate, texts, [*FLAGS, *only], proved if only else None)
+            ran = rt.checked(crate, texts, [*FLAGS, *only(names)], proved if names else None)
             said = refusal_in(rt, ran, texts)
             if said:
                 return Result(True, f"refused: {said}")
@@ -136,3 +291,10 @@ def tried(rt, crate, edit, proved):
             else f"NOT TRIED: {' / '.join(ran.stdout.splitlines()[:3])}"
         )
     return Result(False, said)
+
+
+def all_tried(rt, crate, edits, proved):
+    """Has the prover check a crate with these wrong bodies, and yields each with its result: those that are refused together, or else alone."""
+    refused = refused_together(rt, crate, edits, proved)
+    for edit in edits:
+        yield edit, refused.get(edit) or tried(rt, crate, edit, proved)

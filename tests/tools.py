@@ -454,7 +454,7 @@ fn most() -> u32 {
 def places_of_changes():
     at = lambda text, file="src/store/cell.rt": refusals.place_of(file, SOURCE, SOURCE.index(text))
     same("a method", at("self.value\n"), ("store::cell", "Cell::value"))
-    same("a method of a trait", at("*self"), ("store::cell", ""))
+    same("a method of an impl of a trait", at("*self"), ("store::cell", "CellModel::clone"))
     same("a constant", at("u32 = 4"), ("store::cell", ""))
     same("a function", at("MOST\n"), ("store::cell", "store::cell::most"))
     same("a function of a library's root", at("MOST\n", "src/lib.rt"), ("", "most"))
@@ -478,7 +478,7 @@ def selections_of_edits():
         same(
             "a method of a trait",
             of("file: src/cell.rt", "old:         *self", "new:         Cell { value: 0 }"),
-            [["cell"], []],
+            [["CellModel::clone"], ["cell"], []],
         )
         same("no function", of("file: src/lib.rt", "old: pub mod cell;", "new: mod cell;"), [[]])
 
@@ -494,6 +494,178 @@ def refusals_of_checks():
     same("all proved", of(0, "only=2 proved=2"), None)
     same("not compiled", of(1, "error[type-mismatch]: src/cell.rt:12:5"), None)
     same("not read", of(1, "src/cell.rt:12:5: error: `x` is not in scope", "only=2 proved=1"), None)
+
+
+def names_of_impls():
+    for head, name in (
+        ("Cell<'_, R>", "Cell"),
+        ("fmt::Display for Cell<R>", "CellDisplay"),
+        ("Work<Journal<R>> for Act<'_>", "ActWorkJournal"),
+        ("Named for R", "AnyNamed"),
+        ("Register: Behaves + Copy", "Register"),
+    ):
+        same(head, refusals.name_of_impl(head), name)
+
+
+def bodies_of_edits():
+    with tempfile.TemporaryDirectory() as temporary:
+        put(f"{temporary}/src/cell.rt", SOURCE)
+
+        def of(*pairs):
+            text = SOURCE
+            for old, new in pairs:
+                text = text.replace(old, new)
+            return [it.name for it in refusals.bodies_of({"src/cell.rt": text}, temporary)]
+
+        body = ("        self.value\n", "        0\n")
+        same("a body", of(body), ["Cell::value"])
+        same(
+            "two",
+            of(("  MOST", "  3"), ("*self", "Cell { value: 0 }")),
+            ["CellModel::clone", "cell::most"],
+        )
+        for what, *pair in (
+            ("a contract", "result ≡", "0 ≡"),
+            ("a constant", "u32 = 4", "u32 = 5"),
+            ("a signature", "fn most() -> u32", "fn most() -> u64"),
+            ("an item in a body", "    MOST\n", "    const LEAST: u32 = 3; LEAST\n"),
+            ("a comment", "//! Cells", "//! Bits"),
+        ):
+            same(f"{what} and a body", of(body, pair), [])
+
+
+# What a check says of the functions of SOURCE, each edited.
+CELL = "src/cell.rt:{}: it is not proved that what the function ensures holds"
+UNPROVED_CALL = "; it calls `cells::cell::Cell::value`, which is not proved"
+
+
+def checks_of_cells(said):
+    """Returns a substitute for the prover: `said` has what it says of a function, by its name; and the list of what it is asked."""
+    asked = []
+
+    def read_edit(edit, crate):
+        texts = {}
+        for path, text, at in refusals.changes_of(edit, crate):
+            texts[path] = text[: at + 1] + "  // edited" + text[at + 1 :]
+        return texts, None
+
+    def checked(_, texts, flags, __):
+        names = flags[len(refusals.FLAGS) + 1 :: 2]
+        asked.append((names, texts["src/cell.rt"].count("  // edited")))
+        lines = [line for it in names if it in said for line in said[it](names)]
+        is_proved = all(it.endswith(": proved") for it in lines)
+        last = f"only={len(names)}" if names else "logic=proved"
+        return types.SimpleNamespace(
+            returncode=0 if is_proved else 1, stdout="\n".join([*lines, last]) + "\n"
+        )
+
+    unread = lambda line, _: "not in scope" in line
+    return types.SimpleNamespace(read_edit=read_edit, checked=checked, unread=unread), asked
+
+
+def tried_with(said):
+    """Tries three edits of SOURCE, and returns the results, and what was checked: the functions, and how many edits were in the copy."""
+    rt, asked = checks_of_cells(said)
+    with tempfile.TemporaryDirectory() as temporary:
+        put(f"{temporary}/src/cell.rt", SOURCE)
+        edits = {"clone": "        *self", "most": "    MOST", "value": "        self.value"}
+        for name, old in edits.items():
+            put(f"{temporary}/{name}", f"file: src/cell.rt\nold: {old}\nnew: edited\n")
+        crate = types.SimpleNamespace(folder=temporary)
+        paths = [f"{temporary}/{it}" for it in edits]
+        results = refusals.all_tried(rt, crate, paths, temporary)
+        return [result.said for _, result in results], asked
+
+
+def edits_tried_together():
+    fn = lambda name, said: f"fn cells::cell::{name}: {said}"
+    value = f"note: {CELL.format('11:9')}"
+    value_is_lost = lambda _: [value, fn("Cell::value", "not proved")]
+    clone = "./proofs/cell/CellModel/clone/Answers.antt:4:1: error: expected type `a`"
+    all_three = ["CellModel::clone", "cell::most", "Cell::value"]
+    same(
+        "all are refused",
+        tried_with(
+            {
+                "Cell::value": value_is_lost,
+                "CellModel::clone": lambda _: [clone, fn("CellModel::clone", "no proof: `c`")],
+                "cell::most": lambda _: [f"note: {CELL.format('20:5')}", fn("most", "not proved")],
+            }
+        ),
+        (
+            [f"refused: {it}" for it in (clone, f"note: {CELL.format('20:5')}", value)],
+            [(all_three, 3)],
+        ),
+    )
+    is_with_value = lambda names: UNPROVED_CALL if "Cell::value" in names else ""
+    same(
+        "one is proved, and one calls another",
+        tried_with(
+            {
+                "Cell::value": value_is_lost,
+                "CellModel::clone": lambda names: [
+                    clone,
+                    fn("CellModel::clone", f"not proved{is_with_value(names)}"),
+                ],
+                "cell::most": lambda _: [fn("most", "proved")],
+            }
+        ),
+        (
+            [f"refused: {clone}", "NOT REFUSED", f"refused: {value}"],
+            [
+                (all_three, 3),
+                (["CellModel::clone"], 1),
+                (["cell::most"], 1),
+                (["cell"], 1),
+                ([], 1),
+            ],
+        ),
+    )
+    unread = "src/cell.rt:20:5: error: `x` is not in scope"
+    same(
+        "one can't be read",
+        tried_with(
+            {
+                "Cell::value": value_is_lost,
+                "CellModel::clone": lambda _: [clone, fn("CellModel::clone", "not proved")],
+                "cell::most": lambda _: [unread, fn("most", "not proved")],
+            }
+        )[0],
+        [f"refused: {clone}", "NOT REFUSED", f"refused: {value}"],
+    )
+
+
+def edits_of_callers():
+    twice = "\nfn twice() -> u32 {\n    once()\n}\n\nfn once() -> u32 {\n    most()\n}\n"
+    with tempfile.TemporaryDirectory() as temporary:
+        put(f"{temporary}/src/cell.rt", SOURCE + twice)
+        edits = {"most": "    MOST", "twice": "    once()", "value": "        self.value"}
+        for name, old in edits.items():
+            put(f"{temporary}/{name}", f"file: src/cell.rt\nold: {old}\nnew: edited\n")
+        rt, crate = checks_of_cells({})[0], types.SimpleNamespace(folder=temporary)
+        changes = refusals.changes_by(rt, crate, [f"{temporary}/{it}" for it in edits])
+        found = [
+            [os.path.basename(it.edit) for it in batch] for batch in refusals.batches_of(changes)
+        ]
+        same("a caller apart", found, [["most", "value"], ["twice"]])
+
+
+def faults_of_other_functions():
+    body = refusals.Body("Cell::value", "src/cell.rt", 8, 12)
+    of = lambda fault, *said: refusals.own_refusal(
+        [fault, *[f"fn cells::cell::{it}" for it in said]], [fault], body
+    )
+    own, other = f"note: {CELL.format('11:9')}", f"note: {CELL.format('14:1')}"
+    same("its own fault", of(own, "Cell::value: not proved"), own)
+    same("another's fault", of(other, "Cell::value: not proved"), None)
+    answer = "./proofs/cell/Cell/most/Answers.antt:4:1: error: expected type `a`"
+    same("a fault in another's proof", of(answer, "Cell::value: not proved"), None)
+    lost = "./proofs/cell/Cell/value/Answers.antt:4:1: error: `c` has no field `x`"
+    same("a name that is gone", of(lost, "Cell::value: not proved"), None)
+    same("proved", of(own, "Cell::value: proved"), None)
+    same("a callee", of(own, "Cell::value: not proved; it calls `cells::f`, which is not"), None)
+    same("not named", of(own, "Cell::most: not proved"), None)
+    same("two of a name", of(own, "Cell::value: not proved", "a::Cell::value: not proved"), None)
 
 
 def floors_of_proofs():
@@ -532,7 +704,16 @@ ALL = {
     "statements": (words_of_a_library, built_once, sums_after_a_new_layer),
     "first_run": (words_of_first_run, answers_twice, answers_and_saves),
     "shares": (table_of_shares, edits_of_copies, shares_of_commands),
-    "wrong": (places_of_changes, selections_of_edits, refusals_of_checks),
+    "wrong": (
+        places_of_changes,
+        selections_of_edits,
+        refusals_of_checks,
+        names_of_impls,
+        bodies_of_edits,
+        edits_tried_together,
+        edits_of_callers,
+        faults_of_other_functions,
+    ),
     "floors": (floors_of_proofs,),
     "documents": (quotes_of_files,),
 }
