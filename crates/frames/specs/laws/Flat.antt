@@ -1,10 +1,11 @@
 -- Laws of stacks of frames: a stack determines which operation is pending and at which point, and a
 -- test decides whether two stacks are the same.
-use Rattle.std.proofs.Common.{◌≡◌, ℕ, zero, suc, ◌+◌, Bool, List, [], ◌∷◌, length, set, take, replicate, Option, Some, None, option_map, refl, ap, ◌∙◌, arith}
+use Rattle.std.proofs.Common.{◌≡◌, ℕ, zero, suc, ◌+◌, Bool, true, List, [], ◌∷◌, length, set, take, replicate, Option, Some, None, option_map, refl, ap, subst, ◌∙◌, arith}
 use Rattle.std.specs.Bool.{Decides}
 use mathlib.Core.Bool.{◌&&◌, beq}
 use Rattle.std.specs.Cmp.{IsPartialEquivalence, booleans_Decides}
 use Rattle.std.specs.Cmp.Lexicographic.{pointwise}
+use Rattle.std.proofs.lemmas.Bool.{false≢true}
 use Rattle.std.proofs.lemmas.Bool.Decides.{Decides-and, Decides-eqb, Decides-like}
 use Rattle.std.proofs.lemmas.Slice.Eq.{slice_eq-Decides}
 use Rattle.safe_bit.specs.laws.Equality.{per_from_decides}
@@ -29,18 +30,24 @@ name_decides a b =
     (λ p. (ap (λ n. n.0) p, (ap (λ n. n.1) p, ap (λ n. n.2) p)))
     (Decides-and _ _ (Decides-eqb a.0 b.0) (Decides-and _ _ (Decides-eqb a.1 b.1) (Decides-eqb a.2 b.2)))
 
+layer_same : (a : FrameLayer) → layers.eq-value.it a a ≡ true
+layer_same = elim [ layer.Named a ↦ (name_decides a a).1 refl | _ ↦ refl ]
+
+-- (`cc` at two different layers takes a quarter of a second)
+layer_found : (a b : FrameLayer) → layers.eq-value.it a b ≡ true → a ≡ b
+layer_found layer.Safe layer.Safe h = refl
+layer_found layer.Copies layer.Copies h = refl
+layer_found layer.Regular layer.Regular h = refl
+layer_found layer.Unary layer.Unary h = refl
+layer_found layer.Stamped layer.Stamped h = refl
+layer_found layer.MatrixRead layer.MatrixRead h = refl
+layer_found layer.MatrixWrite layer.MatrixWrite h = refl
+layer_found (layer.Named a) (layer.Named b) h = ap layer.Named ((name_decides a b).0 h)
+layer_found _ _ h = absurd (false≢true h)
+
 -- the derived `==` of frames' layers is true exactly if the two layers are the same
 layer_decides : (a b : FrameLayer) → Decides (layers.eq-value.it a b) (a ≡ b)
-layer_decides = elim [
-  | layer.Safe ↦ elim [ layer.Safe ↦ (λ h. refl, λ h. refl) | _ ↦ (λ h. cc, λ h. cc) ]
-  | layer.Copies ↦ elim [ layer.Copies ↦ (λ h. refl, λ h. refl) | _ ↦ (λ h. cc, λ h. cc) ]
-  | layer.Regular ↦ elim [ layer.Regular ↦ (λ h. refl, λ h. refl) | _ ↦ (λ h. cc, λ h. cc) ]
-  | layer.Unary ↦ elim [ layer.Unary ↦ (λ h. refl, λ h. refl) | _ ↦ (λ h. cc, λ h. cc) ]
-  | layer.Stamped ↦ elim [ layer.Stamped ↦ (λ h. refl, λ h. refl) | _ ↦ (λ h. cc, λ h. cc) ]
-  | layer.MatrixRead ↦ elim [ layer.MatrixRead ↦ (λ h. refl, λ h. refl) | _ ↦ (λ h. cc, λ h. cc) ]
-  | layer.MatrixWrite ↦ elim [ layer.MatrixWrite ↦ (λ h. refl, λ h. refl) | _ ↦ (λ h. cc, λ h. cc) ]
-  | layer.Named a ↦ elim [ layer.Named b ↦ Decides-like (names.eq-value.it a b) (λ p. ap layer.Named p) (λ p. cc) (name_decides a b) | _ ↦ (λ h. cc, λ h. cc) ]
-]
+layer_decides a b = (layer_found a b, λ h. subst (λ x. layers.eq-value.it a x ≡ true) h (layer_same a))
 
 -- the derived `==` of frames is true exactly if the two frames are the same
 pub frame_decides : (a b : Frame) → Decides (frames.eq-value.it a b) (a ≡ b)
