@@ -48,15 +48,11 @@ impl Runnable for Square {
         self.key
     }
 
-    fn run(&self, _alloc: Global) -> Result<u64, AllocError> {
+    fn into_run(self, _alloc: Global) -> Result<u64, AllocError> {
         match self.number {
             Some(number) => number.checked_mul(number).ok_or(AllocError),
             None => Err(AllocError),
         }
-    }
-
-    fn into_run(self, alloc: Global) -> Result<u64, AllocError> {
-        self.run(alloc)
     }
 }
 
@@ -366,15 +362,11 @@ impl Runnable for Watched<'_> {
         self.index
     }
 
-    fn run(&self, _alloc: Global) -> Result<u64, AllocError> {
+    fn into_run(self, _alloc: Global) -> Result<u64, AllocError> {
         if self.gate.has_offered(self.index) {
             self.runs.fetch_add(1, Ordering::SeqCst);
         }
         self.number.ok_or(AllocError)
-    }
-
-    fn into_run(self, alloc: Global) -> Result<u64, AllocError> {
-        self.run(alloc)
     }
 }
 

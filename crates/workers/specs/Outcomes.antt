@@ -10,8 +10,13 @@ module _ {J R : Type 0} (gives : J → R → Type 0) where
   IsOutcomeOf job (Ran run) = gives job run
   IsOutcomeOf job NoMemory = Unit {0}
 
--- the list has one possible outcome for each job, in the order of the jobs, each with its job's key
-abbrev pub OneForEach : {J K R : Type 0} → (J → K) → (J → R → Type 0) → List J → List (Done K R) → Type 0
-OneForEach key gives [] [] = Unit {0}
-OneForEach key gives (job ∷ jobs) (done ∷ rest) = (done.key ≡ key job) × IsOutcomeOf gives job done.outcome × OneForEach key gives jobs rest
-OneForEach key gives _ _ = ⊥
+module _ {J K R : Type 0} (key : J → K) (gives : J → R → Type 0) where
+  -- this job's key, with a possible outcome of this job
+  abbrev pub IsDoneOf : J → Done K R → Type 0
+  IsDoneOf job done = (done.key ≡ key job) × IsOutcomeOf gives job done.outcome
+
+  -- the list has one possible outcome for each job, in the order of the jobs, each with its job's key
+  abbrev pub OneForEach : List J → List (Done K R) → Type 0
+  OneForEach [] [] = Unit {0}
+  OneForEach (job ∷ jobs) (done ∷ rest) = IsDoneOf job done × OneForEach jobs rest
+  OneForEach _ _ = ⊥

@@ -1,11 +1,11 @@
 //! A crew of the caller alone.
 
 ghost use Rattle.std.specs.Prelude.{IfOk};
-ghost use Rattle.workers.specs.Outcomes.{IsOutcomeOf, OneForEach};
+ghost use Rattle.workers.specs.Outcomes.{OneForEach};
 
 use crate::crew::Crew;
 use crate::gate::Gate;
-use crate::job::{Done, JobOutcome, Runnable};
+use crate::job::{Done, Runnable, run_job};
 use std::alloc::{AllocError, Global};
 use std::sync::Wait;
 
@@ -30,21 +30,9 @@ impl Crew {
     {
         let mut all = Vec::with_capacity(alloc, jobs.len())?;
         for job in jobs {
-            gate.offer(rt, all.len());
-            let key = job.key();
-            let outcome = last_outcome(alloc, job);
-            all.push_reserved(Done { key, outcome });
+            let done = run_job(rt, alloc, gate, all.len(), job);
+            all.push_reserved(done);
         }
         Ok(all)
-    }
-}
-
-/// Runs a job, takes it, and returns its outcome.
-fn last_outcome<J: Runnable>(alloc: Global, job: J) -> JobOutcome<J::Run>
-    ensures { IsOutcomeOf J.gives job result }
-{
-    match job.into_run(alloc) {
-        Ok(run) => JobOutcome::Ran(run),
-        Err(AllocError) => JobOutcome::NoMemory,
     }
 }

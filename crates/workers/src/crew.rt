@@ -1,20 +1,20 @@
-//! The crew: the caller and its thieves, which are other threads. The caller puts the jobs' numbers
-//! into a deque, which is a queue that the thieves can also take from. The caller and its thieves
-//! take the numbers from the deque, and run the jobs.
+//! The crew: the caller and its thieves, which are other threads. The caller puts the jobs into a
+//! deque, which is a queue that the thieves can also take from. The caller and its thieves take the
+//! jobs from the deque, and run them.
 
-ghost use Rattle.std.specs.Prelude.{◌≡◌, ◌<◌, ◌≤◌, ◌-◌, [], length, vec_capacity, IfOk};
+ghost use Rattle.std.specs.Prelude.{◌≡◌, ◌<◌, ◌≤◌, ◌-◌, [], length, replicate, vec_capacity, None, IfOk};
 ghost use denote.Param.Send.{IsSend, IsSync};
 ghost use Rattle.crossbeam_deque.specs.Handles.{view, IsPassOf, stealer_deque, worker_deque, worker_flavor, worker_view};
 ghost use Rattle.workers.specs.Hands.{hand, HasAllJobs};
-ghost use Rattle.workers.specs.Outcomes.{OneForEach};
+ghost use Rattle.workers.specs.Outcomes.{IsDoneOf, OneForEach};
 ghost use Rattle.workers.specs.Owner.{SameOwner};
 ghost use Rattle.workers.specs.Slots.{HasRunItsJobs, IsAtWork};
 
 use crate::gate::Gate;
-use crate::hand::{ComesBack, Deals, Owner, Pops};
-use crate::job::{Done, Runnable};
-use crate::slots::{Slots, put, put_all, under_keys, vacant};
-use crate::thief::{hire, run_job, steal_all};
+use crate::hand::{ComesBack, Deals, Numbered, Owner, Pops};
+use crate::job::{Done, Runnable, run_job};
+use crate::slots::{Slots, into_outcomes, put, put_all};
+use crate::thief::{hire, steal_all};
 use std::alloc::{AllocError, Global};
 use std::sync::Wait;
 use std::thread;
@@ -23,93 +23,106 @@ use std::thread::Threads;
 /// A crew: the caller and its thieves (other threads), which run a list of jobs together.
 pub struct Crew;
 
-/// A new deque with the numbers 0 to `jobs` - 1, in order.
-fn deal(alloc: Global, jobs: usize) -> Result<Owner, AllocError>
-    ensures { IfOk result (λ owner. (worker_flavor owner ≡ 0)
-        × (worker_view owner ≡ hand 8 jobs [])) }
+/// What the caller works with: its end of the deque, and a slot for the outcome of each job.
+type Bench<J, D> = (Owner<J>, Slots<D>);
+
+/// A new deque with these jobs, in order, and an empty slot for each.
+fn deal<J: Drop, D: Drop>(alloc: Global, jobs: Vec<J>) -> Result<Bench<J, D>, AllocError>
+    ensures { IfOk result (λ bench. (worker_flavor bench.0 ≡ 0)
+        × (worker_view bench.0 ≡ hand 8 jobs.items [])
+        × (bench.1.items ≡ replicate (length jobs.items) None)) }
 {
-    let mut owner = Owner::fifo_as(alloc, jobs)?;
-    for index in 0..jobs {
-        let Ok(()) = owner.push_as::<Deals>(index) else {
+    let mut slots = Vec::with_capacity(alloc, jobs.len())?;
+    let mut owner = Owner::fifo_as(alloc, jobs.len())?;
+    for job in jobs {
+        let index = slots.len();
+        let Ok(()) = owner.push_as::<Deals>(Numbered { index, job }) else {
             unreachable!()
         };
+        slots.push_reserved(None);
     }
-    Ok(owner)
+    Ok((owner, slots))
 }
 
 /// The caller takes jobs from the deque and runs them, until the deque is empty. The outcomes go
 /// into `slots`.
-fn work<W: Wait, J: Runnable, G: Gate<W>>(
+fn work<W: Wait, J: Runnable + Drop, G: Gate<W>>(
     rt: &W,
     alloc: Global,
     gate: &G,
-    jobs: &[J],
-    mut owner: Owner,
-    mut slots: Slots<J::Run>,
-) -> (Owner, Slots<J::Run>)
+    bench: Bench<J, Done<J::Key, J::Run>>,
+) -> Bench<J, Done<J::Key, J::Run>>
 where
+    J::Key: Drop,
     J::Run: Drop,
-    requires fifo { worker_flavor owner ≡ 0 }
-    requires ready { IsAtWork J.gives jobs.now (worker_view owner) slots.items }
-    ensures same { SameOwner owner result.0 }
-    ensures done { IsAtWork J.gives jobs.now (worker_view result.0) result.1.items }
+    requires fifo { worker_flavor bench.0 ≡ 0 }
+    requires ready { IsAtWork (IsDoneOf J.named J.gives) (worker_view bench.0).jobs
+        (worker_view bench.0) bench.1.items }
+    ensures same { SameOwner bench.0 result.0 }
+    ensures done { IsAtWork (IsDoneOf J.named J.gives) (worker_view bench.0).jobs
+        (worker_view result.0) result.1.items }
     ensures all { HasAllJobs (worker_view result.0) }
 {
-    while let Some(index) = owner.pop_as::<Pops>() {
-        let outcome = run_job(rt, alloc, gate, jobs, index);
-        put(&mut slots, index, outcome);
+    let (mut owner, mut slots) = bench;
+    while let Some(taken) = owner.pop_as::<Pops>() {
+        let Numbered { index, job } = taken;
+        let done = run_job(rt, alloc, gate, index, job);
+        put(&mut slots, index, done);
     }
     (owner, slots)
 }
-
-/// What the caller works with: its end of the deque, and a slot for the outcome of each job.
-type Bench<R> = (Owner, Slots<R>);
 
 /// Runs the jobs in the deque, with at most `thieves` thieves, each in a thread of its own. At the
 /// end, the jobs that the thieves have taken count as the caller's, and their outcomes are in the
 /// caller's slots. If there is no memory for a thief, no more thieves are used. If no thread can be
 /// made for a thief, the caller does that thief's work itself, after its own; by then the deque is
 /// empty.
-fn share<R: Threads + Wait + Sync, J: Runnable + Sync, G: Gate<R> + Sync>(
+fn share<R: Threads + Wait + Sync, J: Runnable + Send + Drop, G: Gate<R> + Sync>(
     rt: &R,
     alloc: Global,
     gate: &G,
-    jobs: &[J],
     thieves: u32,
-    bench: Bench<J::Run>,
-) -> Bench<J::Run>
+    bench: Bench<J, Done<J::Key, J::Run>>,
+) -> Bench<J, Done<J::Key, J::Run>>
 where
+    J::Key: Send + Drop,
     J::Run: Send + Drop,
     requires fifo { worker_flavor bench.0 ≡ 0 }
     requires parts { thieves < (worker_view bench.0).parts }
-    requires ready { IsAtWork J.gives jobs.now (worker_view bench.0) bench.1.items }
+    requires ready { IsAtWork (IsDoneOf J.named J.gives) (worker_view bench.0).jobs
+        (worker_view bench.0) bench.1.items }
     ensures same { SameOwner bench.0 result.0 }
-    ensures done { IsAtWork J.gives jobs.now (worker_view result.0) result.1.items }
+    ensures done { IsAtWork (IsDoneOf J.named J.gives) (worker_view bench.0).jobs
+        (worker_view result.0) result.1.items }
 {
     let (mut owner, slots) = bench;
     if thieves == 0 {
-        return work(rt, alloc, gate, jobs, owner, slots);
+        return work(rt, alloc, gate, (owner, slots));
     }
-    let Ok(thief) = hire(alloc, &mut owner, jobs.len()) else {
-        return work(rt, alloc, gate, jobs, owner, slots);
+    let Ok(thief) = hire(alloc, &mut owner, slots.len()) else {
+        return work(rt, alloc, gate, (owner, slots));
     };
     let (thief, (mut owner, mut slots)) = thread::join(
         rt,
         move ||
             requires pass { IsPassOf (stealer_deque thief.deque) thief.pass }
-            requires room { length jobs.now ≤ vec_capacity thief.ran }
-            requires ran { HasRunItsJobs J.gives jobs.now (view thief.pass) thief.ran.items }
+            requires room { length (view thief.pass).jobs ≤ vec_capacity thief.ran }
+            requires ran { HasRunItsJobs (IsDoneOf J.named J.gives) (view thief.pass).jobs
+                (view thief.pass) thief.ran.items }
             ensures { IsPassOf (stealer_deque thief.deque) result.pass
-                × HasRunItsJobs J.gives jobs.entry.now (view result.pass) result.ran.items }
-        { steal_all(rt, alloc, gate, jobs, thief) },
+                × HasRunItsJobs (IsDoneOf J.named J.gives) (view thief.pass).jobs
+                (view result.pass) result.ran.items }
+        { steal_all(rt, alloc, gate, thief) },
         move ||
-            requires sync { IsSync R.row × IsSync J.row × IsSync G.row × IsSend J.Run.row }
+            requires sync { IsSync R.row × IsSend J.row × IsSync G.row × IsSend J.Key.row
+                × IsSend J.Run.row }
             requires fifo { worker_flavor owner ≡ 0 }
             requires parts { (0 < thieves) × (thieves - 1 < (worker_view owner).parts) }
-            requires ready { IsAtWork J.gives jobs.now (worker_view owner) slots.items }
-            ensures { SameOwner owner result.0 × IsAtWork J.gives jobs.entry.now
-                (worker_view result.0) result.1.items }
-        { share(rt, alloc, gate, jobs, thieves - 1, (owner, slots)) },
+            requires ready { IsAtWork (IsDoneOf J.named J.gives) (worker_view owner).jobs
+                (worker_view owner) slots.items }
+            ensures { SameOwner owner result.0 × IsAtWork (IsDoneOf J.named J.gives)
+                (worker_view owner).jobs (worker_view result.0) result.1.items }
+        { share(rt, alloc, gate, thieves - 1, (owner, slots)) },
     );
     owner.absorb::<ComesBack>(thief.pass);
     put_all(&mut slots, thief.ran);
@@ -138,7 +151,7 @@ impl Crew {
     /// job but the first. A thief that can't be started isn't used; without thieves, the caller
     /// runs all jobs. Memory for the deque and for all outcomes is reserved before the first job
     /// runs; without that memory the call fails, and the jobs are dropped.
-    pub fn run<R: Threads + Wait + Sync, J: Runnable + Sync + Drop, G: Gate<R> + Sync>(
+    pub fn run<R: Threads + Wait + Sync, J: Runnable + Send + Drop, G: Gate<R> + Sync>(
         rt: &R,
         alloc: Global,
         jobs: Vec<J>,
@@ -146,18 +159,16 @@ impl Crew {
         gate: &G,
     ) -> Result<Vec<Done<J::Key, J::Run>>, AllocError>
     where
-        J::Key: Drop,
+        J::Key: Send + Drop,
         J::Run: Send + Drop,
         requires { thieves ≤ 4 }
         ensures { IfOk result (λ all. OneForEach J.named J.gives jobs.items all.items) }
     {
-        let jobs = jobs.as_slice();
-        let all = Vec::with_capacity(alloc, jobs.len())?;
-        let slots = vacant(alloc, jobs.len())?;
-        let owner = deal(alloc, jobs.len())?;
-        let thieves = needed(thieves, jobs.len());
-        let (owner, slots) = share(rt, alloc, gate, jobs, thieves, (owner, slots));
-        let (_, slots) = work(rt, alloc, gate, jobs, owner, slots);
-        Ok(under_keys(jobs, slots, all))
+        let count = jobs.len();
+        let all = Vec::with_capacity(alloc, count)?;
+        let bench = deal(alloc, jobs)?;
+        let bench = share(rt, alloc, gate, needed(thieves, count), bench);
+        let (_, slots) = work(rt, alloc, gate, bench);
+        Ok(into_outcomes(slots, all))
     }
 }

@@ -1,8 +1,11 @@
 //! Jobs and their outcomes.
 
 ghost use Rattle.std.specs.Prelude.{◌≡◌, IfOk};
+ghost use Rattle.workers.specs.Outcomes.{IsDoneOf, IsOutcomeOf};
 
+use crate::gate::Gate;
 use std::alloc::{AllocError, Global};
+use std::sync::Wait;
 
 /// A job that a crew can run, in any thread. It has a key, and gives a result or runs out of
 /// memory.
@@ -21,10 +24,6 @@ pub trait Runnable {
     /// The job's key.
     fn key(&self) -> Self::Key
         ensures { result ≡ named self.now };
-
-    /// Runs the job.
-    fn run(&self, alloc: Global) -> Result<Self::Run, AllocError>
-        ensures { IfOk result (gives self.now) };
 
     /// Runs the job and consumes it, so that its run may reuse the job's memory.
     fn into_run(self, alloc: Global) -> Result<Self::Run, AllocError>
@@ -45,4 +44,31 @@ pub enum JobOutcome<R> {
 pub struct Done<K, R> {
     pub key: K,
     pub outcome: JobOutcome<R>,
+}
+
+/// Offers the job with this index to the gate, then runs and consumes the job. Returns its outcome,
+/// with its key.
+pub(crate) fn run_job<W: Wait, J: Runnable, G: Gate<W>>(
+    rt: &W,
+    alloc: Global,
+    gate: &G,
+    index: usize,
+    job: J,
+) -> Done<J::Key, J::Run>
+    ensures { IsDoneOf J.named J.gives job result }
+{
+    gate.offer(rt, index);
+    let key = job.key();
+    let outcome = outcome_of(alloc, job);
+    Done { key, outcome }
+}
+
+/// Runs and consumes a job, and returns its outcome.
+fn outcome_of<J: Runnable>(alloc: Global, job: J) -> JobOutcome<J::Run>
+    ensures { IsOutcomeOf J.gives job result }
+{
+    match job.into_run(alloc) {
+        Ok(run) => JobOutcome::Ran(run),
+        Err(AllocError) => JobOutcome::NoMemory,
+    }
 }

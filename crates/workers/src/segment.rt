@@ -1,7 +1,7 @@
 //! The jobs of a chart's plan (segments to replay), as jobs that a crew can run.
 
 use crate::job;
-use checkpoints::run::{Run, run_of, run_of_all};
+use checkpoints::run::{Run, run_of_all};
 use cutoff::plan::Job;
 use frames::register::Register;
 use schedule_trie::trie::SegKey;
@@ -22,12 +22,6 @@ impl<R: Register> job::Runnable for Job<R> {
 
     fn key(&self) -> SegKey {
         self.key
-    }
-
-    fn run(&self, alloc: Global) -> Result<Arc<Run<R>>, AllocError> {
-        let entry = Arc::try_clone(&self.entry)?;
-        let run = run_of(alloc, entry, self.steps.as_slice())?;
-        Ok(Arc::new(alloc, run)?)
     }
 
     fn into_run(self, alloc: Global) -> Result<Arc<Run<R>>, AllocError> {

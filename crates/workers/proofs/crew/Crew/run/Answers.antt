@@ -1,12 +1,35 @@
-use Rattle.std.proofs.Common.{refl, ap, ◌∙◌}
-use Rattle.workers.proofs.FilledSlots.{at_start, slots_full}
+use Rattle.std.proofs.Common.{subst, arith}
+use Rattle.workers.specs.Outcomes.{IsDoneOf}
+use Rattle.workers.specs.Slots.{AreFull}
+use Rattle.workers.proofs.FilledSlots.{at_start, at_end, full_some, full_length, full_outcomes}
 use Rattle.workers.proofs.crew.Crew.run.Goals as goal
 
-pub share-owner-requires-clause-ready : goal.share-owner-requires-clause-ready
-share-owner-requires-clause-ready g c κs within =
-    at_start g.J.Runnable.gives _ _ _ c.in_ok-slots.slots.items refl c.in_ok-owner.ensures.1 c.in_ok-slots.ensures
+pub share-bench-requires-clause-ready : goal.share-bench-requires-clause-ready
+share-bench-requires-clause-ready g c κs within =
+    at_start (IsDoneOf g.J.Runnable.named g.J.Runnable.gives) _ _ c.in_ok-bench.bench.1.items c.in_ok-bench.ensures.1 c.in_ok-bench.ensures.2
 
-pub under_keys-requires-clause-full : goal.under_keys-requires-clause-full
-under_keys-requires-clause-full g c =
-    let parts = c.work-slots.ensures.same.2 ∙ c.share-owner.ensures.same.2 ∙ ap (λ v. v.parts) c.in_ok-owner.ensures.1 in
-    slots_full g.J.Runnable.gives _ _ c.work-slots.result.1.items c.work-slots.ensures.done parts c.work-slots.ensures.all
+pub into_outcomes-requires-clause-full : goal.into_outcomes-requires-clause-full
+into_outcomes-requires-clause-full g c =
+    let ends = IsDoneOf g.J.Runnable.named g.J.Runnable.gives in
+    let shared = c.share-bench.ensures in
+    let worked = c.work-slots.ensures in
+    full_some ends _ c.work-slots.result.1.items (at_end ends _ _ _ _ _ c.work-slots.result.1.items c.in_ok-bench.ensures.1 shared.done shared.same.2 worked.done worked.same.2 worked.all)
+
+pub into_outcomes-requires-clause-room : goal.into_outcomes-requires-clause-room
+into_outcomes-requires-clause-room g c =
+    let ends = IsDoneOf g.J.Runnable.named g.J.Runnable.gives in
+    let shared = c.share-bench.ensures in
+    let worked = c.work-slots.ensures in
+    let full = full_length ends _ c.work-slots.result.1.items (at_end ends _ _ _ _ _ c.work-slots.result.1.items c.in_ok-bench.ensures.1 shared.done shared.same.2 worked.done worked.same.2 worked.all) in
+    let room = c.in_ok-all.ensures.capacity in
+    let count = c.len-count.ensures in
+    let all = c.args.jobs.ok.0 in
+    omega arith
+
+pub returns : goal.returns
+returns g c =
+    let ends = IsDoneOf g.J.Runnable.named g.J.Runnable.gives in
+    let shared = c.share-bench.ensures in
+    let worked = c.work-slots.ensures in
+    let full = at_end ends c.args.jobs.items _ _ _ _ c.work-slots.result.1.items c.in_ok-bench.ensures.1 shared.done shared.same.2 worked.done worked.same.2 worked.all in
+    full_outcomes g.J.Runnable.named g.J.Runnable.gives c.args.jobs.items c.into_outcomes.result.items (subst (AreFull ends c.args.jobs.items) c.into_outcomes.ensures full)

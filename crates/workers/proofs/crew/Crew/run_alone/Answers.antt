@@ -22,10 +22,10 @@ loop-job-preserved g c =
     let room = was.room in
     let same = pushed.capacity in
     record {
-      begins = goes_on g.J.Runnable.gives g.J.Runnable.named _ _ _ c.in-Some.job _ _ c.last_outcome-outcome.result _ steps.0 c.key-key.ensures c.last_outcome-outcome.ensures pushed.items was.begins;
+      begins = goes_on g.J.Runnable.named g.J.Runnable.gives _ _ _ c.in-Some.job _ _ c.run_job-done.result steps.0 c.run_job-done.ensures pushed.items was.begins;
       len = omega arith;
       room = omega arith;
     }
 
 pub returns : goal.returns
-returns g c = goes_over g.J.Runnable.gives g.J.Runnable.named _ _ _ _ c.loop-job.invariant.len c.in-None.ensures.steps.0 c.loop-job.invariant.begins
+returns g c = goes_over g.J.Runnable.named g.J.Runnable.gives _ _ _ _ c.loop-job.invariant.len c.in-None.ensures.steps.0 c.loop-job.invariant.begins

@@ -6,7 +6,7 @@ use Rattle.workers.proofs.crew.Crew.run_alone.Given as goal
 -- the outcomes so far, with one for each job that is left, are those of all jobs
 abbrev pub invariant-loop-job : goal.invariant-loop-job
 invariant-loop-job g l = record {
-  begins : GoesOn g.J.Runnable.gives g.J.Runnable.named l.fn.jobs.items (into_iter_items l.job-iterator) l.all.items;
+  begins : GoesOn g.J.Runnable.named g.J.Runnable.gives l.fn.jobs.items (into_iter_items l.job-iterator) l.all.items;
   len : into_iter_len l.job-iterator ≡ length (into_iter_items l.job-iterator);
   room : vec_len l.all + into_iter_len l.job-iterator ≤ vec_capacity l.all;
 }
