@@ -1,3 +1,4 @@
 pub mod Lengths
+pub mod Editions
 pub mod LengthSteps
 pub mod LengthsAfter

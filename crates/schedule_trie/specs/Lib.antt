@@ -3,6 +3,8 @@ pub mod Trie
 pub mod Climbs
 pub mod Edits
 pub mod TrieFields
+pub mod NamedLengths
+pub mod Editions
 pub mod changes
 pub mod Marks
 pub use Rattle.branch_terms.specs.Forest

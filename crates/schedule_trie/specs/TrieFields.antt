@@ -7,6 +7,7 @@ use Rattle.schedule_trie.specs.declared.trie.Trie.TheInside.{Inside}
 use Rattle.branch_terms.specs.Forest.{Branch, slots_in}
 use Rattle.schedule_trie.specs.Trie.{TrieOf, SegmentOf, KeyedBranch, segment, keyed_branch, forest, IsWhole}
 use Rattle.branch_terms.specs.Limbs.{is_name}
+use Rattle.schedule_trie.specs.NamedLengths.{kept_in}
 
 module _ {T : Type 0} where
   -- a stored segment as a segment of the trie; None if none is stored
@@ -24,11 +25,6 @@ abbrev pub keyed_branches : List (List ℕ) → List (List ℕ) → List KeyedBr
 keyed_branches [] paths = []
 keyed_branches (n ∷ ns) [] = keyed_branch n [] ∷ keyed_branches ns []
 keyed_branches (n ∷ ns) (p ∷ ps) = keyed_branch n p ∷ keyed_branches ns ps
-
--- the cached length in a branch's entry; None if there is no entry, or no length is cached
-abbrev pub kept_in : Option (List ℕ × Option ℕ) → Option ℕ
-kept_in None = None
-kept_in (Some entry) = entry.1
 
 -- each cached length is the number of cells of the branch at the same index
 abbrev pub AreLengths : List (List ℕ × Option ℕ) → List Branch → Type 0

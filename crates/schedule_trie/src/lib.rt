@@ -5,6 +5,7 @@
 //! branches with a common cell have the same cells up to that cell.
 #![tactic(auto)]
 
+mod branch_list;
 pub mod edit;
 mod mark;
 mod segment;

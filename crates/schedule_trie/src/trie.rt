@@ -21,13 +21,13 @@ mod load;
 mod push;
 mod remove;
 
+use crate::branch_list::BranchList;
 pub use crate::segment::SegKey;
 use crate::segment::Segment;
 use branch_terms::limits::Limits;
 use branch_terms::name::Name;
 use branch_terms::refusal::Refusal;
 use branch_terms::slot::Slot;
-use indexmap::IndexMap;
 use lineage::lineage::Lineage;
 use schedule_steps::types::Step;
 use std::alloc::{AllocError, Global};
@@ -40,7 +40,7 @@ use std::marker::Model;
 pub struct Trie<T> {
     segments: Lineage<Segment<T>>,
     // each branch's name, and its length if that is cached
-    branches: IndexMap<Name, Option<u32>>,
+    branches: BranchList,
     // the number of cells ever made
     made: u32,
     limits: Limits,
@@ -112,8 +112,8 @@ impl<T: Drop> Trie<T> {
         ensures cut { IfOk result IsCut }
         ensures blank { IfOk result IsBlank }
     {
-        let mut branches = IndexMap::new(alloc);
-        branches.insert(name, None)?;
+        let mut branches = BranchList::new(alloc);
+        branches.insert(name)?;
         let mut segments = Lineage::new(alloc);
         segments.fork(None)?;
         Ok(Trie {
@@ -161,8 +161,7 @@ impl<T: Drop> Trie<T> {
     pub fn name_at(&self, index: u32) -> Option<Name>
         ensures { result ≡ name_in (forest self.now).branches index }
     {
-        let (name, _) = self.branches.get_index(index as usize)?;
-        Some(*name)
+        self.branches.name(index as usize)
     }
 
     /// The number of cells of the branch with this name; `None` if there is no such branch.

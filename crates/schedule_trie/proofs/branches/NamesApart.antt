@@ -3,7 +3,6 @@ use Rattle.std.proofs.Common.{◌≡◌, ℕ, zero, suc, ◌+◌, ◌<◌, false
 use Rattle.std.specs.Option.{IfSome}
 use Rattle.std.specs.List.{IsDistinct, AllByRecursion, position_or_len}
 use Rattle.std.specs.Cmp.Lexicographic.{pointwise, nat_list_eq_equiv}
-use Rattle.indexmap.specs.IndexMap.{IsUnique}
 use Rattle.schedule_trie.specs.declared.trie.Trie.TheInside.{Inside}
 use Rattle.branch_terms.specs.Forest.{Branch, name_of, name_in, index_of, AreNamedApart}
 use Rattle.schedule_trie.specs.Trie.{forest, segment_at}
@@ -51,6 +50,6 @@ found_apart bs i name apart e = by (name_in bs i) e (apart i)
     by None h g = absurd (cc)
     by (Some n) h g = let same : n ≡ name = cc in subst (λ m. index_of bs m ≡ Some i) same g
 
-pub branches_apart : {T : Type 0} (t : Inside T) → IsUnique (pointwise nat_eq) t.branches → AreNamedApart (forest (trie_of t)).branches
+pub branches_apart : {T : Type 0} (t : Inside T) → IsDistinct (pointwise nat_eq) (names_of t) → AreNamedApart (forest (trie_of t)).branches
 branches_apart t unique =
     named_apart (map name_of (forest (trie_of t)).branches) (subst (IsDistinct (pointwise nat_eq)) (sym (names_on (segment_at (trie_of t).segments) (names_of t) t.segments.paths)) unique)

@@ -5,14 +5,14 @@ use Rattle.std.proofs.lemmas.List.{take-append-le}
 use Rattle.std.proofs.lemmas.Bool.Decides.{nat_tests}
 use Rattle.std.proofs.Math.Seq.{take-append-add, take-append_seam}
 use Rattle.std.specs.Cmp.Lexicographic.{pointwise}
+use Rattle.std.specs.List.{IsDistinct}
 use Rattle.std.specs.Prelude.{nat_eq}
-use Rattle.indexmap.specs.IndexMap.{IsUnique}
 use Rattle.lineage.specs.Family.{last_of}
 use Rattle.branch_terms.specs.declared.slot.Slot.{Slot}
 use Rattle.schedule_trie.specs.declared.trie.Trie.TheInside.{Inside}
 use Rattle.branch_terms.specs.Forest.{cell_of, slots_in, ShareUpTo, IsForest}
 use Rattle.schedule_trie.specs.Trie.{SegmentOf, KeyedBranch, forest, segment_at, slots_of, line, branches_on, keys_in, has_cell, Once, Linked, IsSoundTrie}
-use Rattle.schedule_trie.specs.TrieFields.{trie_of, IsHeldTrie}
+use Rattle.schedule_trie.specs.TrieFields.{names_of, trie_of, IsHeldTrie}
 use Rattle.schedule_trie.proofs.branches.Lines.{slots_in_on, once_at, given_at}
 use Rattle.schedule_trie.proofs.segments.Changes.{has_cell_get}
 use Rattle.schedule_trie.proofs.lists.Positions.{one_place, before_place}
@@ -151,7 +151,7 @@ module _ {T : Type 0} (at : ℕ → Option (SegmentOf T)) where
         by (Some s) e = let p = lies_on i k s e in given_at at made sound.segments sound.apart p.key s.cell (has_cell_get (slots_of (at p.key)) p.offset s p.cell)
 
 -- the forest, in terms of the fields
-pub is_forest : {T : Type 0} (t : Inside T) → IsHeldTrie t → IsUnique (pointwise nat_eq) t.branches → IsForest (forest (trie_of t))
+pub is_forest : {T : Type 0} (t : Inside T) → IsHeldTrie t → IsDistinct (pointwise nat_eq) (names_of t) → IsForest (forest (trie_of t))
 is_forest t held unique = record {
   apart = branches_apart t unique;
   shared = shared_up_to (segment_at (trie_of t).segments) (trie_of t).branches t.made held.whole.sound;

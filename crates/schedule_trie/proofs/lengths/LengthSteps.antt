@@ -14,7 +14,8 @@ use Rattle.schedule_trie.specs.Trie.{TrieOf, forest, segment_at, slots_of, line,
 use Rattle.schedule_trie.specs.changes.Copies.{IsDetached}
 use Rattle.schedule_trie.specs.changes.Forks.{IsBranchForked}
 use Rattle.schedule_trie.specs.changes.Releases.{IsDropped}
-use Rattle.schedule_trie.specs.TrieFields.{names_of, trie_of, kept_in, AreLengths, AreNames, IsHeldTrie, IsKept}
+use Rattle.schedule_trie.specs.TrieFields.{names_of, trie_of, AreLengths, AreNames, IsHeldTrie, IsKept}
+use Rattle.schedule_trie.specs.NamedLengths.{kept_in}
 use Rattle.schedule_trie.proofs.lengths.Lengths.{kept_is, relength_seen, relength_held, none_kept, same_lengths, length-everywhere, length-only_in, one_forgotten, lengths_left, lengths_more}
 use Rattle.schedule_trie.proofs.branches.Lines.{index_is, keys_are, slots_in_on}
 use Rattle.schedule_trie.proofs.detaches.Renumbered.{length-renumbered}

@@ -1,5 +1,5 @@
 -- Lengths cached with branches.
-use Rattle.std.proofs.Common.{◌≡◌, ℕ, zero, suc, ◌+◌, ◌<◌, ◌≤◌, Bool, List, [], ◌∷◌, ◌++◌, length, Option, Some, None, slice_get, refl, sym, ap, subst, ◌∙◌, arith}
+use Rattle.std.proofs.Common.{◌≡◌, ℕ, zero, suc, Bool, List, [], ◌∷◌, ◌++◌, length, Option, Some, None, slice_get, refl, sym, ap, subst, ◌∙◌, arith}
 use Rattle.std.specs.Option.{IfSome}
 use Rattle.std.specs.List.{remove}
 use Rattle.std.specs.Map.{keys_of}
@@ -8,7 +8,8 @@ use Rattle.branch_terms.specs.declared.slot.Slot.{Slot}
 use Rattle.schedule_trie.specs.declared.trie.Trie.TheInside.{Inside}
 use Rattle.branch_terms.specs.Forest.{Branch, everywhere, only_in, slots_in}
 use Rattle.schedule_trie.specs.Trie.{IsWhole}
-use Rattle.schedule_trie.specs.TrieFields.{segments_of, keyed_branches, names_of, trie_of, kept_in, AreLengths, IsHeldTrie}
+use Rattle.schedule_trie.specs.TrieFields.{segments_of, keyed_branches, names_of, trie_of, AreLengths, IsHeldTrie}
+use Rattle.schedule_trie.specs.NamedLengths.{kept_in}
 
 abbrev IsRight : Option ℕ → ℕ → Type 0
 IsRight kept len = IfSome kept (λ n. n ≡ len)
@@ -21,12 +22,12 @@ module _ {T : Type 0} (t u : Inside T) (names : names_of u ≡ names_of t) (segm
   pub relength_held : IsHeldTrie t → IsHeldTrie u
   relength_held held = record { whole = subst IsWhole (sym relength_seen) held.whole; paths = ap (λ s. length s.paths) segments ∙ held.paths ∙ sym (ap length names) }
 
-pub names_set : (entries : List (List ℕ × Option ℕ)) (index : ℕ) (len : Option ℕ) → keys_of (set_value_at entries index len) ≡ keys_of entries
+pub names_set : {V : Type 0} (entries : List (List ℕ × V)) (index : ℕ) (len : V) → keys_of (set_value_at entries index len) ≡ keys_of entries
 names_set [] index len = refl
 names_set (e ∷ es) zero len = refl
 names_set (e ∷ es) (suc index) len = ap (λ l. e.0 ∷ l) (names_set es index len)
 
-pub count_set : (entries : List (List ℕ × Option ℕ)) (index : ℕ) (len : Option ℕ) → length (set_value_at entries index len) ≡ length entries
+pub count_set : {V : Type 0} (entries : List (List ℕ × V)) (index : ℕ) (len : V) → length (set_value_at entries index len) ≡ length entries
 count_set [] index len = refl
 count_set (e ∷ es) zero len = refl
 count_set (e ∷ es) (suc index) len = ap suc (count_set es index len)
@@ -107,22 +108,6 @@ lengths_more [] (c ∷ cs) name b e h i = absurd (omega arith)
 lengths_more (x ∷ xs) [] name b e h i = absurd (omega arith)
 lengths_more (x ∷ xs) (c ∷ cs) name b e h zero = h 0
 lengths_more (x ∷ xs) (c ∷ cs) name b e h (suc i) = lengths_more xs cs name b (omega arith) (λ j. h (suc j)) i
-
--- after one more length is cleared, none is cached up to there
-pub one_more_gone : (entries : List (List ℕ × Option ℕ)) (index : ℕ) → ((i : ℕ) → i < index → kept_in (slice_get entries i) ≡ None)
-    → (i : ℕ) → i < index + 1 → kept_in (slice_get (set_value_at entries index None) i) ≡ None
-one_more_gone [] index h i less = refl
-one_more_gone (x ∷ xs) zero h zero less = refl
-one_more_gone (x ∷ xs) zero h (suc i) less = absurd (omega arith)
-one_more_gone (x ∷ xs) (suc index) h zero less = h 0 (omega arith)
-one_more_gone (x ∷ xs) (suc index) h (suc i) less = one_more_gone xs index (λ j l. h (suc j) (omega arith)) i (omega arith)
-
-pub all_gone : (entries : List (List ℕ × Option ℕ)) (count : ℕ) → length entries ≤ count → ((i : ℕ) → i < count → kept_in (slice_get entries i) ≡ None)
-    → (i : ℕ) → kept_in (slice_get entries i) ≡ None
-all_gone [] count few h i = refl
-all_gone (x ∷ xs) count few h zero = h 0 (omega arith)
-all_gone (x ∷ xs) zero few h (suc i) = absurd (omega arith)
-all_gone (x ∷ xs) (suc count) few h (suc i) = all_gone xs count (omega arith) (λ j l. h (suc j) (omega arith)) i
 
 -- cached lengths are right when the first branch is added
 pub first_lengths : (eq : List ℕ → List ℕ → Bool) (es entries : List (List ℕ × Option ℕ)) (name : List ℕ) (branches : List Branch) → es ≡ [] → entries ≡ insert_entry eq es name None

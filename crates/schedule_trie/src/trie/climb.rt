@@ -8,7 +8,6 @@ ghost use Rattle.schedule_trie.specs.Trie.{forest, segment_at, slots_of, keys_in
 ghost use Rattle.schedule_trie.specs.Climbs.{keys_to, HasClimbedTo};
 
 use super::Trie;
-use super::lengths::kept_length;
 use crate::segment::SegKey;
 use branch_terms::slot::Slot;
 use lineage::lineage::Above;
@@ -21,7 +20,7 @@ impl<T: Drop> Trie<T> {
         ensures len { result ≡ length (slots_in (forest self.now).branches index) }
         ensures whole { IsWhole self.now }
     {
-        match kept_length(&self.branches, index) {
+        match self.branches.kept_length(index) {
             Some(len) => len,
             None => self.counted_len(index),
         }
@@ -45,7 +44,7 @@ impl<T: Drop> Trie<T> {
         ensures { IfSome result (λ len. len ≡ length (slots_in (forest self.now).branches index)) }
     {
         if self.segments.last(self.learnt) == self.segments.last(index) {
-            kept_length(&self.branches, self.learnt)
+            self.branches.kept_length(self.learnt)
         } else {
             None
         }

@@ -2,7 +2,7 @@
 
 ghost use Rattle.std.specs.Prelude.{ℕ, ◌≡◌, ◌+◌, ◌<◌, ◌≤◌, ◌++◌, ◌∷◌, List, true, length, nat_eq, take, drop, None, Ok, OnOk, OnErr, IfErr, IfOk};
 ghost use Rattle.std.specs.Cmp.Lexicographic.{pointwise};
-ghost use Rattle.indexmap.specs.IndexMap.{insert_entry, spare};
+ghost use Rattle.indexmap.specs.IndexMap.{insert_entry};
 ghost use Rattle.schedule_trie.specs.Edits.{Fork, IsEdited, IsUnedited};
 ghost use Rattle.branch_terms.specs.Forest.{index_of, slots_in};
 ghost use Rattle.branch_terms.specs.Limbs.{is_name};
@@ -11,11 +11,11 @@ ghost use Rattle.schedule_trie.specs.Climbs.{keys_to, HasClimbedTo};
 ghost use Rattle.schedule_trie.specs.changes.Forks.{IsBranchForked, IsForkedWhole, CutsNoneAtEnd};
 
 use super::Trie;
+use crate::branch_list::BranchList;
 use crate::segment::{SegKey, Segment};
 use branch_terms::name::Name;
 use branch_terms::refusal::Refusal;
 use branch_terms::slot::Slot;
-use indexmap::IndexMap;
 use std::alloc::{AllocError, Global};
 
 impl<T: Drop> Trie<T> {
@@ -175,11 +175,11 @@ fn parts_at(
     Ok((above, below))
 }
 
-/// Adds a branch, with no cached length, to a map in which memory is reserved for it.
-fn insert_reserved(branches: &mut IndexMap<Name, Option<u32>>, name: Name)
-    requires { 0 < spare branches.old }
+/// Adds a branch, with no cached length, to a list in which memory is reserved for it.
+fn insert_reserved(branches: &mut BranchList, name: Name)
+    requires { 0 < branches.old.spare }
     ensures { branches.new.entries ≡ insert_entry (pointwise nat_eq) branches.old.entries name
         None }
 {
-    branches.insert(name, None).unwrap();
+    branches.insert(name).unwrap();
 }

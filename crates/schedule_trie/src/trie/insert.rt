@@ -7,7 +7,6 @@ ghost use Rattle.branch_terms.specs.Forest.{slots_in};
 ghost use Rattle.schedule_trie.specs.Trie.{forest, segment_at, slots_of, IsPutBefore, IsInserted};
 
 use super::Trie;
-use super::lengths::forget_lengths;
 use crate::segment::{MOST_SLOTS, SegKey, Segment};
 use branch_terms::name::Name;
 use branch_terms::refusal::Refusal;
@@ -101,7 +100,7 @@ impl<T: Drop> Trie<T> {
         };
         self.segments.divide(key, above)?;
         self.segments.item_mut(key).set_slots(below);
-        forget_lengths(&mut self.branches);
+        self.branches.forget_lengths();
         self.made += 1;
         Ok(())
     }
@@ -119,7 +118,7 @@ impl<T: Drop> Trie<T> {
             step,
         };
         self.segments.item_mut(key).insert(offset, slot)?;
-        forget_lengths(&mut self.branches);
+        self.branches.forget_lengths();
         self.made += 1;
         Ok(())
     }

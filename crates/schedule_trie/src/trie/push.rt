@@ -4,7 +4,6 @@ ghost use Rattle.std.specs.Prelude.{◌≡◌, ◌<◌, ◌≤◌, ◌+◌, leng
 ghost use Rattle.schedule_trie.specs.Trie.{IsOwnEnd, IsPushed, ArePushed};
 
 use super::Trie;
-use super::lengths::set_length;
 use crate::segment::{MOST_SLOTS, SegKey, Segment};
 use branch_terms::slot::Slot;
 use schedule_steps::types::Step;
@@ -61,7 +60,7 @@ impl<T: Drop> Trie<T> {
             cell: self.made,
             step,
         })?;
-        set_length(&mut self.branches, index, None);
+        self.branches.set_length(index, None);
         self.made += 1;
         Ok(())
     }
@@ -79,7 +78,7 @@ impl<T: Drop> Trie<T> {
         };
         let segment = Segment::new(alloc, slot)?;
         self.segments.push(index, segment)?;
-        set_length(&mut self.branches, index, None);
+        self.branches.set_length(index, None);
         self.made += 1;
         Ok(())
     }

@@ -6,7 +6,6 @@ ghost use Rattle.schedule_trie.specs.Trie.{segment_at, slots_of, IsRemoved};
 
 use crate::segment::SegKey;
 use crate::trie::Trie;
-use crate::trie::lengths::forget_lengths;
 use branch_terms::name::Name;
 use branch_terms::refusal::Refusal;
 
@@ -54,7 +53,7 @@ impl<T: Drop> Trie<T> {
         ensures { IsRemoved self.old self.new key offset }
     {
         self.segments.item_mut(key).remove(offset);
-        forget_lengths(&mut self.branches);
+        self.branches.forget_lengths();
     }
 
     /// Removes a segment of one cell from each branch.
@@ -63,6 +62,6 @@ impl<T: Drop> Trie<T> {
         ensures { IsRemoved self.old self.new key 0 }
     {
         self.segments.take_out(key);
-        forget_lengths(&mut self.branches);
+        self.branches.forget_lengths();
     }
 }

@@ -15,11 +15,11 @@ invariant_of-self g c =
     let t = c.self.inside in
     let names = ap keys_of c.set_length.ensures ∙ names_set t.branches.entries c.args.index (Some c.args.len) in
     let len = subst (λ z. c.args.len ≡ length (slots_in (forest z).branches c.args.index)) (sym c.self.view_is) c.requires.len in
-    one_held t (record t { branches = c.set_length.new.branches; learnt = c.args.index }) names refl refl refl _ c.self.invariant.held c.self.invariant.names
+    one_held t (record t { branches = c.set_length.new.self; learnt = c.args.index }) names refl refl refl _ c.self.invariant.held c.self.invariant.names
     (one_kept t.branches.entries (forest (trie_of t)).branches c.args.index c.args.len len c.self.invariant.lengths) c.set_length.ensures
 
 pub returns : goal.returns
 returns g c =
     let t = c.self.inside in
     let names = ap keys_of c.set_length.ensures ∙ names_set t.branches.entries c.args.index (Some c.args.len) in
-    relength_seen t (record t { branches = c.set_length.new.branches; learnt = c.args.index }) names refl refl refl ∙ c.self.view_is
+    relength_seen t (record t { branches = c.set_length.new.self; learnt = c.args.index }) names refl refl refl ∙ c.self.view_is

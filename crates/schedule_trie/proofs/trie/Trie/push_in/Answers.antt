@@ -35,7 +35,7 @@ invariant_of-self-2 g c =
     let room = subst (λ z. z.made < z.limits.cells) (sym c.self.view_is) c.requires.room in
     let p = record t { segments = with_item t.segments c.args.key c.push.new.self; made = t.made + 1 } in
     let names = ap keys_of c.set_length.ensures ∙ names_set t.branches.entries c.args.index None in
-    one_held p (record p { branches = c.set_length.new.branches }) names refl refl refl _
+    one_held p (record p { branches = c.set_length.new.self }) names refl refl refl _
     (in_held t c.args.index c.args.key c.self.invariant.held end c.item_mut.result.now c.push.new.self c.item_mut.ensures.value c.args.step index_in room
     c.in_ok-push.ensures.slots c.in_ok-push.ensures.note)
     c.self.invariant.names
@@ -50,7 +50,7 @@ returns-clause-ok g c =
     let p = record t { segments = with_item t.segments c.args.key c.push.new.self; made = t.made + 1 } in
     let names = ap keys_of c.set_length.ensures ∙ names_set t.branches.entries c.args.index None in
     rw (← c.self.view_is)
-    (subst (λ z. IsPushed (trie_of t) z c.args.index c.args.step) (sym (relength_seen p (record p { branches = c.set_length.new.branches }) names refl refl refl))
+    (subst (λ z. IsPushed (trie_of t) z c.args.index c.args.step) (sym (relength_seen p (record p { branches = c.set_length.new.self }) names refl refl refl))
     (in_pushed t c.args.index c.args.key c.self.invariant.held end c.item_mut.result.now c.push.new.self c.item_mut.ensures.value c.args.step
     (subst (λ z. c.args.index < length z.branches) (sym c.self.view_is) c.requires.index)
     (subst (λ z. z.made < z.limits.cells) (sym c.self.view_is) c.requires.room)

@@ -22,7 +22,7 @@ invariant_of-self-2 g c =
     let room = subst (λ z. z.made < z.limits.cells) (sym c.self.view_is) c.requires.room in
     let p = record t { segments = c.push.new.self; made = t.made + 1 } in
     let names = ap keys_of c.set_length.ensures ∙ names_set t.branches.entries c.args.index None in
-    one_held p (record p { branches = c.set_length.new.branches }) names refl refl refl _
+    one_held p (record p { branches = c.set_length.new.self }) names refl refl refl _
     (segment_held t p c.args.index _ c.in_ok-segment.segment c.args.step c.self.invariant.held index_in room
     c.in_ok-push.ensures.item c.in_ok-push.ensures.paths refl refl refl c.in_ok-segment.ensures.slots c.in_ok-segment.ensures.note)
     c.self.invariant.names
@@ -38,6 +38,6 @@ returns-clause-ok g c =
     let p = record t { segments = c.push.new.self; made = t.made + 1 } in
     let names = ap keys_of c.set_length.ensures ∙ names_set t.branches.entries c.args.index None in
     rw (← c.self.view_is)
-    (subst (λ z. IsPushed (trie_of t) z c.args.index c.args.step) (sym (relength_seen p (record p { branches = c.set_length.new.branches }) names refl refl refl))
+    (subst (λ z. IsPushed (trie_of t) z c.args.index c.args.step) (sym (relength_seen p (record p { branches = c.set_length.new.self }) names refl refl refl))
     (segment_pushed t p c.args.index _ c.in_ok-segment.segment c.args.step c.self.invariant.held index_in room
     c.in_ok-push.ensures.item c.in_ok-push.ensures.paths refl refl refl c.in_ok-segment.ensures.slots c.in_ok-segment.ensures.note))

@@ -33,11 +33,11 @@ put g c =
 pub invariant_of-self-2 : goal.invariant_of-self-2
 invariant_of-self-2 g c =
     let p = record c.self.inside { segments = with_item c.divide.new.self c.args.key c.set_slots.new.self; made = c.self.inside.made + 1 } in
-    none_held p (record p { branches = c.forget_lengths.new.branches }) c.forget_lengths.ensures.names refl refl refl (put g c).0 c.self.invariant.names c.forget_lengths.ensures.none
+    none_held p (record p { branches = c.forget_lengths.new.self }) c.forget_lengths.ensures.names refl refl refl (put g c).0 c.self.invariant.names c.forget_lengths.ensures.none
 
 pub returns-clause-ok : goal.returns-clause-ok
 returns-clause-ok g c =
     let p = record c.self.inside { segments = with_item c.divide.new.self c.args.key c.set_slots.new.self; made = c.self.inside.made + 1 } in
     rw (← c.self.view_is)
     (subst (λ z. IsPutBefore (trie_of c.self.inside) z c.args.key c.args.offset c.args.step)
-    (sym (relength_seen p (record p { branches = c.forget_lengths.new.branches }) c.forget_lengths.ensures.names refl refl refl)) (put g c).1)
+    (sym (relength_seen p (record p { branches = c.forget_lengths.new.self }) c.forget_lengths.ensures.names refl refl refl)) (put g c).1)

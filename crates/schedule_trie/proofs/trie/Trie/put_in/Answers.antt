@@ -31,7 +31,7 @@ returns-in_err-insert-clause-err g c =
 pub invariant_of-self-2 : goal.invariant_of-self-2
 invariant_of-self-2 g c =
     let p = record c.self.inside { segments = with_item c.self.inside.segments c.args.key c.insert.new.self; made = c.self.inside.made + 1 } in
-    none_held p (record p { branches = c.forget_lengths.new.branches }) c.forget_lengths.ensures.names refl refl refl
+    none_held p (record p { branches = c.forget_lengths.new.self }) c.forget_lengths.ensures.names refl refl refl
     (put_held c.self.inside c.args.key c.args.offset c.args.step c.item_mut.result.now c.insert.new.self c.self.invariant.held c.item_mut.ensures.value
     (inside_from c.self.inside c.args.key c.args.offset c.item_mut.result.now c.args.self.now c.self.view_is c.item_mut.ensures.value c.requires.offset)
     (subst (λ l. length l < 128) (slots_seen c.self.inside c.args.key c.item_mut.result.now c.args.self.now c.self.view_is c.item_mut.ensures.value) c.requires.few)
@@ -44,7 +44,7 @@ returns-clause-ok g c =
     let p = record t { segments = with_item t.segments c.args.key c.insert.new.self; made = t.made + 1 } in
     rw (← c.self.view_is)
     (subst (λ z. IsPutBefore (trie_of t) z c.args.key c.args.offset c.args.step)
-    (sym (relength_seen p (record p { branches = c.forget_lengths.new.branches }) c.forget_lengths.ensures.names refl refl refl))
+    (sym (relength_seen p (record p { branches = c.forget_lengths.new.self }) c.forget_lengths.ensures.names refl refl refl))
     (is_put_before c.self.inside c.args.key c.args.offset c.args.step c.item_mut.result.now c.insert.new.self c.self.invariant.held c.item_mut.ensures.value
     (inside_from c.self.inside c.args.key c.args.offset c.item_mut.result.now c.args.self.now c.self.view_is c.item_mut.ensures.value c.requires.offset)
     (subst (λ l. length l < 128) (slots_seen c.self.inside c.args.key c.item_mut.result.now c.args.self.now c.self.view_is c.item_mut.ensures.value) c.requires.few)

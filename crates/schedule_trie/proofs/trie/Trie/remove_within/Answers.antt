@@ -16,7 +16,7 @@ remove-requires g c =
 pub invariant_of-self : goal.invariant_of-self
 invariant_of-self g c =
     let p = record c.self.inside { segments = with_item c.self.inside.segments c.args.key c.remove.new.self } in
-    none_held p (record p { branches = c.forget_lengths.new.branches }) c.forget_lengths.ensures.names refl refl refl
+    none_held p (record p { branches = c.forget_lengths.new.self }) c.forget_lengths.ensures.names refl refl refl
     (within_held c.self.inside c.args.key c.args.offset c.item_mut.result.now c.remove.new.self c.self.invariant.held c.item_mut.ensures.value
     (subst (λ z. c.args.offset < length (slots_of (segment_at z.segments c.args.key))) (sym c.self.view_is) c.requires.offset)
     (subst (λ z. 1 < length (slots_of (segment_at z.segments c.args.key))) (sym c.self.view_is) c.requires.more)
@@ -28,7 +28,7 @@ returns g c =
     let p = record t { segments = with_item t.segments c.args.key c.remove.new.self } in
     rw (← c.self.view_is)
     (subst (λ z. IsRemoved (trie_of t) z c.args.key c.args.offset)
-    (sym (relength_seen p (record p { branches = c.forget_lengths.new.branches }) c.forget_lengths.ensures.names refl refl refl))
+    (sym (relength_seen p (record p { branches = c.forget_lengths.new.self }) c.forget_lengths.ensures.names refl refl refl))
     (is_removed_within c.self.inside c.args.key c.args.offset c.item_mut.result.now c.remove.new.self c.self.invariant.held c.item_mut.ensures.value
     (subst (λ z. c.args.offset < length (slots_of (segment_at z.segments c.args.key))) (sym c.self.view_is) c.requires.offset)
     (subst (λ z. 1 < length (slots_of (segment_at z.segments c.args.key))) (sym c.self.view_is) c.requires.more)
