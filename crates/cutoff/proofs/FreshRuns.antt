@@ -1,22 +1,27 @@
 -- Segments that stored runs are known to fit down to, after a run is stored.
-use Rattle.std.proofs.Common.{◌≡◌, ℕ, ◌<◌, ◌≤◌, length, arith, Bool, true, false, ◌||◌, List, [], ◌∷◌, ◌++◌, map, Option, Some, None, ◌⊎◌, inl, inr, refl, sym, ap, subst, ◌∙◌, append_assoc, true≢false}
+use Rattle.std.proofs.Common.{◌≡◌, ℕ, ◌+◌, drop, get_or, ◌<◌, ◌≤◌, length, arith, Bool, true, false, ◌||◌, List, [], ◌∷◌, ◌++◌, map, Option, Some, None, ◌⊎◌, inl, inr, refl, sym, ap, subst, ◌∙◌, append_assoc, true≢false}
 use Rattle.std.specs.Prelude.{⊤}
 use Rattle.std.specs.Option.{option_map, option_or}
+use Rattle.std.specs.Cmp.{IsPartialEquivalence, IsEquivalence}
 use Rattle.frames.specs.Behaviour.{Behaviour}
 use Rattle.frames.specs.Configuration.{Configuration, replayed}
 use Rattle.schedule_trie.specs.Forest.{step_of}
-use Rattle.schedule_trie.specs.Trie.{TrieOf, segment_at, note_of, slots_of, keys_in, has, Once, IsCut, IsNoted}
+use Rattle.schedule_trie.specs.Trie.{TrieOf, segment_at, note_of, slots_of, keys_in, has, Linked, Once, IsCut, IsNoted}
 use Rattle.schedule_trie.specs.Climbs.{keys_up_to}
+use Rattle.checkpoints.specs.Segment.{IsRun}
+use Rattle.schedule_trie.proofs.branches.Shared.{same_front}
 use Rattle.schedule_trie.proofs.climbs.Climbs.{up_to-here}
 use Rattle.schedule_trie.proofs.lists.NoRepeats.{has-append, has_not_from, has-in}
 use Rattle.schedule_trie.proofs.lists.KeyPositions.{parting, IsParting}
 use Rattle.cutoff.specs.Fitting.{StoredRun, run_of, steps_at}
 use Rattle.cutoff.specs.Links.{IsGiven, IsLinked, run_checked}
-use Rattle.cutoff.specs.Prefixes.{RunsDown, RunsTo, IsMarked, AreFresh, exit_or_start, exit_or}
+use Rattle.cutoff.specs.Settles.{IsSegmentSettled}
+use Rattle.cutoff.specs.Prefixes.{RunsDown, RunsTo, IsMarked, AreFresh, note_named, exit_or_start, exit_or}
 use Rattle.cutoff.proofs.Fits.{stored_at}
 use Rattle.cutoff.proofs.Walks.{by_key}
 use Rattle.cutoff.proofs.Climbs.{path_once}
-use Rattle.cutoff.proofs.RestWalks.{down_kept, noted_cells}
+use Rattle.cutoff.proofs.RestWalks.{IsGoing, going_next, reached_next, down_kept, noted_cells}
+use Rattle.cutoff.proofs.SameBranches.{cut_kept}
 
 once_after : (front : List ℕ) (key : ℕ) (back : List ℕ) → Once (front ++ key ∷ back) → has key back ≡ false
 once_after [] key back o = o.0
@@ -84,31 +89,48 @@ module _ {R P : Type 0} (E : R → R → Bool) (is : R → Behaviour P) (old new
   number_kept : (k : ℕ) → (k ≡ key → ⊥) → run_checked (note_of (segment_at new.segments k)) ≡ run_checked (note_of (segment_at old.segments k))
   number_kept k other = ap (λ o. run_checked (note_of o)) (noted.others k other)
 
-  fresh_from : (first : ℕ) → IsMarked E is new start (Some key) → ((k a : ℕ) → run_checked (note_of (segment_at old.segments k)) ≡ Some a → first ≤ a → IsMarked E is old start (Some k))
-      → AreFresh E is new start (Some first)
-  fresh_from first at_key was = λ k a number late.
+  -- after a run is stored at `key`, runs are fresh as before, if `key` is marked then
+  pub fresh_kept : (first : Option ℕ) → IsMarked E is new start (Some key) → AreFresh E is old start first → AreFresh E is new start first
+  fresh_kept None at_key was = tt
+  fresh_kept (Some first) at_key was = λ k a number late.
       by_key k key _ (λ e. subst (λ z. IsMarked E is new start (Some z)) (sym e) at_key)
       (λ ne. mark_kept k ne at_key (was k a (sym (number_kept k ne) ∙ number) late))
 
-  -- no stored run was found to fit with a number that wasn't given
-  not_given : (h : R) (next : ℕ) (c : Configuration ⊤ P) → IsLinked E h next None c old → (k a : ℕ) → run_checked (note_of (segment_at old.segments k)) ≡ Some a → next ≤ a → ⊥
-  not_given h next c linked k a number late = by (note_of (segment_at old.segments k)) refl number
-    where
-      by : (o : Option (StoredRun R P)) → note_of (segment_at old.segments k) ≡ o → run_checked o ≡ Some a → ⊥
-      by None at e = cc
-      by (Some t) at e =
-          let given : a < length linked.exits = subst (IsGiven (length linked.exits)) e (stored_at E h linked.exits old k t (linked.each k) at).checked in
-          let many = linked.as_many in
-          absurd (omega (arith, given, many, late))
+-- no stored run was found to fit with a number that wasn't given, so runs with such numbers are fresh
+pub fresh_given : {R P : Type 0} (E : R → R → Bool) (is : R → Behaviour P) (trie : TrieOf (StoredRun R P)) (start : Configuration R P) (h : R) (next : ℕ) (c : Configuration ⊤ P) (fresh id : Option ℕ)
+    → IsLinked E h next None c trie → (id ≡ None) ⊎ (id ≡ Some next) → AreFresh E is trie start fresh → AreFresh E is trie start (option_or fresh id)
+fresh_given E is trie start h next c (Some first) id linked given was = was
+fresh_given E is trie start h next c None None linked given was = tt
+fresh_given E is trie start h next c None (Some a) linked (inl e) was = cc
+fresh_given {R} {P} E is trie start h next c None (Some a) linked (inr e) was = λ k x number late. by k x (note_of (segment_at trie.segments k)) refl number late
+  where
+    by : (k x : ℕ) (o : Option (StoredRun R P)) → note_of (segment_at trie.segments k) ≡ o → run_checked o ≡ Some x → a ≤ x → IsMarked E is trie start (Some k)
+    by k x None at number late = cc
+    by k x (Some t) at number late =
+        let same : a ≡ next = cc in
+        let given : x < length linked.exits = subst (IsGiven (length linked.exits)) number (stored_at E h linked.exits trie k t (linked.each k) at).checked in
+        let many = linked.as_many in
+        absurd (omega (arith, given, many, late, same))
 
-  -- the fresh runs after a run with this number, if any, is stored at `key`, if `key` is marked then
-  pub fresh_installed : (h : R) (next : ℕ) (c : Configuration ⊤ P) (fresh id : Option ℕ) → IsLinked E h next None c old → (id ≡ None) ⊎ (id ≡ Some next)
-      → IsMarked E is new start (Some key) → AreFresh E is old start fresh → AreFresh E is new start (option_or fresh id)
-  fresh_installed h next c (Some first) id linked given at_key was = fresh_from first at_key was
-  fresh_installed h next c None None linked given at_key was = tt
-  fresh_installed h next c None (Some a) linked (inl e) at_key was = cc
-  fresh_installed h next c None (Some a) linked (inr e) at_key was =
-      fresh_from a at_key (λ k x number late. absurd (not_given h next c linked k x number (subst (λ z. z ≤ x) same late)))
-    where
-      same : a ≡ next
-      same = cc
+-- true runs that fit are stored down to a segment on each branch that has it, if they are on one
+pub marked_from : {R P : Type 0} (E : R → R → Bool) (is : R → Behaviour P) (trie : TrieOf (StoredRun R P)) (start : Configuration R P) (i k : ℕ) → IsCut trie
+    → (has k (keys_in trie.branches i) ≡ true) × RunsTo E is trie start (Some k) (keys_in trie.branches i) → IsMarked E is trie start (Some k)
+marked_from E is trie start i k whole down = λ j h.
+    let p = parting (keys_in trie.branches i) k down.0 in
+    let q = parting (keys_in trie.branches j) k h in
+    let same : p.front ≡ q.front =
+    same_front whole.shares.above p.front p.back q.front q.back k (subst (Linked whole.shares.above None) p.is (whole.shares.linked i)) (subst (Linked whole.shares.above None) q.is (whole.shares.linked j)) in
+    subst (λ l. RunsDown E is trie (is start.register) start l (exit_or_start trie start (Some k))) (p.to ∙ ap (λ f. f ++ k ∷ []) same ∙ sym q.to) down.1
+
+-- runs are fresh as before, after a walk settles its next segment
+pub fresh_next : {R P : Type 0} (E : R → R → Bool) (equal : IsEquivalence E) (per : IsPartialEquivalence E) (is : R → Behaviour P) (alike : (x y : R) → E x y ≡ true → is x ≡ is y)
+    {old trie new : TrieOf (StoredRun R P)} {start : Configuration R P} {key count : ℕ} {back : List ℕ} {place n : ℕ} {above : Option ℕ} (i : ℕ) (all : List ℕ) (index : ℕ) (more : List ℕ)
+    → (g : IsGoing E is old trie start key count (keys_in old.branches i) (drop index all ++ more) back place n above) (h : index < length all) {o : Option (StoredRun R P)} {s : StoredRun R P} {work : ℕ}
+    → note_named trie above ≡ o → IsSegmentSettled E trie new (exit_or start (option_map run_of o)) (get_or all index 0) s work × IsRun (is s.run.entry.register) s.run → IsCut old
+    → (first : Option ℕ) → AreFresh E is trie start first → AreFresh E is new start first
+fresh_next E equal per is alike {old} {trie} {new} {start} i all index more g h {s = s} above_is settled whole first was =
+    let keeps = (going_next E equal per is alike all index more g h above_is settled).walk.keeps in
+    let k = get_or all index 0 in
+    let marked = marked_from E is new start i k (cut_kept old new _ keeps whole)
+    (subst (λ ss. (has k (keys_in ss i) ≡ true) × RunsTo E is new start (Some k) (keys_in ss i)) (sym keeps.branches) (reached_next E equal per is alike all index more g h above_is settled)) in
+    fresh_kept E is trie new start k s (cut_kept old trie _ g.walk.keeps whole) settled.0.noted first marked was

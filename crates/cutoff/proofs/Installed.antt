@@ -19,7 +19,7 @@ use Rattle.cutoff.proofs.Fits.{register_kept}
 use Rattle.cutoff.proofs.Links.{linked_none, new_linked}
 use Rattle.cutoff.proofs.Walks.{by_key, noted_slots}
 use Rattle.cutoff.proofs.SameBranches.{charted_kept, charted_marked}
-use Rattle.cutoff.proofs.FreshRuns.{fresh_installed}
+use Rattle.cutoff.proofs.FreshRuns.{fresh_given, fresh_kept}
 use Rattle.cutoff.proofs.Climbs.{path_once}
 use Rattle.cutoff.proofs.Prefixes.{down_more}
 use Rattle.cutoff.proofs.RestWalks.{down_kept, noted_at, noted_cells}
@@ -94,7 +94,9 @@ charted_installed {R} {P} E per is alike next after fresh mark c new key s run s
     let marked =
     mark_installed E per is alike c.trie new c.start key s was.whole noted there (subst (λ (r : SegmentRun R P). IsRun (is r.entry.register) r) (same ∙ sym is_run) true_run) owns.1
     (subst (RunGoesOn E is c.trie c.start key) (same ∙ sym is_run) on) in
-    let still = fresh_installed E is c.trie new c.start key s was.whole noted c.start.register next (without_register c.start) fresh id was.linked (given_id given) marked was.fresh_marked in
+    let still =
+    fresh_kept E is c.trie new c.start key s was.whole noted (option_or fresh id) marked
+    (fresh_given E is c.trie c.start c.start.register next (without_register c.start) fresh id was.linked (given_id given) was.fresh_marked) in
     charted_marked E is after None None (option_or fresh id) (Some key) (record { trie = new; start = c.start; value = c.value }) still marked
     (charted_kept E is next after fresh mark c new (λ k. Unit {0}) (noted_keeps E (is c.start.register) c.trie new key s noted)
     (linked_none E c.start.register after s.id (without_register s.run.exit) (without_register c.start) new linked) was)

@@ -1,7 +1,7 @@
 -- The last run of a branch's first cells: what is left of the branch, and the result.
 use Rattle.std.proofs.Common.{◌≡◌, ◌⊎◌, ℕ, zero, suc, ◌-◌, ◌+◌, ◌<◌, ◌≤◌, Bool, true, List, [], ◌∷◌, ◌++◌, length, map, Option, Some, None, inl, inr, refl, sym, ap, subst, ◌∙◌, arith, append_assoc}
 use Rattle.std.specs.Cmp.{IsEquivalence}
-use Rattle.std.specs.Option.{option_map}
+use Rattle.std.specs.Option.{option_map, option_or}
 use Rattle.frames.specs.Behaviour.{Behaviour}
 use Rattle.frames.specs.Configuration.{Configuration}
 use Rattle.frames.specs.Recorded.{AllFit}
@@ -14,8 +14,11 @@ use Rattle.schedule_trie.proofs.lists.NoRepeats.{has-in}
 use Rattle.schedule_trie.proofs.lists.KeyPositions.{parting}
 use Rattle.cutoff.specs.Fitting.{StoredRun, RunPart, counted_of, reached, KeepsRuns}
 use Rattle.cutoff.specs.Settles.{Settles, IsFilled, SettlesTo, IsSettledLast, last_part}
-use Rattle.cutoff.specs.Prefixes.{RunsTo, IsKnown, AreKeysAfter, IsMarked, IsPlaceIn, IsHung, IsLeft, note_named}
-use Rattle.cutoff.specs.Charts.{Charted, StepsFit, keys_or, keys_named, reached_by}
+use Rattle.cutoff.specs.Links.{without_register, IsLinked}
+use Rattle.cutoff.specs.Prefixes.{AreFresh, RunsTo, IsKnown, AreKeysAfter, IsMarked, IsPlaceIn, IsHung, IsLeft, note_named}
+use Rattle.cutoff.specs.Charts.{Charted, IsCharted, StepsFit, keys_or, keys_named, reached_by}
+use Rattle.cutoff.proofs.FreshRuns.{fresh_given}
+use Rattle.cutoff.proofs.SameBranches.{charted_kept, charted_marked}
 use Rattle.cutoff.proofs.Walks.{reached_none}
 
 last_of_parts : {R P : Type 0} (before : List (RunPart R P)) (p : RunPart R P) → last_part (before ++ p ∷ []) ≡ Some p
@@ -61,6 +64,17 @@ marked_now E is trie new start key count n some few same settles i h =
       few = few;
     } in
     subst (λ s. RunsTo E is new start (Some key) (keys_in s i)) (sym same) (settles i count (length (line (segment_at trie.segments) p.front) + count) lies).down
+
+-- a chart after a settle that keeps fresh runs as they were; `id` is the number that a run got next,
+-- so runs with this number or a greater one are fresh too
+pub charted_settled : {R P : Type 0} (E : R → R → Bool) (is : R → Behaviour P) (next after : ℕ) (fresh mark id other : Option ℕ) (c : Charted R P) (new : TrieOf (StoredRun R P)) (Missed : ℕ → Type 0)
+    → KeepsRuns c.trie new Missed → IsLinked E c.start.register after None (without_register c.start) new → (id ≡ None) ⊎ (id ≡ Some next)
+    → ((first : Option ℕ) → AreFresh E is c.trie c.start first → AreFresh E is new c.start first) → IsMarked E is new c.start other → IsCharted E is next fresh mark c
+    → IsCharted E is after (option_or fresh id) other (record { trie = new; start = c.start; value = c.value })
+charted_settled E is next after fresh mark id other c new Missed keeps linked given kept marked was =
+    charted_marked E is after None None (option_or fresh id) other (record { trie = new; start = c.start; value = c.value })
+    (kept (option_or fresh id) (fresh_given E is c.trie c.start c.start.register next (without_register c.start) fresh id was.linked given was.fresh_marked)) marked
+    (charted_kept E is next after fresh mark c new Missed keeps linked was)
 
 -- if the last of the first `place` cells is at `offset` in the segment `key`, the first `place`
 -- cells end with the first offset + 1 cells of that segment

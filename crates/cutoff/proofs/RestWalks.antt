@@ -13,13 +13,14 @@ use Rattle.checkpoints.specs.Segment.{SegmentRun, IsRun}
 use Rattle.schedule_trie.specs.Forest.{step_of}
 use Rattle.schedule_trie.specs.Trie.{TrieOf, SegmentOf, segment_at, slots_of, note_of, with_note, line, has, Once, keys_in, IsCut}
 use Rattle.schedule_trie.specs.Climbs.{keys_up_to, keys_to, last_from}
-use Rattle.schedule_trie.proofs.lists.NoRepeats.{has-head, has-tail, once_before, has-left, last_from-push}
+use Rattle.schedule_trie.proofs.climbs.Climbs.{up_to-here}
+use Rattle.schedule_trie.proofs.lists.NoRepeats.{has-head, has-in, has-tail, once_before, has-left, last_from-push}
 use Rattle.schedule_trie.proofs.limbs.OwnParts.{last_reached}
 use Rattle.schedule_trie.proofs.lists.KeyPositions.{parting}
 use Rattle.schedule_trie.proofs.edits.Pushes.{line-append}
 use Rattle.cutoff.specs.Fitting.{StoredRun, run_of, RunPart, RunFits, steps_at, run_at, reached}
 use Rattle.cutoff.specs.Settles.{IsWork, IsSegmentSettled, Settles, EndsWith, SettlesTo}
-use Rattle.cutoff.specs.Prefixes.{RunsDown, Hangs, EndsIn, IsRest, note_named, exit_or_start, exit_or}
+use Rattle.cutoff.specs.Prefixes.{RunsDown, RunsTo, Hangs, EndsIn, IsRest, note_named, exit_or_start, exit_or}
 use Rattle.cutoff.proofs.Climbs.{path_once}
 use Rattle.cutoff.proofs.Fits.{register_kept, same_symm, run_fits_alike, fits_to_note, exit_same}
 use Rattle.cutoff.proofs.HungRuns.{hang_kept, hang_down}
@@ -196,6 +197,13 @@ module _ {R P : Type 0} (E : R → R → Bool) (equal : IsEquivalence E) (per : 
             let len = run_len in
             inl (record { front = front; is = rest; sum = omega (arith, own, cells, len, sum) })
 
+    -- true runs that fit are stored down to this segment
+    pub reached_here : (has k keys ≡ true) × RunsTo E is new start (Some k) keys
+    reached_here = (
+      ap (has k) g.whole ∙ has-in k g.done (ks ++ back),
+      subst (λ l. RunsDown E is new (is start.register) start l (exit_or_start new start (Some k))) (sym (ap (keys_up_to k) g.whole ∙ up_to-here k g.done (ks ++ back) lacks_here)) down_here,
+    )
+
     pub going_step : IsGoing E is old new start key count keys ks back place (n + work) (Some k)
     going_step = record {
       done = g.done ++ k ∷ [];
@@ -341,6 +349,11 @@ module _ {R P : Type 0} (E : R → R → Bool) (equal : IsEquivalence E) (per : 
       pub going_next : IsGoing E is old new start key count keys (drop (index + 1) all ++ more) back place (n + work) (Some (get_or all index 0))
       going_next =
           going_step E equal per is alike old trie start key count keys (drop (index + 1) all ++ more) back (get_or all index 0) place n above going_at
+          new s work settled_here settled.1
+
+      pub reached_next : (has (get_or all index 0) keys ≡ true) × RunsTo E is new start (Some (get_or all index 0)) keys
+      reached_next =
+          reached_here E equal per is alike old trie start key count keys (drop (index + 1) all ++ more) back (get_or all index 0) place n above going_at
           new s work settled_here settled.1
 
       pub kept_next : IsCut old → work ≡ 0 → run_at new (get_or all index 0) ≡ run_at old (get_or all index 0)

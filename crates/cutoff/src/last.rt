@@ -11,9 +11,9 @@ ghost use Rattle.cutoff.specs.Fitting.{KeepsRuns, counted_of, part_of, reached, 
 ghost use Rattle.cutoff.specs.Settles.{IsSegmentSettled, IsFilled, SettlesTo};
 ghost use Rattle.cutoff.specs.Charts.{StepsFit};
 ghost use Rattle.cutoff.specs.Links.{IsLinkedAt};
-ghost use Rattle.cutoff.specs.Prefixes.{IsMarked, IsPlaceIn, IsLeft, exit_or, note_named};
+ghost use Rattle.cutoff.specs.Prefixes.{AreFresh, IsMarked, IsPlaceIn, IsLeft, exit_or, note_named};
 
-use crate::prefix::{Rest, keys_down_to, rest_to};
+use crate::prefix::{Known, Rest, keys_down_to, rest_to};
 use crate::settle::{fitting, replay_segment};
 use crate::stored::{Stored, entry_below, shared_entry, stored_at};
 use checkpoints::run::Run;
@@ -109,6 +109,9 @@ fn settle_rest<R: Register>(
         → KeepsRuns trie.old trie.new (IsFilled R.PartialEq.eq (R.behaviour start.now.register)
         trie.old trie.new start.now (reached trie.old place (keys_in trie.old.branches i))) }
     ensures linked { IsLinkedAt R.PartialEq.eq start.now next.new None trie.new }
+    ensures fresh { (first : Option ℕ)
+        → AreFresh R.PartialEq.eq R.behaviour trie.old start.now first
+        → AreFresh R.PartialEq.eq R.behaviour trie.new start.now first }
 {
     let mut replayed = 0;
     let mut last = 0;
@@ -136,19 +139,20 @@ fn settle_rest<R: Register>(
 }
 
 /// Settles the segments of a branch from the first down to `key`: replays each that no stored run
-/// fits, and stores the new run. Down to the marked segment, stored runs are known to fit. Returns
-/// what is now stored in the segment `key`, and how many steps were replayed.
+/// fits, and stores the new run. Returns what is now stored in the segment `key`, and how many
+/// steps were replayed.
 pub(crate) fn settle_to<R: Register>(
     alloc: Global,
     trie: &mut Trie<Stored<R>>,
     next: &mut u64,
     start: &Config<R>,
-    mark: Option<SegKey>,
+    known: &Known,
     key: SegKey,
 ) -> Result<(Option<Stored<R>>, u32), AllocError>
     requires linked { IsLinkedAt R.PartialEq.eq start.now next.old None trie.old }
     requires cut { IsCut trie.old }
-    requires marked { IsMarked R.PartialEq.eq R.behaviour trie.old start.now mark }
+    requires marked { IsMarked R.PartialEq.eq R.behaviour trie.old start.now known.now.mark }
+    requires fresh { AreFresh R.PartialEq.eq R.behaviour trie.old start.now known.now.fresh }
     requires fits { StepsFit (R.behaviour start.now.register) (forest trie.old) }
     requires there { (i : ℕ) × (count : ℕ) × (place : ℕ) × IsPlaceIn trie.old key count place i
         × (length (line (segment_at trie.old.segments) (keys_in trie.old.branches i))
@@ -160,8 +164,11 @@ pub(crate) fn settle_to<R: Register>(
         → KeepsRuns trie.old trie.new (IsFilled R.PartialEq.eq (R.behaviour start.now.register)
         trie.old trie.new start.now (reached trie.old place (keys_in trie.old.branches i))) }
     ensures linked { IsLinkedAt R.PartialEq.eq start.now next.new None trie.new }
+    ensures fresh { (first : Option ℕ)
+        → AreFresh R.PartialEq.eq R.behaviour trie.old start.now first
+        → AreFresh R.PartialEq.eq R.behaviour trie.new start.now first }
 {
-    let rest = rest_to(alloc, trie, start, mark, key)?;
+    let rest = rest_to(alloc, trie, start, known, key)?;
     let settled = settle_rest(alloc, trie, next, start, &rest, key)?;
     Ok(settled)
 }

@@ -55,6 +55,13 @@ impl Number {
         Number { word: number }
     }
 
+    /// The number that `take_number` returns next; no number if all numbers are used.
+    pub(crate) fn following(next: u64) -> Number
+        ensures { (result ≡ None) ⊎ (result ≡ Some next) }
+    {
+        Number { word: next }
+    }
+
     /// Whether there is a number.
     #[inline(always)]
     pub(crate) fn is_some(self) -> bool

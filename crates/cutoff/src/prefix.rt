@@ -3,21 +3,31 @@
 //! fit. A run hangs from the run right above it if the lower run's link is the upper run's number:
 //! the lower run then begins at the upper run's exit.
 
-ghost use Rattle.std.specs.Prelude.{◌≡◌, ℕ, None, Some, true, IfOk};
+ghost use Rattle.std.specs.Prelude.{◌≡◌, ◌≤◌, ◌⊎◌, ℕ, None, Some, true, IfOk};
 ghost use Rattle.std.specs.Bool.{Decides};
 ghost use Rattle.std.specs.Option.{option_copied};
 ghost use Rattle.frames.specs.Configuration.{Configuration};
 ghost use Rattle.schedule_trie.specs.Trie.{forest, has, keys_in, IsCut};
 ghost use Rattle.schedule_trie.specs.Climbs.{keys_up_to};
-ghost use Rattle.cutoff.specs.Links.{AreLinked};
-ghost use Rattle.cutoff.specs.Prefixes.{AreKeysAfter, IsMarked, IsKnown, IsPlaceIn, IsHung, IsLeft, IsTop};
+ghost use Rattle.cutoff.specs.Links.{AreLinked, run_checked};
+ghost use Rattle.cutoff.specs.Prefixes.{AreFresh, AreKeysAfter, IsMarked, IsKnown, IsPlaceIn, IsHung, IsLeft, IsTop};
 ghost use Rattle.cutoff.specs.Charts.{StepsFit};
 
+use crate::number::Number;
 use crate::stored::Stored;
 use frames::config::Config;
 use frames::register::Register;
 use schedule_trie::trie::{SegKey, Trie};
 use std::alloc::{AllocError, Global};
+
+/// What is known of stored runs: they fit all segments from the first down to the marked one, if
+/// one is marked, and down to each one whose run was last found to fit with the number `fresh` or a
+/// greater one.
+#[derive(Drop)]
+pub(crate) struct Known {
+    pub(crate) mark: Option<SegKey>,
+    pub(crate) fresh: Number,
+}
 
 /// What is left to settle of a branch down to one of its segments, the target. Stored runs are
 /// known to fit from the first segment down to `front`; if `front` is `None`, no run is known to
@@ -41,17 +51,18 @@ struct Top<'a, R: Register> {
 }
 
 /// The lowest segment, at `first` or above, down to which stored runs are known to fit. `None` if
-/// no run is known to fit. Uses the mark, the runs' numbers, and a comparison of the first run's
-/// entry with the start.
+/// no run is known to fit. Uses what is known, the runs' numbers, and a comparison of the first
+/// run's entry with the start.
 fn known_prefix<R: Register>(
     trie: &Trie<Stored<R>>,
     start: &Config<R>,
-    mark: Option<SegKey>,
+    known: &Known,
     first: Top<'_, R>,
 ) -> Option<SegKey>
     requires linked { AreLinked R.PartialEq.eq start.now trie.now }
     requires cut { IsCut trie.now }
-    requires marked { IsMarked R.PartialEq.eq R.behaviour trie.now start.now mark }
+    requires marked { IsMarked R.PartialEq.eq R.behaviour trie.now start.now known.now.mark }
+    requires fresh { AreFresh R.PartialEq.eq R.behaviour trie.now start.now known.now.fresh }
     requires there { (i : ℕ) × (has first.key (keys_in trie.now.branches i) ≡ true) }
     requires top { IsTop trie.now first.key (option_copied first.stored) first.above }
     ensures { IsKnown R.PartialEq.eq R.behaviour trie.now start.now first.entry.key result }
@@ -60,7 +71,7 @@ fn known_prefix<R: Register>(
     let mut top = first;
     // a branch has at most one segment for each cell ever made
     for _ in 0..trie.made() {
-        if is_marked(mark, top.key) {
+        if is_known(known, top.key, top.stored) {
             return Some(front);
         }
         let Some(next) = top.above else {
@@ -69,16 +80,20 @@ fn known_prefix<R: Register>(
             return if *begun == *start { Some(front) } else { None };
         };
         front = next;
-        top = hung_from(trie, mark, next);
+        top = hung_from(trie, known, next);
     }
     None
 }
 
 /// Climbs from `key` as long as the run of the segment reached hangs from the run right above, and
-/// returns the segment at which the climb ends. Also stops at the marked segment. Returns `key`
-/// itself if that segment is marked, has no stored run, or has a run that hangs from none. Compares
-/// only numbers.
-fn hung_from<R: Register>(trie: &Trie<Stored<R>>, mark: Option<SegKey>, key: SegKey) -> Top<'_, R>
+/// returns the segment at which the climb ends. Also stops at a segment down to which stored runs
+/// are known to fit. Returns `key` itself if that segment is such a one, has no stored run, or has
+/// a run that hangs from none. Compares only numbers.
+fn hung_from<'a, R: Register>(
+    trie: &'a Trie<Stored<R>>,
+    known: &Known,
+    key: SegKey,
+) -> Top<'a, R>
     requires linked { (start : Configuration R R.Pending)
         × AreLinked R.PartialEq.eq start trie.now }
     requires cut { IsCut trie.now }
@@ -102,7 +117,7 @@ fn hung_from<R: Register>(trie: &Trie<Stored<R>>, mark: Option<SegKey>, key: Seg
     let mut at = above;
     // a branch has at most one segment for each cell ever made
     for _ in 0..trie.made() {
-        if is_marked(mark, hung) {
+        if is_known(known, hung, Some(lower)) {
             break;
         }
         let Some(key) = at else {
@@ -128,6 +143,19 @@ fn hung_from<R: Register>(trie: &Trie<Stored<R>>, mark: Option<SegKey>, key: Seg
     }
 }
 
+/// Whether stored runs are known to fit all segments from the first down to `key`, in which
+/// `stored` is stored.
+#[inline(always)]
+fn is_known<R: Register>(known: &Known, key: SegKey, stored: Option<&Stored<R>>) -> bool
+    ensures { result ≡ true → (known.now.mark ≡ Some key) ⊎ ((a : ℕ) × (b : ℕ)
+        × (run_checked (option_copied stored.entry) ≡ Some a) × (known.now.fresh ≡ Some b) × (b ≤ a)) }
+{
+    match stored {
+        Some(stored) => is_marked(known.mark, key) || stored.checked().is_from(known.fresh),
+        None => false,
+    }
+}
+
 /// Whether the segment `key` is the marked one; false if none is marked.
 pub(crate) fn is_marked(mark: Option<SegKey>, key: SegKey) -> bool
     ensures { Decides result (mark ≡ Some key) }
@@ -144,22 +172,23 @@ pub(crate) fn rest_to<R: Register>(
     alloc: Global,
     trie: &Trie<Stored<R>>,
     start: &Config<R>,
-    mark: Option<SegKey>,
+    known: &Known,
     key: SegKey,
 ) -> Result<Rest, AllocError>
     requires linked { AreLinked R.PartialEq.eq start.now trie.now }
     requires cut { IsCut trie.now }
-    requires marked { IsMarked R.PartialEq.eq R.behaviour trie.now start.now mark }
+    requires marked { IsMarked R.PartialEq.eq R.behaviour trie.now start.now known.now.mark }
+    requires fresh { AreFresh R.PartialEq.eq R.behaviour trie.now start.now known.now.fresh }
     requires fits { StepsFit (R.behaviour start.now.register) (forest trie.now) }
     requires there { (i : ℕ) × (has key (keys_in trie.now.branches i) ≡ true) }
     ensures { IfOk result (λ r. (i count place : ℕ) → IsPlaceIn trie.now key count place i
         → IsLeft R.PartialEq.eq R.behaviour trie.now start.now r.front r.keys.items r.hung
         key count place i) }
 {
-    let top = hung_from(trie, mark, key);
+    let top = hung_from(trie, known, key);
     let hung = top.key;
-    let known = known_prefix(trie, start, mark, top);
-    let (front, keys) = keys_down_to(alloc, trie, known, hung)?;
+    let prefix = known_prefix(trie, start, known, top);
+    let (front, keys) = keys_down_to(alloc, trie, prefix, hung)?;
     Ok(Rest { front, keys, hung })
 }
 

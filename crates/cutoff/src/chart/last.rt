@@ -12,6 +12,7 @@ ghost use Rattle.cutoff.specs.Settles.{IsSettledLast, KeepsOrFills};
 use super::{Chart, branch_to};
 use crate::last::{Last, counted, settle_to};
 use crate::number::Number;
+use crate::prefix::Known;
 use frames::register::Register;
 use schedule_trie::name::Name;
 use schedule_trie::refusal::Refusal;
@@ -62,15 +63,19 @@ impl<R: Register> Chart<R> {
         let Some((key, offset)) = self.trie.find_cell(index, place - 1) else {
             unreachable!()
         };
-        let mark = self.mark;
+        let known = Known {
+            mark: self.mark,
+            fresh: self.fresh,
+        };
         self.mark = None;
-        self.fresh = Number::none();
+        // runs are known to fit from each one that is stored from now on
+        self.fresh = self.fresh.or(Number::following(self.next));
         let (stored, replayed) = settle_to(
             alloc,
             &mut self.trie,
             &mut self.next,
             &self.start,
-            mark,
+            &known,
             key,
         )?;
         self.mark = Some(key);

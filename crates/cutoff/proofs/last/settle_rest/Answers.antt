@@ -3,6 +3,7 @@ use Rattle.cutoff.specs.Prefixes.{Hangs, note_named, exit_or_start}
 use Rattle.schedule_trie.specs.Trie.{has, keys_in}
 use Rattle.cutoff.proofs.SameBranches.{cut_kept, keeps_still}
 use Rattle.cutoff.proofs.RestWalks.{IsGoing, going_starts, going_past, going_next, kept_next, noted_next, ends_at, going_settles, small_next, fits_next}
+use Rattle.cutoff.proofs.FreshRuns.{fresh_next}
 use Rattle.cutoff.proofs.LeftToSettle.{again_left, hangs_next, kept_settles, early_settles}
 use Rattle.cutoff.proofs.last.settle_rest.Goals as goal
 
@@ -22,6 +23,7 @@ loop-segment-init g c = (
         );
     kept = λ none. refl;
     linked = c.requires.linked;
+    fresh = λ first was. was;
   },
 )
 
@@ -76,6 +78,9 @@ loop-segment-preserved g c =
         kept = kept_next g.R.PartialEq.eq g.met.R.Eq.laws g.met.R.PartialEq.laws g.R.Behaves.behaviour g.met.R.Register.alike c.deref-segment-items.result.now c.loop-segment.segment-index
             r.3.hanging.below (was.going r.0 r.1 r.2 r.3).1 c.loop-segment-test.true reached c.in_ok-stored.ensures.settled c.requires.cut;
         linked = c.settle_below.ensures.linked;
+        fresh = λ first all.
+            fresh_next g.R.PartialEq.eq g.met.R.Eq.laws g.met.R.PartialEq.laws g.R.Behaves.behaviour g.met.R.Register.alike r.0 c.deref-segment-items.result.now c.loop-segment.segment-index
+            r.3.hanging.below (was.going r.0 r.1 r.2 r.3).1 c.loop-segment-test.true reached c.in_ok-stored.ensures.settled c.requires.cut first (was.fresh first all);
       },
     )
 
@@ -135,6 +140,7 @@ loop-below-init g c =
             left.rest.lies.there c.in_ok-hanging.ensures.following c.in_ok-hanging.ensures.stops in
             (exit_or_start trie start (Some c.args.rest.now.hung), subst (Hangs E is trie (exit_or_start trie start (Some c.args.rest.now.hung))) (same ∙ sym c.deref-below-items.ensures.value) (left.hanging.hangs start));
         linked = c.loop-segment.invariant.1.linked;
+        fresh = c.loop-segment.invariant.1.fresh;
       },
     )
 
@@ -189,6 +195,20 @@ returns-then-here-eq0-clause-keeps g c = λ i count place left.
     [] on.1 c.loop-below-test.true (c.loop-below.invariant.1.noted ∙ sym c.as_ref-in-loop-below.ensures.value) c.in_ok-lower.ensures.settled in
     next.walk.keeps
 
+pub returns-in_err-copy_at-2-clause-fresh : goal.returns-in_err-copy_at-2-clause-fresh
+returns-in_err-copy_at-2-clause-fresh g c first all =
+    let r = c.requires.left in
+    let was = c.loop-below.invariant.1 in
+    fresh_next g.R.PartialEq.eq g.met.R.Eq.laws g.met.R.PartialEq.laws g.R.Behaves.behaviour g.met.R.Register.alike r.0 c.deref-below-items.result.now c.loop-below.below-index
+    [] (was.going r.0 r.1 r.2 r.3).1 c.loop-below-test.true (was.noted ∙ sym c.as_ref-in-loop-below.ensures.value) c.in_ok-lower.ensures.settled c.requires.cut first (was.fresh first all)
+
+pub returns-then-here-eq0-clause-fresh : goal.returns-then-here-eq0-clause-fresh
+returns-then-here-eq0-clause-fresh g c first all =
+    let r = c.requires.left in
+    let was = c.loop-below.invariant.1 in
+    fresh_next g.R.PartialEq.eq g.met.R.Eq.laws g.met.R.PartialEq.laws g.R.Behaves.behaviour g.met.R.Register.alike r.0 c.deref-below-items.result.now c.loop-below.below-index
+    [] (was.going r.0 r.1 r.2 r.3).1 c.loop-below-test.true (was.noted ∙ sym c.as_ref-in-loop-below.ensures.value) c.in_ok-lower.ensures.settled c.requires.cut first (was.fresh first all)
+
 pub loop-below-preserved : goal.loop-below-preserved
 loop-below-preserved g c =
     let r = c.requires.left in
@@ -209,6 +229,9 @@ loop-below-preserved g c =
             let below = hangs_next g.R.PartialEq.eq g.R.Behaves.behaviour c.args.trie.now hangs.0 c.deref-below-items.result.now c.loop-below.below-index c.loop-below-test.true hangs.1 in
             (below.0.stored.run.exit, below.1);
         linked = c.settle_below-in-loop-below.ensures.linked;
+        fresh = λ first all.
+            fresh_next g.R.PartialEq.eq g.met.R.Eq.laws g.met.R.PartialEq.laws g.R.Behaves.behaviour g.met.R.Register.alike r.0 c.deref-below-items.result.now c.loop-below.below-index
+            [] (was.going r.0 r.1 r.2 r.3).1 c.loop-below-test.true reached c.in_ok-lower.ensures.settled c.requires.cut first (was.fresh first all);
       },
     )
 

@@ -2,7 +2,7 @@ use Rattle.std.proofs.Common.{◌≡◌, ◌++◌, [], ℕ, List, Option, None, 
 use Rattle.schedule_trie.specs.Trie.{keys_in}
 use Rattle.frames.specs.Configuration.{Configuration}
 use Rattle.cutoff.specs.Links.{IsLinkedAt}
-use Rattle.cutoff.specs.Prefixes.{Hangs, IsLeft, note_named, run_named}
+use Rattle.cutoff.specs.Prefixes.{AreFresh, Hangs, IsLeft, note_named, run_named}
 use Rattle.cutoff.proofs.RestWalks.{IsGoing}
 use Rattle.cutoff.proofs.last.settle_rest.Given as goal
 
@@ -16,6 +16,7 @@ invariant-loop-segment g l =
           → (back : List ℕ) × IsGoing E is l.fn.trie l.trie l.start l.key count (keys_in l.fn.trie.branches i) (drop l.segment-index l.segment-items ++ left.hanging.below) back place l.replayed key;
       kept : l.last ≡ 0 → run_named l.trie key ≡ run_named l.fn.trie key;
       linked : IsLinkedAt E l.start l.next None l.trie;
+      fresh : (first : Option ℕ) → AreFresh E is l.fn.trie l.start first → AreFresh E is l.trie l.start first;
     }
 
 abbrev pub invariant-loop-below : goal.invariant-loop-below
@@ -29,4 +30,5 @@ invariant-loop-below g l =
       hangs : (i count place : ℕ) → IsLeft E is l.fn.trie l.start l.rest.front l.rest.keys.items l.rest.hung l.key count place i
           → (c : Configuration _ _) × Hangs E is l.fn.trie c (drop l.below-index l.below-items);
       linked : IsLinkedAt E l.start l.next None l.trie;
+      fresh : (first : Option ℕ) → AreFresh E is l.fn.trie l.start first → AreFresh E is l.trie l.start first;
     }

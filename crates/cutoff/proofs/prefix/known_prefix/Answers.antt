@@ -8,7 +8,7 @@ use Rattle.cutoff.specs.Prefixes.{RunsDown, IsKnown}
 use Rattle.cutoff.proofs.Climbs.{path_once}
 use Rattle.cutoff.proofs.Fits.{stored_at}
 use Rattle.cutoff.proofs.HungRuns.{hung_here}
-use Rattle.cutoff.proofs.LeftToSettle.{hung_runs, hung_marked}
+use Rattle.cutoff.proofs.LeftToSettle.{hung_runs, known_marked}
 use Rattle.cutoff.proofs.Prefixes.{up_new, none_known}
 use Rattle.cutoff.proofs.prefix.known_prefix.Given.{Over}
 use Rattle.cutoff.proofs.prefix.known_prefix.Goals as goal
@@ -20,13 +20,17 @@ loop-init g c = record {
   top = c.requires.top;
 }
 
-pub returns-then-is_marked : goal.returns-then-is_marked
-returns-then-is_marked g c = λ i h.
-    let there = c.loop.invariant.there i h in (
-      there,
-      hung_marked g.R.PartialEq.eq g.met.R.PartialEq.laws g.R.Behaves.behaviour g.met.R.Register.alike c.args.trie.now c.args.start.now c.args.mark c.loop.top.key c.loop.front i
-          c.requires.marked (c.is_marked.ensures.0 c.if-is_marked.true) (c.loop.invariant.hung i h) there,
-    )
+pub returns-then-is_known : goal.returns-then-is_known
+returns-then-is_known g c = λ i h.
+    let E = g.R.PartialEq.eq in
+    let is = g.R.Behaves.behaviour in
+    let trie = c.args.trie.now in
+    let start = c.args.start.now in
+    let there = c.loop.invariant.there i h in
+    let hung = c.loop.invariant.hung i h in
+    let marked = known_marked E g.met.R.PartialEq.laws is g.met.R.Register.alike trie start c.args.known.now.mark c.args.known.now.fresh c.loop.top.key _
+    c.requires.marked c.requires.fresh c.loop.invariant.top.noted (c.is_known.ensures c.if-is_known.true) in
+    (there, hung_runs E g.met.R.PartialEq.laws is g.met.R.Register.alike trie start c.loop.top.key c.loop.front i hung there (marked i hung.there))
 
 pub returns-then-eq : goal.returns-then-eq
 returns-then-eq g c = λ i h.

@@ -5,8 +5,8 @@ use Rattle.schedule_trie.specs.Trie.{line, segment_at, keys_in, forest}
 use Rattle.cutoff.specs.Fitting.{part_of}
 use Rattle.cutoff.specs.Charts.{look}
 use Rattle.cutoff.specs.Settles.{IsSettledLast}
-use Rattle.cutoff.proofs.SameBranches.{charted_kept, charted_marked, len_there, look_there, refused_still, out_of_memory, seen_begins, all_kept}
-use Rattle.cutoff.proofs.LastRuns.{marked_now, place_found, found_fits, none_settled, last_settled, keeps_named}
+use Rattle.cutoff.proofs.SameBranches.{len_there, look_there, refused_still, out_of_memory, seen_begins, all_kept}
+use Rattle.cutoff.proofs.LastRuns.{charted_settled, marked_now, place_found, found_fits, none_settled, last_settled, keeps_named}
 use Rattle.cutoff.proofs.chart.Chart.settle_last.Goals as goal
 
 pub returns-then-place-eq0-clause-ok : goal.returns-then-place-eq0-clause-ok
@@ -26,7 +26,8 @@ invariant_of-self g c =
     let index = c.in_ok-index.index in
     let lies = place_found c.self.inside.trie index c.args.place c.in-Some.key c.in-Some.offset c.in-Some.ensures.lies c.if-place-eq0.false in
     let keeps = c.settle_to.ensures.keeps index (c.in-Some.offset + 1) c.args.place lies in
-    rw c.none-self-inside.ensures (charted_kept g.R.PartialEq.eq g.R.Behaves.behaviour c.self.inside.next c.settle_to.new.next c.self.inside.fresh c.self.inside.mark _ c.settle_to.new.trie _ keeps c.settle_to.ensures.linked c.self.invariant)
+    rw c.or-self-inside.ensures (charted_settled g.R.PartialEq.eq g.R.Behaves.behaviour c.self.inside.next c.settle_to.new.next c.self.inside.fresh c.self.inside.mark c.following.result None _ c.settle_to.new.trie _
+    keeps c.settle_to.ensures.linked c.following.ensures c.settle_to.ensures.fresh tt c.self.invariant)
 
 pub invariant_of-self-2 : goal.invariant_of-self-2
 invariant_of-self-2 g c =
@@ -35,8 +36,8 @@ invariant_of-self-2 g c =
     let keeps = c.settle_to.ensures.keeps index (c.in-Some.offset + 1) c.args.place lies in
     let marked = marked_now g.R.PartialEq.eq g.R.Behaves.behaviour c.self.inside.trie c.settle_to.new.trie c.self.inside.start c.in-Some.key (c.in-Some.offset + 1) c.in_ok-stored.replayed lies.some lies.few keeps.branches
     c.in_ok-stored.ensures.settles in
-    rw c.none-self-inside.ensures (charted_marked g.R.PartialEq.eq g.R.Behaves.behaviour c.settle_to.new.next None None None (Some c.in-Some.key) _ tt marked
-    (charted_kept g.R.PartialEq.eq g.R.Behaves.behaviour c.self.inside.next c.settle_to.new.next c.self.inside.fresh c.self.inside.mark _ c.settle_to.new.trie _ keeps c.settle_to.ensures.linked c.self.invariant))
+    rw c.or-self-inside.ensures (charted_settled g.R.PartialEq.eq g.R.Behaves.behaviour c.self.inside.next c.settle_to.new.next c.self.inside.fresh c.self.inside.mark c.following.result (Some c.in-Some.key) _
+    c.settle_to.new.trie _ keeps c.settle_to.ensures.linked c.following.ensures c.settle_to.ensures.fresh marked c.self.invariant)
 
 pub returns-clause-ok : goal.returns-clause-ok
 returns-clause-ok g c =
