@@ -1,6 +1,6 @@
 //! Numbers of stored runs.
 
-ghost use Rattle.std.specs.Prelude.{◌≡◌, ◌<◌, ◌≤◌, ◌⊎◌, ◌+◌, ◌-◌, ◌^◌, ℕ, Some, None, is_some};
+ghost use Rattle.std.specs.Prelude.{◌≡◌, ◌<◌, ◌≤◌, ◌⊎◌, ◌+◌, ◌-◌, ◌^◌, ℕ, Some, None, is_some, false};
 ghost use Rattle.std.specs.Bool.{Decides};
 ghost use Rattle.std.specs.Option.{option_or};
 
@@ -77,6 +77,14 @@ impl Number {
             ((a : ℕ) × (b : ℕ) × (self ≡ Some a) × (first ≡ Some b) × (b ≤ a)) }
     {
         self.word != u64::MAX && first.word <= self.word
+    }
+
+    /// Whether this is less than `first`. No number counts as greater than every number.
+    #[inline(always)]
+    pub(crate) fn is_before(self, first: Number) -> bool
+        ensures { (a : ℕ) → (b : ℕ) → self ≡ Some a → first ≡ Some b → b ≤ a → result ≡ false }
+    {
+        self.word < first.word
     }
 
     /// This number; `other` if it is none.
