@@ -1,5 +1,5 @@
 -- Segments that stored runs are known to fit down to, after a run is stored.
-use Rattle.std.proofs.Common.{◌≡◌, ℕ, ◌+◌, drop, get_or, ◌<◌, ◌≤◌, length, arith, Bool, true, false, ◌||◌, List, [], ◌∷◌, ◌++◌, map, Option, Some, None, ◌⊎◌, inl, inr, refl, sym, ap, subst, ◌∙◌, append_assoc, true≢false}
+use Rattle.std.proofs.Common.{◌≡◌, ℕ, drop, get_or, ◌<◌, ◌≤◌, length, arith, Bool, true, false, ◌||◌, List, [], ◌∷◌, ◌++◌, map, Option, Some, None, ◌⊎◌, inl, inr, refl, sym, ap, subst, ◌∙◌, append_assoc, true≢false}
 use Rattle.std.specs.Prelude.{⊤}
 use Rattle.std.specs.Option.{option_map, option_or}
 use Rattle.std.specs.Cmp.{IsPartialEquivalence, IsEquivalence}

@@ -7,7 +7,7 @@ use Rattle.frames.specs.Configuration.{Configuration}
 use Rattle.frames.specs.Recorded.{AllFit}
 use Rattle.schedule_trie.specs.Forest.{step_of, index_of}
 use Rattle.schedule_trie.specs.Trie.{TrieOf, segment_at, slots_of, line, has, keys_in, forest, SpotIsAt}
-use Rattle.schedule_trie.specs.Climbs.{keys_up_to, keys_to}
+use Rattle.schedule_trie.specs.Climbs.{keys_up_to, keys_to, HasClimbedTo}
 use Rattle.schedule_trie.proofs.climbs.Climbs.{up_to-here}
 use Rattle.schedule_trie.proofs.branches.Lines.{slots_in_on}
 use Rattle.schedule_trie.proofs.lists.NoRepeats.{has-in}
@@ -28,19 +28,21 @@ last_of_parts (q ∷ r ∷ before) p = last_of_parts (r ∷ before) p
 
 -- what is left of each branch with `key`, if runs hang from `hung` down to `key`
 module _ {R P : Type 0} (E : R → R → Bool) (equal : IsEquivalence E) (is : R → Behaviour P) (trie : TrieOf (StoredRun R P)) (start : Configuration R P) (hung key : ℕ) (known front : Option ℕ) (left : List ℕ)
-    (hangs : (i : ℕ) → has key (keys_in trie.branches i) ≡ true → IsHung E is trie hung key i) (down : IsKnown E is trie start hung known) (behind : AreKeysAfter trie hung known front left)
+    (hangs : (i : ℕ) → has key (keys_in trie.branches i) ≡ true → IsHung E is trie hung key i) (down : IsKnown E is trie start hung known) (last : Option ℕ) (below : List ℕ) (to : (i : ℕ) → has hung (keys_in trie.branches i) ≡ true → HasClimbedTo (keys_in trie.branches i) last × (keys_up_to hung (keys_in trie.branches i) ≡ keys_to (keys_in trie.branches i) last ++ below))
+    (behind : AreKeysAfter trie last below known front left)
     (fits : StepsFit (is start.register) (forest trie)) where
   pub left_in : (i count place : ℕ) → IsPlaceIn trie key count place i → IsLeft E is trie start front left hung key count place i
   left_in i count place lies =
       let on = hangs i lies.there in
-      let path = behind.1 i on.there in
+      let up = to i on.there in
+      let path = behind.1 i up.0 in
       record {
         hanging = on;
         rest = record {
           lies = lies;
           reached = path.0;
           down = by behind.0 on.there;
-          path = on.path ∙ ap (λ l. l ++ on.below) path.1 ∙ append_assoc (keys_to (keys_in trie.branches i) front) left on.below;
+          path = on.path ∙ ap (λ l. l ++ on.below) (up.1 ∙ path.1) ∙ append_assoc (keys_to (keys_in trie.branches i) front) left on.below;
           fits = subst (λ l. AllFit (is start.register) (map step_of l)) (slots_in_on (segment_at trie.segments) trie.branches i) (fits i);
         };
       }

@@ -21,7 +21,7 @@ use Rattle.cutoff.proofs.RestWalks.{IsGoing, hanging_settles}
 
 -- the keys after the one that others hang from, listed again
 module _ {R P : Type 0} (E : R → R → Bool) (is : R → Behaviour P) (old trie : TrieOf (StoredRun R P)) (hung key i : ℕ) (last : Option ℕ) (keys : List ℕ) (same : trie.branches ≡ old.branches)
-    (h : IsHung E is old hung key i) (there : has key (keys_in old.branches i) ≡ true) (behind : AreKeysAfter trie key (Some hung) last keys)
+    (h : IsHung E is old hung key i) (there : has key (keys_in old.branches i) ≡ true) (behind : AreKeysAfter trie (Some key) [] (Some hung) last keys)
     (stops : (i f : ℕ) → has key (keys_in trie.branches i) ≡ true → Some hung ≡ Some f → has f (keys_up_to key (keys_in trie.branches i)) ≡ true → last ≡ Some hung) where
   abbrev path : List ℕ
   path = keys_in old.branches i
@@ -40,7 +40,7 @@ module _ {R P : Type 0} (E : R → R → Bool) (is : R → Behaviour P) (old tri
   pub again_left : h.below ≡ keys
   again_left =
       let ends : last ≡ Some hung = stops i hung there_now refl (subst (λ l. has hung (keys_up_to key l) ≡ true) (sym path_same) on_path) in
-      let now : keys_up_to key path ≡ keys_to path last ++ keys = subst (λ l. keys_up_to key l ≡ keys_to l last ++ keys) path_same (behind.1 i there_now).1 in
+      let now : keys_up_to key path ≡ keys_to path last ++ keys = subst (λ l. keys_up_to key l ≡ keys_to l last ++ keys) path_same (sym (append-nil (keys_up_to key (keys_in trie.branches i))) ∙ (behind.1 i there_now).1) in
       append_cancel_left (keys_up_to hung path) h.below keys (sym h.path ∙ now ∙ ap (λ o. keys_to path o ++ keys) ends)
 
 module _ {R P : Type 0} (E : R → R → Bool) (is : R → Behaviour P) (old : TrieOf (StoredRun R P)) where

@@ -82,12 +82,12 @@ module _ {R P : Type 0} (E : R → R → Bool) (is : R → Behaviour P) (trie : 
     abbrev pub IsKnown : ℕ → Option ℕ → Type 0
     IsKnown key front = (i : ℕ) → has key (keys_in trie.branches i) ≡ true → HasClimbedTo (keys_in trie.branches i) front × RunsTo front (keys_in trie.branches i)
 
--- on each branch with `key`, `left` are the keys below `last` down to `key`, or all keys down to
--- `key` if `last` is `None`; and `last` is `front` or `None`
-abbrev pub AreKeysAfter : {T : Type 0} → TrieOf T → ℕ → Option ℕ → Option ℕ → List ℕ → Type 0
-AreKeysAfter trie key front last left =
-    ((last ≡ front) ⊎ (last ≡ None))
-    × ((i : ℕ) → has key (keys_in trie.branches i) ≡ true → HasClimbedTo (keys_in trie.branches i) last × (keys_up_to key (keys_in trie.branches i) ≡ keys_to (keys_in trie.branches i) last ++ left))
+-- a climb from `last` ended at `up`, which is `front` or `None`: on each branch with the key `last`,
+-- `left` are the keys below `up` down to `last`, followed by `below`
+abbrev pub AreKeysAfter : {T : Type 0} → TrieOf T → Option ℕ → List ℕ → Option ℕ → Option ℕ → List ℕ → Type 0
+AreKeysAfter trie last below front up left =
+    ((up ≡ front) ⊎ (up ≡ None))
+    × ((i : ℕ) → HasClimbedTo (keys_in trie.branches i) last → HasClimbedTo (keys_in trie.branches i) up × (keys_to (keys_in trie.branches i) last ++ below ≡ keys_to (keys_in trie.branches i) up ++ left))
 
 -- `stored` is what is stored at `key`, and on each branch with `key`, `above` is the key right
 -- above it, or `None` if there is none

@@ -3,12 +3,12 @@
 //! fit. A run hangs from the run right above it if the lower run's link is the upper run's number:
 //! the lower run then begins at the upper run's exit.
 
-ghost use Rattle.std.specs.Prelude.{◌≡◌, ◌≤◌, ◌⊎◌, ℕ, None, Some, true, IfOk};
+ghost use Rattle.std.specs.Prelude.{◌≡◌, ◌≤◌, ◌⊎◌, ℕ, None, Some, true, IfOk, reverse};
 ghost use Rattle.std.specs.Bool.{Decides};
 ghost use Rattle.std.specs.Option.{option_copied};
 ghost use Rattle.frames.specs.Configuration.{Configuration};
 ghost use Rattle.schedule_trie.specs.Trie.{forest, has, keys_in, IsCut};
-ghost use Rattle.schedule_trie.specs.Climbs.{keys_up_to};
+ghost use Rattle.schedule_trie.specs.Climbs.{keys_to, HasClimbedTo};
 ghost use Rattle.cutoff.specs.Links.{AreLinked, run_checked};
 ghost use Rattle.cutoff.specs.Prefixes.{AreFresh, AreKeysAfter, IsMarked, IsKnown, IsPlaceIn, IsHung, IsLeft, IsTop};
 ghost use Rattle.cutoff.specs.Charts.{StepsFit};
@@ -89,11 +89,7 @@ fn known_prefix<R: Register>(
 /// returns the segment at which the climb ends. Also stops at a segment down to which stored runs
 /// are known to fit. Returns `key` itself if that segment is such a one, has no stored run, or has
 /// a run that hangs from none. Compares only numbers.
-fn hung_from<'a, R: Register>(
-    trie: &'a Trie<Stored<R>>,
-    known: &Known,
-    key: SegKey,
-) -> Top<'a, R>
+fn hung_from<'a, R: Register>(trie: &'a Trie<Stored<R>>, known: &Known, key: SegKey) -> Top<'a, R>
     requires linked { (start : Configuration R R.Pending)
         × AreLinked R.PartialEq.eq start trie.now }
     requires cut { IsCut trie.now }
@@ -158,7 +154,7 @@ fn is_known<R: Register>(known: &Known, key: SegKey, stored: Option<&Stored<R>>)
 
 /// Whether a climb of runs that hang from one another had better stop at the segment `key`, in which
 /// `stored` is stored: if stored runs are known to fit down to it. Takes fewer instructions than
-/// `is_known`, and is true in some other cases, which don't occur.
+/// `is_known`, and is also true of a run without a number.
 #[inline(always)]
 fn may_stop<R: Register>(known: &Known, key: SegKey, stored: &Stored<R>) -> bool
     ensures { known.now.mark ≡ Some key → result ≡ true }
@@ -196,30 +192,40 @@ pub(crate) fn rest_to<R: Register>(
         key count place i) }
 {
     let top = hung_from(trie, known, key);
-    let hung = top.key;
+    let (hung, above) = (top.key, top.above);
     let prefix = known_prefix(trie, start, known, top);
-    let (front, keys) = keys_down_to(alloc, trie, prefix, hung)?;
+    let mut keys = Vec::new(alloc);
+    if prefix == Some(hung) {
+        return Ok(Rest {
+            front: prefix,
+            keys,
+            hung,
+        });
+    }
+    keys.push(hung)?;
+    let (front, keys) = keys_down_to(trie, prefix, above, keys)?;
     Ok(Rest { front, keys, hung })
 }
 
-/// For a branch with the segment `key`, returns `front`, and the keys of the branch's segments
-/// below `front` down to `key`, in order. If `front` is neither `key` nor a segment above it,
-/// returns `None`, and all keys of the branch down to `key`.
+/// Climbs from the segment `last` until it meets `front` or has passed the first segment. Returns
+/// `front` or `None`, and the keys of the segments passed, in order, followed by those of `below`,
+/// which are the keys below `last`, the lowest first.
 pub(crate) fn keys_down_to<T: Drop>(
-    alloc: Global,
     trie: &Trie<T>,
     front: Option<SegKey>,
-    key: SegKey,
+    last: Option<SegKey>,
+    below: Vec<SegKey>,
 ) -> Result<(Option<SegKey>, Vec<SegKey>), AllocError>
     requires cut { IsCut trie.now }
-    requires there { (i : ℕ) × (has key (keys_in trie.now.branches i) ≡ true) }
-    ensures following { IfOk result (λ r. AreKeysAfter trie.now key front r.0 r.1.items) }
-    ensures stops { IfOk result (λ r. (i f : ℕ) → has key (keys_in trie.now.branches i) ≡ true
-        → front ≡ Some f → has f (keys_up_to key (keys_in trie.now.branches i)) ≡ true
+    requires there { (i : ℕ) × HasClimbedTo (keys_in trie.now.branches i) last }
+    ensures following { IfOk result
+        (λ r. AreKeysAfter trie.now last (reverse below.items) front r.0 r.1.items) }
+    ensures stops { IfOk result (λ r. (i f : ℕ) → HasClimbedTo (keys_in trie.now.branches i) last
+        → front ≡ Some f → has f (keys_to (keys_in trie.now.branches i) last) ≡ true
         → r.0 ≡ front) }
 {
-    let mut keys = Vec::new(alloc);
-    let mut at = Some(key);
+    let mut keys = below;
+    let mut at = last;
     for _ in 0..trie.made() {
         if at == front {
             break;

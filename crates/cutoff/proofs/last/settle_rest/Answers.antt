@@ -1,5 +1,5 @@
-use Rattle.std.proofs.Common.{◌≡◌, ◌+◌, ◌++◌, [], Some, true, drop, get_or, refl, sym, ap, subst, ◌∙◌, arith, append-nil}
-use Rattle.cutoff.specs.Prefixes.{Hangs, note_named, exit_or_start}
+use Rattle.std.proofs.Common.{◌≡◌, ◌+◌, ◌++◌, [], Some, true, drop, reverse, get_or, refl, sym, ap, subst, ◌∙◌, arith, append-nil}
+use Rattle.cutoff.specs.Prefixes.{AreKeysAfter, Hangs, note_named, exit_or_start}
 use Rattle.schedule_trie.specs.Trie.{has, keys_in}
 use Rattle.cutoff.proofs.SameBranches.{cut_kept, keeps_still}
 use Rattle.cutoff.proofs.RestWalks.{IsGoing, going_starts, going_past, going_next, kept_next, noted_next, ends_at, going_settles, small_next, fits_next}
@@ -120,7 +120,10 @@ loop-below-init g c =
     let E = g.R.PartialEq.eq in
     let is = g.R.Behaves.behaviour in
     let trie = c.args.trie.now in
-    let start = c.args.start.now in (
+    let start = c.args.start.now in
+    let following =
+    subst (λ l. AreKeysAfter c.loop-segment.trie (Some c.args.key) (reverse l) (Some c.args.rest.now.hung) c.in_ok-hanging.field-0-0 c.in_ok-hanging.hanging.items) c.new.ensures.items
+    c.in_ok-hanging.ensures.following in (
       c.loop-segment.invariant.0,
       record {
         noted = c.loop-segment.invariant.1.noted;
@@ -129,7 +132,7 @@ loop-below-init g c =
             let past = going_past E g.met.R.Eq.laws g.met.R.PartialEq.laws is g.met.R.Register.alike c.deref-segment-items.result.now c.loop-segment.segment-index left.hanging.below on.1
             c.loop-segment-test.false in
             let same = again_left E is trie c.loop-segment.trie c.args.rest.now.hung c.args.key i c.in_ok-hanging.field-0-0 c.in_ok-hanging.hanging.items on.1.walk.keeps.branches left.hanging
-            left.rest.lies.there c.in_ok-hanging.ensures.following c.in_ok-hanging.ensures.stops in (
+            left.rest.lies.there following c.in_ok-hanging.ensures.stops in (
               on.0,
               subst (λ l. IsGoing E is trie c.loop-segment.trie start c.args.key count (keys_in trie.branches i) l on.0 place c.loop-segment.replayed c.loop-segment.invariant.0)
                   (same ∙ sym c.deref-below-items.ensures.value ∙ sym (append-nil c.deref-below-items.result.now)) past,
@@ -137,7 +140,7 @@ loop-below-init g c =
         hangs = λ i count place left.
             let on = c.loop-segment.invariant.1.going i count place left in
             let same = again_left E is trie c.loop-segment.trie c.args.rest.now.hung c.args.key i c.in_ok-hanging.field-0-0 c.in_ok-hanging.hanging.items on.1.walk.keeps.branches left.hanging
-            left.rest.lies.there c.in_ok-hanging.ensures.following c.in_ok-hanging.ensures.stops in
+            left.rest.lies.there following c.in_ok-hanging.ensures.stops in
             (exit_or_start trie start (Some c.args.rest.now.hung), subst (Hangs E is trie (exit_or_start trie start (Some c.args.rest.now.hung))) (same ∙ sym c.deref-below-items.ensures.value) (left.hanging.hangs start));
         linked = c.loop-segment.invariant.1.linked;
         fresh = c.loop-segment.invariant.1.fresh;

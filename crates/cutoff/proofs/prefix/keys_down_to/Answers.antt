@@ -1,4 +1,4 @@
-use Rattle.std.proofs.Common.{◌≡◌, ◌⊎◌, ◌++◌, ◌∷◌, [], ℕ, true, Some, None, length, reverse, inl, inr, sym, ap, subst, ◌∙◌, arith, append_assoc, true≢false}
+use Rattle.std.proofs.Common.{◌≡◌, ◌⊎◌, ◌++◌, ◌∷◌, [], ℕ, true, None, length, reverse, inl, inr, sym, ap, subst, ◌∙◌, arith, append_assoc, true≢false}
 use Rattle.std.proofs.lemmas.List.{reverse-append}
 use Rattle.schedule_trie.specs.Trie.{has, keys_in}
 use Rattle.schedule_trie.specs.Climbs.{keys_to, HasClimbedTo}
@@ -13,7 +13,7 @@ pub loop-preserved : goal.loop-preserved
 loop-preserved g c =
     let trie = c.args.trie.now in
     let was = c.loop.invariant in
-    let step : (i : ℕ) → has c.args.key (keys_in trie.branches i) ≡ true → IsStepUp (keys_in trie.branches i) c.in-Some.key c.above-at.result =
+    let step : (i : ℕ) → HasClimbedTo (keys_in trie.branches i) c.args.last → IsStepUp (keys_in trie.branches i) c.in-Some.key c.above-at.result =
     λ i h. step_up (keys_in trie.branches i) c.in-Some.key c.above-at.result (path_once trie c.requires.cut i)
     (subst (HasClimbedTo (keys_in trie.branches i)) c.in-Some.is (was.reached i h)) (λ front back e. c.above-at.ensures.each i front back e) in
     record {
@@ -43,7 +43,7 @@ returns-clause-following g c =
     let ends : (c.loop.at ≡ c.args.front) ⊎ (c.loop.at ≡ None) =
     elim c.loop-test.branch [
       | else-loop-test w ↦
-          inr (past_all (keys_in trie.branches first.0) (Some c.args.key) c.loop.at c.loop.counter c.made-end.result first.1 (c.made-end.ensures.few first.0) (was.reached first.0 first.1)
+          inr (past_all (keys_in trie.branches first.0) c.args.last c.loop.at c.loop.counter c.made-end.result first.1 (c.made-end.ensures.few first.0) (was.reached first.0 first.1)
           (was.short first.0 first.1) w.loop-test.false)
       | then-loop-test+then-eq w ↦ inl (same_key c.loop.at c.args.front (sym w.if-eq.ensures))
       | then-loop-test+else-eq+in_default w ↦ inr w.in_default.is
@@ -59,7 +59,7 @@ returns-clause-stops g c = λ i f h e there.
     λ none. absurd (true≢false (sym (subst (λ o. has f (keys_to (keys_in trie.branches i) o) ≡ true) none (was.ahead i f h e there)))) in
     elim c.loop-test.branch [
       | else-loop-test w ↦
-          past (past_all (keys_in trie.branches first.0) (Some c.args.key) c.loop.at c.loop.counter c.made-end.result first.1 (c.made-end.ensures.few first.0) (was.reached first.0 first.1)
+          past (past_all (keys_in trie.branches first.0) c.args.last c.loop.at c.loop.counter c.made-end.result first.1 (c.made-end.ensures.few first.0) (was.reached first.0 first.1)
           (was.short first.0 first.1) w.loop-test.false)
       | then-loop-test+then-eq w ↦ same_key c.loop.at c.args.front (sym w.if-eq.ensures)
       | then-loop-test+else-eq+in_default w ↦ past w.in_default.is
