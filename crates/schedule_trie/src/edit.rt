@@ -1,7 +1,11 @@
 //! Edits of branches, as data.
 
 use branch_terms::name::Name;
+use branch_terms::refusal::Refusal;
 use schedule_steps::types::Step;
+
+/// The result of an edit: why it is refused, if it is.
+pub type Edited = Result<(), Refusal>;
 
 /// An edit of the branch with the first name; a place is one of this branch.
 #[derive(Clone, Copy, Debug)]

@@ -22,6 +22,7 @@ mod push;
 mod remove;
 
 use crate::branch_list::BranchList;
+use crate::edit::Edited;
 pub use crate::segment::SegKey;
 use crate::segment::Segment;
 use branch_terms::limits::Limits;
@@ -325,7 +326,7 @@ impl<T: Drop> Trie<T> {
     ///
     /// NoBranch if there is no such branch; NoPlace if the branch has no cell there. After an error
     /// nothing has changed.
-    pub fn replace(&mut self, branch: &Name, place: u32, step: Step) -> Result<(), Refusal>
+    pub fn replace(&mut self, branch: &Name, place: u32, step: Step) -> Edited
         ensures ok { OnOk result (IsEdited self.old self.new (Replace branch.now place step)) }
         ensures err { IfErr result (IsUnedited self.old self.new (Replace branch.now place step)) }
     {

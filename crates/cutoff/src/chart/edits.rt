@@ -13,9 +13,8 @@ use super::Chart;
 use crate::number::Number;
 use frames::register::Register;
 use frames::types::Step;
-use schedule_trie::edit::Edit;
+use schedule_trie::edit::{Edit, Edited};
 use schedule_trie::name::Name;
-use schedule_trie::refusal::Refusal;
 use schedule_trie::trie::{SegKey, Trie};
 use std::alloc::Global;
 
@@ -25,7 +24,7 @@ impl<R: Register> Chart<R> {
     /// # Errors
     ///
     /// Those of that call. On an error nothing changes.
-    pub fn edit(&mut self, alloc: Global, edit: &Edit<'_>) -> Result<(), Refusal>
+    pub fn edit(&mut self, alloc: Global, edit: &Edit<'_>) -> Edited
         requires { FitsEdit (R.behaviour self.old.start.register) (edit_in edit.now) }
         ensures { Edits self.old self.new (edit_in edit.now) result }
     {
@@ -50,13 +49,7 @@ impl<R: Register> Chart<R> {
     /// NoBranch; NoPlace if the branch is shorter than `place`; Full if the number of cells made is
     /// at its limit; Memory. On an error nothing changes.
     #[tactic(auto, using(crate::proofs::Edited::chart_edited))]
-    pub fn insert(
-        &mut self,
-        alloc: Global,
-        branch: &Name,
-        place: u32,
-        step: Step,
-    ) -> Result<(), Refusal>
+    pub fn insert(&mut self, alloc: Global, branch: &Name, place: u32, step: Step) -> Edited
         requires { fits_step (R.behaviour self.old.start.register) step ≡ true }
         ensures { Edits self.old self.new (Insert branch.now place step) result }
     {
@@ -72,7 +65,7 @@ impl<R: Register> Chart<R> {
     ///
     /// NoBranch; NoPlace if the branch has no cell there. On an error nothing changes.
     #[tactic(auto, using(crate::proofs::Edited::chart_edited))]
-    pub fn remove(&mut self, branch: &Name, place: u32) -> Result<(), Refusal>
+    pub fn remove(&mut self, branch: &Name, place: u32) -> Edited
         ensures { Edits self.old self.new (Remove branch.now place) result }
     {
         self.mark = None;
@@ -88,7 +81,7 @@ impl<R: Register> Chart<R> {
     ///
     /// NoBranch; NoPlace if the branch has no cell there. On an error nothing changes.
     #[tactic(auto, using(crate::proofs::Edited::chart_edited))]
-    pub fn replace(&mut self, branch: &Name, place: u32, step: Step) -> Result<(), Refusal>
+    pub fn replace(&mut self, branch: &Name, place: u32, step: Step) -> Edited
         requires { fits_step (R.behaviour self.old.start.register) step ≡ true }
         ensures { Edits self.old self.new (Replace branch.now place step) result }
     {
@@ -107,13 +100,7 @@ impl<R: Register> Chart<R> {
     /// letters or digits; NoPlace if the branch is shorter than `place`; TooManyBranches; Memory.
     /// On an error nothing changes.
     #[tactic(auto, using(crate::proofs::Edited::chart_edited))]
-    pub fn fork(
-        &mut self,
-        alloc: Global,
-        branch: &Name,
-        place: u32,
-        name: Name,
-    ) -> Result<(), Refusal>
+    pub fn fork(&mut self, alloc: Global, branch: &Name, place: u32, name: Name) -> Edited
         ensures { Edits self.old self.new (Fork branch.now place name) result }
     {
         self.mark = mark_after_fork(&self.trie, self.mark, branch, place);
@@ -129,7 +116,7 @@ impl<R: Register> Chart<R> {
     /// NoBranch; Full if the number of cells made would exceed its limit; Memory. On an error
     /// nothing changes.
     #[tactic(auto, using(crate::proofs::Edited::chart_edited))]
-    pub fn detach(&mut self, alloc: Global, branch: &Name) -> Result<(), Refusal>
+    pub fn detach(&mut self, alloc: Global, branch: &Name) -> Edited
         ensures { Edits self.old self.new (Detach branch.now) result }
     {
         self.mark = None;
@@ -144,7 +131,7 @@ impl<R: Register> Chart<R> {
     ///
     /// NoBranch; LastBranch if it is the only one. On an error nothing changes.
     #[tactic(auto, using(crate::proofs::Edited::chart_edited))]
-    pub fn drop_branch(&mut self, branch: &Name) -> Result<(), Refusal>
+    pub fn drop_branch(&mut self, branch: &Name) -> Edited
         ensures { Edits self.old self.new (Drop branch.now) result }
     {
         self.mark = None;

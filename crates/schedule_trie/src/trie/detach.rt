@@ -7,6 +7,7 @@ ghost use Rattle.schedule_trie.specs.Trie.{forest, segment_at, keys_in};
 ghost use Rattle.schedule_trie.specs.changes.Copies.{AreCopies, IsDetached};
 
 use super::Trie;
+use crate::edit::Edited;
 use crate::segment::Segment;
 use branch_terms::name::Name;
 use branch_terms::refusal::Refusal;
@@ -20,7 +21,7 @@ impl<T: Drop> Trie<T> {
     ///
     /// NoBranch if there is no such branch; Full if the number of cells made would exceed its
     /// limit; Memory if memory runs out. After an error nothing has changed.
-    pub fn detach(&mut self, alloc: Global, branch: &Name) -> Result<(), Refusal>
+    pub fn detach(&mut self, alloc: Global, branch: &Name) -> Edited
         ensures ok { OnOk result (IsEdited self.old self.new (Detach branch.now)) }
         ensures err { IfErr result (IsUnedited self.old self.new (Detach branch.now)) }
     {

@@ -5,6 +5,7 @@ ghost use Rattle.schedule_trie.specs.Edits.{Drop, IsEdited, IsUnedited};
 ghost use Rattle.schedule_trie.specs.changes.Releases.{IsDropped};
 
 use super::Trie;
+use crate::edit::Edited;
 use branch_terms::name::Name;
 use branch_terms::refusal::Refusal;
 
@@ -16,7 +17,7 @@ impl<T: Drop> Trie<T> {
     ///
     /// NoBranch if there is no such branch; LastBranch if the branch is the only one. After an
     /// error nothing has changed.
-    pub fn drop_branch(&mut self, branch: &Name) -> Result<(), Refusal>
+    pub fn drop_branch(&mut self, branch: &Name) -> Edited
         ensures ok { OnOk result (IsEdited self.old self.new (Drop branch.now)) }
         ensures err { IfErr result (IsUnedited self.old self.new (Drop branch.now)) }
     {

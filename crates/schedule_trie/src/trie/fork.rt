@@ -12,6 +12,7 @@ ghost use Rattle.schedule_trie.specs.changes.Forks.{IsBranchForked, IsForkedWhol
 
 use super::Trie;
 use crate::branch_list::BranchList;
+use crate::edit::Edited;
 use crate::segment::{SegKey, Segment};
 use branch_terms::name::Name;
 use branch_terms::refusal::Refusal;
@@ -31,13 +32,7 @@ impl<T: Drop> Trie<T> {
     /// digits; NoPlace if `place` is greater than the length of `branch`; TooManyBranches if the
     /// number of branches is at its limit; Memory if memory runs out. After an error nothing has
     /// changed.
-    pub fn fork(
-        &mut self,
-        alloc: Global,
-        branch: &Name,
-        place: u32,
-        name: Name,
-    ) -> Result<(), Refusal>
+    pub fn fork(&mut self, alloc: Global, branch: &Name, place: u32, name: Name) -> Edited
         ensures ok { OnOk result (IsEdited self.old self.new (Fork branch.now place name)) }
         ensures end { OnOk result (CutsNoneAtEnd self.old self.new branch.now place name) }
         ensures err { IfErr result (IsUnedited self.old self.new (Fork branch.now place name)) }

@@ -7,6 +7,7 @@ ghost use Rattle.branch_terms.specs.Forest.{slots_in};
 ghost use Rattle.schedule_trie.specs.Trie.{forest, segment_at, slots_of, IsPutBefore, IsInserted};
 
 use super::Trie;
+use crate::edit::Edited;
 use crate::segment::{MOST_SLOTS, SegKey, Segment};
 use branch_terms::name::Name;
 use branch_terms::refusal::Refusal;
@@ -27,13 +28,7 @@ impl<T: Drop> Trie<T> {
     /// The first that holds: NoBranch if there is no such branch; NoPlace if `place` is greater
     /// than the branch's length; Full if the number of cells made is at its limit; Memory if memory
     /// runs out. After an error nothing has changed.
-    pub fn insert(
-        &mut self,
-        alloc: Global,
-        branch: &Name,
-        place: u32,
-        step: Step,
-    ) -> Result<(), Refusal>
+    pub fn insert(&mut self, alloc: Global, branch: &Name, place: u32, step: Step) -> Edited
         ensures ok { OnOk result (IsEdited self.old self.new (Insert branch.now place step)) }
         ensures err { IfErr result (IsUnedited self.old self.new (Insert branch.now place step)) }
     {

@@ -4,6 +4,7 @@ ghost use Rattle.std.specs.Prelude.{◌≡◌, ◌<◌, length, Ok, Err, OnOk, I
 ghost use Rattle.schedule_trie.specs.Edits.{Remove, IsEdited, IsUnedited};
 ghost use Rattle.schedule_trie.specs.Trie.{segment_at, slots_of, IsRemoved};
 
+use crate::edit::Edited;
 use crate::segment::SegKey;
 use crate::trie::Trie;
 use branch_terms::name::Name;
@@ -17,7 +18,7 @@ impl<T: Drop> Trie<T> {
     ///
     /// NoBranch if there is no such branch; NoPlace if the branch has no cell there. After an error
     /// nothing has changed.
-    pub fn remove(&mut self, branch: &Name, place: u32) -> Result<(), Refusal>
+    pub fn remove(&mut self, branch: &Name, place: u32) -> Edited
         ensures ok { OnOk result (IsEdited self.old self.new (Remove branch.now place)) }
         ensures err { IfErr result (IsUnedited self.old self.new (Remove branch.now place)) }
     {
