@@ -25,18 +25,21 @@ FOUR = "".join(
 # takes the whole history again, and the saved branches unless it is at a branch's end. Whether a read is hit is on the
 # page of bits alone, which has 4,096 lines for four processes.
 MOST_SPENT = {
-    "a move in lesson 8": (20, 2, 200),
-    "a step in lesson 8": (20, 1, 1000),
-    "a move in 30,000 steps": (10, 3, 40),
-    "the other end of 30,000 steps": (150, 2, 31000),
-    "a step after 30,000": (20, 1, 31000),
-    "undo of a step after 30,000": (10, 1, 40),
-    "a step before 30,000": (150, 2, 31000),
-    "a click on a read": (20, 1, 100),
-    "the other end of four processes": (150, 2, 1500),
-    "a move of four processes": (10, 1, 100),
-    "a step of four processes": (10, 1, 1000),
-    "a step that ends a read next": (10, 2, 5000),
+    "lesson 8": {"a move": (20, 2, 200), "a step": (20, 1, 1000)},
+    "30,000 steps": {
+        "a move": (10, 3, 40),
+        "the other end": (150, 2, 31000),
+        "a step at the end": (20, 1, 31000),
+        "its undo": (10, 1, 40),
+        "a step at the start": (150, 2, 31000),
+        "a click on a read": (20, 1, 100),
+    },
+    "four processes": {
+        "the other end": (150, 2, 1500),
+        "a move": (10, 1, 100),
+        "a step": (10, 1, 1000),
+        "a step that ends a read next": (10, 2, 5000),
+    },
 }
 
 
@@ -256,46 +259,52 @@ def two_towers(page):
     )
 
 
-def cost(page, work, gesture):
+def cost(page, work, schedule, gesture):
     """Does a gesture, and fails if it asks for more pages, in more runs, of more lines, than it may."""
     before = spent(page)
     work()
     page.wait()
     found = tuple(now - was for now, was in zip(spent(page), before))
-    bound = MOST_SPENT[gesture]
-    holds(all(it <= most for it, most in zip(found, bound)), f"{gesture}: {found}, at most {bound}")
+    bound = MOST_SPENT[schedule][gesture]
+    said = f"{gesture} in {schedule}: {found}, at most {bound}"
+    holds(all(it <= most for it, most in zip(found, bound)), said)
 
 
 def counted_pages(page):
     """A gesture asks for the pages of the columns in sight and what they need, once, in one run if it can."""
 
-    def focused_key(name, gesture):
+    def focused_key(name, schedule, gesture):
         page.value("document.querySelector('#scroll').focus()")
-        cost(page, lambda: page.key(name), gesture)
+        cost(page, lambda: page.key(name), schedule, gesture)
 
     opened(page, MATRIX)
     holds(spent(page)[0] <= 300, f"lesson 8 asks for {spent(page)[0]} pages")
     for name in ("ArrowLeft", "+", "+", "-", "ArrowLeft", "Home"):
-        focused_key(name, "a move in lesson 8")
-    cost(page, lambda: page.button("p1 r 1"), "a step in lesson 8")
+        focused_key(name, "lesson 8", "a move")
+    cost(page, lambda: page.button("p1 r 1"), "lesson 8", "a step")
     page.open(LONG)
     first = spent(page)
     holds(first[0] <= 150 and first[1] <= 2, f"30,000 steps take {first}")
-    focused_key("ArrowRight", "a move in 30,000 steps")
-    focused_key("End", "the other end of 30,000 steps")
-    focused_key("ArrowLeft", "a move in 30,000 steps")
-    focused_key("End", "a move in 30,000 steps")
+    focused_key("ArrowRight", "30,000 steps", "a move")
+    focused_key("End", "30,000 steps", "the other end")
+    focused_key("ArrowLeft", "30,000 steps", "a move")
+    focused_key("End", "30,000 steps", "a move")
     # (the first step may take more columns in sight)
     page.button("p1 r 1")
-    cost(page, lambda: page.button("p1 g 1 0"), "a step after 30,000")
-    cost(page, lambda: click_in(page, ".operation.read.returned"), "a click on a read")
+    cost(page, lambda: page.button("p1 g 1 0"), "30,000 steps", "a step at the end")
+    cost(
+        page,
+        lambda: click_in(page, ".operation.read.returned"),
+        "30,000 steps",
+        "a click on a read",
+    )
     page.value("document.querySelector('#scroll').focus()")
-    cost(page, lambda: page.do("undo"), "undo of a step after 30,000")
+    cost(page, lambda: page.do("undo"), "30,000 steps", "its undo")
     page.key("Home")
-    cost(page, lambda: page.button("p1 r 1"), "a step before 30,000")
+    cost(page, lambda: page.button("p1 r 1"), "30,000 steps", "a step at the start")
     page.open(FOUR)
-    focused_key("End", "the other end of four processes")
-    focused_key("ArrowLeft", "a move of four processes")
+    focused_key("End", "four processes", "the other end")
+    focused_key("ArrowLeft", "four processes", "a move")
     page.key("End")
-    cost(page, lambda: page.button("p3 r 3"), "a step of four processes")
-    cost(page, lambda: page.button("p3 g 3 0"), "a step that ends a read next")
+    cost(page, lambda: page.button("p3 r 3"), "four processes", "a step")
+    cost(page, lambda: page.button("p3 g 3 0"), "four processes", "a step that ends a read next")
