@@ -1,7 +1,7 @@
 -- Worked examples of definitions which state that something exists: for each, one that holds, and
 -- one that nearly does.
 use Rattle.std.proofs.Common.{ℕ, zero, suc, ◌+◌, Option, Some, None, ◌≡◌, ◌++◌, ◌<◌, Bool, true, false, true≢false, List, [], ◌∷◌, inr, ⊎_elim, drop, slice_index_or, ap, refl, sym, ◌∙◌, subst, arith}
-use Rattle.std.proofs.Common.{nat_lt, ltb-true}
+use Rattle.std.proofs.Common.{nat_eq, nat_lt, ltb-true, if◌then◌else◌}
 use mathlib.Core.Bool.{◌&&◌}
 use Rattle.std.specs.List.{list_any}
 use Rattle.std.proofs.lemmas.List.Elements.{All-nil, All-cons, All-head}
@@ -374,6 +374,25 @@ invokes_write v a is = ap written_by (a.invoked ∙ ap (λ o. Some (Invoke a.pro
 not_initial : ◌≡◌ {A = ℕ} 1 0 → ⊥
 not_initial e = omega (arith, e)
 
+-- an operation ends in the event after its invocation, if that is an event of its process
+ends_next : {history : Events} (a : Operation history) (end : Event) → linear.event_at history (a.number + 1) ≡ Some end → begins_or_ends a.process end ≡ true
+    → EndsAt a (a.number + 1) end
+ends_next a end there own = record { later = omega arith; there = there; own = own; first = λ k other low high. absurd (omega (arith, low, high)) }
+
+-- whether no event of a history invokes a write of 0
+abbrev never_zero : Events → Bool
+never_zero [] = true
+never_zero (e ∷ history) = if nat_eq (written_by (Some e.1)) 1 then false else never_zero history
+
+never_later : (b later : Bool) → (if b then false else later) ≡ true → later ≡ true
+never_later true later never = absurd (true≢false (sym never))
+never_later false later never = never
+
+no_zero : (history : Events) → never_zero history ≡ true → (n : ℕ) → written_by (linear.event_at history n) ≡ 1 → ⊥
+no_zero [] never n e = omega (arith, e)
+no_zero (x ∷ history) never zero e = true≢false (sym (subst (λ w. (if nat_eq w 1 then false else never_zero history) ≡ true) e never))
+no_zero (x ∷ history) never (suc n) e = no_zero history (never_later (nat_eq (written_by (Some x.1)) 1) (never_zero history) never) n e
+
 -- while process 0 is writing 1, process 1 reads it, and then process 2 the older 0
 abbrev new_then_old : Events
 new_then_old = writes ∷ reads ∷ (3, Got 1 1) ∷ (4, Invoke 2 Read) ∷ (5, Got 2 0) ∷ []
@@ -389,21 +408,13 @@ HasLinearization-fails h = ⊎_elim older (λ none. ⊎_elim (newer none.0) (λ 
     second = record { number = 3; process = 2; op = Read; invoked = refl }
 
     ended : EndsAt first 2 (Got 1 1)
-    ended = record { later = omega arith; there = refl; own = refl; first = λ k other low high. absurd (omega (arith, low, high)) }
+    ended = ends_next first (Got 1 1) refl refl
 
     ends : EndsAt second 4 (Got 2 0)
-    ends = record { later = omega arith; there = refl; own = refl; first = λ k other low high. absurd (omega (arith, low, high)) }
-
-    no_zero : (n : ℕ) → written_by (linear.event_at new_then_old n) ≡ 0 + 1 → ⊥
-    no_zero zero e = omega (arith, e)
-    no_zero (suc zero) e = omega (arith, e)
-    no_zero (suc (suc zero)) e = omega (arith, e)
-    no_zero (suc (suc (suc zero))) e = omega (arith, e)
-    no_zero (suc (suc (suc (suc zero)))) e = omega (arith, e)
-    no_zero (suc (suc (suc (suc (suc n))))) e = omega (arith, e)
+    ends = ends_next second (Got 2 0) refl refl
 
     older : IsLastWrite new_then_old h.order (h.order.place 3) 0 → ⊥
-    older l = no_zero l.write.number (invokes_write 0 l.write l.it.writes)
+    older l = no_zero new_then_old refl l.write.number (invokes_write 0 l.write l.it.writes)
 
     newer : ((other : Operation new_then_old) (u : ℕ) → IsWriteBefore h.order (h.order.place 3) u other → ⊥) → IsLastWrite new_then_old h.order (h.order.place 1) 1 → ⊥
     newer none l =
@@ -426,23 +437,16 @@ lost_write-fails h = ⊎_elim older (λ none. none.0 write 1 (record { writes = 
     read = record { number = 2; process = 1; op = Read; invoked = refl }
 
     done : EndsAt write 1 (Wrote 0)
-    done = record { later = omega arith; there = refl; own = refl; first = λ k other low high. absurd (omega (arith, low, high)) }
+    done = ends_next write (Wrote 0) refl refl
 
     ends : EndsAt read 3 (Got 1 0)
-    ends = record { later = omega arith; there = refl; own = refl; first = λ k other low high. absurd (omega (arith, low, high)) }
+    ends = ends_next read (Got 1 0) refl refl
 
     first : h.order.place 0 < h.order.place 2
     first = h.in_time write read 1 (Wrote 0) done refl (omega arith) (h.returned read 3 (Got 1 0) ends refl)
 
-    no_zero : (n : ℕ) → written_by (linear.event_at lost_write n) ≡ 0 + 1 → ⊥
-    no_zero zero e = omega (arith, e)
-    no_zero (suc zero) e = omega (arith, e)
-    no_zero (suc (suc zero)) e = omega (arith, e)
-    no_zero (suc (suc (suc zero))) e = omega (arith, e)
-    no_zero (suc (suc (suc (suc n)))) e = omega (arith, e)
-
     older : IsLastWrite lost_write h.order (h.order.place 2) 0 → ⊥
-    older l = no_zero l.write.number (invokes_write 0 l.write l.it.writes)
+    older l = no_zero lost_write refl l.write.number (invokes_write 0 l.write l.it.writes)
 
 -- a read gives 1, and then 1 is written
 abbrev early_read : Events
@@ -456,7 +460,7 @@ early_read-fails h = ⊎_elim later (λ none. not_initial none.1) (h.reads read 
     read = record { number = 0; process = 1; op = Read; invoked = refl }
 
     ends : EndsAt read 1 (Got 1 1)
-    ends = record { later = omega arith; there = refl; own = refl; first = λ k other low high. absurd (omega (arith, low, high)) }
+    ends = ends_next read (Got 1 1) refl refl
 
     is_later : (n : ℕ) → written_by (linear.event_at early_read n) ≡ 1 + 1 → 1 < n
     is_later zero e = absurd (omega (arith, e))
@@ -484,7 +488,7 @@ refused_was_read-fails h = ⊎_elim from_it (λ none. not_initial none.1) (h.rea
     read = record { number = 1; process = 1; op = Read; invoked = refl }
 
     ends : EndsAt read 2 (Got 1 1)
-    ends = record { later = omega arith; there = refl; own = refl; first = λ k other low high. absurd (omega (arith, low, high)) }
+    ends = ends_next read (Got 1 1) refl refl
 
     between : (k : ℕ) (other : Event) → 0 < k → k < 3 → linear.event_at refused_was_read k ≡ Some other → begins_or_ends 0 other ≡ false
     between zero other low high e = absurd (omega (arith, low))
