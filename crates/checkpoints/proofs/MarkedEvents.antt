@@ -7,48 +7,48 @@ use Rattle.checkpoints.specs.declared.mark.Mark.{Mark}
 use Rattle.checkpoints.specs.Reports.{events_with, left_after, reported_events, ReportsOne, IsStepAdded}
 
 -- marks and events give the events of these steps alone, whatever events follow
-abbrev pub IsTold : List Step → List Mark → List Event → Type 0
-IsTold steps marks events = (ss : List Step) (ms : List Mark) (es : List Event) → reported_events (steps ++ ss) (marks ++ ms) (events ++ es) ≡ reported_events steps marks events ++ reported_events ss ms es
+abbrev pub AreFirst : List Step → List Mark → List Event → Type 0
+AreFirst steps marks events = (ss : List Step) (ms : List Mark) (es : List Event) → reported_events (steps ++ ss) (marks ++ ms) (events ++ es) ≡ reported_events steps marks events ++ reported_events ss ms es
 
 -- these marks and events give the events `all` of these steps, also if others follow
-pub record IsToldOf (steps : List Step) (marks : List Mark) (events : List Event) (all : List StepEvents) : Type 0 where
+pub record AreMarksOf (steps : List Step) (marks : List Mark) (events : List Event) (all : List StepEvents) : Type 0 where
   pub reports : reported_events steps marks events ≡ all
-  pub kept : IsTold steps marks events
+  pub kept : AreFirst steps marks events
 
-module _ (steps : List Step) (marks : List Mark) (events : List Event) (s : Step) (mark : Mark) (kept : List Event) (one : StepEvents) (is : IsTold steps marks events) (tells : ReportsOne s mark kept one) where
+module _ (steps : List Step) (marks : List Mark) (events : List Event) (s : Step) (mark : Mark) (kept : List Event) (one : StepEvents) (is : AreFirst steps marks events) (gives : ReportsOne s mark kept one) where
   abbrev pub so_far : List StepEvents
   so_far = reported_events steps marks events
 
-  more_told : reported_events (steps ++ s ∷ []) (marks ++ mark ∷ []) (events ++ kept) ≡ so_far ++ one ∷ []
-  more_told =
+  more_reported : reported_events (steps ++ s ∷ []) (marks ++ mark ∷ []) (events ++ kept) ≡ so_far ++ one ∷ []
+  more_reported =
       is (s ∷ []) (mark ∷ []) kept
       ∙ ap (λ e. so_far ++ events_with s mark e ∷ []) (sym (append-nil kept))
-      ∙ ap (λ e. so_far ++ e ∷ []) (tells []).0
+      ∙ ap (λ e. so_far ++ e ∷ []) (gives []).0
 
-  more_kept : IsTold (steps ++ s ∷ []) (marks ++ mark ∷ []) (events ++ kept)
+  more_kept : AreFirst (steps ++ s ∷ []) (marks ++ mark ∷ []) (events ++ kept)
   more_kept ss ms es =
       ap (λ l. reported_events l ((marks ++ mark ∷ []) ++ ms) ((events ++ kept) ++ es)) (append_assoc steps (s ∷ []) ss)
       ∙ ap (λ l. reported_events (steps ++ s ∷ ss) l ((events ++ kept) ++ es)) (append_assoc marks (mark ∷ []) ms)
       ∙ ap (reported_events (steps ++ s ∷ ss) (marks ++ mark ∷ ms)) (append_assoc events kept es)
       ∙ is (s ∷ ss) (mark ∷ ms) (kept ++ es)
-      ∙ ap (λ e. so_far ++ e ∷ reported_events ss ms (left_after mark (kept ++ es))) (tells es).0
-      ∙ ap (λ l. so_far ++ one ∷ reported_events ss ms l) (tells es).1
+      ∙ ap (λ e. so_far ++ e ∷ reported_events ss ms (left_after mark (kept ++ es))) (gives es).0
+      ∙ ap (λ l. so_far ++ one ∷ reported_events ss ms l) (gives es).1
       ∙ sym (append_assoc so_far (one ∷ []) (reported_events ss ms es))
-      ∙ sym (ap (λ l. l ++ reported_events ss ms es) more_told)
+      ∙ sym (ap (λ l. l ++ reported_events ss ms es) more_reported)
 
-  pub told_one : IsToldOf (steps ++ s ∷ []) (marks ++ mark ∷ []) (events ++ kept) (so_far ++ one ∷ [])
-  told_one = record { reports = more_told; kept = more_kept }
+  pub one_reported : AreMarksOf (steps ++ s ∷ []) (marks ++ mark ∷ []) (events ++ kept) (so_far ++ one ∷ [])
+  one_reported = record { reports = more_reported; kept = more_kept }
 
-pub reported_more : (steps made : List Step) (marks more : List Mark) (events later : List Event) (s : Step) (one : StepEvents) → IsTold steps marks events → made ≡ steps ++ s ∷ []
-    → IsStepAdded s one marks more events later → IsToldOf made more later (reported_events steps marks events ++ one ∷ [])
+pub reported_more : (steps made : List Step) (marks more : List Mark) (events later : List Event) (s : Step) (one : StepEvents) → AreFirst steps marks events → made ≡ steps ++ s ∷ []
+    → IsStepAdded s one marks more events later → AreMarksOf made more later (reported_events steps marks events ++ one ∷ [])
 reported_more steps made marks more events later s one is is_made added =
     let all : List StepEvents = reported_events steps marks events ++ one ∷ [] in
-    subst (λ l. IsToldOf l more later all) (sym is_made) (subst (λ l. IsToldOf (steps ++ s ∷ []) l later all) (sym added.marked)
-    (subst (λ l. IsToldOf (steps ++ s ∷ []) (marks ++ added.mark ∷ []) l all) (sym added.added) (told_one steps marks events s added.mark added.kept one is added.reports)))
+    subst (λ l. AreMarksOf l more later all) (sym is_made) (subst (λ l. AreMarksOf (steps ++ s ∷ []) l later all) (sym added.marked)
+    (subst (λ l. AreMarksOf (steps ++ s ∷ []) (marks ++ added.mark ∷ []) l all) (sym added.added) (one_reported steps marks events s added.mark added.kept one is added.reports)))
 
 -- the events of the first steps are the first events
-pub told_front : (n : ℕ) (steps : List Step) (marks : List Mark) (events : List Event) → reported_events (take n steps) marks events ≡ take n (reported_events steps marks events)
-told_front zero steps marks events = refl
-told_front (suc n) [] marks events = refl
-told_front (suc n) (s ∷ steps) [] events = refl
-told_front (suc n) (s ∷ steps) (mark ∷ marks) events = ap (λ l. events_with s mark events ∷ l) (told_front n steps marks (left_after mark events))
+pub front_reported : (n : ℕ) (steps : List Step) (marks : List Mark) (events : List Event) → reported_events (take n steps) marks events ≡ take n (reported_events steps marks events)
+front_reported zero steps marks events = refl
+front_reported (suc n) [] marks events = refl
+front_reported (suc n) (s ∷ steps) [] events = refl
+front_reported (suc n) (s ∷ steps) (mark ∷ marks) events = ap (λ l. events_with s mark events ∷ l) (front_reported n steps marks (left_after mark events))

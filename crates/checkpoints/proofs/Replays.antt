@@ -51,26 +51,26 @@ module _ {R P : Type 0} (b : Behaviour P) (c d : Configuration R P) (step : Step
   pub step_replayed : d ≡ stepped b c step → replayed b d rest ≡ replayed b c left
   step_replayed after = ap (λ e. replayed b e rest) after ∙ sym (ap (replayed b c) first)
 
-  pub step_reported : d ≡ stepped b c step → (told more : List StepEvents) (one : StepEvents) → one ≡ events_of b c step → more ≡ told ++ one ∷ []
-      → more ++ history b d rest ≡ told ++ history b c left
-  step_reported after told more one is is_more =
-      ap (λ l. l ++ history b d rest) is_more ∙ append_assoc told (one ∷ []) (history b d rest)
-      ∙ ap (λ e. told ++ e ∷ history b d rest) is ∙ ap (λ e. told ++ events_of b c step ∷ history b e rest) after
-      ∙ sym (ap (λ l. told ++ history b c l) first)
+  pub step_reported : d ≡ stepped b c step → (reported more : List StepEvents) (one : StepEvents) → one ≡ events_of b c step → more ≡ reported ++ one ∷ []
+      → more ++ history b d rest ≡ reported ++ history b c left
+  step_reported after reported more one is is_more =
+      ap (λ l. l ++ history b d rest) is_more ∙ append_assoc reported (one ∷ []) (history b d rest)
+      ∙ ap (λ e. reported ++ e ∷ history b d rest) is ∙ ap (λ e. reported ++ events_of b c step ∷ history b e rest) after
+      ∙ sym (ap (λ l. reported ++ history b c l) first)
 
--- a replay of the steps `whole` from `entry` has reached `now` and reported `told`; the steps `left`
--- are still to be made, and give from `now` the rest of what the whole gives
-pub record IsUnderWay {R P : Type 0} (is : R → Behaviour P) (entry now : Configuration R P) (whole left : List Step) (told : List StepEvents) : Type 0 where
+-- a replay of the steps `whole` from `entry` has reached `now` with the events `reported`; the steps
+-- `left` are still to be made, and give from `now` the rest of what the whole gives
+pub record IsUnderWay {R P : Type 0} (is : R → Behaviour P) (entry now : Configuration R P) (whole left : List Step) (reported : List StepEvents) : Type 0 where
   pub register : now.register ≡ entry.register
   pub fit : AllFit (is entry.register) left
   pub config : replayed (is entry.register) now left ≡ replayed (is entry.register) entry whole
-  pub events : told ++ history (is entry.register) now left ≡ history (is entry.register) entry whole
+  pub events : reported ++ history (is entry.register) now left ≡ history (is entry.register) entry whole
 
 -- the first of the steps that are left is made by the register of c, from c to d
-pub goes_on : {R P : Type 0} (is : R → Behaviour P) (entry c d : Configuration R P) (step : Step) (whole left rest : List Step) (told more : List StepEvents) (one : StepEvents)
-    → left ≡ step ∷ rest → d ≡ stepped (is c.register) c step → one ≡ events_of (is c.register) c step → more ≡ told ++ one ∷ []
-    → IsUnderWay is entry c whole left told → IsUnderWay is entry d whole rest more
-goes_on is entry c d step whole left rest told more one first after events is_more so_far =
+pub goes_on : {R P : Type 0} (is : R → Behaviour P) (entry c d : Configuration R P) (step : Step) (whole left rest : List Step) (reported more : List StepEvents) (one : StepEvents)
+    → left ≡ step ∷ rest → d ≡ stepped (is c.register) c step → one ≡ events_of (is c.register) c step → more ≡ reported ++ one ∷ []
+    → IsUnderWay is entry c whole left reported → IsUnderWay is entry d whole rest more
+goes_on is entry c d step whole left rest reported more one first after events is_more so_far =
     let b = is entry.register in
     let goes : d ≡ stepped b c step = after ∙ ap (λ r. stepped (is r) c step) so_far.register in
     let reports : one ≡ events_of b c step = events ∙ ap (λ r. events_of (is r) c step) so_far.register in
@@ -78,10 +78,10 @@ goes_on is entry c d step whole left rest told more one first after events is_mo
       register = ap (λ e. e.register) after ∙ so_far.register;
       fit = rest_fits step left rest first b so_far.fit;
       config = step_replayed b c d step left rest first goes ∙ so_far.config;
-      events = step_reported b c d step left rest first goes told more one reports is_more ∙ so_far.events;
+      events = step_reported b c d step left rest first goes reported more one reports is_more ∙ so_far.events;
     }
 
--- what steps give from a configuration, if each step is an item item holds itself
-pub from_same : {R P T : Type 0} (is : R → Behaviour P) (come_to : Behaviour P → Configuration R P → List Step → T) (c d : Configuration R P) (steps : List Step) → c ≡ d
-    → come_to (is c.register) c (map (λ s. s) steps) ≡ come_to (is d.register) d steps
-from_same is come_to c d steps same = ap (λ e. come_to (is e.register) e (map (λ s. s) steps)) same ∙ ap (come_to (is d.register) d) (map-id steps)
+-- steps give the same from equal configurations, and if each of them is mapped to itself
+pub from_same : {R P T : Type 0} (is : R → Behaviour P) (give : Behaviour P → Configuration R P → List Step → T) (c d : Configuration R P) (steps : List Step) → c ≡ d
+    → give (is c.register) c (map (λ s. s) steps) ≡ give (is d.register) d steps
+from_same is give c d steps same = ap (λ e. give (is e.register) e (map (λ s. s) steps)) same ∙ ap (give (is d.register) d) (map-id steps)
