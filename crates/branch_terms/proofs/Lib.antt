@@ -3,4 +3,4 @@ pub mod LimbLists
 pub mod LimbLaws
 pub mod LimbsLawful
 pub mod LimbsKept
-pub mod LawfulLimbs
+pub mod JudgedLimbs

@@ -44,7 +44,7 @@ cell_in-numbered made d [] less = absurd (omega arith)
 cell_in-numbered made zero (s ∷ ss) less = omega arith
 cell_in-numbered made (suc d) (s ∷ ss) less = cell_in-numbered (suc made) d ss (omega arith) ∙ omega arith
 
--- also after some shared ones
+-- after shared cells, new ones are numbered one by one too
 cell_in-new : (xs : List Slot) (n made d k : ℕ) (steps : List Step) → n ≤ length xs → d < length steps → k ≡ n + d
     → cell_in (take n xs ++ numbered made steps) k ≡ made + d
 cell_in-new xs zero made d k steps few less place =
@@ -60,8 +60,7 @@ cell_in-first [] (suc n) k less = refl
 cell_in-first (x ∷ xs) (suc n) zero less = refl
 cell_in-first (x ∷ xs) (suc n) (suc k) less = cell_in-first xs n k (omega arith)
 
--- two lists of cells that are equal up to each common
--- cell are equal up to places with the same cell
+-- two lists of cells that are equal up to each common cell are equal up to places with that cell
 module _ (xs ys : List Slot) (agree : AreSameUpTo xs ys) (k m : ℕ) (inside : k < length xs) (within : m < length ys)
     (same : cell_in xs k ≡ cell_in ys m) where
   same_up_to : take (suc k) xs ≡ take (suc m) ys
@@ -70,7 +69,7 @@ module _ (xs ys : List Slot) (agree : AreSameUpTo xs ys) (k m : ℕ) (inside : k
       let t = slice_get_some ys m within in
       agree k m s.0 t.0 s.1 t.1 (sym (cell_in_at xs k s.0 s.1) ∙ same ∙ cell_in_at ys m t.0 t.1)
 
-  -- and these are the same places
+  -- a cell that both have is at the same place in both
   same_place : k ≡ m
   same_place =
       let left : length (take (suc k) xs) ≡ suc k = length-take-le (suc k) xs (omega arith) in

@@ -1,5 +1,5 @@
 use Rattle.std.proofs.Common.{refl, sym, ◌∙◌}
-use Rattle.branch_terms.proofs.LawfulLimbs.{goes_on, ends_here, all_lawful}
+use Rattle.branch_terms.proofs.JudgedLimbs.{goes_on, ends_here, all_lawful}
 use Rattle.branch_terms.proofs.limb.are_lawful.Goals as goal
 
 pub loop-index-init : goal.loop-index-init

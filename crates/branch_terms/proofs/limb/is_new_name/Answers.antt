@@ -1,6 +1,6 @@
 use Rattle.std.proofs.Common.{rules, ◌≡◌, true}
 use Rattle.branch_terms.specs.Names.{is_well_formed}
-use Rattle.branch_terms.proofs.LawfulLimbs.{new_if_free}
+use Rattle.branch_terms.proofs.JudgedLimbs.{new_if_free}
 use Rattle.branch_terms.proofs.limb.is_new_name.Goals as goal
 
 pub returns-then-is_well_formed : goal.returns-then-is_well_formed
