@@ -69,8 +69,7 @@ export function putUndo() {
   putButton("#redo", aheadTo(), ["\u21b7 Redo", "\u21b7 Forward", "puts them back (Ctrl+Y)",
     (it) => `forward to ${it} (Ctrl+Y)`]);
 }
-// a tab that is closed says nothing after it is hidden
-// (what is forgotten stays so until it changes)
+// a document that was forgotten is kept again once it changes
 let forgotten = null;
 function keepOpen() {
   if (!isWork(now) || now.document === forgotten) return;
@@ -78,6 +77,7 @@ function keepOpen() {
   keepDocumentOf({ tower, script, title: titleOf(now), when: Date.now() }, true);
 }
 addEventListener("pagehide", keepOpen);
+// a tab that is closed while it is hidden gets no other event
 document.addEventListener("visibilitychange", () => document.hidden && keepOpen());
 export function forgetLeft() {
   forgotten = now.document;

@@ -77,7 +77,7 @@ function scanLine(drawing, reading, [from, to, kind], low) {
   const hit = { class: "hit", d: `M${rounded(x)} ${low}${teeth(right - x)}` };
   return shape("path", { ...(kind === "h" ? hit : line), "data-from": from, "data-to": to });
 }
-// (stretched a little, so that they end where the read does)
+// stretched a little, so that they end with the read
 export function teeth(width) {
   const many = Math.max(1, Math.round(width / 10)), half = rounded(width / many / 2 * 100) / 100;
   return `l${half} -5l${half} 5`.repeat(many);

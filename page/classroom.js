@@ -35,7 +35,7 @@ async function judgedAll(texts) {
   return found;
 }
 const isDone = ({ met }) => met.length > 0 && met.every(Boolean);
-// (a file on another tower meets no goal, whatever its own goals say)
+// a file on another tower meets no goal, whatever its own goals say
 function towerCell({ isOn, line, judge }) {
   const [, other = ""] = judge.tower.split("\n");
   const said = line === other ? "not as the exercise begins" : `not the exercise's ${other}`;
@@ -48,7 +48,7 @@ function predictedCell({ predicted }) {
 }
 function cellsOf(it, many, open) {
   const given = { "data-class": it.name }, words = it.student || it.name;
-  // (a damaged file has nothing to open)
+  // a damaged file has nothing to open
   const named = it.isDamaged ? element("span", given, words)
     : element("button", { ...given, onclick: open }, words);
   const name = element("td", {}, named, it.student && element("small", {}, ` ${it.name}`));

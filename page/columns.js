@@ -64,7 +64,7 @@ function axisOf(branches, room) {
 // `scrolled` is where the picture is scrolled to, `cells` how many lines of pages a place takes.
 export function findColumns(branches, { room, scrolled, place, isFollowing, cells }) {
   const axis = axisOf(branches, room), { column } = axis, x = axis.left(place);
-  // (as far as the picture scrolls)
+  // the greatest left end to which the picture scrolls
   const farthest = Math.max(0, axis.left(lengthOf(branches)) + MARGIN - room);
   const centred = Math.max(0, Math.min(x - room / 2, farthest)), isWhole = farthest === 0;
   let left = isWhole ? 0 : axis === now.range.axis ? scrolled : centred;

@@ -63,7 +63,7 @@ function stepButtons(it, does) {
   if (isIdle && shape.reads(p)) buttons.push(step("read", `r ${p}`));
   if (it.isHit) buttons.push(give(0), give(1));
   else if (it.action) buttons.push(step("step", `g ${p} 0`), end());
-  // (at the far end, so that it never lies where another button was a moment ago)
+  // at the far end, so that it never lies where another button was a moment ago
   return [...buttons, step("stop", `x ${p}`, { title: STOP_TITLE, class: "stop-it" })];
 }
 function row(it, does) {
@@ -157,7 +157,7 @@ export function putDeck(does) {
   Object.assign(one("#place"), { max: branch.length, value: place });
   one("#next").textContent = nextWords();
   if (!isSaying("message", "refusal", "awaits")) sayWhatIs(found.filter((it) => it.isHit), does);
-  // (a number that is being typed stays)
+  // numbers that are being typed stay
   const inputs = [...one("#processes").querySelectorAll("input")];
   const typed = inputs.map((it) => [it.dataset.key, it.value]);
   one("#processes").replaceChildren(...found.map((it) => row(it, does)));

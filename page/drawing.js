@@ -99,7 +99,7 @@ export class Drawing {
     });
     return this.strip("chips", [textAt("steps", 10, 21, "role")], drawn, CHIP);
   }
-  // (a narrow step has a part of its words, or none)
+  // a narrow step has a part of its words, or none
   chip(step, words, isChosen) {
     const column = this.width(step), isWide = column >= WORDY, room = column - 6;
     const [what, process, number] = words.split(" "), short = what === "g"

@@ -52,7 +52,7 @@ class Figure {
       button("a step on", "\u25b6", () => this.by(1)), this.at);
     this.pause();
   }
-  // (if there is less room, the place stays in sight)
+  // if there is less room, the place stays in sight
   async put(place) {
     await this.draw(place);
     this.drawn.scrollLeft = this.drawn.scrollWidth;
@@ -68,7 +68,7 @@ class Figure {
     const rows = await picture(model, branch, this.place, Math.max(LEAST_WIDTH, wide));
     if (turn === this.turn) drawn.replaceChildren(...rows);
   }
-  // (nothing while a prediction is asked for)
+  // no explanation while a prediction is asked for
   explain({ target }) {
     const read = target.closest(".operation.read");
     if (!read || target.closest(".covered")) return;
@@ -121,7 +121,7 @@ export async function putFigure(target, lesson, enter, enterBoth) {
     onclick: () => enterBoth(part, branch.length, second) }, `Next to ${second}`);
   figure.row.append(element("span", { class: "gap" }), ...[both, open].filter(Boolean));
   const fold = (words, ...its) => element("details", {}, element("summary", {}, words), ...its);
-  // (of a long schedule the text says more at a glance)
+  // the text of a long schedule says more at a glance than its picture
   if (branch.length > LONG_SCHEDULE)
     target.replaceChildren(text,
       fold(`as a picture, ${branch.length} steps`, figure.row, figure.drawn, figure.why));

@@ -12,7 +12,7 @@ export function framesIn(line) {
   return frames.every(Boolean)
     ? { process: Number(process), frames, isStopped: Boolean(stopped) } : null;
 }
-// (most places have the same few frames)
+// most places have the same few frames
 function frameOf(words) {
   if (!MADE.has(words)) MADE.set(words, madeFrame(words));
   return MADE.get(words);

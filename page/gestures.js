@@ -60,7 +60,7 @@ function clear() {
 }
 function add(commands) {
   const { isJoined, isAtCursor, name, place } = here(), [first] = commands;
-  // (a search begins where the page is, and not at a cursor elsewhere)
+  // a search begins at the place in sight, not at a cursor elsewhere
   const isElsewhere = ["seek", "back"].includes(first) && !isAtCursor;
   const before = [...(isJoined ? [] : ["join"]), ...(isElsewhere ? [`go ${name} ${place}`] : [])];
   const whole = [...before, ...commands];
@@ -83,12 +83,12 @@ export function begin(tower, script, { lesson = null, who, opened, way = "", und
       await change(next);
       leave();
       putUndo();
-      // (keys go to a process that waits for a choice)
+      // keys now go to a process that waits for a choice
       const asked = processesHere().find((it) => it.isHit);
       if (asked) does.choose(asked.number);
     } catch (fault) {
       setNow(before);
-      // (the address keeps what it has)
+      // the address stays as it was
       if (!now.model) await change(Document.of(EMPTY_TOWER, "0 join\n")).then(leaveAddress);
       putTyped(tower, script);
       throw fault;
@@ -139,7 +139,7 @@ const withLines = (lines) => new Document(now.document.tower, lines, now.documen
 function predictedLine(number, words) {
   return `# predicted${number ? ` ${number}` : ""}: ${words.trim().replace(/\s+/g, " ")}`;
 }
-// (what was there when it was opened is what options are judged on)
+// options are judged on the document as it was opened
 function withPredicted(line) {
   const { lines } = now.document, start = task().start ? "" : startLine(openedLines());
   return withLines(headed(start ? headed(lines, start) : lines, line));

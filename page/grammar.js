@@ -5,7 +5,7 @@ export const SESSIONS = 16, MOST_NAME = 16, MOST_BYTES = 255, MOST_DIGITS = 9;
 export const NUMBER = `(?:0|[1-9][0-9]{0,${MOST_DIGITS - 1}})`;
 export const NAME = `[a-z][a-z0-9]{0,${MOST_NAME - 1}}`;
 export const STEP = `w [0-9] ${NUMBER}|r [0-9]|g [0-9] [01]|x [0-9]`;
-// (of a number that is typed the program says what is wrong with it)
+// any number may be typed, as the program says what is wrong with it
 export const TYPED_STEP = "w [0-9] [0-9]+|r [0-9]|g [0-9] [01]|x [0-9]";
 export const whole = (pattern) => new RegExp(`^(?:${pattern})$`);
 // what follows each command's name

@@ -23,7 +23,7 @@ export function keptDocuments() {
     return JSON.parse(stored(DOCUMENTS) || "[]").filter(isDocument);
   } catch { return []; }
 }
-// (an earlier version of a document that is still open is replaced)
+// an earlier version of a document that is still open is replaced
 export function keepDocumentOf({ tower, script, title, when }, isOpen = false) {
   if (tower.length + script.length > MOST_TEXT) return;
   const isOlder = (it) => it.script === script || (isOpen && script.startsWith(it.script));

@@ -57,7 +57,7 @@ function gestureOf({ key: name, ctrlKey, metaKey }) {
   if (ctrlKey || metaKey) return heldKeys[name];
   return /^[0-9]$/.test(name) ? () => digit(name) : keys[name];
 }
-// (a key waits for what the last one does, as its meaning depends on that)
+// a key waits until the last one is done, as its meaning depends on that
 let lastKey = Promise.resolve();
 function press(event) {
   const { target, shiftKey } = event;

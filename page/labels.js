@@ -115,7 +115,7 @@ function ofNumber(facts, it) {
   return [`scan up to bit ${found}: ${noun}${found}${about(found)}`, `scan: ${noun}${found}`,
     `= ${found}`];
 }
-// (a bit is named by its place in the number, if there is one)
+// a bit is named by its place in the number, if there is one
 function ofBit(facts, it) {
   const index = it.within?.index ?? "", name = index === "" ? "" : `bit ${index} `;
   if (it.isWrite) {

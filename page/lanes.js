@@ -19,7 +19,7 @@ export class Lanes {
     return depthOf ? layers.slice(0, depthOf(process)) : [];
   }
   hasBits(process) { return this.layersAt(process).includes("regular"); }
-  // (many bits have long numbers, which go below their ticks)
+  // many bits have long numbers, which go below their ticks
   hasLong(process) {
     const { hasTexts, tower } = this.drawing;
     return hasTexts && tower.cells > SHORT_BITS && !this.hasBits(process);
@@ -121,7 +121,7 @@ export class Lanes {
     for (; x + width * 0.9 <= begin + room - 4; x += every) texts.push(textAt(shown, x, y, kind));
     return texts;
   }
-  // (many refusals one after the other are said once)
+  // equal refusals one after the other are written once
   refused({ process, refusal, ended }, end, top) {
     const { drawing, reading } = this, words = `refused: ${refusal}`, width = widthOf(words, 13);
     const near = ended - Math.ceil(width / drawing.column);

@@ -135,7 +135,7 @@ export class Facts {
   numbersAt(register, place, written) {
     const { size, readers } = this.codes, bits = this.page("state", place)?.bits || "";
     const inWork = this.bitInWork(register, place);
-    // (each place of each register asks this)
+    // kept short, as it is called for each place of each register
     const firstOne = (copy, value) => {
       for (let index = 0; index < size; index++) {
         const cell = register.cell + copy + index * readers;

@@ -4,7 +4,7 @@ const MARK = "#z", MOST = 4000000;
 const LESSON = /^#lesson-(\d+)$/;
 export const DAMAGED = "This link is damaged: a part of it is missing or changed, so its " +
   "document can't be opened. Ask for it again, or copy all of it.";
-// (read part by part, as Firefox reports on its console if all of a damaged stream is asked for)
+// read part by part, as Firefox reports on its console if all of a damaged stream is asked for
 async function through(bytes, { writable, readable }) {
   const writer = writable.getWriter(), reader = readable.getReader(), parts = [];
   for (const done of [writer.write(bytes), writer.close()]) done.catch(() => null);

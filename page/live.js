@@ -1,5 +1,5 @@
 // The page as it begins: each event of it does a gesture, and then its first document is opened.
-// (engine.js is the first, as it takes the page's text before others put anything into it)
+// engine.js comes first, as it takes the page's text before others put anything into it
 import { packedData } from "./engine.js";
 import { act, isSaying, say } from "./acting.js";
 import { closeMenu, openMenu } from "./deck.js";
@@ -20,7 +20,7 @@ import { showTab, watchText } from "./text.js";
 import { watchWords } from "./words.js";
 
 watchKeys();
-// (without a document there is little to do)
+// without a document only these commands work
 function command(name, branch) {
   if (!now.model && !["stop", "help", "theme"].includes(name)) return;
   commands[name](branch || (now.model && here().name));
@@ -34,7 +34,7 @@ async function openMenuAt(branch, step) {
 addEventListener("click", ({ target, clientX }) => {
   const at = (selector) => target.closest(selector), branch = at(".panel")?.dataset.branch;
   if (!at("#menu")) closeMenu();
-  // (a lesson's picture isn't that of the document: figures.js says what its reads gave)
+  // figures.js explains the reads of a lesson's pictures, which aren't of the document
   if (at(".drawn-here")) return;
   if (at("[data-study]")) study(at("[data-study]").dataset.study);
   else if (at("[data-do]")) command(at("[data-do]").dataset.do, branch);

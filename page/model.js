@@ -18,7 +18,7 @@ const ROOM = 65536, MORE_ROOM = ["--cells", "16777216"];
 // how many pages were asked for, in how many runs, and how many lines these wrote in all
 export const spent = { pages: 0, runs: 0, lines: 0 };
 const countLines = (text) => text.split("\n").length - 1;
-// (only the branches' next version is saved, as that of a large document takes time)
+// `isSaved` asks for the branches' next version too, which takes time if the document is large
 async function answered(ask, tower, script, isSaved = false) {
   const isBig = tower.length > ROOM && tower.split("\n").length - 3 > ROOM;
   const made = await ask(tower, script, { isSaved, ...(isBig ? { words: MORE_ROOM } : {}) });
@@ -60,7 +60,7 @@ export class Model {
   }
   constructor(document, ask, { bench, tower, branches }, pages) {
     const shape = shapeOf(tower), codes = new Codes(shape);
-    // (`sought`: the looks of the picture)
+    // `sought`: the looks that the picture asks for
     Object.assign(this, { document, ask, bench, tower, branches, pages, shape, codes });
     Object.assign(this, { notes: [], sought: [] });
     this.byName = new Map(branches.map((it) => [it.name, it]));
@@ -70,7 +70,7 @@ export class Model {
     const { document } = this, count = document.lines.length;
     this.answers = found.slice(0, count);
     this.cursors = EVERY_SESSION.map((who) => this.cursorOf(found[count + who]));
-    // (the page branches: what its first line says, and each branch)
+    // the page `branches`: its first line, and a line for each branch
     const { first = "", lines = [] } = found[count + SESSIONS] || {};
     this.branchLines = [first.replace(/^[0-9]+: /, ""), ...lines];
     const wordsOf = (it, index) => it && refusalOf(it.first, document.lines[index]);
@@ -120,7 +120,7 @@ export class Model {
     const branch = this.branch(old.name);
     return branch ? firstDifference(old, branch, 0) : -1;
   }
-  // (what branches share has one page)
+  // branches that share their steps up to a place share its page
   key(kind, name, place) { return `${kind} ${this.branch(name).owner(place).name} ${place}`; }
   page(kind, name, place) { return this.pages.get(this.key(kind, name, place)); }
   // gets those of these pages that aren't there yet; each is a kind, a branch's name and a place
@@ -151,7 +151,7 @@ export class Model {
 // How many of these steps a process needs to the end of its operation, or to a choice; null if
 // neither comes.
 export async function stepsToEnd({ ask, bench }, commands, at, process, many) {
-  // (an edit takes a session that can join)
+  // an edit needs a session that can join
   const end = `${LOOK} history ${at.name} ${at.place + many}`;
   const lines = [...commands.map((it) => `0 ${it}`), end];
   const found = answersIn((await answered(ask, bench, linesOf(lines))).output).at(-1);

@@ -104,7 +104,7 @@ function processIn(line) {
   return { number: Number(number), kind, doing, value, isStopped: Boolean(stopped), action,
     bit: bit && Number(bit) };
 }
-// (equal texts are the same text, so that comparing them takes no time)
+// equal texts are one object, so that comparing them takes no time
 const CELLS = new Map();
 const oneText = (words) => CELLS.get(words) || CELLS.set(words, words).get(words);
 // what each kind of page is at first, and how it takes a line, if it knows it

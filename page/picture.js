@@ -25,7 +25,7 @@ export function shown() {
 }
 const isComparing = () => now.view.show.startsWith("compare ");
 const roomOf = () => Math.max(LEAST_ROOM, scroll.clientWidth - LABEL);
-// (of many bits the page of bits is asked for only while some of a branch's are unfolded)
+// if there are many bits, their page is asked for only while some of a branch's are unfolded
 const MANY_CELLS = 64;
 function needsBits({ name }) {
   const { shape, codes: { registers } } = now.model;
@@ -65,7 +65,7 @@ function panelsInSight(drawn) {
 }
 function branchesOfTree() {
   const { branches } = now.model, { open: isOpen, dataset } = one("#tree-fold");
-  // (of many branches the tree is folded at first)
+  // the tree of many branches is folded at first
   if (branches.length < 2 || (branches.length > MOST_TREE && !(isOpen && dataset.many))) return [];
   return branches.filter((it) => isInSight(it.index * TREE_ROW, (it.index + 1) * TREE_ROW));
 }
@@ -83,7 +83,7 @@ export async function look(isFollowing) {
   for (const kind of ["state", "pending", ...(areBitsShown() ? ["bits"] : [])])
     looks.push([kind, name, place], [kind, name, Math.max(0, place - 1)]);
   await model.look(looks);
-  // (whether a read is hit is on the page of bits alone)
+  // only the page of bits says whether a read is hit
   const isEnding = ({ action }) => action === "re";
   if (model.page("state", name, place)?.processes.some(isEnding))
     await model.look([["bits", name, place]]);
@@ -163,7 +163,7 @@ function putPanel(section, branch, drawing, frame, { asked, groups, above, diffe
   const isOther = (it) => it.name === branch.name && it.who !== who;
   const cursors = model.cursors.map((it, at) => ({ ...it, who: at })).filter(isOther);
   section.style.minHeight = now.inSight.has(branch) ? "" : `${heightOf(branch)}px`;
-  // (what is made of the same things is left as it is)
+  // a panel made from equal things is left as it is
   const kept = [parts[0].held, frame, asked, above, differing, cursors, depthKey(), [...groups]];
   const made = [reading, JSON.stringify(kept), now.inSight.has(branch)];
   if (section.made && made.every((it, index) => it === section.made[index])) return;
@@ -225,7 +225,7 @@ function putPanels(drawing, frame, asked) {
     putPanel(section, it, drawing, frame, { groups, asked: isAsked ? asked : [],
       above: isComparing() ? 0 : Math.max(0, ...cells), differing: differenceOf(it, drawn) });
   });
-  // (measured once all are drawn, so that the page is laid out once)
+  // measured once all are drawn, so that the page is laid out once
   for (const it of inSight) heights.set(it.name, panels.children[drawn.indexOf(it)].offsetHeight);
 }
 // brings the panel of the cursor in sight, if it is another one than before
@@ -296,7 +296,7 @@ function lightStory(section, { process }, story) {
     const box = [...(row?.querySelectorAll(".box") || [])].find(isThere);
     row?.classList.add("lit");
     box?.classList.add("lit", ...(hasCode ? ["source"] : []));
-    // (a cell shows the cursor's place, at which it may hold another number)
+    // a cell shows its number at the cursor's place, which may be another one
     if (hasCode) one(`[data-register="${name}"][data-code="${code}"]`)?.classList.add("lit");
   }
   authorOf(section, story)?.classList.add("source");

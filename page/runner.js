@@ -38,7 +38,7 @@ export class Runner {
         finish(failure(fault));
       };
       this.worker.onmessage = ({ data }) => finish(data);
-      // (as when the browser has no memory left for the worker)
+      // for example if the browser has no memory left for the worker
       this.worker.onerror = (event) => {
         event.preventDefault();
         this.end("The program's worker failed.");
@@ -58,7 +58,7 @@ export class Runner {
     }).catch((error) => failure(`The program couldn't be begun: ${error.message}`));
     return this.last;
   }
-  // (those that wait are dropped too)
+  // drops the runs that wait too
   stop() {
     this.stops++;
     if (this.end) this.end(STOPPED);

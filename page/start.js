@@ -9,7 +9,7 @@ async function start() {
   if (typeof WebAssembly === "undefined" || typeof DecompressionStream === "undefined")
     throw new Error(TOO_OLD);
   const { code, ...contents } = await (await unpacked("contents")).json();
-  // (the page as it was opened, before anything is put into it)
+  // the page as it was opened, before anything was put into it
   const source = `<!DOCTYPE html>\n${document.documentElement.outerHTML}`;
   globalThis.towerbench = { source, contents, unpacked };
   const script = document.createElement("script");

@@ -38,7 +38,7 @@ export function readInside(model, branch, from, to, end = to) {
   reading.facts = new Facts(new Layers(reading, page), model.codes);
   return reading;
 }
-// (of a tower of many bits one layer is drawn, and its numbers are folded)
+// a tower of many bits is drawn with one layer, its numbers folded
 function stillDrawing({ shape: tower, codes }, range) {
   const isSmall = tower.cells <= FEW_CELLS, depth = isSmall ? layersOf(tower).length : 1;
   return { isSmall, drawing: new Drawing(range, tower, { codes, depthOf: () => depth }) };
@@ -69,7 +69,7 @@ function headStrip(drawing, branch, x) {
   const about = shape("text", { x, y: 24, class: "role" }, aboutBranch(branch));
   return drawing.strip("head", [name], [about], 34);
 }
-// (a branch whose parent isn't drawn begins at the left)
+// a branch whose parent isn't drawn begins at the left
 function drawnIn({ name, length, parent, shared }, branches) {
   const index = branches.indexOf(parent);
   return { name, length, parent: { index }, shared: index < 0 ? 0 : shared };

@@ -95,7 +95,7 @@ function lastRow(lessons, lesson) {
     `Next lesson: ${next.title} \u25b6`);
   return element("p", { class: "next-lesson" }, button || "This is the last lesson.");
 }
-// (`data-drawn`: nothing moves any more)
+// `data-drawn` says that nothing moves any more
 async function putFigures(article, put) {
   const figures = [...article.querySelectorAll("figure")];
   delete article.dataset.drawn;
@@ -115,7 +115,7 @@ export function putStudy(folder, begin, { isAnswered = false, ask } = {}) {
   article.append(lastRow(lessons, lesson));
   document.body.classList.add("studying");
   one("#study").hidden = false;
-  // (on a phone the list is one row)
+  // on a phone the list is one row
   one("#study-list [aria-current]").scrollIntoView({ block: "nearest", inline: "nearest" });
   one("#study-scroll").scrollTop = 0;
   scrollTo(0, 0);

@@ -53,7 +53,7 @@ function goalRow(goal, isMetNow) {
   return element("li", { ...look, title: goal.text }, element("b", {}, `${sign} `),
     withWords(inWords(goal)));
 }
-// (a text has what is typed in backquotes: a command is a button that adds it to the script)
+// backquotes enclose what is typed: a command becomes a button that adds it to the script
 export function withCommands(text, does) {
   return text.split("`").flatMap((it, index) => {
     const [, command] = (index % 2 && COMMAND.exec(it)) || [];

@@ -38,7 +38,7 @@ function programPage({ kind, lines, was }, at) {
   const marked = (it, index) => [it === was[index] ? it : element("mark", {}, it), "\n"];
   return [element("h3", {}, `${kind} ${at}`), element("pre", given, lines.flatMap(marked))];
 }
-// (of a tower of many bits the program's pages are folded, until somebody unfolds them)
+// the program's pages of a tower of many bits are folded, until somebody unfolds them
 function programPages(pages) {
   const isUnfolded = one("#here details")?.open ?? now.model.shape.cells <= FEW_CELLS;
   return element("details", { open: isUnfolded && "" },
@@ -50,7 +50,7 @@ function putScript() {
   const look = (it) => ({ class: "wrong", title: refused.get(it) });
   const number = (it) =>
     (refused.has(it) ? element("span", look(it), `\u2715${it}\n`) : `${it}\n`);
-  // (what a person is typing isn't touched)
+  // text that is being typed isn't touched
   if (!typing && script.value !== text) script.value = text;
   if (!typing && file.value !== tower) file.value = tower;
   if (!isOpen("text")) return;
@@ -147,7 +147,7 @@ export function watchText(changed) {
   const typed = (pause) => {
     clearTimeout(typing);
     typing = setTimeout(async () => {
-      // (text typed meanwhile isn't lost)
+      // text typed meanwhile isn't lost
       const mine = typing, isTaken = await changed(Document.of(file.value, script.value));
       if (typing === mine) typing = isTaken ? 0 : -1;
     }, pause);

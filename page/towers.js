@@ -53,7 +53,7 @@ export function shapeOf(line) {
   const indexOf = (name) => fields.findIndex((it) => it.name === name);
   const number = (name, otherwise) => numbers[indexOf(name)] ?? otherwise;
   const readers = number("READERS", 1), cells = bits(...numbers), side = isMatrix ? numbers[0] : 0;
-  // (`size` is how many codes a number has, `tagged` how many of them have one stamp)
+  // `size` is how many codes a number has, `tagged` how many of them have one stamp
   const size = { unary: numbers[0], stamped: cells, matrix: cells / side ** 2 }[kind] || 0;
   const tagged = isMatrix ? size / (number("INNER") + 1) : 0;
   return { kind, cells, values: number("VALUES", 2), side, readers, size, tagged,

@@ -30,7 +30,7 @@ export async function lookIntoRead() {
   if ((to - read.begun) * model.shape.cells > MOST_STORY_LINES) return;
   await model.look(between(read.begun, to + 1)
     .flatMap((place) => [["state", name, place], ["pending", name, place]]));
-  // (its events are on the history of the columns in sight)
+  // its events are on the history of the columns in sight
   const page = (kind, at) => model.page(kind, name, at);
   const reading = new Reading(branch, read.begun, to, page, end);
   const layers = new Layers(reading, page);
