@@ -264,7 +264,7 @@ def compared(listed, question, its):
 def fault_of_random(bench, question, listed, count):
     """Returns how `count` random schedules differ from what is listed, or None."""
     rng = random.Random(f"{SEED} {question.text}")
-    # (at least as long as any operation in a listed schedule)
+    # No operation in a listed schedule is longer
     most = max(
         [
             sum(s.startswith(f"g {p} ") for s in it.steps)

@@ -208,7 +208,7 @@ def event_of(line):
     if kind == "invoke":
         return Event(int(p), READ, None) if rest == "read" else Event(int(p), WRITE, int(written))
     if kind == "refused":
-        # (a step that isn't enabled is refused too)
+        # A step that isn't enabled is refused too
         return Event(int(p), REFUSED, None) if rest.startswith("spent") else None
     return Event(int(p), WROTE, None) if rest == "written" else Event(int(p), GOT, int(got))
 

@@ -42,8 +42,8 @@ def build(crate):
         begun = time.time_ns()
         words = ["rt", "test"]
         subprocess.run(words, cwd=f"{TOP}/crates/{crate}", stdout=subprocess.DEVNULL, check=True)
-        # (if the newer source is none of theirs `rt` leaves them as they are; and sources edited
-        # meanwhile are newer than they are)
+        # If the newer source is none of theirs `rt` leaves them as they are; and sources edited
+        # meanwhile are newer than they are
         os.utime(tests_of(crate), ns=(begun, begun))
     return tests_of(crate)
 

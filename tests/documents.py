@@ -69,7 +69,7 @@ def files():
     listed = subprocess.run(asked, capture_output=True, text=True, check=False) if has_git else None
     found = listed.stdout.split("\n") if listed and listed.returncode == 0 else []
     if not found:
-        # (a copy of the repository that isn't one)
+        # The files of a copy without git's folder
         made = {"out", ".git"}
         inside = [(at, its) for at, _, its in os.walk(".") if not made & set(at.split("/"))]
         found = [f"{at}/{it}"[2:] for at, its in inside for it in its]
@@ -188,7 +188,7 @@ def quote_fault(block):
         return f"there is no {block.about}"
     source, at = cases.read(block.about).decode(), 0
     for part in "\n".join(block.lines).split(f"\n{LEFT_OUT}\n"):
-        # (a quote has whole lines)
+        # A quote has whole lines
         found = f"\n{source}".find(f"\n{part}\n", at)
         if found < 0:
             return f"{block.about} doesn't have, in this order: {part.strip().splitlines()[0]}"
@@ -217,7 +217,7 @@ def faults_of_text(line, document, crate):
     """Returns the faults of a line of the text, in a section about the crate."""
     found = [fault_of_span(it, crate) for it in SPAN.findall(line)]
     if document == definitions.PAGE and line.startswith("|"):
-        # (a fault of a span is reported once)
+        # A fault of a span is reported once
         found += [it for it in definitions.faults_of_row(line, crate) if it not in found]
     links = [it for it in LINK.findall(line) if "://" not in it]
     folder = os.path.dirname(document)

@@ -81,7 +81,7 @@ def judged(program, names, tried):
     with tempfile.TemporaryDirectory() as temporary:
         shutil.copytree(f"{TOP}/page", f"{temporary}/page")
         shutil.copy(f"{TOP}/tests/pages/goals.mjs", temporary)
-        # (so that node takes each file for a module)
+        # Node then takes each file for a module
         with open(f"{temporary}/package.json", "w", encoding="ascii") as file:
             file.write('{ "type": "module" }')
         done = subprocess.run(

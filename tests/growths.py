@@ -184,7 +184,7 @@ class Answers:
             if came == ample or (not is_whole and ample.startswith(came)):
                 break
             own = ample[: len(ample) - len(self.rest(k + 1, left_out))]
-            # (a line that calls nothing isn't refused memory)
+            # A line that calls nothing can't be refused memory
             refusal = line.split()[0] + REFUSED if own and not own.startswith(b"line ") else None
             if refusal and (
                 came.startswith(refusal) or (not is_whole and refusal.startswith(came))
@@ -208,7 +208,7 @@ def fault_of_run(ran, answers, refused):
     if ran.status != 1 or refused == 0:
         return "no such end"
     if MEMORY.search(ran.errors):
-        # (one growth more was refused at its end)
+        # The last growth in the count was refused after the last line
         return answers.fault(ran.output, False, refused - 1)
     if ran.output or not UNOPENED.search(ran.errors):
         return "no such fault"
@@ -233,7 +233,7 @@ def fault_of_save(case, ran):
 
 def fault_of_script(trial, program, refuse, scratch):
     """Refuses each growth of a case's run in turn; returns what is wrong, or None."""
-    # (other trials of the case make its files side by side)
+    # Other trials of the case make the same files at the same time
     temporary = tempfile.mkdtemp(dir=scratch)
     case = cases.case_of(trial.name, temporary)
     words = [*trial.words, *case.words]

@@ -97,7 +97,7 @@ def quotes_faults(page, name, lines):
     for line in lines:
         if is_command(line):
             command, answer = line, iter(next(rest, ()))
-        # (a quoted line is looked for after the one before it)
+        # Each quoted line is looked for after the one before it
         elif line not in answer:
             yield f"{name}: `{command}` doesn't answer this here: {line}"
 

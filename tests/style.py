@@ -70,7 +70,7 @@ def counts():
     """Returns how often each part has each habit."""
     found = collections.Counter()
     for path in documents.files():
-        # (the gate's copy has this turn's wrong bodies twice)
+        # The gate's copy has this turn's wrong bodies twice
         is_twice = (
             os.path.exists(path.replace("/must-fail/", "/must-fail-in-turn/"))
             and "/must-fail/" in path

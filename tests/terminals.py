@@ -42,7 +42,7 @@ def run_at_terminal(words, end):
     """Types a line and an end at a terminal of its own; returns the output, and how it ended."""
     process, terminal = pty.fork()
     if process == 0:
-        # (a shell has its jobs in the background ignore Ctrl-C)
+        # Jobs in the background of a shell ignore Ctrl-C
         signal.signal(signal.SIGINT, signal.SIG_DFL)
         os.execv("./towerbench", ["./towerbench", *words])
     os.write(terminal, TYPED)

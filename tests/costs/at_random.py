@@ -154,7 +154,7 @@ def resident(steps, room):
     for count in LENGTHS[1:]:
         words = [runs.tower("safe 0", steps, count, room), *WORDS]
         look, taken = f"0 state main {count}\n", []
-        # (a refused fork has a log entry, and nothing else; plain Rust's program has no log)
+        # A refused fork has a log entry, and nothing else; plain Rust's program has no log
         for line in (f"0 fork main {count} a%d\n", "0 fork main 0 main\n"):
             forks = "".join(line.replace("%d", str(i)) for i in range(MANY))
             _, before, after = residents(words, [look, forks])

@@ -46,7 +46,7 @@ def fills_apart(room):
     path = tower(line, TOWERS[line], count, room)
     others = [f"b{k}" for k in range(7)]
     apart = "".join(f"0 fork main {count} {name}\n0 detach {name}\n" for name in others)
-    # (a fill of 64 rounds stores 64 runs of each branch, and a branch has some 98 or up to twice as many segments)
+    # A fill of 64 rounds stores 64 runs of each branch, and a branch has some 98 or up to twice as many segments
     script = apart + "0 fill main\n" * 4
 
     def spent(workers, text):

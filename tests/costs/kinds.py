@@ -5,7 +5,7 @@ from costs.runs import PAD, SHORT_WRITES, heap_at_reads
 
 WORDS = ["--cells", "2000000", "--branches", "1024"]
 LENGTHS = (10_000, 100_000, 1_000_000)
-# (a fill stores at most 64 runs of a branch, and these need no more)
+# A fill stores at most 64 runs of a branch, and these need no more
 FILLED = (2_000, 4_000, 8_000)
 SHARED, FORKS = 100_000, (250, 500, 1_000)
 FRONT, FEW_FORKS = 20_000, (50, 100, 200)
@@ -112,7 +112,7 @@ def of_shared_steps(kind):
 
 def bytes_of_a_fork(kind):
     for k in FORKS:
-        # (a refused fork has a log entry, and nothing else; the plain program has no log)
+        # A refused fork has a log entry, and nothing else; the plain program has no log
         scripts = forked(SHARED, k), "0 fork main 0 main\n" * k
         taken = [
             heap_at_reads([kind.path(SHARED), *WORDS], PAD + it + PAD, kind.room) for it in scripts

@@ -22,7 +22,7 @@ def answered(command, pieces):
     with subprocess.Popen(command, **how) as program:
         for piece in ["", *pieces]:
             lines = piece.splitlines(True)
-            # (the program waits to be read if it has answered more than a pipe holds)
+            # The program waits for its reader once its answers fill a pipe
             for first in range(0, len(lines) or 1, MOST_LINES):
                 part = lines[first : first + MOST_LINES]
                 is_last = first + MOST_LINES >= len(lines)

@@ -64,7 +64,7 @@ def plain_steps(table):
         page, fill = f"0 state main {first + 11}\n", "".join(
             f"0 state main {place}\n" for place in range(2, 68, 2)
         )
-        # (now and then the lens rebuilds its table, which costs more than the steps: so the middle one of seven)
+        # The middle one of seven, as the lens sometimes rebuilds its table, which costs more than the steps
         places = range(first + 11, first + 124, 16)
         figures = [
             instructions([path], page + f"0 state main {place}\n{fill}" * 20, table.room)
@@ -75,8 +75,8 @@ def plain_steps(table):
 
 
 def plain_first_looks(table):
-    # (plain Rust has no figures of a fill and a seek: so they are compared with those of a first look, which stores as much, and of a
-    # replayed step; a fill stores 64 runs of a branch at most, and 8,000 steps are 63 segments)
+    # Plain Rust has no figures for a fill and a seek: they are compared with a first look, which stores as much, and with a
+    # replayed step; a fill stores 64 runs of a branch at most, and 8,000 steps are 63 segments
     count, most = 10_000, 8_000
     for line, of_plain in PLAIN_FIRST_LOOK.items():
         path = table.file_of(line, TOWERS[line], count, "first")

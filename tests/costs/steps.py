@@ -28,7 +28,7 @@ def steps(room):
                 (instructions([path], page, room) - instructions([path], "", room)) / count
             )
         path = tower(line, varied(cycle, count), count, room)
-        # (each look is at another run than the 32 before it, of which the lens may keep places)
+        # No look is at a run of one of the 32 looks before it, of which the lens may keep places
         rounds = (
             "".join(f"0 state main {128 * k + place}\n" for k in range(80)) * 3
             for place in (11, 111)
@@ -49,9 +49,9 @@ def operations(room):
         figures = []
         for first in (0, count // 256 * 128, (count // 128 - 1) * 128):
             page, other = f"0 state main {first + 11}\n", 0 if first else 128
-            # (between two looks the lens is filled with places of another run, none after its neighbour)
+            # Between two looks the lens is filled with places of another run, no two of them neighbours
             fill = "".join(f"0 state main {other + place}\n" for place in range(2, 68, 2))
-            # (pages differ in length, less so in sum)
+            # Pages differ in length, their sums less
             rounds = (
                 "".join(f"0 state main {first + place + ahead}\n{fill}" for place in range(1, 28))
                 for ahead in (0, 100)

@@ -5,7 +5,7 @@ from watched import Stage, Watched
 
 # Generous: a stage takes seconds to a few minutes.
 SECONDS = 3600
-# (fewer cells than the program may have: 2^28 take more memory than most machines have)
+# Fewer than the most cells, 2^28, which take more memory than most machines have
 MOST_CELLS, MOST_LOGGED, MOST_BRANCHES = 2**24, 2**20, 1024
 HEAD = b"tower 1\nsafe 0\n"
 STEP = b"r 1\n"
@@ -160,7 +160,7 @@ def many_branches(counts, room):
     for steps in (0, MOST_CELLS // 16):
         forked, names = forks(steps)
         before = MOST_BRANCHES - 1
-        # (at the end of a branch an insert acts in it alone)
+        # An insert at the end of a branch changes no other branch
         grown = [(it, steps + (steps > 0 or it == "main")) for it in [*names, "c"] if it != "b7"]
         last = stage(
             "one more",
@@ -221,7 +221,7 @@ def steps_page(name, count, first, last):
 
 def long_branch(counts, room):
     """A branch of all cells that there may be, forked, edited at both ends and shown."""
-    # (after the file's steps and one insert at 0)
+    # After the file's steps and one insert at 0
     tail = FILE_STEPS + 1
     main, a = tail + 1, tail + 2
     edited = stage(
@@ -296,7 +296,7 @@ def cursor(session, place, sought):
 
 def sixteen_sessions(counts, room):
     """Sixteen sessions with breaks, which seek forth and back over a branch of nearly all cells."""
-    # (after the file's steps and one insert at 0)
+    # After the file's steps and one insert at 0
     tail = FILE_STEPS + 1
     end = tail + 2
     sessions = [(session, *breaks_on(tail)[session % 8]) for session in range(16)]

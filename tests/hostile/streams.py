@@ -282,7 +282,7 @@ def gone_readers(counts, room):
     counts.begin("streams: a reader that is gone after its k-th byte")
     unseen = len(ANSWERS) - len(TALK[-1][1])
     for count in range(len(ANSWERS) + 1):
-        # (the last answer is one write, which the pipe has taken before its reader is gone)
+        # The last answer is one write, which the pipe has taken before its reader is gone
         want = NO_WRITE if count <= unseen else good(b"")
         counts.same(f"{count} bytes", read_until_gone(path, count), want)
     counts.end()
@@ -299,7 +299,7 @@ def to_small_file(path, answers, count):
     """Runs the script with answers to a file that takes at most `count` bytes."""
 
     def limit():
-        # (else the file's limit is reported by a signal)
+        # Otherwise the file's limit is reported by a signal
         signal.signal(signal.SIGXFSZ, signal.SIG_IGN)
         resource.setrlimit(resource.RLIMIT_FSIZE, (count, count))
 

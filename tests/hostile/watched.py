@@ -79,7 +79,7 @@ class Watched:
     def stage(self, stage):
         """Gives the run a stage's script, and returns how its answers differ, and a Measure."""
         begun, held = time.monotonic(), 0
-        # (what is opened before the first stage is counted with it)
+        # The first stage counts what is opened before it too
         if self.is_begun:
             held = memory_of(self.process, "VmRSS")
             begin_peak(self.process)

@@ -10,7 +10,7 @@ import module  # noqa: E402
 import pack  # noqa: E402
 import releases  # noqa: E402
 
-# (of tests side by side one makes the module)
+# Tests run side by side, and one of them makes the module
 TURN = threading.Lock()
 # The paths of the release's modules by program, if tests take the release and nothing is made
 RELEASED = {}

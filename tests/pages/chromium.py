@@ -25,7 +25,7 @@ class Browser:
 
     def __init__(self, program):
         self.room = tempfile.mkdtemp(prefix="towerbench-")
-        # (a test may open hundreds of documents in a few seconds, which Chromium otherwise drops)
+        # A test may open hundreds of documents in a few seconds, which Chromium otherwise drops
         words = [
             "--headless=new",
             "--no-sandbox",
@@ -114,7 +114,7 @@ class Browser:
     def calls(self):
         """Returns how many calls of the page's functions there were since the last time."""
         scripts = [it["functions"] for it in self.ask("Profiler.takePreciseCoverage")["result"]]
-        # (what a test evaluates is a script of a few functions)
+        # What a test evaluates is a script of a few functions
         return sum(
             each["count"]
             for functions in scripts

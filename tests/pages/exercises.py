@@ -30,7 +30,7 @@ def insert(page, branch, place, step):
 
 def replace(page, branch, place, step):
     to(page, branch, place)
-    # (a click on the step itself, even if it is scrolled away)
+    # Clicks on the step itself, even if it is scrolled out of sight
     chip = json.dumps(f'.panel[data-branch="{branch}"] .chip[data-step="{place}"]')
     page.until(f"document.querySelector({chip})")
     page.value(
@@ -99,7 +99,7 @@ def solve(page, folder, begin):
     goals = page.value(MET)
     holds(not goals or "false" in goals, f"{begin} is solved at its start")
     for command in commands(f"lessons/{folder}/{name}.script") if goals else []:
-        # (a break stops before what the script does then)
+        # A break stops before what the script does next
         do(page, command)
         if page.value(f"Boolean({DONE})"):
             break
@@ -152,7 +152,7 @@ def wrong_choice(page):
     page.wait()
     holds("Not as you predicted" in page.text("#task fieldset"), page.text("#task"))
     same(page.count("#task fieldset .met"), 1)
-    # (the exercise has joined already)
+    # The exercise has joined already
     holds(page.value("document.querySelector('#task [data-line-of=join]').disabled"), "join")
     for command in ("break chosen", "seek"):
         page.click(f'#task [data-line-of="{command}"]')
@@ -172,7 +172,7 @@ def goals_in_words(page):
         "it.exercises.flatMap((each) => each.parts.flatMap((part) => part.lines)))"
     )
     goals = [it for it in texts if it.startswith("# goal")]
-    # (a document shows at most 40 goals: MOST of page/tasks.js)
+    # A document shows at most 40 goals: MOST of page/tasks.js
     holds(29 <= len(goals) <= 40, f"there are {len(goals)} goals")
     page.open("tower 2\nsafe 0\n", "\n".join([*goals, "0 join"]) + "\n")
     same(page.count("#task .goals li"), len(goals))

@@ -102,7 +102,7 @@ def other_programs(page):
             page.until("document.querySelector('#said').textContent")
             holds(re.fullmatch(sentence, page.said()), page.said())
         page_with(page, folder, "endless")
-        # (the page tries its document, and then an empty one)
+        # The page tries its document, and then an empty one
         for _ in range(2):
             page.until("!document.querySelector('#busy').hidden")
             page.value("document.querySelector('[data-do=stop]').click()")

@@ -163,7 +163,7 @@ def branches(page):
     same(page.text(about), "5 steps, the first 4 shared with main")
     page.button("detach other")
     holds("0 detach other\n" in page.script(), page.script())
-    # (the steps are still equal, but no longer the same)
+    # The steps are still equal, but no longer the same
     same(page.text(about), "5 steps")
     page.button("drop other")
     same(page.branches(), ["main"])
@@ -253,7 +253,7 @@ def files(page, program):
                 page.value("new Promise((done) => setTimeout(done, 20))")
         tower, script = page.document()
         texts = {it.suffix[1:]: it.read_text(encoding="utf-8") for it in folder.iterdir()}
-        # (a saved script says first on which tower it runs)
+        # A saved script says first on which tower it runs
         same(
             (texts["tower"], texts["script"]),
             (tower, f"# tower: {'; '.join(tower.strip().splitlines())}\n{script}"),

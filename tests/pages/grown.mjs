@@ -30,7 +30,7 @@ for (const line of readFileSync(chains, "utf8").trim().split("\n")) {
   for (const script of scripts) {
     Object.assign(spent, { runs: 0, saves: 0 });
     const model = await Model.of(Document.of(tower, script), ask, before);
-    // (the model before is kept, as a gesture may be given up)
+    // the model before is kept, as a gesture may be given up
     const fault = faultOf(model) || (before ? faultOf(before) : "");
     console.log(JSON.stringify([model.bench, spent.runs, spent.saves, fault]));
     before = model;

@@ -34,7 +34,7 @@ KINDS.update({"remove": 4, "replace": 4, "detach": 2, "drop": 2})
 MIXED = ("ends", "ends", "refused", "insert", "fork", "remove", "replace", "detach", "drop")
 QUIET = ("ends", "idle")
 IDLE = ("# a remark", "", "0 join", "1 join", "0 go main 0", "7 branches", "0 help")
-# (a dropped branch's name is taken again)
+# Names of dropped branches are used again
 NAMES = ("main", *"abcde")
 BAD_STEP = "w 0 9"
 FORKS = "0 fork main 1 a\n0 insert a 1 r 1\n0 fork a 2 b\n"

@@ -12,7 +12,7 @@ import { Reading } from "./page/reading.js";
 import { looksOf } from "./page/still.js";
 import { storyOf } from "./page/stories.js";
 
-// (wide enough for the longest words of each bar and each box; and as narrow as they are in the page)
+// wide enough for the longest words of each bar and each box; and as narrow as they are in the page
 const COLUMN = 3000, NARROW = [44, 104];
 const [wasm, schedules] = process.argv.slice(2);
 const module = await WebAssembly.compile(readFileSync(wasm));

@@ -228,7 +228,7 @@ class Inside:
         found, was = [], None
         for place in range(it.begun + 1, (self.length if it.ended is None else it.ended) + 1):
             is_stopped, action, cell = PROCESS.fullmatch(self.lines[place][it.process]).groups()[1:]
-            # (one that stopped stays at its last action)
+            # A process that stopped stays at its last action
             if not is_stopped:
                 if action in ("ws", "rs") and was != action + cell:
                     found.append(Bit(place, action == "ws", int(cell)))

@@ -110,7 +110,7 @@ def a_lesson_line_by_line(page):
         played.append((page.text("#played code"), page.text("#played pre")))
         captions.append(page.text("#caption"))
     same([line for line, _ in played], lines)
-    # (a caption belongs to the lines below it)
+    # A caption belongs to the lines below it
     at = lines.index("0 fork other 5 same")
     holds(
         captions[at].startswith("The same read while 0")
@@ -142,5 +142,5 @@ def policy(page):
     page.open()
     for directive, attempt in REFUSED.items():
         same(page.value(VIOLATION % attempt), directive)
-    # (the browser says so on its console too)
+    # The browser says so on its console too
     page.chrome.complaints.clear()

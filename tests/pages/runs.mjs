@@ -7,7 +7,7 @@ const bytes = (text) => new Uint8Array(Buffer.from(text, "base64"));
 const text = (given) => Buffer.from(given).toString("base64");
 const mapped = (table, change) => Object.fromEntries(Object.entries(table).map(([key, it]) => [key, change(it)]));
 
-// (by its text, so that no release of node takes it for anything but a module)
+// by its text, so that no release of node takes it for anything but a module
 const { runModule } = await import(`data:text/javascript;base64,${readFileSync(machine).toString("base64")}`);
 const module = await WebAssembly.compile(readFileSync(wasm));
 for (const line of readFileSync(runs, "utf8").trim().split("\n")) {
