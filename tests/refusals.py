@@ -53,7 +53,7 @@ def toolchain():
     made = importlib.util.module_from_spec(importlib.util.spec_from_loader(loader.name, loader))
     sys.modules[loader.name] = made
     loader.exec_module(made)
-    # (first called by the main thread: checks then end when this run ends)
+    # First called by the main thread: checks then end when this run ends
     made.rtlib.guarded()
     return made
 

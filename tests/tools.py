@@ -81,7 +81,7 @@ def crates_and_lines():
         same("crates", crates, {"low": [], "over": ["low"], "tool": ["low", "over"]})
         same("below tool", side.all_below(crates, "tool"), ["low", "over"])
         same("lines of low", side.lines_of("low"), 21)
-        # (its own 5, and a seventh of the 21 below)
+        # Its own 5, and a seventh of the 21 below
         same("lines of the check of over", side.lines_of_check(crates, "over"), 8)
         same("programs", [it for it in crates if side.is_program(it)], ["tool"])
 
@@ -217,7 +217,7 @@ def built_once():
         crates = statements.side.crates_of()
         made = [statements.prove(crates, it, 1, 0) for it in ("low", "low", "over", "tool")]
         same("proved", made, [True] * 4)
-        # (a program is compiled, and then linked)
+        # A program is compiled, and then linked
         same(
             "built",
             [folder for folder, _ in given],
@@ -410,7 +410,7 @@ def shares_of(command):
 def shares_of_commands():
     same("a command that ends", shares_of("exit 7"), (7, []))
     same("a command that is killed", shares_of("kill -9 $$"), (137, []))
-    # (it looks at what the command has started, once a second)
+    # Once a second it looks at what the command has started
     prover = (
         f"exec -a rattle '{sys.executable}' -c 'import time; time.sleep(3)' --crate-name low --test"
     )

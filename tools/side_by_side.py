@@ -110,7 +110,7 @@ class Tree:
 
     def __enter__(self):
         try:
-            # (in the order of `rt`, so that neither waits for the other in a ring)
+            # In the order of `rt`, so that neither waits for the other in a ring
             for it in sorted([*self.below, self.name]):
                 self.held[it] = lock(
                     f"{TOP}/crates/{it}", fcntl.LOCK_EX if it == self.name else fcntl.LOCK_SH
@@ -136,7 +136,7 @@ class Tree:
         for it in [*self.below, self.name]:
             for part in PARTS:
                 self.bring(f"crates/{it}/{part}", shutil.copy2)
-            # (a library that is built is only read, so a link to it serves)
+            # A built library is only read, so a link to it is enough
             if it != self.name:
                 self.bring(f"crates/{it}/out/rlib", link_or_copy)
         if self.has_out:
@@ -204,7 +204,7 @@ PROCESSES = Processes()
 def prove(crates, name, jobs, niceness):
     """Proves and builds one crate over those below it, and returns whether it is proved."""
     with Tree(crates, name) as tree:
-        # (a program is built by `rt run`, which also runs it, here on no input)
+        # `rt run` builds a program and also runs it, here on no input
         verb = "run" if is_program(name) else "lib"
         log = f"{tree.folder}/out/prove.log"
         is_proved = PROCESSES.call(
@@ -279,7 +279,7 @@ def lanes():
     )
     if limit and held is not None:
         free = min(free, limit - held)
-    # (a check is at one processor for half of its time, so more of them than processors keep those busy)
+    # A check uses one processor for half of its time, so more checks than processors keep these busy
     return max(1, min(2 * processors(), free // MEMORY_OF_A_CHECK))
 
 
@@ -315,7 +315,7 @@ def run_side_by_side(tasks, show):
                     it for it in left if is_well and all(below in done for below in tasks[it].waits)
                 ]
                 head = max(chain[it] for it in [*left, *(it for it, _ in running.values())])
-                # (a check by more than one processor costs more of them in all, so that's for what the others wait for)
+                # A check on several processors costs more in all, so only what others wait for is checked so
                 share = all_processors // (len(running) + len(ready) or 1)
                 for key in ready[: all_lanes - len(running)]:
                     most = all_processors if chain[key] == head else share

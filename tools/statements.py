@@ -107,7 +107,7 @@ def steps_of(crates, name, jobs):
     if not side.is_program(name):
         return [[*prover, "--statements", "-o", made_of(name)]]
     unlinked = f"out/statements/{name}.o"
-    # (Rattle's own compiler is a minute sooner done than LLVM, and nothing is left to do meanwhile)
+    # Rattle's own compiler is done a minute sooner than LLVM, and nothing else is left to do
     return [
         [*prover, *toolchain(), "--backend", "rattle", "-o", unlinked],
         linking(unlinked, made_of(name)),
@@ -124,7 +124,7 @@ def prove(crates, name, jobs, niceness):
     """Proves and builds one crate over those below it, and returns whether it is proved."""
     is_proved = is_current(crates, name) or build(crates, name, jobs, niceness)
     if is_proved and side.is_program(name):
-        # (it goes where `rt` builds it, at once and also if the one there is running)
+        # It replaces the program that `rt` built at one stroke, even if that is running
         shutil.copy2(made_of(name), f"{made_of(name)}.new")
         os.replace(f"{made_of(name)}.new", f"{folder_of(name)}/out/{name}")
     return is_proved
@@ -146,7 +146,7 @@ def build(crates, name, jobs, niceness):
             if not side.PROCESSES.are_ended:
                 side.show_failure(log, name)
             return False
-    # (edits made meanwhile may be in it or not)
+    # Edits made meanwhile may or may not be in it
     if sum_of(crates, name) == wanted:
         with open(f"{kept}/sum", "w", encoding="utf-8") as file:
             file.write(wanted)

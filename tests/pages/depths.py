@@ -289,7 +289,7 @@ def counted_pages(page):
     focused_key("End", "30,000 steps", "the other end")
     focused_key("ArrowLeft", "30,000 steps", "a move")
     focused_key("End", "30,000 steps", "a move")
-    # (the first step may take more columns in sight)
+    # The first step may take more columns in sight
     page.button("p1 r 1")
     cost(page, lambda: page.button("p1 g 1 0"), "30,000 steps", "a step at the end")
     cost(
