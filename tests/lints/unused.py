@@ -1,7 +1,7 @@
 #!/usr/bin/env python3
 """Lemmas and definitions that nothing uses: names which a file of crates/NAME declares and no other line has.
 
-usage: tests/unused.py   prints each, and how many; status 1 if there is one
+usage: tests/lints/unused.py   prints each, and how many; status 1 if there is one
 
 It reads specs/, proofs/ and the folders of proofs/ by subject; the other folders answer goals, whose names are given. A use is
 a name in a source, definition, proof or wrong body, but not in a line that only brings in files (`use`), nor in the own lines of what
@@ -14,7 +14,7 @@ import os
 import re
 import sys
 
-TOP = os.path.dirname(os.path.dirname(os.path.realpath(__file__)))
+TOP = os.path.dirname(os.path.dirname(os.path.dirname(os.path.realpath(__file__))))
 sys.path.append(f"{TOP}/tools")
 import antt  # noqa: E402
 

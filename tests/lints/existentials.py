@@ -1,11 +1,11 @@
 #!/usr/bin/env python3
 """Existentials of public clauses: each has an example in which it holds, and a near miss.
 
-usage: tests/existentials.py [NAME..]   of these crates, or of all
-       tests/existentials.py --list     prints each, with a function whose clause reaches it
+usage: tests/lints/existentials.py [NAME..]   of these crates, or of all
+       tests/lints/existentials.py --list     prints each, with a function whose clause reaches it
 
 An existential is a `(x : T) ×` in a public clause or in a definition that one reaches, as
-tests/citations.py says; or a record with fields that are data as well as fields that are facts. Its
+tests/lints/citations.py says; or a record with fields that are data as well as fields that are facts. Its
 examples are theorems of its crate's proofs/Examples.antt: of a definition `Old` they are
 `Old-holds` and `Old-fails`, and of a clause's own existential they have the name of the function
 in place of `Old`, one of those whose clauses say the same of other values. Each is below
@@ -18,8 +18,17 @@ import os
 import re
 import sys
 
-from citations import NAMED, WORD, all_clauses, definitions, found_in, reached
-from clauses import TOP, crates
+TOP = os.path.dirname(os.path.dirname(os.path.dirname(os.path.realpath(__file__))))
+sys.path[:0] = [f"{TOP}/tests"]
+from lints.citations import (  # noqa: E402
+    NAMED,
+    WORD,
+    all_clauses,
+    definitions,
+    found_in,
+    reached,
+)
+from lints.clauses import crates  # noqa: E402
 
 WITNESS = re.compile(r"\([\w' ]+ : (?:[^()]|\([^()]*\))*\)\s*×")
 # What only a fact has, and the types of data that are std's.

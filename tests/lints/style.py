@@ -1,8 +1,8 @@
 #!/usr/bin/env python3
 """Habits of wording that read oddly: how often each part of the repository has them, which may only fall.
 
-usage: tests/style.py           prints each count, and what has risen above .ci/habits
-       tests/style.py --lower   writes counts that are lower to .ci/habits
+usage: tests/lints/style.py           prints each count, and what has risen above .ci/habits
+       tests/lints/style.py --lower   writes counts that are lower to .ci/habits
 
 docs/STYLE.md has the habits, and what to write. Names are read word by word, `told_of` as two; `where` is counted in comments
 and documents alone. A document's words between backticks are names, which count in the code. Status 1 if a count has risen.
@@ -13,9 +13,10 @@ import os
 import re
 import sys
 
-import documents
+TOP = os.path.dirname(os.path.dirname(os.path.dirname(os.path.realpath(__file__))))
+sys.path.append(f"{TOP}/tests")
+import documents  # noqa: E402
 
-TOP = os.path.dirname(os.path.dirname(os.path.realpath(__file__)))
 KEPT = ".ci/habits"
 HABITS = {
     "behind": r"behind",
@@ -35,7 +36,7 @@ PATTERNS = {
     for habit, pattern in HABITS.items()
 }
 # The page of the habits has all of them, and this file too; the page of definitions is printed from comments.
-LEFT_OUT = ("docs/STYLE.md", "docs/DEFINITIONS.md", "tests/style.py", KEPT)
+LEFT_OUT = ("docs/STYLE.md", "docs/DEFINITIONS.md", "tests/lints/style.py", KEPT)
 PARTS = (
     ("sources", "crates/*/src/*.rt"),
     ("definitions", "crates/*/specs/*.antt"),

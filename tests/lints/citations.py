@@ -10,11 +10,11 @@ import os
 import re
 import sys
 
-from clauses import CLAUSE, TOP, code_of, end_of
-
-sys.path.append(f"{TOP}/tools")
+TOP = os.path.dirname(os.path.dirname(os.path.dirname(os.path.realpath(__file__))))
+sys.path[:0] = [f"{TOP}/tests", f"{TOP}/tools"]
 import antt  # noqa: E402
 from antt import WORD, imports_of  # noqa: E402
+from lints.clauses import CLAUSE, code_of, end_of  # noqa: E402
 
 NAMED = re.compile(rf"{WORD}(?:\.{WORD})*")
 PUBLIC = re.compile(r"\bpub (?:unsafe )?fn (\w+)|\bfn (\w+)")
@@ -48,7 +48,9 @@ def file_of(module):
     if len(module) != 2 or not os.path.isfile(handed):
         return None
     with open(handed, encoding="utf-8") as file:
-        found = re.search(rf"^pub use Rattle\.(\w+)\.specs\.{module[1]}$", file.read(), re.MULTILINE)
+        found = re.search(
+            rf"^pub use Rattle\.(\w+)\.specs\.{module[1]}$", file.read(), re.MULTILINE
+        )
     return file_of((found.group(1), module[1])) if found else None
 
 

@@ -1,7 +1,7 @@
 #!/usr/bin/env python3
 """Public names that two definitions share: each has one of its own.
 
-usage: tests/names.py   prints each name that is shared, with the files that define it; status 1 if there is one
+usage: tests/lints/names.py   prints each name that is shared, with the files that define it; status 1 if there is one
 
 - Definitions: what a file of specs/ defines as `pub`, at the margin or in a `module _`, apart from fields and what it passes on, and
   from the facts in specs/laws/.
@@ -15,7 +15,7 @@ import os
 import re
 import sys
 
-TOP = os.path.dirname(os.path.dirname(os.path.realpath(__file__)))
+TOP = os.path.dirname(os.path.dirname(os.path.dirname(os.path.realpath(__file__))))
 sys.path.append(f"{TOP}/tools")
 import antt  # noqa: E402
 

@@ -1,7 +1,7 @@
 #!/usr/bin/env python3
 """Contracts that are hard to read: clauses past 100 columns, and functions of more than six parameters.
 
-usage: tests/clauses.py [NAME..]   reads crates/NAME/src of these crates, or of all
+usage: tests/lints/clauses.py [NAME..]   reads crates/NAME/src of these crates, or of all
 
 Each clause is a `requires` or `ensures` with the text between its braces; of one that is too
 wide its widest line is reported, with the file and the line. Parameters are counted without `self`.
@@ -15,7 +15,7 @@ import sys
 
 MOST_COLUMNS, MOST_PARAMETERS = 100, 6
 SERVING = {"serve", "run_saving"}
-TOP = os.path.dirname(os.path.dirname(os.path.realpath(__file__)))
+TOP = os.path.dirname(os.path.dirname(os.path.dirname(os.path.realpath(__file__))))
 CLAUSE = re.compile(r"\b(?:requires|ensures)\b[^{}\n]*\{")
 FUNCTION = re.compile(r"\bfn (\w+)")
 # What isn't code: texts, single characters, comments; a lifetime is no character.
