@@ -17,7 +17,7 @@ use Rattle.frames.specs.correctness.Verdicts.{Known, is_refused, counts, accepte
 use Rattle.frames.specs.correctness.Regularity.{in_progress, OnReturn, by_number, IsNumber, Numbered, IsAtomic}
 use Rattle.pages.specs.VerdictWords.{begins_or_ends, IsQuiet, InProgress, has_role, IsOneWriterHistory, ReturnedRead, during, afterwards, is_written, is_got, returned_reads, RecordsHistories}
 use Rattle.pages.specs.LawWords.{returned_writes, IsWrite, NumbersRead, AreNumbered, IsAtomicInWords}
-use Rattle.pages.proofs.VerdictKnown.{no_event, HaveRoles, roles-right, history-left, noting, known, known-append, parted, writing_of_progress, progress_of_writing, noting_returned, known_grows, EndsWrites, ends_behind, reading_of_progress}
+use Rattle.pages.proofs.VerdictKnown.{no_event, HaveRoles, roles-right, history-left, noting, known, known-append, parted, writing_of_progress, progress_of_writing, noting_returned, known_grows, EndsWrites, ends_after, reading_of_progress}
 use Rattle.pages.proofs.VerdictOverlaps.{write_ends, still_unrefused, returned_unrefused, roles_since}
 use Rattle.pages.proofs.VerdictWords.{ends_writes, then_known, read_of}
 
@@ -64,7 +64,7 @@ one_returned k i e es later ends = ap length (noting_returned (counts e (is_refu
 returned_count : (k : Known) (xs later : List (ℕ × Event)) → EndsWrites k xs later → length (known k xs later).returned ≡ length k.returned + returned_writes xs
 returned_count k [] later ends = omega arith
 returned_count k (e ∷ es) later ends =
-    let rest = returned_count (noting (counts e.1 (is_refused (es ++ later))) e.1 k) es later (ends_behind k e es later ends) in
+    let rest = returned_count (noting (counts e.1 (is_refused (es ++ later))) e.1 k) es later (ends_after k e es later ends) in
     let one = one_returned k e.0 e.1 es later ends in
     let first = writes_first e es in
     omega (arith, rest, one, first)
@@ -97,8 +97,8 @@ return_head k i e es later m d r low high =
     let same = ap length (noting_returned (counts e (is_refused (es ++ later))) k e refl) in
     let f : ⊥ = omega (arith, low, high, same) in absurd f
 
-return_behind : (k : Known) (e : ℕ × Event) (es later : List (ℕ × Event)) (m v : ℕ) → ReturnAt (noting (counts e.1 (is_refused (es ++ later))) e.1 k) es later m v → ReturnAt k (e ∷ es) later m v
-return_behind k e es later m v r =
+return_after : (k : Known) (e : ℕ × Event) (es later : List (ℕ × Event)) (m v : ℕ) → ReturnAt (noting (counts e.1 (is_refused (es ++ later))) e.1 k) es later m v → ReturnAt k (e ∷ es) later m v
+return_after k e es later m v r =
     let same = sym (parted k e.1 es r.before r.since later (r.step, Wrote 0) r.split) in
     record {
       before = e ∷ r.before;
@@ -117,7 +117,7 @@ return_at k (e ∷ es) later m d r low high =
     let k2 : Known = noting (counts e.1 (is_refused (es ++ later))) e.1 k in
     elim (cases_lt m (length k2.returned)) as (λ _. ReturnAt k (e ∷ es) later m (get_or (known k2 es later).returned m d)) [
       | inl now ↦ return_head k e.0 e.1 es later m d roles.0 low now
-      | inr behind ↦ return_behind k e es later m (get_or (known k2 es later).returned m d) (return_at k2 es later m d roles.1 behind high)
+      | inr beyond ↦ return_after k e es later m (get_or (known k2 es later).returned m d) (return_at k2 es later m d roles.1 beyond high)
     ]
 
 module _ (initial : ℕ) where
@@ -380,9 +380,9 @@ module _ (initial : ℕ) where
   first_says floor k i (Got p v) es g = g.each [] i p v es refl
   first_says floor k i e es g = tt
 
-  given_behind : (floor : ℕ) (k : Known) (e : ℕ × Event) (es : List (ℕ × Event)) (g : Given floor k (e ∷ es))
+  given_after : (floor : ℕ) (k : Known) (e : ℕ × Event) (es : List (ℕ × Event)) (g : Given floor k (e ∷ es))
       → Given (first_of (is_got e.1) floor g.number) (noting (counts e.1 (is_refused es)) e.1 k) es
-  given_behind floor k e es g = record {
+  given_after floor k e es g = record {
     number = without_first (is_got e.1) g.number;
     least = without_least (is_got e.1) floor g.number g.least g.rises;
     rises = without_rises (is_got e.1) g.number g.rises;
@@ -401,7 +401,7 @@ module _ (initial : ℕ) where
         n = n;
         low = first_low (is_got e.1) floor g.number g.least;
         says = λ c. first_says floor k e.0 e.1 es g;
-        others = numbered_of n (noting counted e.1 k) es (given_behind floor k e es g);
+        others = numbered_of n (noting counted e.1 k) es (given_after floor k e es g);
       })
 
   module _ (history : List (ℕ × Event)) (h : IsOneWriterHistory history) where

@@ -276,12 +276,12 @@ IsJudged-fails h = by h.before h.verdict h.following h.split h.on_it
     fresh : IsVerdictOn 0 strange_read Fresh → ⊥
     fresh is = ⊎_elim last (λ first. true≢false first.0) is
 
-    by : (before : List ReadVerdict) (verdict : Verdict) (behind : List ReadVerdict)
-        → verdicts 0 strange ≡ before ++ record { step = 3; process = 2; value = 1; verdict = verdict } ∷ behind → IsVerdictOn 0 strange_read verdict → ⊥
-    by [] verdict behind e is =
+    by : (before : List ReadVerdict) (verdict : Verdict) (others : List ReadVerdict)
+        → verdicts 0 strange ≡ before ++ record { step = 3; process = 2; value = 1; verdict = verdict } ∷ others → IsVerdictOn 0 strange_read verdict → ⊥
+    by [] verdict others e is =
         let same : Fresh ≡ verdict = ap first_verdict e in
         fresh (subst (IsVerdictOn 0 strange_read) (sym same) is)
-    by (x ∷ before) verdict behind e is = none before behind _ (ap (drop 1) e)
+    by (x ∷ before) verdict others e is = none before others _ (ap (drop 1) e)
 
 abbrev read_verdict : ReadVerdict
 read_verdict = record { step = 2; process = 1; value = 0; verdict = Fresh }

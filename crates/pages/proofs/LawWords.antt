@@ -23,9 +23,9 @@ use Rattle.pages.proofs.VerdictWords.{then_known, read_of, verdict_words, test_o
 module _ (Says : Known → ℕ → ℕ → Type 0) where
   -- a law that holds with one more event in front, which counts or doesn't, holds without that
   -- event
-  each_behind : (counted : Bool) (k : Known) (x : ℕ × Event) (xs : List (ℕ × Event)) → EachRead Says k (if counted then x ∷ xs else xs) → EachRead Says (noting counted x.1 k) xs
-  each_behind true k x xs h = h.1
-  each_behind false k x xs h = h
+  each_after : (counted : Bool) (k : Known) (x : ℕ × Event) (xs : List (ℕ × Event)) → EachRead Says k (if counted then x ∷ xs else xs) → EachRead Says (noting counted x.1 k) xs
+  each_after true k x xs h = h.1
+  each_after false k x xs h = h
 
   each_with : (counted : Bool) (k : Known) (x : ℕ × Event) (xs : List (ℕ × Event)) → OnReturn Says k x.1 → EachRead Says (noting counted x.1 k) xs → EachRead Says k (if counted then x ∷ xs else xs)
   each_with true k x xs h t = (h, t)
@@ -35,7 +35,7 @@ module _ (Says : Known → ℕ → ℕ → Type 0) where
   at_return k [] i p v ys h = h.0
   at_return k (x ∷ xs) i p v ys h =
       let counted = counts x.1 (is_refused (xs ++ (i, Got p v) ∷ ys)) in
-      at_return (noting counted x.1 k) xs i p v ys (each_behind counted k x (accepted (xs ++ (i, Got p v) ∷ ys)) h)
+      at_return (noting counted x.1 k) xs i p v ys (each_after counted k x (accepted (xs ++ (i, Got p v) ∷ ys)) h)
 
   at_each_return : (k : Known) (history : List (ℕ × Event))
       → ((xs : List (ℕ × Event)) (i p v : ℕ) (ys : List (ℕ × Event)) → history ≡ xs ++ (i, Got p v) ∷ ys → Says (known k xs ((i, Got p v) ∷ ys)) p v) → EachRead Says k (accepted history)

@@ -109,23 +109,23 @@ pends_ended p before i e t n = λ o w. elim (progress_before p o before i e w) [
 
 -- After events of process p are added, the events still are a history, and determine what p has
 -- pending. The other processes have pending what they had.
-record Tells (One : Type 0) (p : ℕ) (before after : List (ℕ × Event)) (x : Option Op) : Type 0 where
+record Extends (One : Type 0) (p : ℕ) (before after : List (ℕ × Event)) (x : Option Op) : Type 0 where
   history : IsHistory One after
   own : Pends p after x
   others : (q : ℕ) (y : Option Op) → ¬ (q ≡ p) → Pends q before y → Pends q after y
 
-tells_nothing : {One : Type 0} (p : ℕ) (before : List (ℕ × Event)) (x : Option Op) → IsHistory One before → Pends p before x → Tells One p before (before ++ []) x
-tells_nothing {One = One} p before x h own =
-    subst (λ after. Tells One p before after x) (sym (append-nil before)) (record { history = h; own = own; others = λ q y other is. is })
+extends_nothing : {One : Type 0} (p : ℕ) (before : List (ℕ × Event)) (x : Option Op) → IsHistory One before → Pends p before x → Extends One p before (before ++ []) x
+extends_nothing {One = One} p before x h own =
+    subst (λ after. Extends One p before after x) (sym (append-nil before)) (record { history = h; own = own; others = λ q y other is. is })
 
-tells_more : {One : Type 0} (p : ℕ) (before first after : List (ℕ × Event)) (x y : Option Op) → Tells One p before first x → Tells One p first after y → Tells One p before after y
-tells_more p before first after x y a b =
+extends_more : {One : Type 0} (p : ℕ) (before first after : List (ℕ × Event)) (x y : Option Op) → Extends One p before first x → Extends One p first after y → Extends One p before after y
+extends_more p before first after x y a b =
     record { history = b.history; own = b.own; others = λ q z other is. b.others q z other (a.others q z other is) }
 
 -- one event of a process
-tells_event : {One : Type 0} (p : ℕ) (before : List (ℕ × Event)) (i : ℕ) (e : Event) (x : Option Op) → IsHistory One before → Follows before e → (One → has_role e ≡ true)
-    → ((q : ℕ) → ¬ (q ≡ p) → begins_or_ends q e ≡ false) → Pends p (with_event before i e) x → Tells One p before (with_event before i e) x
-tells_event p before i e x h f r alone own =
+extends_event : {One : Type 0} (p : ℕ) (before : List (ℕ × Event)) (i : ℕ) (e : Event) (x : Option Op) → IsHistory One before → Follows before e → (One → has_role e ≡ true)
+    → ((q : ℕ) → ¬ (q ≡ p) → begins_or_ends q e ≡ false) → Pends p (with_event before i e) x → Extends One p before (with_event before i e) x
+extends_event p before i e x h f r alone own =
     record { history = history_with before i e h f r; own = own; others = λ q y other is. pends_still q y before i e (alone q other) is }
 
 -- the events of a step
@@ -141,67 +141,67 @@ module _ {P : Type 0} (b : Behaviour P) where
   role_of p op.Read h one = let some = reader_some b.values b.processes p (one p op.Read h) in grind (arith, nat_tests)
 
   -- the end of an operation in progress
-  tells_end : (Reached : P → Type 0) (p : ℕ) (o : Op) (next : Next P) (before : List (ℕ × Event)) (i : ℕ) → b.suits p o ≡ true → ReachedOrAnswered Reached (Answers b.values o) next
-      → IsHistory One before → InProgress p o before → Tells One p before (before ++ at_index i (return_of p next)) (op_of (still_running o next))
-  tells_end Reached p o (Pending point) before i fits well h w = tells_nothing p before (Some o) h w
-  tells_end Reached p (op.Write v) (Done (Value x)) before i fits well h w = absurd well
-  tells_end Reached p op.Read (Done (Value x)) before i fits well h w =
-      tells_event p before i (Got p x) None h w (role_of p op.Read fits) (λ q other. ne_eqb p q (λ same. other (sym same)))
+  extends_end : (Reached : P → Type 0) (p : ℕ) (o : Op) (next : Next P) (before : List (ℕ × Event)) (i : ℕ) → b.suits p o ≡ true → ReachedOrAnswered Reached (Answers b.values o) next
+      → IsHistory One before → InProgress p o before → Extends One p before (before ++ at_index i (return_of p next)) (op_of (still_running o next))
+  extends_end Reached p o (Pending point) before i fits well h w = extends_nothing p before (Some o) h w
+  extends_end Reached p (op.Write v) (Done (Value x)) before i fits well h w = absurd well
+  extends_end Reached p op.Read (Done (Value x)) before i fits well h w =
+      extends_event p before i (Got p x) None h w (role_of p op.Read fits) (λ q other. ne_eqb p q (λ same. other (sym same)))
       (pends_ended p before i (Got p x) (eq-eqb p p refl) (λ o same. cc same))
-  tells_end Reached p (op.Write v) (Done Written) before i fits well h w =
-      tells_event p before i (Wrote p) None h (v, w) (role_of p (op.Write v) fits) (λ q other. ne_eqb p q (λ same. other (sym same)))
+  extends_end Reached p (op.Write v) (Done Written) before i fits well h w =
+      extends_event p before i (Wrote p) None h (v, w) (role_of p (op.Write v) fits) (λ q other. ne_eqb p q (λ same. other (sym same)))
       (pends_ended p before i (Wrote p) (eq-eqb p p refl) (λ o same. cc same))
-  tells_end Reached p op.Read (Done Written) before i fits well h w = absurd well
-  tells_end Reached p o (Done (Spent layer)) before i fits well h w =
-      tells_event p before i (Refused p layer) None h (o, w) (λ one. refl) (λ q other. ne_eqb p q (λ same. other (sym same)))
+  extends_end Reached p op.Read (Done Written) before i fits well h w = absurd well
+  extends_end Reached p o (Done (Spent layer)) before i fits well h w =
+      extends_event p before i (Refused p layer) None h (o, w) (λ one. refl) (λ q other. ne_eqb p q (λ same. other (sym same)))
       (pends_ended p before i (Refused p layer) (eq-eqb p p refl) (λ o same. cc same))
 
   -- an event that is nobody's turn, and nothing else
-  tells_only : (p : ℕ) (before : List (ℕ × Event)) (i : ℕ) (e : Event) (x : Option Op) → IsHistory One before → Follows before e → (One → has_role e ≡ true) → ((q : ℕ) → begins_or_ends q e ≡ false)
-      → Pends p before x → Tells One p before (with_events before i (in_order (Some e) None)) x
-  tells_only p before i e x h f r nobody own = tells_event p before i e x h f r (λ q other. nobody q) (pends_still p x before i e (nobody p) own)
+  extends_only : (p : ℕ) (before : List (ℕ × Event)) (i : ℕ) (e : Event) (x : Option Op) → IsHistory One before → Follows before e → (One → has_role e ≡ true) → ((q : ℕ) → begins_or_ends q e ≡ false)
+      → Pends p before x → Extends One p before (with_events before i (in_order (Some e) None)) x
+  extends_only p before i e x h f r nobody own = extends_event p before i e x h f r (λ q other. nobody q) (pends_still p x before i e (nobody p) own)
 
   module _ (Holds : Memory → Type 0) (Reaches : ℕ → Op → P → Type 0) (lawful : IsLawful b Holds Reaches) where
-    tells_invoking : (p : ℕ) (o : Op) (slot : Option (Running P)) (m : Memory) (before : List (ℕ × Event)) (i : ℕ) → Holds m → b.suits p o ≡ true → IsHistory One before → Pends p before (op_of slot)
-        → Tells One p before (with_events before i (invoking b p o slot m).events) (op_of (invoking b p o slot m).running)
-    tells_invoking p o None m before i holds fits h own =
+    extends_invoking : (p : ℕ) (o : Op) (slot : Option (Running P)) (m : Memory) (before : List (ℕ × Event)) (i : ℕ) → Holds m → b.suits p o ≡ true → IsHistory One before → Pends p before (op_of slot)
+        → Extends One p before (with_events before i (invoking b p o slot m).events) (op_of (invoking b p o slot m).running)
+    extends_invoking p o None m before i holds fits h own =
         let next = (b.begins p o m).next in
-        let first = tells_event p before i (Invoke p o) (Some o) h own (role_of p o fits) (λ q other. ne_eqb p q (λ same. other (sym same))) (pends_invoked p o before i) in
-        let rest = tells_end (Reaches p o) p o next (with_event before i (Invoke p o)) i fits (lawful.begins_well p o m holds fits).may_be_at first.history first.own in
-        subst (λ after. Tells One p before after (op_of (still_running o next))) (append_assoc before ((i, Invoke p o) ∷ []) (at_index i (return_of p next)))
-        (tells_more p before (with_event before i (Invoke p o)) _ (Some o) (op_of (still_running o next)) first rest)
-    tells_invoking p o (Some r) m before i holds fits h own = tells_only p before i (Void p Busy) (Some r.op) h tt (λ one. refl) (λ q. refl) own
+        let first = extends_event p before i (Invoke p o) (Some o) h own (role_of p o fits) (λ q other. ne_eqb p q (λ same. other (sym same))) (pends_invoked p o before i) in
+        let rest = extends_end (Reaches p o) p o next (with_event before i (Invoke p o)) i fits (lawful.begins_well p o m holds fits).may_be_at first.history first.own in
+        subst (λ after. Extends One p before after (op_of (still_running o next))) (append_assoc before ((i, Invoke p o) ∷ []) (at_index i (return_of p next)))
+        (extends_more p before (with_event before i (Invoke p o)) _ (Some o) (op_of (still_running o next)) first rest)
+    extends_invoking p o (Some r) m before i holds fits h own = extends_only p before i (Void p Busy) (Some r.op) h tt (λ one. refl) (λ q. refl) own
 
-    tells_acted : (p : ℕ) (o : Op) (chosen : Option (ℕ × Bool)) (next : Next P) (before : List (ℕ × Event)) (i : ℕ) → b.suits p o ≡ true → ReachedOrAnswered (Reaches p o) (Answers b.values o) next
-        → IsHistory One before → InProgress p o before → Tells One p before (with_events before i (in_order (chosen_of p chosen) (return_of p next))) (op_of (still_running o next))
-    tells_acted p o None next before i fits well h own =
-        subst (λ events. Tells One p before (before ++ events) (op_of (still_running o next))) (sym (append-nil (at_index i (return_of p next))))
-        (tells_end (Reaches p o) p o next before i fits well h own)
-    tells_acted p o (Some bit) next before i fits well h own =
+    extends_acted : (p : ℕ) (o : Op) (chosen : Option (ℕ × Bool)) (next : Next P) (before : List (ℕ × Event)) (i : ℕ) → b.suits p o ≡ true → ReachedOrAnswered (Reaches p o) (Answers b.values o) next
+        → IsHistory One before → InProgress p o before → Extends One p before (with_events before i (in_order (chosen_of p chosen) (return_of p next))) (op_of (still_running o next))
+    extends_acted p o None next before i fits well h own =
+        subst (λ events. Extends One p before (before ++ events) (op_of (still_running o next))) (sym (append-nil (at_index i (return_of p next))))
+        (extends_end (Reaches p o) p o next before i fits well h own)
+    extends_acted p o (Some bit) next before i fits well h own =
         let e = Chosen p bit.0 bit.1 in
-        let first = tells_only p before i e (Some o) h tt (λ one. refl) (λ q. refl) own in
-        let rest = tells_end (Reaches p o) p o next (with_event before i e) i fits well first.history first.own in
-        subst (λ after. Tells One p before after (op_of (still_running o next))) (append_assoc before ((i, e) ∷ []) (at_index i (return_of p next)))
-        (tells_more p before (with_event before i e) _ (Some o) (op_of (still_running o next)) first rest)
+        let first = extends_only p before i e (Some o) h tt (λ one. refl) (λ q. refl) own in
+        let rest = extends_end (Reaches p o) p o next (with_event before i e) i fits well first.history first.own in
+        subst (λ after. Extends One p before after (op_of (still_running o next))) (append_assoc before ((i, e) ∷ []) (at_index i (return_of p next)))
+        (extends_more p before (with_event before i e) _ (Some o) (op_of (still_running o next)) first rest)
 
-    tells_going : (p : ℕ) (choice : Bool) (slot : Option (Running P)) (m : Memory) (before : List (ℕ × Event)) (i : ℕ) → Holds m → IsReached Reaches p slot → IsHistory One before
-        → Pends p before (op_of slot) → Tells One p before (with_events before i (going b p choice slot m).events) (op_of (going b p choice slot m).running)
-    tells_going p choice None m before i holds reached h own = tells_only p before i (Void p Idle) None h tt (λ one. refl) (λ q. refl) own
-    tells_going p choice (Some r) m before i holds reached h own =
+    extends_going : (p : ℕ) (choice : Bool) (slot : Option (Running P)) (m : Memory) (before : List (ℕ × Event)) (i : ℕ) → Holds m → IsReached Reaches p slot → IsHistory One before
+        → Pends p before (op_of slot) → Extends One p before (with_events before i (going b p choice slot m).events) (op_of (going b p choice slot m).running)
+    extends_going p choice None m before i holds reached h own = extends_only p before i (Void p Idle) None h tt (λ one. refl) (λ q. refl) own
+    extends_going p choice (Some r) m before i holds reached h own =
         let moved = b.goes r.point choice m in
-        tells_acted p r.op moved.chosen moved.next before i (lawful.reached_suits p r.op r.point reached) (lawful.goes_well p r.op r.point choice m holds reached).may_be_at h own
+        extends_acted p r.op moved.chosen moved.next before i (lawful.reached_suits p r.op r.point reached) (lawful.goes_well p r.op r.point choice m holds reached).may_be_at h own
 
-    tells_acting : (s : Step) (slot : Option (Running P)) (m : Memory) (before : List (ℕ × Event)) (i : ℕ) → fits_step b s ≡ true → Holds m → IsReached Reaches (process_of s) slot → IsHistory One before
-        → Pends (process_of s) before (op_of slot) → Tells One (process_of s) before (with_events before i (acting b s slot m).events) (op_of (acting b s slot m).running)
-    tells_acting (step.Write p v) slot m before i fits holds reached h own = tells_invoking p (op.Write v) slot m before i holds fits h own
-    tells_acting (step.Read p) slot m before i fits holds reached h own = tells_invoking p op.Read slot m before i holds fits h own
-    tells_acting (step.Go p c) slot m before i fits holds reached h own = tells_going p (c == 1) slot m before i holds reached h own
-    tells_acting (step.Stop p) slot m before i fits holds reached h own = tells_only p before i (Stop p) (op_of slot) h tt (λ one. refl) (λ q. refl) own
+    extends_acting : (s : Step) (slot : Option (Running P)) (m : Memory) (before : List (ℕ × Event)) (i : ℕ) → fits_step b s ≡ true → Holds m → IsReached Reaches (process_of s) slot → IsHistory One before
+        → Pends (process_of s) before (op_of slot) → Extends One (process_of s) before (with_events before i (acting b s slot m).events) (op_of (acting b s slot m).running)
+    extends_acting (step.Write p v) slot m before i fits holds reached h own = extends_invoking p (op.Write v) slot m before i holds fits h own
+    extends_acting (step.Read p) slot m before i fits holds reached h own = extends_invoking p op.Read slot m before i holds fits h own
+    extends_acting (step.Go p c) slot m before i fits holds reached h own = extends_going p (c == 1) slot m before i holds reached h own
+    extends_acting (step.Stop p) slot m before i fits holds reached h own = extends_only p before i (Stop p) (op_of slot) h tt (λ one. refl) (λ q. refl) own
 
-    tells_acting_unless : (stopped : Bool) (s : Step) (slot : Option (Running P)) (m : Memory) (before : List (ℕ × Event)) (i : ℕ) → fits_step b s ≡ true → Holds m → IsReached Reaches (process_of s) slot
-        → IsHistory One before → Pends (process_of s) before (op_of slot) → Tells One (process_of s) before (with_events before i (acting_unless stopped b s slot m).events) (op_of (acting_unless stopped b s slot m).running)
-    tells_acting_unless true s slot m before i fits holds reached h own = tells_only (process_of s) before i (Void (process_of s) Stopped) (op_of slot) h tt (λ one. refl) (λ q. refl) own
-    tells_acting_unless false s slot m before i fits holds reached h own = tells_acting s slot m before i fits holds reached h own
+    extends_acting_unless : (stopped : Bool) (s : Step) (slot : Option (Running P)) (m : Memory) (before : List (ℕ × Event)) (i : ℕ) → fits_step b s ≡ true → Holds m → IsReached Reaches (process_of s) slot
+        → IsHistory One before → Pends (process_of s) before (op_of slot) → Extends One (process_of s) before (with_events before i (acting_unless stopped b s slot m).events) (op_of (acting_unless stopped b s slot m).running)
+    extends_acting_unless true s slot m before i fits holds reached h own = extends_only (process_of s) before i (Void (process_of s) Stopped) (op_of slot) h tt (λ one. refl) (λ q. refl) own
+    extends_acting_unless false s slot m before i fits holds reached h own = extends_acting s slot m before i fits holds reached h own
 
     -- the process of a fitting step is there
     process_there : (s : Step) → fits_step b s ≡ true → process_of s < b.processes
@@ -215,12 +215,12 @@ module _ {P : Type 0} (b : Behaviour P) where
     Tracks before c = (p : ℕ) → Pends p before (op_of (running_at p c))
 
     tracks_step : {R : Type 0} (c : Configuration R P) (s : Step) (before : List (ℕ × Event)) (i : ℕ) → process_of s < length c.running
-        → Tells One (process_of s) before (with_events before i (events_of b c s)) (op_of (acted_on b c s).running)
+        → Extends One (process_of s) before (with_events before i (events_of b c s)) (op_of (acted_on b c s).running)
         → Tracks before c → Tracks (with_events before i (events_of b c s)) (stepped b c s)
-    tracks_step c s before i there tells was q =
+    tracks_step c s before i there extended was q =
         elim (cases_eq q (process_of s)) as (λ _. Pends q (with_events before i (events_of b c s)) (op_of (running_at q (stepped b c s)))) [
-          | inl same ↦ rw (same, get_or-set_same c.running (process_of s) (acted_on b c s).running None there) tells.own
-          | inr other ↦ rw (get_or-set_other c.running (process_of s) q (acted_on b c s).running None other) (tells.others q (op_of (running_at q c)) other (was q))
+          | inl same ↦ rw (same, get_or-set_same c.running (process_of s) (acted_on b c s).running None there) extended.own
+          | inr other ↦ rw (get_or-set_other c.running (process_of s) q (acted_on b c s).running None other) (extended.others q (op_of (running_at q c)) other (was q))
         ]
 
     history_from : {R : Type 0} (c : Configuration R P) (steps : List Step) (before : List (ℕ × Event)) (i : ℕ) → IsConfiguration b Holds Reaches c → AllFit b steps → IsHistory One before → Tracks before c
@@ -229,12 +229,12 @@ module _ {P : Type 0} (b : Behaviour P) where
     history_from c (s ∷ steps) before i is fit h was =
         let fits : fits_step b s ≡ true = All-head (λ x. fits_step b x ≡ true) s steps fit in
         let p = process_of s in
-        let tells = tells_acting_unless (is_stopped p c) s (running_at p c) c.memory before i fits is.holds (is.reached p) h (was p) in
+        let extended = extends_acting_unless (is_stopped p c) s (running_at p c) c.memory before i fits is.holds (is.reached p) h (was p) in
         let after = with_events before i (events_of b c s) in
         let later = indexed (i + 1) (history b (stepped b c s) steps) in
         subst (IsHistory One) (append_assoc before (at_index i (events_of b c s).first ++ at_index i (events_of b c s).second) later)
-        (history_from (stepped b c s) steps after (i + 1) (step_keeps b Holds Reaches lawful c s is fits) (All-tail (λ x. fits_step b x ≡ true) s steps fit) tells.history
-        (tracks_step c s before i (subst (λ n. p < n) (sym is.each) (process_there s fits)) tells was))
+        (history_from (stepped b c s) steps after (i + 1) (step_keeps b Holds Reaches lawful c s is fits) (All-tail (λ x. fits_step b x ≡ true) s steps fit) extended.history
+        (tracks_step c s before i (subst (λ n. p < n) (sym is.each) (process_there s fits)) extended was))
 
     nothing_there : (n p : ℕ) → ◌≡◌ {A = Option (Running P)} (get_or (replicate n None) p None) None
     nothing_there zero p = refl

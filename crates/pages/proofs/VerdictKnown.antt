@@ -269,8 +269,8 @@ pub record ReturnedAmong (k : Known) (v : ℕ) (xs later : List (ℕ × Event)) 
   pub split : xs ≡ before ++ (step, Wrote 0) ∷ since
   pub writing : (known k before ((step, Wrote 0) ∷ (since ++ later))).writing ≡ Some v
 
-among_behind : (k : Known) (v : ℕ) (e : ℕ × Event) (xs later : List (ℕ × Event)) → ReturnedAmong (noting (counts e.1 (is_refused (xs ++ later))) e.1 k) v xs later → ReturnedAmong k v (e ∷ xs) later
-among_behind k v e xs later r =
+among_after : (k : Known) (v : ℕ) (e : ℕ × Event) (xs later : List (ℕ × Event)) → ReturnedAmong (noting (counts e.1 (is_refused (xs ++ later))) e.1 k) v xs later → ReturnedAmong k v (e ∷ xs) later
+among_after k v e xs later r =
     record {
       before = e ∷ r.before;
       step = r.step;
@@ -318,7 +318,7 @@ among_of_returned k (e ∷ es) later v n r le h =
     let longer : n ≤ length (noting counted e.1 k).returned = rw grown.1 (simp length-append (omega arith)) in
     elim (among_of_returned (noting counted e.1 k) es later v n roles.1 longer h) [
       | inl old ↦ among_head k e.0 e.1 es later v n roles.0 le old
-      | inr new ↦ inr (among_behind k v e es later new)
+      | inr new ↦ inr (among_after k v e es later new)
     ]
 
 -- each write that returns among these events is in progress until then, and is of process 0
@@ -327,8 +327,8 @@ EndsWrites k xs later =
     (before : List (ℕ × Event)) (i p : ℕ) (rest : List (ℕ × Event)) → xs ≡ before ++ (i, Wrote p) ∷ rest
     → (v : ℕ) × ((known k before ((i, Wrote p) ∷ (rest ++ later))).writing ≡ Some v) × (p ≡ 0)
 
-pub ends_behind : (k : Known) (e : ℕ × Event) (es later : List (ℕ × Event)) → EndsWrites k (e ∷ es) later → EndsWrites (noting (counts e.1 (is_refused (es ++ later))) e.1 k) es later
-ends_behind k e es later ends before i p rest s =
+pub ends_after : (k : Known) (e : ℕ × Event) (es later : List (ℕ × Event)) → EndsWrites k (e ∷ es) later → EndsWrites (noting (counts e.1 (is_refused (es ++ later))) e.1 k) es later
+ends_after k e es later ends before i p rest s =
     let w = ends (e ∷ before) i p rest (ap (λ xs. e ∷ xs) s) in
     (w.0, ap (λ n. (known n before ((i, Wrote p) ∷ (rest ++ later))).writing) (parted k e.1 es before rest later (i, Wrote p) s) ∙ w.1, w.2)
 
@@ -352,12 +352,12 @@ last_head k i (Wrote p) es later ends f n =
 last_head k i e es later ends f n = inl (f ∙ noting_fresh (counts e (is_refused (es ++ later))) k e refl, n)
 
 pub last_return : (k : Known) (xs later : List (ℕ × Event)) → EndsWrites k xs later → FreshSince k xs later
-unfolding among_behind
+unfolding among_after
 last_return k [] later ends = inl (refl, refl)
 last_return k (e ∷ es) later ends =
-    elim (last_return (noting (counts e.1 (is_refused (es ++ later))) e.1 k) es later (ends_behind k e es later ends)) [
+    elim (last_return (noting (counts e.1 (is_refused (es ++ later))) e.1 k) es later (ends_after k e es later ends)) [
       | inl w ↦ last_head k e.0 e.1 es later ends w.0 w.1
-      | inr l ↦ inr (record { among = among_behind k (known k (e ∷ es) later).fresh e es later l.among; last = l.last })
+      | inr l ↦ inr (record { among = among_after k (known k (e ∷ es) later).fresh e es later l.among; last = l.last })
     ]
 
 -- what a process's last read noted stays until it invokes another
@@ -418,9 +418,9 @@ verdicts-append k (e ∷ xs) ys =
         ∙ sym (append_assoc (verdict_of_event k e.0 e.1) (verdicts_from (after k e.1) (accepted_of xs ys)) (verdicts_from (known (after k e.1) xs ys) (accepted ys)))
     by false h = h
 
-told_count : (k : Known) (i : ℕ) (e : Event) (n : ℕ) → length (verdict_of_event k i e) + n ≡ cond (is_got e) (1 + n) n
-told_count k i (Got p v) n = omega arith
-told_count k i e n = omega arith
+verdict_count : (k : Known) (i : ℕ) (e : Event) (n : ℕ) → length (verdict_of_event k i e) + n ≡ cond (is_got e) (1 + n) n
+verdict_count k i (Got p v) n = omega arith
+verdict_count k i e n = omega arith
 
 count_head : (b : Bool) (e : ℕ × Event) (es : List (ℕ × Event)) → cond b (1 + length es) (length es) ≡ length (cond b (e ∷ es) es)
 count_head true e es = omega arith
@@ -432,7 +432,7 @@ length-verdicts_from k [] = refl
 length-verdicts_from k (e ∷ es) =
     length-append (verdict_of_event k e.0 e.1) (verdicts_from (after k e.1) es)
     ∙ ap (λ n. length (verdict_of_event k e.0 e.1) + n) (length-verdicts_from (after k e.1) es)
-    ∙ told_count k e.0 e.1 (returned_reads es)
+    ∙ verdict_count k e.0 e.1 (returned_reads es)
     ∙ count_head (is_got e.1) e (filter (λ x. is_got x.1) es)
 
 -- each read that returns counts

@@ -109,9 +109,9 @@ return_of_turn v before (Chosen p bit u) w f t r n = absurd (true≢false (sym t
 RefusedIn : List (ℕ × Event) → Type 0
 RefusedIn events = (layer : Layer) × EndsBy 0 (Refused 0 layer) events
 
-refusal_behind : (e : ℕ × Event) (es : List (ℕ × Event)) → begins_or_ends 0 e.1 ≡ false → RefusedIn es → RefusedIn (e ∷ es)
+refusal_after : (e : ℕ × Event) (es : List (ℕ × Event)) → begins_or_ends 0 e.1 ≡ false → RefusedIn es → RefusedIn (e ∷ es)
 unfolding RefusedIn
-refusal_behind e es t x = (
+refusal_after e es t x = (
   x.0,
   record {
     before = e ∷ x.1.before;
@@ -125,17 +125,17 @@ refusal_behind e es t x = (
 refusal_now : (b : Bool) (i p : ℕ) (layer : Layer) (es : List (ℕ × Event)) → (p == 0) ≡ b → (b || is_refused es) ≡ true → (is_refused es ≡ true → RefusedIn es) → RefusedIn ((i, Refused p layer) ∷ es)
 unfolding RefusedIn
 refusal_now true i p layer es e h later = (layer, record { before = []; step = i; later = es; split = ap (λ q. (i, Refused q layer) ∷ es) (eqb-true p 0 e); quiet = refl })
-refusal_now false i p layer es e h later = refusal_behind (i, Refused p layer) es e (later h)
+refusal_now false i p layer es e h later = refusal_after (i, Refused p layer) es e (later h)
 
 refusal_head : (i : ℕ) (e : Event) (es : List (ℕ × Event)) → has_role e ≡ true → refused_by e (is_refused es) ≡ true → (is_refused es ≡ true → RefusedIn es) → RefusedIn ((i, e) ∷ es)
 refusal_head i (Refused p layer) es r h later = refusal_now (p == 0) i p layer es refl h later
 refusal_head i (Wrote p) es r h later = absurd (true≢false (sym h))
 refusal_head i (Invoke p (op.Write v)) es r h later = absurd (true≢false (sym h))
-refusal_head i (Invoke p op.Read) es r h later = refusal_behind (i, Invoke p op.Read) es (not-true (p == 0) r) (later h)
-refusal_head i (Got p v) es r h later = refusal_behind (i, Got p v) es (not-true (p == 0) r) (later h)
-refusal_head i (Void p reason) es r h later = refusal_behind (i, Void p reason) es refl (later h)
-refusal_head i (Stop p) es r h later = refusal_behind (i, Stop p) es refl (later h)
-refusal_head i (Chosen p bit v) es r h later = refusal_behind (i, Chosen p bit v) es refl (later h)
+refusal_head i (Invoke p op.Read) es r h later = refusal_after (i, Invoke p op.Read) es (not-true (p == 0) r) (later h)
+refusal_head i (Got p v) es r h later = refusal_after (i, Got p v) es (not-true (p == 0) r) (later h)
+refusal_head i (Void p reason) es r h later = refusal_after (i, Void p reason) es refl (later h)
+refusal_head i (Stop p) es r h later = refusal_after (i, Stop p) es refl (later h)
+refusal_head i (Chosen p bit v) es r h later = refusal_after (i, Chosen p bit v) es refl (later h)
 
 refusal_of : (es : List (ℕ × Event)) → HaveRoles es → is_refused es ≡ true → RefusedIn es
 refusal_of [] r h = absurd (true≢false (sym h))

@@ -15,8 +15,8 @@ use Rattle.pages.proofs.VerdictOverlaps.{ReturnsIn, Crosses, crossing_of_words, 
 use Rattle.pages.proofs.VerdictKnown.{HaveRoles, roles-left, roles-right, history-left, known, known-append, writing_of_progress, progress_of_writing, known_fresh, returned_among, ReturnedAmong, among_of_returned, EndsWrites, last_return, reading_of_progress, accepted_of, verdicts-append, length-verdicts_of, length-verdicts}
 
 module _ (initial : ℕ) where
-  abbrev behind : List (ℕ × Event) → List (ℕ × Event) → Known
-  behind xs later = known (initially initial) xs later
+  abbrev known_after : List (ℕ × Event) → List (ℕ × Event) → Known
+  known_after xs later = known (initially initial) xs later
 
   pub ends_writes : (xs later : List (ℕ × Event)) → IsOneWriterHistory xs → EndsWrites (initially initial) xs later
   ends_writes xs later h before i p rest s =
@@ -28,18 +28,18 @@ module _ (initial : ℕ) where
       (write.0, writing_of_progress (initially initial) write.0 before ((i, Wrote p) ∷ (rest ++ later)) by_0 (roles-left before ((i, Wrote p) ∷ rest) roles) refl, writer)
 
   -- the fresh value
-  fresh_of_words : (v : ℕ) (xs later : List (ℕ × Event)) → HaveRoles xs → IsFresh initial v xs → (behind xs later).fresh ≡ v
+  fresh_of_words : (v : ℕ) (xs later : List (ℕ × Event)) → HaveRoles xs → IsFresh initial v xs → (known_after xs later).fresh ≡ v
   fresh_of_words v xs later r (inl w) =
       let x : ℕ × Event = (w.step, Wrote 0) in
       let roles = roles-left w.earlier (x ∷ w.since) (subst HaveRoles w.split r) in
-      let upto = behind w.earlier (x ∷ (w.since ++ later)) in
-      ap (λ es. (behind es later).fresh) w.split
+      let upto = known_after w.earlier (x ∷ (w.since ++ later)) in
+      ap (λ es. (known_after es later).fresh) w.split
       ∙ ap (λ (k : Known). k.fresh) (known-append (initially initial) w.earlier (x ∷ w.since) later)
       ∙ known_fresh (after upto (Wrote 0)) w.since later w.last
       ∙ ap (λ o. (returning o upto).fresh) (writing_of_progress (initially initial) v w.earlier (x ∷ (w.since ++ later)) w.write roles refl)
   fresh_of_words v xs later r (inr w) = known_fresh (initially initial) xs later w.0 ∙ sym w.1
 
-  words_of_fresh : (xs later : List (ℕ × Event)) → IsOneWriterHistory xs → IsFresh initial (behind xs later).fresh xs
+  words_of_fresh : (xs later : List (ℕ × Event)) → IsOneWriterHistory xs → IsFresh initial (known_after xs later).fresh xs
   words_of_fresh xs later h =
       elim (last_return (initially initial) xs later (ends_writes xs later h)) [
         | inl w ↦ inr (w.1, w.0)
@@ -51,7 +51,7 @@ module _ (initial : ℕ) where
               step = r.step;
               since = r.since;
               split = r.split;
-              write = (progress_of_writing initial (behind xs later).fresh r.before (x ∷ (r.since ++ later)) (history-left r.before (x ∷ r.since) (subst IsOneWriterHistory r.split h)) r.writing).0;
+              write = (progress_of_writing initial (known_after xs later).fresh r.before (x ∷ (r.since ++ later)) (history-left r.before (x ∷ r.since) (subst IsOneWriterHistory r.split h)) r.writing).0;
               last = l.last;
             })
       ]
@@ -64,10 +64,10 @@ module _ (initial : ℕ) where
   -- values that overlap what comes between some events and others
   module _ (v : ℕ) (earlier during later : List (ℕ × Event)) (h : IsOneWriterHistory (earlier ++ during)) where
     abbrev upto : Known
-    upto = behind earlier (during ++ later)
+    upto = known_after earlier (during ++ later)
 
     abbrev all : Known
-    all = behind (earlier ++ during) later
+    all = known_after (earlier ++ during) later
 
     abbrev since_then : Bool
     since_then = has_returned v (length upto.returned) all || is_value v all.writing
@@ -76,8 +76,8 @@ module _ (initial : ℕ) where
     cut : (before : List (ℕ × Event)) (x : ℕ × Event) (since : List (ℕ × Event)) → during ≡ before ++ x ∷ since → during ++ later ≡ before ++ (x ∷ (since ++ later))
     cut before x since s = ap (λ es. es ++ later) s ∙ append_assoc before (x ∷ since) later
 
-    known_at : (before rest : List (ℕ × Event)) → during ++ later ≡ before ++ rest → known upto before rest ≡ behind (earlier ++ before) rest
-    known_at before rest q = ap (λ es. known (behind earlier es) before rest) q ∙ sym (known-append (initially initial) earlier before rest)
+    known_at : (before rest : List (ℕ × Event)) → during ++ later ≡ before ++ rest → known upto before rest ≡ known_after (earlier ++ before) rest
+    known_at before rest q = ap (λ es. known (known_after earlier es) before rest) q ∙ sym (known-append (initially initial) earlier before rest)
 
     left_of : (before : List (ℕ × Event)) (x : ℕ × Event) (since : List (ℕ × Event)) → during ≡ before ++ x ∷ since → IsOneWriterHistory (earlier ++ before)
     left_of before x since s = history-left (earlier ++ before) (x ∷ since) (subst IsOneWriterHistory (ap (λ es. earlier ++ es) s ∙ sym (append_assoc earlier before (x ∷ since))) h)
