@@ -245,7 +245,7 @@ def inside_of(program, path):
     asked = "".join(f"{LOOK} {it}\n" for it in [*looks, f"history main {count}"])
     ran = cases.run(program, [tower], asked.encode())
     pages = [
-        [line[2:] for line in lines.splitlines()]
+        [it[2:] for it in lines.splitlines()]
         for lines in re.findall(rf"^{LOOK}: .*\n((?:  .*\n)*)", ran.output.decode("ascii"), re.M)
     ]
     made = {"state": pages[: count + 1], "bits": pages[count + 1 : -1], "history": pages[-1]}

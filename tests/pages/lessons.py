@@ -124,7 +124,7 @@ def a_lesson_line_by_line(page):
 
 
 def lesson_on_paper(page):
-    """In a lesson the lesson is printed, with its pictures and without its buttons, and no document."""
+    """While a lesson is open it is what is printed, with its pictures and without its buttons."""
     page.open()
     page.do("study")
     page.until("'drawn' in document.querySelector('#study-text').dataset")
