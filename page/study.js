@@ -4,7 +4,7 @@ import { hasSearch, packedContents } from "./engine.js";
 import { EMPTY_TOWER } from "./document.js";
 import { exerciseDocument, hashOfLesson, isSolved, lessonsOf, partOf } from "./exercises.js";
 import { putFigure } from "./figures.js";
-import { setLessonHash } from "./files.js";
+import { setLessonHash } from "./address.js";
 import { remember, remembered } from "./kept.js";
 import { askForSecond } from "./second.js";
 import { withWords } from "./words.js";

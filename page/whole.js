@@ -4,7 +4,7 @@ import { putAnswers } from "./answers.js";
 import { putUndo } from "./back.js";
 import { processesHere, putDeck } from "./deck.js";
 import { one } from "./elements.js";
-import { preparePrint } from "./files.js";
+import { preparePrint } from "./printing.js";
 import { spent } from "./model.js";
 import { isLessonAtStart, putLesson } from "./lessons.js";
 import { followFocus, look, putPicture } from "./picture.js";
