@@ -35,8 +35,8 @@ class Transfer {
   async begin(flight) {
     const { it: { kind, process, value } } = flight, at = this.steps.length;
     this.steps.push(kind === "write" ? `w ${process} ${value}` : `r ${process}`);
-    for (const many of LENGTHS) {
-      const { ended } = lastOf(await this.run(Array(many).fill(`g ${process} 0`)), process);
+    for (const length of LENGTHS) {
+      const { ended } = lastOf(await this.run(Array(length).fill(`g ${process} 0`)), process);
       if (ended === null) continue;
       flight.all = ended - at;
       flight.isOver = ended === at;

@@ -117,9 +117,9 @@ function groupRows({ question, lists, shown }, { load }) {
   const { operations } = question, everyone = between(0, operations.length);
   const words = (process, list) =>
     valueBoxes(new Map([[process, list.answers.get(process)]]), question);
-  const row = (process, { key, many, list }) => button([
+  const row = (process, { key, count, list }) => button([
     element("span", { class: "values" }, words(process, list)),
-    element("small", {}, counted(many, "list")), stepsOf(list)], () => load(list),
+    element("small", {}, counted(count, "list")), stepsOf(list)], () => load(list),
   { class: `list${keyOf(list.answers) === shown ? " is-shown" : ""}`,
     "data-group": `p${process} ${key}` });
   return everyone.filter((it) => operations[it].includes("r")).flatMap((process) => {

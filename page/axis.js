@@ -9,8 +9,8 @@ export class Axis {
   }
   // `wide` says of each step whether it is wide; `room` is how wide all may be, if they can
   static elastic(wide, room, column = 0) {
-    const many = wide.filter(Boolean).length, free = room - (wide.length - many) * NARROW;
-    const even = Math.floor(free / Math.max(1, many));
+    const count = wide.filter(Boolean).length, free = room - (wide.length - count) * NARROW;
+    const even = Math.floor(free / Math.max(1, count));
     const most = column || Math.max(LEAST_WIDE, Math.min(MOST_WIDE, even)), edges = [0];
     for (const it of wide) edges.push(edges.at(-1) + (it ? most : NARROW));
     return new Axis(most, edges);

@@ -9,8 +9,8 @@ const left = [], ahead = [];
 let opened = { tower: "", script: "" }, restored = "";
 function titleOf({ lesson, model, document: { lines } }) {
   const named = taskOf(lines).exercise.split(" ").slice(2).join(" ");
-  const many = lines.filter((it) => it && !it.startsWith("#")).length;
-  return `${lesson?.title || named || model.tower}${many > 1 ? `, ${many} lines` : ""}`;
+  const count = lines.filter((it) => it && !it.startsWith("#")).length;
+  return `${lesson?.title || named || model.tower}${count > 1 ? `, ${count} lines` : ""}`;
 }
 // the lines that the document had when it was opened
 export const openedLines = () => opened.script.split("\n");

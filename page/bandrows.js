@@ -64,9 +64,9 @@ function boxOf(drawing, reading, { from, to, isWritten, isEither, words }, kind,
       shape("rect", { class: "plate", x: x + 3, y: y + 2, width: plate, height: BAND - 4 }),
       textAt(found, x + 5, y + 15, `on-hatch${less}`));
   }
-  const many = Math.max(1, Math.floor(width / MORE_EVERY)), texts = [];
-  for (let at = 0; at < many; at++)
-    texts.push(textAt(found, x + 5 + at * (width / many), y + 15, `in${less} begins`));
+  const count = Math.max(1, Math.floor(width / MORE_EVERY)), texts = [];
+  for (let at = 0; at < count; at++)
+    texts.push(textAt(found, x + 5 + at * (width / count), y + 15, `in${less} begins`));
   return shape("g", given, titled(words[0]), box, texts);
 }
 // a bit's read below the number's row: a line, or teeth if it was hit
@@ -79,6 +79,6 @@ function scanLine(drawing, reading, [from, to, kind], low) {
 }
 // stretched a little, so that they end with the read
 export function teeth(width) {
-  const many = Math.max(1, Math.round(width / 10)), half = rounded(width / many / 2 * 100) / 100;
-  return `l${half} -5l${half} 5`.repeat(many);
+  const count = Math.max(1, Math.round(width / 10)), half = rounded(width / count / 2 * 100) / 100;
+  return `l${half} -5l${half} 5`.repeat(count);
 }

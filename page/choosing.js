@@ -17,10 +17,10 @@ export async function chooseTower(begin) {
   const chosen = () => one("[name=kind]:checked").value;
   const check = () => {
     const fault = sizeFault(chosen(), given());
-    const many = fault ? 0 : TOWERS[chosen()].bits(...given());
+    const count = fault ? 0 : TOWERS[chosen()].bits(...given());
     one("#tower-fault").textContent = fault;
     one("#tower-size").textContent = fault ? ""
-      : `${counted(many, "safe bit")} of at most ${MOST_BITS}`;
+      : `${counted(count, "safe bit")} of at most ${MOST_BITS}`;
     dialog.querySelector("[value=begin]").disabled = Boolean(fault);
   };
   const limits = ({ name, least, most }) =>

@@ -46,19 +46,19 @@ function predictedCell({ predicted }) {
   const sign = ({ isRight }) => (isRight === null ? "" : isRight ? ` ${MET}` : " \u2717");
   return element("td", {}, predicted.map((it) => `${it.words}${sign(it)}`).join("; "));
 }
-function cellsOf(it, many, open) {
+function cellsOf(it, columns, open) {
   const given = { "data-class": it.name }, words = it.student || it.name;
   // a damaged file has nothing to open
   const named = it.isDamaged ? element("span", given, words)
     : element("button", { ...given, onclick: open }, words);
   const name = element("td", {}, named, it.student && element("small", {}, ` ${it.name}`));
-  if (it.fault) return [name, element("td", { class: "wrong", colspan: many + 4 }, it.fault)];
+  if (it.fault) return [name, element("td", { class: "wrong", colspan: columns + 4 }, it.fault)];
   const met = it.met.filter(Boolean).length, { title } = it.judge;
   const of = title && element("small", {}, ` exercise ${title}`);
   const said = (...words_) => element("td", {}, ...words_);
   const goal = (_, at) => element("td", { class: it.met[at] && "met", title: it.goals[at]?.text },
     at < it.goals.length ? (it.met[at] ? MET : UNMET) : "");
-  return [name, said(`${met} of ${it.goals.length}`, of), ...Array.from({ length: many }, goal),
+  return [name, said(`${met} of ${it.goals.length}`, of), ...Array.from({ length: columns }, goal),
     predictedCell(it), towerCell(it),
     said([it.verdicts.join(", "), it.refused].filter(Boolean).join(", "))];
 }
@@ -87,10 +87,10 @@ function saidOfJudges() {
 function put(begin) {
   const dialog = one("#class-dialog"), judges = new Map(rows.filter((it) => it.judge)
     .map(({ judge }) => [judge.key, judge]));
-  const many = Math.max(0, ...rows.map((it) => it.goals.length));
+  const columns = Math.max(0, ...rows.map((it) => it.goals.length));
   const goals = judges.size === 1 ? [...judges.values()][0].goals : [];
   const open = (it) => () => { dialog.close(); begin(it.tower, it.script, null); };
-  const numbers = Array.from({ length: many }, (_, at) => `goal ${at + 1}`);
+  const numbers = Array.from({ length: columns }, (_, at) => `goal ${at + 1}`);
   const heads = ["name", "met", ...numbers, "predicted", "tower", "verdicts"];
   one("#class-goals").replaceChildren(...goals.map((it) => element("li", {}, inWords(it))));
   one("#class-count").textContent =
@@ -99,7 +99,7 @@ function put(begin) {
   one("#class-said").textContent = "";
   one("#class-table").replaceChildren(
     element("thead", {}, element("tr", {}, heads.map((it) => element("th", { scope: "col" }, it)))),
-    element("tbody", {}, rows.map((it) => element("tr", {}, cellsOf(it, many, open(it))))));
+    element("tbody", {}, rows.map((it) => element("tr", {}, cellsOf(it, columns, open(it))))));
   one("#class-copy").onclick = copyTable;
   one("#class-print").onclick = printTable;
   one("#table-again").hidden = !rows.length;

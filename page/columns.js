@@ -21,9 +21,9 @@ export function setScale(way) {
 export const setEqual = () => Object.assign(choice, { column: 0, isEqual: !choice.isEqual });
 // An elastic axis takes the pages `pending` of all places: of layered towers whose steps don't fit.
 function isElastic(branches, room) {
-  const { shape } = now.model, many = lengthOf(branches), least = EQUAL_WIDTHS.at(-1);
+  const { shape } = now.model, count = lengthOf(branches), least = EQUAL_WIDTHS.at(-1);
   return layersOf(shape).length > 0 && shape.cells > FEW_CELLS && !choice.isEqual
-    && many * least + MARGIN > room && many * branches.length <= MOST_ELASTIC;
+    && count * least + MARGIN > room && count * branches.length <= MOST_ELASTIC;
 }
 // the looks that the columns of branches need before they are known
 export function axisLooks(branches, room) {
@@ -54,7 +54,7 @@ const endsOf = (layer, it) => (it.layer === layer && layer !== "copies" ? [it.to
   : it.layer === "copies" && layer === "copies" ? it.inner.map((each) => each.to)
     : it.inner.flatMap((each) => endsOf(layer, each)));
 function axisOf(branches, room) {
-  const many = lengthOf(branches), isFitting = (it) => many * it + MARGIN <= room;
+  const count = lengthOf(branches), isFitting = (it) => count * it + MARGIN <= room;
   const made = isElastic(branches, room)
     ? Axis.elastic(wideSteps(branches), room - MARGIN, choice.column)
     : new Axis(choice.column || EQUAL_WIDTHS.find(isFitting) || EQUAL_WIDTHS.at(-1));

@@ -19,9 +19,9 @@ const shown = new Set();
 async function picture(model, branch, place, room) {
   const { length } = branch, fitting = Math.floor((room - LABEL - MARGIN) / Math.max(1, length));
   const column = Math.max(COLUMN.least, Math.min(COLUMN.most, fitting));
-  const many = Math.max(4, Math.min(length, Math.floor((room - LABEL - MARGIN) / column)));
+  const count = Math.max(4, Math.min(length, Math.floor((room - LABEL - MARGIN) / column)));
   await model.look(looksOf(branch, 0, place));
-  return stillRows(model, [branch], { most: place, column, many }).map(({ svg }) => mounted(svg));
+  return stillRows(model, [branch], { most: place, column, count }).map(({ svg }) => mounted(svg));
 }
 // why a read of a branch up to a place gave its value
 function whyOf(model, branch, place, { at: begun, process }) {
@@ -75,9 +75,9 @@ class Figure {
     const words = whyOf(this.model, this.branch, this.place, read.dataset);
     this.why.replaceChildren(...withWords(words));
   }
-  by(many) {
+  by(count) {
     this.pause();
-    return this.put(this.place + many);
+    return this.put(this.place + count);
   }
   pause() {
     clearInterval(this.playing);

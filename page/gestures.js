@@ -232,9 +232,9 @@ export const does = {
     setView({ process: p });
     if (!processesHere().some((it) => it.number === p && it.action))
       return say(`p${p} has no operation to go on with.`);
-    for (const many of TRIES) {
-      const steps = Array(many).fill(`g ${p} 0`), at = here();
-      const count = await stepsToEnd(now.model, put(at, ...steps).slice(0, -1), at, p, many);
+    for (const most of TRIES) {
+      const steps = Array(most).fill(`g ${p} 0`), at = here();
+      const count = await stepsToEnd(now.model, put(at, ...steps).slice(0, -1), at, p, most);
       if (count === 0) return say(`p${p}'s read is hit: give 0 or 1?`);
       if (count) return add(put(at, ...steps.slice(0, count)));
     }

@@ -9,8 +9,8 @@ const GO = /^[0-9]+ go (\S+) ([0-9]+)$/;
 const IN_A_RUN = ["history", "verdict"];
 // the edits that were added to a document, if they are of the steps of one branch
 function editsAdded(before, { lines }) {
-  const many = before.lines.length, isAdded = before.lines.every((it, at) => it === lines[at]);
-  const found = lines.slice(many).filter(isChange).map((it) => EDIT.exec(it));
+  const old = before.lines.length, isAdded = before.lines.every((it, at) => it === lines[at]);
+  const found = lines.slice(old).filter(isChange).map((it) => EDIT.exec(it));
   const isOne = found.every((it) => it && it[2] === found[0][2]);
   return isAdded && isOne ? found.map(([, how, name, place]) => ({ how, name, place })) : [];
 }

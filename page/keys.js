@@ -32,7 +32,7 @@ const atStep = (offset, use) => () => {
 };
 const atBranch = (name) => () => commands[name](here().name);
 const keys = {
-  ArrowLeft: (many) => by(-many), ArrowRight: (many) => by(many),
+  ArrowLeft: (count) => by(-count), ArrowRight: (count) => by(count),
   Home: () => by(-FAR), End: () => by(FAR),
   ArrowUp: () => panelNext(-1), ArrowDown: () => panelNext(1),
   w: () => key("w"), r: () => key("r"), g: () => key("g"), x: () => key("x"),
@@ -68,8 +68,8 @@ function press(event) {
   const found = gestureOf(event);
   if (!found) return null;
   event.preventDefault();
-  const many = shiftKey && event.key.startsWith("Arrow") ? 10 : 1;
-  lastKey = lastKey.then(() => found(many)).catch((fault) => say(fault.message, "refusal"));
+  const count = shiftKey && event.key.startsWith("Arrow") ? 10 : 1;
+  lastKey = lastKey.then(() => found(count)).catch((fault) => say(fault.message, "refusal"));
   return lastKey;
 }
 export const watchKeys = () => addEventListener("keydown", press);

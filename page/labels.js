@@ -3,7 +3,7 @@
 
 // the signs of verdicts
 export const SIGNS = { fresh: "\u25cf", overlap: "\u25d0", stray: "\u25b2" };
-export const counted = (many, thing) => `${many} ${thing}${many === 1 ? "" : "s"}`;
+export const counted = (count, thing) => `${count} ${thing}${count === 1 ? "" : "s"}`;
 // a code in words: what it is of, and the same in short
 export function codeWords(codes, code) {
   const { stamp, inner, value } = codes.parts(code);

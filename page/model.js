@@ -150,9 +150,9 @@ export class Model {
 }
 // How many of these steps a process needs to the end of its operation, or to a choice; null if
 // neither comes.
-export async function stepsToEnd({ ask, bench }, commands, at, process, many) {
+export async function stepsToEnd({ ask, bench }, commands, at, process, most) {
   // an edit needs a session that can join
-  const end = `${LOOK} history ${at.name} ${at.place + many}`;
+  const end = `${LOOK} history ${at.name} ${at.place + most}`;
   const lines = [...commands.map((it) => `0 ${it}`), end];
   const found = answersIn((await answered(ask, bench, linesOf(lines))).output).at(-1);
   for (const { step, process: who, words } of pageIn("history", found ? found.lines : []).events) {

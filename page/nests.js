@@ -33,9 +33,9 @@ function nestTexts(labels, x, y, width) {
     const little = fitting(labels, width + 3, LITTLE_SIZE);
     return little ? [textAt(little, x + width / 2, y + 13, "in little")] : [];
   }
-  const many = Math.max(1, Math.floor(width / REPEATED_EVERY)), texts = [];
-  for (let at = 0; at < many; at++)
-    texts.push(textAt(words, x + 4 + at * (width / many), y + 14, NEST_LOOKS[size]));
+  const count = Math.max(1, Math.floor(width / REPEATED_EVERY)), texts = [];
+  for (let at = 0; at < count; at++)
+    texts.push(textAt(words, x + 4 + at * (width / count), y + 14, NEST_LOOKS[size]));
   return texts;
 }
 // one that goes on at the branch's end reaches a little further, unless its process stopped

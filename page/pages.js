@@ -30,8 +30,8 @@ export function answersIn(output) {
 }
 // the answer to each line of a script, or null for one that has none
 export function pairedAnswers(lines, found) {
-  let many = 0;
-  return lines.map((line) => (line === "" || line.startsWith("#") ? null : found[many++] || null));
+  let count = 0;
+  return lines.map((line) => (line === "" || line.startsWith("#") ? null : found[count++] || null));
 }
 export function cursorIn({ first, lines }) {
   const match = CURSOR.exec(first);

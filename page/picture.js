@@ -40,10 +40,10 @@ function kindsOf(branch) {
   const hasLayers = layersOf(now.model.shape).length > 0;
   return ["state", hasLayers && "pending", needsBits(branch) && "bits"].filter(Boolean);
 }
-function findRange(branches, many, isFollowing) {
+function findRange(branches, count, isFollowing) {
   const { cells } = now.model.shape, lines = branches.some(needsBits) ? cells : 8 + cells / 16;
   return findColumns(branches, { room: roomOf(), scrolled: scroll.scrollLeft, place: here().place,
-    isFollowing, cells: many * lines });
+    isFollowing, cells: count * lines });
 }
 // how high a branch's panel is, or about how high it will be
 function heightOf(branch) {
@@ -257,8 +257,8 @@ function putChoices() {
 export function comparison() {
   if (!isComparing()) return "";
   const [a, b] = shown(), shared = sharedCells(a, b), at = firstDifference(a, b);
-  const many = shared ? `their first ${shared} steps` : "no step";
-  const said = `${a.name} and ${b.name} share ${many}`;
+  const parts = shared ? `their first ${shared} steps` : "no step";
+  const said = `${a.name} and ${b.name} share ${parts}`;
   const on = (it) => `${at < it.length ? it.step(at) : "none"} on ${it.name}`;
   if (at >= a.length && at >= b.length) return `${said}, and all their steps are equal.`;
   return `${said}; the first that differs is step ${at}: ${on(a)}, ${on(b)}.`;

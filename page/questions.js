@@ -109,8 +109,8 @@ export function guessable({ operations }, { values }) {
   const ways = operations.map((its) => its.reduce((made, it) =>
     (made.length > FEW_LISTS ? made : made.flatMap((list) => of(it).map((one) => [...list, one]))),
   [[]]));
-  const many = ways.reduce((product, it) => product * it.length, 1);
-  if (many > FEW_LISTS) return null;
+  const count = ways.reduce((product, it) => product * it.length, 1);
+  if (count > FEW_LISTS) return null;
   return ways.reduce((made, lists, process) => (operations[process].length
     ? made.flatMap((answers) => lists.map((it) => new Map([...answers, [process, it]]))) : made),
   [new Map()]);
@@ -146,14 +146,14 @@ export function groupedBy(process, lists) {
   const found = new Map();
   for (const it of lists) {
     const key = (it.answers.get(process) || []).join(" "), group = found.get(key);
-    if (!group) found.set(key, { key, many: 1, list: it });
-    else group.many++;
+    if (!group) found.set(key, { key, count: 1, list: it });
+    else group.count++;
   }
   return [...found.values()];
 }
 const SENTENCES = [
   [/more than ([0-9]+) states: leave out process ([0-9]), shorten process ([0-9])/,
-    (many, last, longest) => `There are more than ${many} states, too many to search: leave out `
+    (count, last, longest) => `There are more than ${count} states, too many to search: leave out `
       + `p${last}, or give p${longest} fewer operations.`],
   [/in a cycle/, () => "These operations wait for each other in a cycle: none of them begins."],
   [/: memory|line 0: 40/, () =>

@@ -59,9 +59,9 @@ function axisBelow(first, run, reading) {
   });
   const edges = [0], known = [...anchors].filter(([at]) => at > 0).sort((a, b) => a[0] - b[0]);
   for (const [at, x] of known) {
-    const from = edges.length - 1, left = edges[from], many = at - from;
-    const width = Math.max(LEAST_STEP, (x - left) / many);
-    for (let it = 1; it <= many; it++) edges.push(left + it * width);
+    const from = edges.length - 1, left = edges[from], count = at - from;
+    const width = Math.max(LEAST_STEP, (x - left) / count);
+    for (let it = 1; it <= count; it++) edges.push(left + it * width);
   }
   return new Axis(now.range.column, edges);
 }

@@ -28,8 +28,8 @@ export function looksOf({ name }, from, to, kinds = ["state", "bits", "pending"]
   return [["history", name, to], ["verdict", name, to], ...places];
 }
 export function aboutBranch(branch) {
-  const { length, shared, parent } = branch, many = counted(length, "step");
-  return shared ? `${many}, the first ${shared} shared with ${parent.name}` : many;
+  const { length, shared, parent } = branch, steps = counted(length, "step");
+  return shared ? `${steps}, the first ${shared} shared with ${parent.name}` : steps;
 }
 // a branch between two places, with what is inside its operations
 export function readInside(model, branch, from, to, end = to) {
@@ -77,11 +77,11 @@ function drawnIn({ name, length, parent, shared }, branches) {
 const evenly = (most, perRow) => Math.ceil(most / Math.ceil(Math.max(1, most) / perRow)) || 1;
 // The branches of a model in rows of columns; each row is an element `svg` and its size. The pages
 // must be there. `many`: how many columns a row has, at most `perRow`
-export function stillRows(model, branches, { most, column = 76, perRow = 24, many }) {
-  if (!many) return stillRows(model, branches, { most, column, many: evenly(most, perRow) });
-  const rows = [], width = many * column + MARGIN;
-  for (let from = 0; from < Math.max(1, most); from += many) {
-    const range = { from, to: Math.min(most, from + many), column };
+export function stillRows(model, branches, { most, column = 76, perRow = 24, count }) {
+  if (!count) return stillRows(model, branches, { most, column, count: evenly(most, perRow) });
+  const rows = [], width = count * column + MARGIN;
+  for (let from = 0; from < Math.max(1, most); from += count) {
+    const range = { from, to: Math.min(most, from + count), column };
     const { drawing, strips } = stillStrips(model, branches, range, most);
     rows.push(rowOf(strips, drawing.left(from), width));
   }

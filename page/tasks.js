@@ -64,15 +64,15 @@ const commandsIn = (lines) => lines.filter((it) => it && !isComment(it));
 // the comment that says how many of a script's lines were there when it was opened, if there are
 // steps among them and nothing is predicted yet
 export function startLine(opened) {
-  const many = commandsIn(opened).length;
-  return many > 1 && !taskOf(opened).predicted.size ? `# start: ${many}` : "";
+  const count = commandsIn(opened).length;
+  return count > 1 && !taskOf(opened).predicted.size ? `# start: ${count}` : "";
 }
 // the lines with which an exercise begins: its comments, without what somebody answered, and the
 // steps that it had
 export function startOf(lines) {
   const head = lines.slice(0, headOf(lines)).filter((it) => !isAnswer(it));
-  const many = Number(taskOf(lines).start) || 0;
-  return [...head, ...(many ? commandsIn(lines).slice(0, many) : ["0 join"])];
+  const count = Number(taskOf(lines).start) || 0;
+  return [...head, ...(count ? commandsIn(lines).slice(0, count) : ["0 join"])];
 }
 // whether a script has comments and moves alone, so that nobody has worked on it
 export const isUntouched = (lines) => lines.every((it) =>

@@ -42,8 +42,8 @@ export function sizeFault(kind, numbers) {
   const codes = { stamped: (second + 1) * first, matrix: ofMatrix }[kind] || 0;
   const formula = kind === "stamped" ? "(LAST+1)*VALUES" : "(INNER+1)*(TAG+1)*N*VALUES";
   if (codes > MOST_VALUES) return `${formula} is ${codes}: at most ${MOST_VALUES}.`;
-  const many = bits(...numbers);
-  return many > MOST_BITS ? `It has ${many} bits: at most ${MOST_BITS}.` : "";
+  const count = bits(...numbers);
+  return count > MOST_BITS ? `It has ${count} bits: at most ${MOST_BITS}.` : "";
 }
 export function shapeOf(line) {
   const [kind, ...words] = line.split(" "), numbers = words.map(Number);
