@@ -8,8 +8,8 @@ use Rattle.frames.specs.Behaviour.{Behaviour}
 use Rattle.frames.specs.Recorded.{AllFit, recorded}
 use Rattle.frames.specs.correctness.Regularity.{IsAtomic, IsRegular}
 use Rattle.frames.specs.correctness.Verdicts.{verdicts}
-use Rattle.pages.specs.declared.query.PlaceKind.{PlaceKind}
-use Rattle.pages.specs.declared.query.PlaceKind.TheVariants as kind
+use Rattle.pages.specs.declared.query.EventsKind.{EventsKind}
+use Rattle.pages.specs.declared.query.EventsKind.TheVariants as which
 use Rattle.pages.specs.declared.page.Page.{Page}
 use Rattle.pages.specs.declared.page.Page.TheVariants.{State, Process, Bits, Pending, History, Verdict, Branches, Cursor, Steps}
 
@@ -53,10 +53,6 @@ abbrev pub IsRegularOrAtomic : {P : Type 0} → Behaviour P → Type 0
 IsRegularOrAtomic b = IsRegular b ⊎ IsAtomic b
 
 -- if a page of this kind shows verdicts, the initial value that they depend on is `value`
-abbrev pub JudgesFrom : ℕ → PlaceKind → Type 0
-JudgesFrom value (kind.Verdict from) = IfSome from (λ initial. initial ≡ value)
-JudgesFrom value kind.State = ⊤
-JudgesFrom value (kind.Process p) = ⊤
-JudgesFrom value kind.Bits = ⊤
-JudgesFrom value kind.Pending = ⊤
-JudgesFrom value kind.History = ⊤
+abbrev pub JudgesFrom : ℕ → EventsKind → Type 0
+JudgesFrom value (which.Verdict from) = IfSome from (λ initial. initial ≡ value)
+JudgesFrom value which.History = ⊤

@@ -1,6 +1,6 @@
 //! Pages as data, and their texts.
 
-ghost use Rattle.std.specs.Prelude.{◌≡◌, ◌++◌, IfOk, OnOk, false};
+ghost use Rattle.std.specs.Prelude.{◌≡◌, ◌++◌, IfOk, OnOk};
 ghost use Rattle.pages.specs.Pages as spec;
 
 pub mod bits;
@@ -17,7 +17,7 @@ pub mod state;
 pub mod steps;
 pub mod verdict;
 
-use crate::query::PlaceKind;
+use crate::query::{ConfigKind, EventsKind};
 use bits::{BitsPage, bits_page, push_bits};
 use branch_terms::listed::Listed;
 use branches::{BranchesPage, push_branches};
@@ -52,27 +52,24 @@ pub enum Page {
     Steps(StepsPage),
 }
 
-/// Returns the page of a configuration, for the kinds of pages that show no events. Fails only if
-/// memory runs out.
+/// Returns the page, of this kind, of a configuration. Fails only if memory runs out.
 pub fn config_page<R: Register>(
     alloc: Global,
-    kind: PlaceKind,
+    kind: ConfigKind,
     head: &Head,
     config: &Config<R>,
 ) -> Result<Page, AllocError>
-    requires { spec.shows_events kind ≡ false }
     ensures { IfOk result (λ page. page
         ≡ spec.config_page (R.behaviour config.now.register) kind head.now config.now) }
 {
     match kind {
-        PlaceKind::State => Ok(Page::State(state_page(alloc, head, config)?)),
-        PlaceKind::Process(p) => Ok(Page::Process(process_page(head, p, config))),
-        PlaceKind::Bits => Ok(Page::Bits(bits_page(alloc, head, config)?)),
-        PlaceKind::Pending => Ok(Page::Pending(PendingPage {
+        ConfigKind::State => Ok(Page::State(state_page(alloc, head, config)?)),
+        ConfigKind::Process(p) => Ok(Page::Process(process_page(head, p, config))),
+        ConfigKind::Bits => Ok(Page::Bits(bits_page(alloc, head, config)?)),
+        ConfigKind::Pending => Ok(Page::Pending(PendingPage {
             head: *head,
             processes: pending::pending(alloc, config)?,
         })),
-        PlaceKind::History | PlaceKind::Verdict(_) => unreachable!(),
     }
 }
 
@@ -81,24 +78,20 @@ pub fn config_page<R: Register>(
 /// runs out.
 pub fn events_page(
     alloc: Global,
-    kind: PlaceKind,
+    kind: EventsKind,
     head: &Head,
     events: Vec<(usize, Event)>,
 ) -> Result<Page, AllocError>
     ensures { IfOk result (λ page. page ≡ spec.events_page kind head.now events.items) }
 {
     match kind {
-        PlaceKind::Verdict(value) => {
-            Ok(Page::Verdict(verdict_page(alloc, head, value, &events)?))
-        }
-        PlaceKind::State
-        | PlaceKind::Process(_)
-        | PlaceKind::Bits
-        | PlaceKind::Pending
-        | PlaceKind::History => Ok(Page::History(HistoryPage {
+        EventsKind::History => Ok(Page::History(HistoryPage {
             head: *head,
             events: Listed::new(events),
         })),
+        EventsKind::Verdict(value) => {
+            Ok(Page::Verdict(verdict_page(alloc, head, value, &events)?))
+        }
     }
 }
 

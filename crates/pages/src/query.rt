@@ -26,9 +26,9 @@ pub enum Query {
     Steps { b: Name },
 }
 
-/// What a look at a place of a branch is to show there.
+/// What a page of the configuration at a place is to show.
 #[derive(Clone, Copy, Debug, PartialEq, Eq)]
-pub enum PlaceKind {
+pub enum ConfigKind {
     /// The processes, and the values of all bit cells and words.
     State,
     /// What the process with this number is doing.
@@ -37,9 +37,14 @@ pub enum PlaceKind {
     Bits,
     /// The pending operation of each process, as frames.
     Pending,
-    /// The events of the steps up to the place.
+}
+
+/// What a page of the events of the steps up to a place is to show.
+#[derive(Clone, Copy, Debug, PartialEq, Eq)]
+pub enum EventsKind {
+    /// The events.
     History,
-    /// The verdict on each read that returned in the steps up to the place. Holds the initial value
-    /// if the tower has one writer, else `None`.
+    /// The verdict on each read that returned. Holds the initial value if the tower has one writer,
+    /// else `None`.
     Verdict(Option<u32>),
 }

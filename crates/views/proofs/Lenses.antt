@@ -4,7 +4,6 @@ use Rattle.std.specs.Prelude.{Result, Ok, Err, OnOk, OnErr}
 use Rattle.std.specs.Bool.{Decides}
 use Rattle.std.specs.Map.{lookup}
 use Rattle.std.proofs.lemmas.List.{take-append-drop, take_all}
-use Rattle.frames.specs.declared.types.Event.{Event}
 use Rattle.frames.specs.declared.types.Step.{Step}
 use Rattle.frames.specs.Behaviour.{Behaviour}
 use Rattle.frames.specs.Configuration.{Configuration, replayed}
@@ -14,11 +13,11 @@ use Rattle.cutoff.proofs.Fits.{register_kept, alone_same}
 use Rattle.checkpoints.specs.Segment.{SegmentRun}
 use Rattle.lru.specs.LruCache.{LruCache, lru_cache, promoted, put_entries}
 use Rattle.lru.proofs.CallerLemmas.{Contains-lookup, Contains-promoted, Contains-put_entries}
-use Rattle.pages.specs.declared.query.PlaceKind.{PlaceKind}
+use Rattle.pages.specs.declared.query.ConfigKind.{ConfigKind}
 use Rattle.pages.specs.declared.page.head.Head.{Head}
 use Rattle.views.specs.declared.lens.TheConstants.{PLACES}
 use Rattle.views.specs.Lenses.{MatchTheirKeys, IsLens}
-use Rattle.pages.specs.Pages.{page_at}
+use Rattle.pages.specs.Pages.{config_page}
 use Rattle.views.specs.Spots.{IsAlike, part_end}
 use Rattle.views.specs.laws.PlaceLaws.{SamePlace, same_place, place_decides}
 use Rattle.views.proofs.BehaviourAlone.{replayed_alone, replayed-append, page_alone}
@@ -114,8 +113,7 @@ module _ {R P : Type 0} (is : R → Behaviour P) where
       put_lens place c new (Err x) most like ok err = subst (IsLens is) (sym err) (all, most)
 
   -- configurations that are alike have the same pages
-  pub like_page : (kind : PlaceKind) (head : Head) (c d : Configuration R P) (events : List (ℕ × Event)) → IsAlike is c d
-      → page_at (is c.register) kind head c events ≡ page_at (is d.register) kind head d events
-  like_page kind head c d events like =
-      page_alone (is c.register) (is d.register) kind head c (without_register d) events like.home like.arrives
-      ∙ sym (page_alone (is d.register) (is d.register) kind head d (without_register d) events refl refl)
+  pub like_page : (kind : ConfigKind) (head : Head) (c d : Configuration R P) → IsAlike is c d → config_page (is c.register) kind head c ≡ config_page (is d.register) kind head d
+  like_page kind head c d like =
+      page_alone (is c.register) (is d.register) kind head c (without_register d) like.home like.arrives
+      ∙ sym (page_alone (is d.register) (is d.register) kind head d (without_register d) refl refl)

@@ -20,17 +20,17 @@ use Rattle.frames.proofs.NeverStray.{regular_never_stray, atomic_never_stray}
 use Rattle.schedule_trie.specs.Forest.{Forest, index_of, path_by}
 use Rattle.cutoff.specs.Fitting.{RunPart}
 use Rattle.cutoff.specs.Charts.{StepsFit}
-use Rattle.pages.specs.declared.query.PlaceKind.{PlaceKind}
-use Rattle.pages.specs.declared.query.PlaceKind.TheVariants as kind
+use Rattle.pages.specs.declared.query.EventsKind.{EventsKind}
+use Rattle.pages.specs.declared.query.EventsKind.TheVariants as which
 use Rattle.pages.specs.declared.query.Query.TheVariants as query
 use Rattle.pages.specs.declared.page.Page.{Page}
 use Rattle.pages.specs.declared.page.Page.TheVariants as page
 use Rattle.views.specs.Spots.{IsSpotOf}
-use Rattle.views.specs.RunPages.{run_page}
-use Rattle.views.specs.Looks.{steps_in, place_page, judged_from, NeverShowsStray}
+use Rattle.views.specs.RunPages.{all_page}
+use Rattle.views.specs.Looks.{steps_in, events_at, judged_from, NeverShowsStray}
 use Rattle.views.specs.Slips.{Slipped}
 use Rattle.pages.specs.Strays.{OnVerdicts, AreVerdictsOn, Judges, JudgesIts, ShowsNoStray, IsRegularOrAtomic, JudgesFrom}
-use Rattle.views.proofs.Slips.{slip_is}
+use Rattle.views.proofs.Slips.{all_are_events}
 
 NoneStray : List ReadVerdict → Type 0
 NoneStray reads = All (λ read. read.verdict ≢ Stray) reads
@@ -96,12 +96,13 @@ ok_shows_no_stray b lawful (Err e) h = tt
 pub judges_its : {R P : Type 0} (is : R → Behaviour P) (register : R) (judged : Option R) → judged ≡ Some register → (p : Page) → Judges (is register) p → JudgesIts is judged p
 judges_its is register judged named p h = subst (λ o. JudgesIts is o p) (sym named) h
 
--- the page of a place judges what the register records on the branch's first steps
-pub place_judges : {P : Type 0} (b : Behaviour P) (value : ℕ) (what : PlaceKind) (branch : List ℕ) (place : ℕ) (steps : List Step) → value < b.values → AllFit b steps → JudgesFrom value what
-    → Judges b (place_page b value what branch place steps)
-place_judges {P} b value (kind.Verdict from) branch place steps within fit h = by from h
+-- the page of a branch's events judges what the register records on the branch's first steps
+pub events_judge : {P : Type 0} (b : Behaviour P) (value : ℕ) (what : EventsKind) (branch : List ℕ) (place : ℕ) (steps : List Step) → value < b.values → AllFit b steps → JudgesFrom value what
+    → Judges b (events_at b value what branch place steps)
+events_judge b value which.History branch place steps within fit h = tt
+events_judge {P} b value (which.Verdict from) branch place steps within fit h = by from h
   where
-    by : (from : Option ℕ) → IfSome from (λ initial. initial ≡ value) → Judges b (place_page b value (kind.Verdict from) branch place steps)
+    by : (from : Option ℕ) → IfSome from (λ initial. initial ≡ value) → Judges b (events_at b value (which.Verdict from) branch place steps)
     by None h = tt
     by (Some initial) h =
         record {
@@ -111,19 +112,14 @@ place_judges {P} b value (kind.Verdict from) branch place steps within fit h = b
           fit = All-take (λ s. fits_step b s ≡ true) place steps fit;
           judged = ap (λ v. verdicts v (recorded b value (take place steps))) h;
         }
-place_judges b value kind.State branch place steps within fit h = tt
-place_judges b value (kind.Process p) branch place steps within fit h = tt
-place_judges b value kind.Bits branch place steps within fit h = tt
-place_judges b value kind.Pending branch place steps within fit h = tt
-place_judges b value kind.History branch place steps within fit h = tt
 
--- the page of a settled place's slip judges what the register records on the branch's first steps
-pub slip_judges : {R P : Type 0} (is : R → Behaviour P) (start : Configuration R P) (value : ℕ) (steps : List Step) (place len : ℕ) (parts : List (RunPart R P))
-    → IsSpotOf is start value steps place len parts → value < (is start.register).values → AllFit (is start.register) steps → (what : PlaceKind) (branch : List ℕ) → JudgesFrom value what
-    → Judges (is start.register) (run_page is what (record { branch = branch; place = place; len = len }) start parts)
-slip_judges is start value steps place len parts spot within fit what branch judged =
-    subst (Judges (is start.register)) (sym (slip_is is start value steps place len parts spot what branch))
-    (place_judges (is start.register) value what branch place steps within fit judged)
+-- the page of a slip's events judges what the register records on the branch's first steps
+pub all_judge : {R P : Type 0} (is : R → Behaviour P) (start : Configuration R P) (value : ℕ) (steps : List Step) (place len : ℕ) (parts : List (RunPart R P))
+    → IsSpotOf is start value steps place len parts → value < (is start.register).values → AllFit (is start.register) steps → (what : EventsKind) (branch : List ℕ) → JudgesFrom value what
+    → Judges (is start.register) (all_page is what (record { branch = branch; place = place; len = len }) parts)
+all_judge is start value steps place len parts spot within fit what branch judged =
+    subst (Judges (is start.register)) (sym (all_are_events is start value steps place len parts spot branch what))
+    (events_judge (is start.register) value what branch place steps within fit judged)
 
 -- each step of a branch fits
 pub fit_in : {P : Type 0} (b : Behaviour P) (f : Forest) (name : List ℕ) → StepsFit b f → AllFit b (steps_in f name)
@@ -134,10 +130,10 @@ fit_in b f name fits = by (index_of f.branches name)
     by (Some i) = fits i
 
 -- the page of verdicts judges reads from the register's initial value
-pub judged_from_it : {P : Type 0} (b : Behaviour P) (value : ℕ) → JudgesFrom value (kind.Verdict (judged_from b value))
+pub judged_from_it : {P : Type 0} (b : Behaviour P) (value : ℕ) → JudgesFrom value (which.Verdict (judged_from b value))
 judged_from_it b value = by (b.suits 1 (op.Write 0))
   where
-    by : (t : Bool) → JudgesFrom value (kind.Verdict (if t then None else Some value))
+    by : (t : Bool) → JudgesFrom value (which.Verdict (if t then None else Some value))
     by true = tt
     by false = refl
 
@@ -152,5 +148,5 @@ never_shows_stray b lawful value f (query.Steps branch) within fits = tt
 never_shows_stray b lawful value f query.Branches within fits = tt
 never_shows_stray b lawful value f (query.Cursor who) within fits = tt
 never_shows_stray b lawful value f (query.Verdict branch place) within fits =
-    shows_no_stray b (never_stray b lawful) (place_page b value (kind.Verdict (judged_from b value)) branch place (steps_in f branch))
-    (place_judges b value (kind.Verdict (judged_from b value)) branch place (steps_in f branch) within (fit_in b f branch fits) (judged_from_it b value))
+    shows_no_stray b (never_stray b lawful) (events_at b value (which.Verdict (judged_from b value)) branch place (steps_in f branch))
+    (events_judge b value (which.Verdict (judged_from b value)) branch place (steps_in f branch) within (fit_in b f branch fits) (judged_from_it b value))

@@ -8,14 +8,17 @@ use Rattle.schedule_trie.specs.declared.refusal.Refusal.{Refusal}
 use Rattle.schedule_trie.specs.Forest.{Forest, path_of}
 use Rattle.schedule_trie.specs.Trie.{forest}
 use Rattle.cutoff.specs.Charts.{Charted, StepsFit, look}
-use Rattle.pages.specs.declared.query.PlaceKind.{PlaceKind}
-use Rattle.pages.specs.declared.query.PlaceKind.TheVariants as kind
+use Rattle.pages.specs.declared.page.head.Head.{Head}
+use Rattle.pages.specs.declared.query.ConfigKind.{ConfigKind}
+use Rattle.pages.specs.declared.query.ConfigKind.TheVariants as kind
+use Rattle.pages.specs.declared.query.EventsKind.{EventsKind}
+use Rattle.pages.specs.declared.query.EventsKind.TheVariants as which
 use Rattle.pages.specs.declared.query.Query.{Query}
 use Rattle.pages.specs.declared.query.Query.TheVariants.{State, Process, Bits, Pending, History, Verdict, Branches, Cursor, Steps}
 use Rattle.pages.specs.declared.page.Page.{Page}
 use Rattle.pages.specs.declared.page.Page.TheVariants as page
 use Rattle.frames.specs.Recorded.{shown, recorded}
-use Rattle.pages.specs.Pages.{page_at}
+use Rattle.pages.specs.Pages.{config_page, events_page}
 use Rattle.pages.specs.Strays.{ShowsNoStray}
 
 -- The result of a look is the forest, which it leaves unchanged, or an error: NoBranch if there is
@@ -36,11 +39,20 @@ looked (Cursor who) f = Ok f
 abbrev pub steps_in : Forest → List ℕ → List Step
 steps_in f branch = unwrap_or (path_of f branch) []
 
--- the page of the kind `what` that shows a branch after the branch's first `place` steps; `branch`
--- is the branch's name, `steps` are all its steps, and `value` is the register's initial value
-abbrev pub place_page : {P : Type 0} → Behaviour P → ℕ → PlaceKind → List ℕ → ℕ → List Step → Page
-place_page b value what branch place steps =
-    page_at b what (record { branch = branch; place = place; len = length steps }) (shown b value (take place steps)) (recorded b value (take place steps))
+-- the first line of a page that shows a branch after its first `place` steps; `steps` are all its
+-- steps
+abbrev pub head_at : List ℕ → ℕ → List Step → Head
+head_at branch place steps = record { branch = branch; place = place; len = length steps }
+
+-- the page of the kind `what` that shows the configuration after a branch's first `place` steps;
+-- `branch` is the branch's name, `steps` are all its steps, and `value` is the register's initial
+-- value
+abbrev pub config_at : {P : Type 0} → Behaviour P → ℕ → ConfigKind → List ℕ → ℕ → List Step → Page
+config_at b value what branch place steps = config_page b what (head_at branch place steps) (shown b value (take place steps))
+
+-- the page of the kind `what` that shows the events of a branch's first `place` steps
+abbrev pub events_at : {P : Type 0} → Behaviour P → ℕ → EventsKind → List ℕ → ℕ → List Step → Page
+events_at b value what branch place steps = events_page what (head_at branch place steps) (recorded b value (take place steps))
 
 -- the initial value, which verdicts depend on; `None` if process 1 can write too, since verdicts
 -- are defined only for registers with one writer
@@ -50,12 +62,12 @@ judged_from b value = if b.suits 1 (op.Write 0) then None else Some value
 -- the page that a look at one branch of a forest shows, if the register's initial value is `value`;
 -- `None` if the query is for the list of branches, or for a session's cursor
 abbrev pub page_of : {P : Type 0} → Behaviour P → ℕ → Forest → Query → Option Page
-page_of b value f (State branch place) = Some (place_page b value kind.State branch place (steps_in f branch))
-page_of b value f (Process branch place process) = Some (place_page b value (kind.Process process) branch place (steps_in f branch))
-page_of b value f (Bits branch place) = Some (place_page b value kind.Bits branch place (steps_in f branch))
-page_of b value f (Pending branch place) = Some (place_page b value kind.Pending branch place (steps_in f branch))
-page_of b value f (History branch place) = Some (place_page b value kind.History branch place (steps_in f branch))
-page_of b value f (Verdict branch place) = Some (place_page b value (kind.Verdict (judged_from b value)) branch place (steps_in f branch))
+page_of b value f (State branch place) = Some (config_at b value kind.State branch place (steps_in f branch))
+page_of b value f (Process branch place process) = Some (config_at b value (kind.Process process) branch place (steps_in f branch))
+page_of b value f (Bits branch place) = Some (config_at b value kind.Bits branch place (steps_in f branch))
+page_of b value f (Pending branch place) = Some (config_at b value kind.Pending branch place (steps_in f branch))
+page_of b value f (History branch place) = Some (events_at b value which.History branch place (steps_in f branch))
+page_of b value f (Verdict branch place) = Some (events_at b value (which.Verdict (judged_from b value)) branch place (steps_in f branch))
 page_of b value f (Steps branch) = Some (page.Steps (record { branch = branch; steps = steps_in f branch }))
 page_of b value f Branches = None
 page_of b value f (Cursor who) = None

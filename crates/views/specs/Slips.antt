@@ -1,16 +1,9 @@
 -- Slips, the results of looks, as contracts see them.
 use Rattle.std.specs.Prelude.{Option}
 use Rattle.pages.specs.declared.page.Page.{Page}
-use Rattle.views.specs.declared.slip.content.Content.{Content}
-use Rattle.views.specs.declared.slip.content.Content.TheVariants as content
 
 -- a slip, as contracts see it: the page that is made from it; and `judged`, the register that was
 -- looked at, or `None` if `Slip::of` made the slip
 pub record Slipped (R : Type 0) : Type 0 where
   pub page : Page
   pub judged : Option R
-
--- the page that is made from what a slip holds
-abbrev pub content_page : {R P : Type 0} → Content R P → Page
-content_page (content.Place page) = page
-content_page (content.Ready page) = page

@@ -1,16 +1,13 @@
 //! Slips: what a look found, from which a page is made later.
 
-ghost use Rattle.std.specs.Prelude.{◌≡◌, ◌<◌, List, Some, None, true, false, Ok, IfOk, OnOk, IfErr, IfSome};
+ghost use Rattle.std.specs.Prelude.{◌≡◌, Some, None, true, Ok, IfOk, OnOk, IfErr, IfSome};
 ghost use Rattle.schedule_trie.specs.Forest.{IsRefused};
 ghost use Rattle.schedule_trie.specs.Trie.{forest};
-ghost use Rattle.cutoff.specs.Fitting.{RunPart};
 ghost use Rattle.cutoff.specs.Charts.{look};
 ghost use Rattle.views.specs.Looks as spec;
-ghost use Rattle.views.specs.Looks.{looked, steps_in, IsChartKept};
-ghost use Rattle.views.specs.ChartLooks.{shown_by, page_in, steps_page, IsSpotIn};
-ghost use Rattle.pages.specs.Pages as spec_pages;
-ghost use Rattle.views.specs.RunPages.{Shows, found_last};
-ghost use Rattle.frames.specs.Recorded.{AllFit};
+ghost use Rattle.views.specs.Looks.{looked, IsChartKept};
+ghost use Rattle.views.specs.ChartLooks.{shown_by, config_in, events_in, steps_page};
+ghost use Rattle.views.specs.RunPages.{found_last};
 ghost use Rattle.pages.specs.Strays.{IsRegularOrAtomic, Judges, JudgesIts, JudgesFrom, ShowsNoStray};
 
 use crate::lens::Lens;
@@ -23,7 +20,7 @@ use pages::listed::Listed;
 use pages::page::Page;
 use pages::page::head::Head;
 use pages::page::steps::StepsPage;
-use pages::query::{PlaceKind, Query};
+use pages::query::{ConfigKind, EventsKind, Query};
 use schedule_trie::name::Name;
 use schedule_trie::refusal::Refusal;
 use std::alloc::{AllocError, Global};
@@ -33,7 +30,7 @@ use std::sync::Arc;
 
 mod content;
 
-use content::{Content, Found, PlaceSlip};
+use content::Content;
 
 /// What a look found, from which its page is made later. The page is already determined: edits made
 /// in the meantime don't change it. `judged`, which only proofs use, is the register that was
@@ -46,14 +43,15 @@ pub struct Slip<R: Register> {
 }
 
 impl<R: Register> Model for Slip<R> {
-    ghost use Rattle.views.specs.Slips.{Slipped, content_page};
+    ghost use Rattle.views.specs.RunPages.{content_page};
+    ghost use Rattle.views.specs.Slips.{Slipped};
     ghost use Rattle.pages.specs.Strays.{JudgesIts};
 
     ghost Value = { Slipped R };
 
-    ghost view = { λ s. record { page = content_page s.content; judged = s.judged.value } };
+    ghost view = { λ s. record { page = content_page R.behaviour s.content; judged = s.judged.value } };
 
-    ghost invariant = { λ s. JudgesIts R.behaviour s.judged.value (content_page s.content) };
+    ghost invariant = { λ s. JudgesIts R.behaviour s.judged.value (content_page R.behaviour s.content) };
 }
 
 impl<R: Register> Slip<R> {
@@ -84,14 +82,14 @@ impl<R: Register> Slip<R> {
             → IfOk result (λ slip. ShowsNoStray slip.page) }
     {
         match query {
-            Query::State { b, k } => place_slip(alloc, chart, PlaceKind::State, b, k),
-            Query::Process { b, k, p } => place_slip(alloc, chart, PlaceKind::Process(p), b, k),
-            Query::Bits { b, k } => place_slip(alloc, chart, PlaceKind::Bits, b, k),
-            Query::Pending { b, k } => place_slip(alloc, chart, PlaceKind::Pending, b, k),
-            Query::History { b, k } => place_slip(alloc, chart, PlaceKind::History, b, k),
+            Query::State { b, k } => config_slip(alloc, chart, ConfigKind::State, b, k),
+            Query::Process { b, k, p } => config_slip(alloc, chart, ConfigKind::Process(p), b, k),
+            Query::Bits { b, k } => config_slip(alloc, chart, ConfigKind::Bits, b, k),
+            Query::Pending { b, k } => config_slip(alloc, chart, ConfigKind::Pending, b, k),
+            Query::History { b, k } => events_slip(alloc, chart, EventsKind::History, b, k),
             Query::Verdict { b, k } => {
                 let value = judged_from(chart);
-                place_slip(alloc, chart, PlaceKind::Verdict(value), b, k)
+                events_slip(alloc, chart, EventsKind::Verdict(value), b, k)
             }
             Query::Steps { b } => steps_slip(alloc, chart, b),
             Query::Branches | Query::Cursor { .. } => unreachable!(),
@@ -119,10 +117,7 @@ impl<R: Register> Slip<R> {
         ensures never_stray { IfSome self.now.judged
             (λ register. IsRegularOrAtomic (R.behaviour register) → IfOk result ShowsNoStray) }
     {
-        match &self.content {
-            Content::Place(slip) => slip.page(alloc, lens),
-            Content::Ready(page) => page.clone(),
-        }
+        self.content.page(alloc, lens)
     }
 
     /// Consumes the slip and returns its page. If the slip already holds the page, the page isn't
@@ -138,8 +133,8 @@ impl<R: Register> Slip<R> {
     {
         let Slip { content, judged: _ } = self;
         match content {
-            Content::Place(slip) => slip.page(alloc, lens),
             Content::Ready(page) => Ok(page),
+            content => content.page(alloc, lens),
         }
     }
 }
@@ -164,17 +159,16 @@ fn judged_by<R: Register>(chart: &Chart<R>) -> Snapshot<Option<R>>
     Snapshot::of(&Some(register))
 }
 
-/// Looks at the place after the first `place` steps of a branch.
-fn place_slip<R: Register>(
+/// Looks at the configuration after the first `place` steps of a branch.
+fn config_slip<R: Register>(
     alloc: Global,
     chart: &mut Chart<R>,
-    kind: PlaceKind,
+    kind: ConfigKind,
     branch: Name,
     place: u32,
 ) -> Result<Slip<R>, Refusal>
-    requires { JudgesFrom chart.old.value kind }
     ensures page { IfOk result
-        (λ slip. slip.page ≡ page_in R.behaviour chart.old kind branch place) }
+        (λ slip. slip.page ≡ config_in R.behaviour chart.old kind branch place) }
     ensures found { OnOk result (look (forest chart.old.trie) branch place
         ≡ Ok (forest chart.old.trie)) }
     ensures err { IfErr result (IsRefused (look (forest chart.old.trie) branch place)) }
@@ -183,67 +177,56 @@ fn place_slip<R: Register>(
     ensures judges { IfOk result (λ slip. Judges (R.behaviour chart.old.start.register) slip.page) }
 {
     let judged = judged_by(chart);
-    let (len, found) = settled(alloc, chart, kind, &branch, place)?;
+    let last = chart.settle_last(alloc, &branch, place)?;
+    let len = last.len;
     let head = Head { branch, place, len };
-    let content = Content::Place(PlaceSlip { kind, head, found });
+    let content = found_last(alloc, kind, head, chart.initial(), last.part)?;
     Ok(Slip { content, judged })
 }
 
-/// Settles a branch's first `place` steps. Returns the branch's length, and what a page of this
-/// kind is made from.
-fn settled<R: Register>(
+/// Looks at the events of the first `place` steps of a branch.
+fn events_slip<R: Register>(
     alloc: Global,
     chart: &mut Chart<R>,
-    kind: PlaceKind,
-    branch: &Name,
+    kind: EventsKind,
+    branch: Name,
     place: u32,
-) -> Result<(u32, Found<R>), Refusal>
-    ensures spot { IfOk result (λ s. (parts : List (RunPart R R.Pending))
-        × IsSpotIn R.behaviour chart.old branch.now place s.0 parts
-        × Shows R.behaviour kind chart.old.start parts s.1) }
-    ensures found { OnOk result (look (forest chart.old.trie) branch.now place
+) -> Result<Slip<R>, Refusal>
+    requires { JudgesFrom chart.old.value kind }
+    ensures page { IfOk result
+        (λ slip. slip.page ≡ events_in R.behaviour chart.old kind branch place) }
+    ensures found { OnOk result (look (forest chart.old.trie) branch place
         ≡ Ok (forest chart.old.trie)) }
-    ensures err { IfErr result (IsRefused (look (forest chart.old.trie) branch.now place)) }
+    ensures err { IfErr result (IsRefused (look (forest chart.old.trie) branch place)) }
     ensures kept { IsChartKept chart.old chart.new }
-    ensures fit { AllFit (R.behaviour chart.old.start.register)
-        (steps_in (forest chart.old.trie) branch.now) }
-    ensures within { chart.old.value < (R.behaviour chart.old.start.register).values }
+    ensures judged { IfOk result (λ slip. slip.judged ≡ Some chart.old.start.register) }
+    ensures judges { IfOk result (λ slip. Judges (R.behaviour chart.old.start.register) slip.page) }
 {
     chart.lemma_steps_fit();
-    if shows_events(kind) {
-        let Some(len) = chart.len(branch) else {
-            return Err(Refusal::NoBranch);
-        };
-        let spot = chart.settle(alloc, branch, place)?;
-        return Ok((len, Found::Runs(spot.runs)));
-    }
-    let last = chart.settle_last(alloc, branch, place)?;
-    let found = found_last(alloc, chart.initial(), last.part)?;
-    Ok((last.len, found))
+    let judged = judged_by(chart);
+    let Some(len) = chart.len(&branch) else {
+        return Err(Refusal::NoBranch);
+    };
+    let spot = chart.settle(alloc, &branch, place)?;
+    let head = Head { branch, place, len };
+    let content = Content::Runs(kind, head, spot.runs);
+    Ok(Slip { content, judged })
 }
 
-/// Whether a page of this kind is made from events: a page of history or of verdicts.
-fn shows_events(kind: PlaceKind) -> bool
-    ensures { result ≡ spec_pages.shows_events kind }
-{
-    match kind {
-        PlaceKind::History | PlaceKind::Verdict(_) => true,
-        PlaceKind::State | PlaceKind::Process(_) | PlaceKind::Bits | PlaceKind::Pending => false,
-    }
-}
-
-/// What a page without events is made from: the last run up to the place, or the configuration
-/// `first` if there is no run.
+/// What a slip holds for a page of a configuration: the last run up to the place, or the
+/// configuration `first` if there is no run.
 fn found_last<R: Register>(
     alloc: Global,
+    kind: ConfigKind,
+    head: Head,
     first: &Config<R>,
     last: Option<(Arc<Run<R>>, u32)>,
-) -> Result<Found<R>, AllocError>
-    ensures { IfOk result (λ found. found ≡ found_last first.now last) }
+) -> Result<Content<R>, AllocError>
+    ensures { IfOk result (λ content. content ≡ found_last kind head first.now last) }
 {
     match last {
-        None => Ok(Found::Initial(first.copy(alloc)?)),
-        Some((run, count)) => Ok(Found::Last(run, count)),
+        None => Ok(Content::Initial(kind, head, first.copy(alloc)?)),
+        Some((run, count)) => Ok(Content::Last(kind, head, run, count)),
     }
 }
 

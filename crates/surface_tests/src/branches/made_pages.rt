@@ -10,7 +10,7 @@ use frames::Config;
 use frames::types::{Event, Op};
 use pages::page::head::Head;
 use pages::page::{Page, config_page, events_page};
-use pages::query::PlaceKind;
+use pages::query::{ConfigKind, EventsKind};
 use schedule_trie::{Listed, Name};
 use std::alloc::{AllocError, Global};
 use std::test::Fail;
@@ -43,7 +43,7 @@ fn process_text(
     head: &Head,
     config: &Config<Switch>,
 ) -> Result<Vec<u8>, AllocError> {
-    let page = config_page(alloc, PlaceKind::Process(1), head, config)?;
+    let page = config_page(alloc, ConfigKind::Process(1), head, config)?;
     text_of(alloc, &page)
 }
 
@@ -59,7 +59,7 @@ fn page_of_a_configuration(rt: HostRuntime) -> Result<(), Fail> {
 fn event_text(alloc: Global, head: &Head) -> Result<Vec<u8>, AllocError> {
     let mut events = Vec::new(alloc);
     events.push((0, Event::Invoke(1, Op::Read)))?;
-    let page = events_page(alloc, PlaceKind::History, head, events)?;
+    let page = events_page(alloc, EventsKind::History, head, events)?;
     text_of(alloc, &page)
 }
 

@@ -1,8 +1,7 @@
 //! What a slip, the result of a look, holds until its page is made.
 
-ghost use Rattle.std.specs.Prelude.{◌≡◌, IfOk, false};
+ghost use Rattle.std.specs.Prelude.{◌≡◌, IfOk};
 ghost use Rattle.cutoff.specs.Fitting.{part_of};
-ghost use Rattle.pages.specs.Pages.{shows_events};
 ghost use Rattle.views.specs.RunPages as spec;
 
 use crate::lens::Lens;
@@ -13,63 +12,40 @@ use frames::config::Config;
 use frames::register::Register;
 use pages::page::head::Head;
 use pages::page::{Page, config_page, events_page};
-use pages::query::PlaceKind;
+use pages::query::{ConfigKind, EventsKind};
 use std::alloc::{AllocError, Global};
-use std::marker::Model;
 use std::sync::Arc;
 
-/// What a slip holds: what a look found at a place, or a page that was made already.
+/// What a slip holds: what a look found at a place, and only what is needed to make its page; or a
+/// page that was made already.
 #[derive(Drop)]
 pub(super) enum Content<R: Register> {
-    Place(PlaceSlip<R>),
+    /// For a page of a configuration, if no step precedes the place: the configuration at the
+    /// place.
+    Initial(ConfigKind, Head, Config<R>),
+    /// For a page of a configuration: the run that reaches the place, and how many of the run's
+    /// steps precede the place.
+    Last(ConfigKind, Head, Arc<Run<R>>, u32),
+    /// For a page of events: the runs up to the place, each with how many of its steps precede the
+    /// place.
+    Runs(EventsKind, Head, Runs<R>),
+    /// The page.
     Ready(Page),
 }
 
-/// What a look found at a place of a branch, from which a page of the kind `kind` is made later.
-#[derive(Drop)]
-pub(super) struct PlaceSlip<R: Register> {
-    pub(super) kind: PlaceKind,
-    pub(super) head: Head,
-    pub(super) found: Found<R>,
-}
-
-impl<R: Register> Model for PlaceSlip<R> {
-    ghost use Rattle.pages.specs.declared.page.Page.{Page};
-    ghost use Rattle.views.specs.RunPages.{found_page, IsFor};
-
-    ghost Value = { Page };
-
-    ghost view = { λ s. found_page R.behaviour s.kind s.head s.found };
-
-    ghost invariant = { λ s. IsFor s.kind s.found };
-}
-
-/// What a look found at a place: only what is needed to make a page of the look's kind.
-#[derive(Drop)]
-pub(super) enum Found<R: Register> {
-    /// For a page without events, if no step precedes the place: the configuration at the place.
-    Initial(Config<R>),
-    /// For a page without events: the run that reaches the place, and how many of the run's steps
-    /// precede the place.
-    Last(Arc<Run<R>>, u32),
-    /// For a page of events: the runs up to the place, each with how many of its steps precede the
-    /// place.
-    Runs(Runs<R>),
-}
-
-impl<R: Register> PlaceSlip<R> {
-    /// The page that is made from what the look found. It doesn't depend on `lens`, which only
-    /// saves replaying steps.
+impl<R: Register> Content<R> {
+    /// The page that is made from what a slip holds. It doesn't depend on `lens`, which only saves
+    /// replaying steps.
     pub(super) fn page(&self, alloc: Global, lens: &mut Lens<R>) -> Result<Page, AllocError>
-        ensures { IfOk result (λ page. page ≡ self.now) }
+        ensures { IfOk result (λ page. page ≡ spec.content_page R.behaviour self.now) }
     {
-        match &self.found {
-            Found::Initial(config) => config_page(alloc, self.kind, &self.head, config),
-            Found::Last(run, count) => part_page(alloc, lens, self.kind, &self.head, run, *count),
-            Found::Runs(runs) => {
-                let events = history_of(alloc, runs.as_slice())?;
-                events_page(alloc, self.kind, &self.head, events)
+        match self {
+            Content::Initial(kind, head, config) => config_page(alloc, *kind, head, config),
+            Content::Last(kind, head, run, count) => {
+                part_page(alloc, lens, *kind, head, run, *count)
             }
+            Content::Runs(kind, head, runs) => all_page(alloc, *kind, head, runs),
+            Content::Ready(page) => page.clone(),
         }
     }
 }
@@ -80,12 +56,11 @@ impl<R: Register> PlaceSlip<R> {
 fn part_page<R: Register>(
     alloc: Global,
     lens: &mut Lens<R>,
-    kind: PlaceKind,
+    kind: ConfigKind,
     head: &Head,
     run: &Arc<Run<R>>,
     count: u32,
 ) -> Result<Page, AllocError>
-    requires { shows_events kind ≡ false }
     ensures { IfOk result
         (λ page. page ≡ spec.part_page R.behaviour kind head.now (part_of (run.now, count))) }
 {
@@ -94,4 +69,17 @@ fn part_page<R: Register>(
     }
     let config = lens.config_in(alloc, run, count)?;
     config_page(alloc, kind, head, &config)
+}
+
+/// The page of the events of these runs, each up to its count of steps.
+fn all_page<R: Register>(
+    alloc: Global,
+    kind: EventsKind,
+    head: &Head,
+    runs: &Runs<R>,
+) -> Result<Page, AllocError>
+    ensures { IfOk result (λ page. page ≡ spec.all_page R.behaviour kind head.now runs.now) }
+{
+    let events = history_of(alloc, runs.as_slice())?;
+    events_page(alloc, kind, head, events)
 }
