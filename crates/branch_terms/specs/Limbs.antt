@@ -50,7 +50,7 @@ abbrev pub limbs_after : List Branch → List Branch → List Limb
 limbs_after earlier [] = []
 limbs_after earlier (b ∷ bs) = limb_of earlier b ∷ limbs_after (earlier ++ b ∷ []) bs
 
--- the limbs of a forest's branches (what a file stores of each), in order
+-- what a file stores of a forest's branches: the limb of each, in order
 abbrev pub limbs : Forest → List Limb
 limbs f = limbs_after [] f.branches
 
@@ -111,8 +111,8 @@ is_own_of None k = false
 is_own_of (Some p) k = nat_lt p.shared k && nat_le k (limb_length p)
 
 -- whether a limb may follow the earlier ones, judged by the cells that it shares: either its `from`
--- and `shared` are 0, or the last cell that it shares is one of the own cells of the limb at index
--- `from` (those after that limb's shared cells)
+-- and `shared` are 0, or the last cell that it shares is among the cells of the limb at index
+-- `from` that follow its shared ones
 abbrev pub may_share : List Limb → Limb → Bool
 may_share earlier l = (nat_eq l.from 0 && nat_eq l.shared 0) || is_own_of (slice_get earlier l.from) l.shared
 

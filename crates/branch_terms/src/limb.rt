@@ -26,8 +26,8 @@ pub struct Limb {
 }
 
 /// Whether `limb` may follow `limbs`, judged by the cells that it shares: either its `from` and
-/// `shared` are 0, or the last cell that it shares is one of the own cells of the limb at index
-/// `from` (those after that limb's shared cells).
+/// `shared` are 0, or the last cell that it shares is among the cells of the limb at index `from`
+/// that follow its shared ones.
 pub fn may_share(limbs: &[Limb], limb: &Limb) -> bool
     ensures { result ≡ spec.may_share limbs.now limb.now }
 {

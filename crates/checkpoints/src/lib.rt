@@ -1,5 +1,5 @@
-//! Replay: making steps one after another, from the initial configuration or from the entry of a
-//! segment (the configuration before its steps).
+//! Replay: making steps one after another, from the initial configuration or from a segment's
+//! entry, the configuration before its steps.
 #![tactic(auto)]
 
 pub mod events;

@@ -85,9 +85,9 @@ impl<R: Register> Run<R> {
     }
 }
 
-/// Replays the steps of `items` (each item has one step), in order, from `entry`. The steps must
-/// fit the register of `entry`. Returns the run of these steps, with `entry` as its entry. Fails
-/// only if memory runs out.
+/// Replays the steps of `items`, one of each item, in order, from `entry`. The steps must fit the
+/// register of `entry`. Returns the run of these steps, with `entry` as its entry. Fails only if
+/// memory runs out.
 pub fn run_of<R: Register, S: HasStep>(
     alloc: Global,
     entry: Arc<Config<R>>,

@@ -32,11 +32,11 @@ IsFront-holds = (98 ∷ [], refl)
 IsFront-fails : IsFront (98 ∷ []) (97 ∷ 98 ∷ []) → ⊥
 IsFront-fails h = let e : 97 ≡ 98 = ap first h.1 in omega (arith, e)
 
--- of `ab` the front `a` was written, after what was there
+-- the front `a` of `ab` was written, after what was there
 WroteFront-holds : WroteFront (Some (9 ∷ [])) (Some (9 ∷ 97 ∷ [])) (97 ∷ 98 ∷ [])
 WroteFront-holds = (97 ∷ [], (98 ∷ [], refl), refl)
 
--- of `ab` only the `b` was written
+-- only the `b` of `ab` was written
 WroteFront-fails : WroteFront (Some (9 ∷ [])) (Some (9 ∷ 98 ∷ [])) (97 ∷ 98 ∷ []) → ⊥
 WroteFront-fails h =
     let front : 98 ∷ [] ≡ h.0 = ap (drop 1) h.2 in

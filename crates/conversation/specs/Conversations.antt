@@ -36,8 +36,8 @@ pub record Leaves {W : Type 0} (define : Definition W) (start world : W) (before
   pub left : world ≡ (after_lines define start (lines_of answered.script) answered.marks).world
 
 -- The text that was written by the time of a fault, if the bytes `seen` were read. After a failed
--- read, or if the script is too long: the answers to all whole lines (those that end with an LF).
--- If memory ran out: the answers to the first `count` whole lines, for some `count`. After a failed
+-- read, or if the script is too long: the answers to all whole lines, which end with an LF. If
+-- memory ran out: the answers to the first `count` whole lines, for some `count`. After a failed
 -- write: a prefix of the answers to the whole lines, or, at the script's end, a prefix of the
 -- answers to all lines. Such a prefix may end within an answer.
 abbrev pub WentOut : StreamFault → Answering → Marks → List ℕ → Option (List ℕ) → List ℕ → Type 0

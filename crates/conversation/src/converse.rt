@@ -25,8 +25,8 @@ const PIECE_BYTES: usize = 4096;
 /// The end of a line.
 const LINE_END: u8 = b'\n';
 
-/// How far a conversation has got: what is kept of the line that hasn't ended yet (at most
-/// `KEPT_BYTES` bytes), how many lines have ended, and the answers that aren't written yet.
+/// How far a conversation has got: at most `KEPT_BYTES` bytes of the line that hasn't ended yet,
+/// how many lines have ended, and the answers that aren't written yet.
 #[derive(Drop)]
 pub struct Conversation {
     line: Vec<u8>,

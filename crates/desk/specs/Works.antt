@@ -35,8 +35,7 @@ IsAnswer w query (Err r) = IsRefused (looked_in w query) r
 abbrev pub ShowsNoStrayOf : {P : Type 0} → World P → Result Page Refusal → Type 0
 ShowsNoStrayOf w answer = IsRegularOrAtomic w.tower → IfOk answer ShowsNoStray
 
--- the answer that a look has determined: the page of its slip (what the look found), or why the
--- look is refused
+-- the answer that a look has determined: the page of its slip, or why the look is refused
 abbrev pub answer_by : {R : Type 0} → Result (Slipped R) Refusal → Result Page Refusal
 answer_by (Ok slip) = Ok slip.page
 answer_by (Err r) = Err r

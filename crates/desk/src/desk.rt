@@ -1,4 +1,4 @@
-//! A desk (a book guarded by a lock), and its calls.
+//! A desk, which is a book guarded by a lock, and its calls.
 
 ghost use Rattle.std.specs.Prelude.{◌≡◌, ◌≤◌, ◌<◌, ◌+◌, [], Ok, OnOk, IfOk, IfErr, MatchResult, length};
 ghost use Rattle.frames.specs.Recorded.{AllFit};
@@ -45,9 +45,8 @@ use views::slip::Slip;
 /// chair knows of the desk's history.
 pub type Chair<R> = turn::Chair<Journal<R>>;
 
-/// A book (what commands see and change, and their log) guarded by one lock, the turn. Callers
-/// share the desk by reference; each has a chair. For proofs, the desk also has the book that it
-/// opened with.
+/// A book guarded by one lock, the turn. Callers share the desk by reference; each has a chair. For
+/// proofs, the desk also has the book that it opened with.
 #[derive(Drop)]
 pub struct Desk<R: Register> {
     pub(crate) turn: Turn<Journal<R>>,
@@ -140,10 +139,10 @@ impl<R: Register> Desk<R> {
     /// Waits for the turn, and answers a command of session `who`. The history that the call finds
     /// begins with what the chair had seen. The reply is the one that the command gets after this
     /// history, or Memory; if a guard `if_at` is given and differs from the edit count, the command
-    /// is refused. If the reply is LogFull (the log is as long as the limit) or Memory, the command
-    /// isn't logged, and what commands see doesn't change. Otherwise the command is logged with its
-    /// reply, under the chair's number. Afterwards the chair has seen the history found, followed
-    /// by this call if the call was logged.
+    /// is refused. If the reply is LogFull or Memory, the command isn't logged, and what commands
+    /// see doesn't change. Otherwise the command is logged with its reply, under the chair's
+    /// number. Afterwards the chair has seen the history found, followed by this call if the call
+    /// was logged.
     pub fn act<W: Wait>(
         &self,
         rt: &W,
@@ -283,8 +282,8 @@ impl<R: Register> Desk<R> {
     }
 }
 
-/// Makes the page of a slip (what a look found), without holding the turn. If the look is refused,
-/// returns that refusal; if memory runs out, Memory.
+/// Makes the page of a slip, without holding the turn. If the look is refused, returns that
+/// refusal; if memory runs out, Memory.
 fn paged<R: Register>(
     alloc: Global,
     lens: &mut Lens<R>,

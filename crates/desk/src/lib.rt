@@ -1,8 +1,8 @@
-//! A desk: one book guarded by one lock (the turn). Each caller of the desk has a chair. With the
+//! A desk: one book guarded by one lock, the turn. Each caller of the desk has a chair. With the
 //! chair, the caller gives the commands of sessions, and looks at the book.
 //!
-//! The logged commands of all chairs make one history, which is legal from the desk's opening (each
-//! reply is the one that its command gets after the calls before it). What a chair has seen is a
+//! The logged commands of all chairs make one history, which is legal from the desk's opening: each
+//! reply is the one that its command gets after the calls before it. What a chair has seen is a
 //! prefix of this history. The chairs divide the turn's 16 shares, and a chair with all of them has
 //! seen the whole history. Pages are made without holding the turn.
 #![tactic(auto)]

@@ -9,8 +9,8 @@ use turn::Work;
 use views::query::Query;
 use views::slip::Slip;
 
-/// The work that looks. It returns the history's length, and either a slip (what the look found,
-/// from which the page is made after the turn is given back) or why the look is refused.
+/// The work that looks. It returns the history's length, and either a slip, from which the page is
+/// made after the turn is given back, or why the look is refused.
 #[derive(Drop)]
 pub(crate) struct Look {
     pub(crate) alloc: Global,

@@ -85,7 +85,7 @@ pub struct StepEvents {
     pub second: Option<Event>,
 }
 
-/// The four actions on a cell (a safe bit).
+/// The four actions on a cell, which is a safe bit.
 #[derive(Clone, Copy, Debug, PartialEq, Eq)]
 pub enum ActionKind {
     WriteStart,
@@ -122,10 +122,10 @@ pub enum FrameLayer {
 #[derive(Clone, Copy, Debug, PartialEq, Eq)]
 pub struct LayerName(pub u8, pub u8, pub u8);
 
-/// One layer's share of a pending operation. `op` is the operation on that layer. `i` says which
-/// part (a register that the layer uses) is at work; for a safe bit, it is 0 before the start
-/// action and 1 after it. `x` is the code being written or, while a matrix reads a column, the
-/// greatest code read so far, at first 0. Each of `i` and `x` is 0 if the layer doesn't need it.
+/// One layer's share of a pending operation. `op` is the operation on that layer. `i` says which of
+/// the registers that the layer uses is at work; for a safe bit, it is 0 before the start action
+/// and 1 after it. `x` is the code being written or, while a matrix reads a column, the greatest
+/// code read so far, at first 0. Each of `i` and `x` is 0 if the layer doesn't need it.
 #[derive(Clone, Copy, Debug, PartialEq, Eq, Default)]
 pub struct Frame {
     pub layer: FrameLayer,

@@ -13,8 +13,8 @@ use Rattle.layers.specs.Nested.{Table}
 abbrev pub limits_hold : {Task : Type 0} → Table Task → Bool
 limits_hold t = nat_le LEAST_VALUES t.values && (nat_le LEAST_PROCESSES t.processes && nat_le t.processes MOST_PROCESSES)
 
--- the register below has the values and processes that the parts need, and its depth (the most
--- frames that its operations have) is below 8, so that the layer can add a frame of its own
+-- the register below has the values and processes that the parts need, and its depth, the most
+-- frames that its operations have, is below 8, so that the layer can add a frame of its own
 abbrev pub kind_fits : {Task P : Type 0} → Table Task → Behaviour P → Bool
 kind_fits t b = b.values == t.inner_values && (b.processes == t.inner_processes && nat_lt b.depth STACK_FRAMES)
 

@@ -1,5 +1,5 @@
-//! What a construction provides: its parts (the registers below it), its own words of memory, and
-//! the programs of its operations.
+//! What a construction provides: its parts, which are registers, its own words of memory, and the
+//! programs of its operations.
 
 ghost use Rattle.std.specs.Prelude.{◌≡◌, ℕ, ◌<◌, ◌≤◌, ◌+◌, ◌^◌, Bool, true, length};
 ghost use Rattle.std.specs.Bool.{Decides};

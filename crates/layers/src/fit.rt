@@ -14,7 +14,7 @@ use thiserror::Error;
 /// Why a layer can't be built on the register below.
 #[derive(Clone, Copy, Debug, PartialEq, Eq, Error)]
 pub enum LayerError {
-    /// One of the layer's numbers (of values, of processes and so on) is outside its limits; or the
+    /// One of the layer's numbers, such as that of its values, is outside its limits; or the
     /// register below doesn't have the values and processes that the parts need; or the register
     /// below has depth 8, so that no frame is left for the layer.
     BadSize,

@@ -1,4 +1,4 @@
-//! Constructions of registers from registers. An operation calls its parts (the registers below it)
+//! Constructions of registers from registers. An operation calls its parts, the registers below it,
 //! one after another. One register type, `Layered`, serves every construction over any register.
 #![tactic(auto)]
 

@@ -100,7 +100,7 @@ no_other_write h = by h.earlier h.step h.since h.split
 Follows-holds : Follows (writes ∷ []) (Wrote 0)
 Follows-holds = (1, record { earlier = []; step = 0; since = []; split = refl; quiet = refl })
 
--- but not after the invocation of a read
+-- a write can't return if the process has invoked a read
 Follows-fails : Follows (reads ∷ []) (Wrote 0) → ⊥
 Follows-fails h = no_write h.0 h.1
 

@@ -89,7 +89,7 @@ known_writing k (e ∷ es) later q r =
     let counted = counts e.1 (is_refused (es ++ later)) in
     known_writing (noting counted e.1 k) es later quiet.1 roles.1 ∙ noting_writing counted k e.1 quiet.0 roles.0
 
--- and whether the write in progress is refused
+-- such events don't change whether the write in progress is refused
 quiet_refused_by : (e : Event) (later : Bool) → begins_or_ends 0 e ≡ false → has_role e ≡ true → refused_by e later ≡ later
 quiet_refused_by (Invoke p (op.Write v)) later q r = absurd (true≢false (sym r ∙ q))
 quiet_refused_by (Invoke p op.Read) later q r = refl

@@ -143,7 +143,7 @@ refusal_of (e ∷ es) r h =
     let roles = and_parts (has_role e.1) (list_all (λ x. has_role x.1) es) r in
     refusal_head e.0 e.1 es roles.0 h (refusal_of es roles.1)
 
--- and one that ends by its refusal is refused
+-- a write that ends by its refusal is refused
 refused_by_end : (layer : Layer) (es : List (ℕ × Event)) → HaveRoles es → EndsBy 0 (Refused 0 layer) es → is_refused es ≡ true
 refused_by_end layer es r e =
     let x : ℕ × Event = (e.step, Refused 0 layer) in

@@ -13,7 +13,7 @@ abbrev rest_of : List Op → List (List ℕ) → List (List ℕ) → Bool → Bo
 rest_of front others left is_read is_write v =
     cond is_read (operations_from (front ++ Read ∷ []) others) (cond is_write (v >>= λ n. operations_from (front ++ Write n ∷ []) left) None)
 
--- that operation
+-- the first operation, which `rest_of` adds
 abbrev op_of : Bool → Bool → Option ℕ → Option Op
 op_of is_read is_write v = cond is_read (Some Read) (cond is_write (option_map (λ n. Write n) v) None)
 

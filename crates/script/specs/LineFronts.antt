@@ -1,4 +1,4 @@
--- Only the front of each line (its first `KEPT_BYTES` bytes) is kept in memory. These laws say that
+-- Only the front of each line, its first `KEPT_BYTES` bytes, is kept in memory. These laws say that
 -- the front and the whole line are read and answered alike.
 use Rattle.std.proofs.Common.{◌≡◌, ℕ, ◌<◌, Bool, false, cond, ◌&&◌, nat_le, ◌==◌, List, [], ◌∷◌, length, take, refl, sym, ap, ◌∙◌, arith, inl, inr}
 use Rattle.std.proofs.lemmas.List.{take_all, length-take}

@@ -94,7 +94,7 @@ call_text c = join_with_byte 32 (map spelled (call_words c))
 abbrev pub is_visible : ℕ → Bool
 is_visible b = nat_le 33 b && nat_le b 126
 
--- whether a word is sound (one that a line may have): a text has 1 to 16 bytes from 0x21 to 0x7E,
+-- whether a word is sound, so that a line may have it: a text has 1 to 16 bytes from 0x21 to 0x7E,
 -- and a number or a guard has at most 9 digits
 abbrev pub is_sound : Word → Bool
 is_sound (Text t) = (nat_le 1 (length t) && nat_le (length t) 16) && list_all is_visible t
@@ -106,9 +106,8 @@ abbrev pub IsOwn : ℕ → Request → Type 0
 IsOwn session (Look (Cursor who)) = who ≡ session
 IsOwn session r = ⊤
 
--- A text spells a call: it is the call's text; the call's words are sound (a number has at most 9
--- digits, any other word 1 to 16 visible bytes); and if the call is a look at a cursor, that cursor
--- is the session's own.
+-- A text spells a call: it is the call's text; the call's words are sound; and if the call is a
+-- look at a cursor, that cursor is the session's own.
 pub record SpellsCall (text : List ℕ) (c : Call) : Type 0 where
   pub own : IsOwn c.session c.request
   pub sound : list_all is_sound (call_words c) ≡ true
@@ -119,8 +118,8 @@ abbrev pub IsBlankLine : List ℕ → Type 0
 IsBlankLine [] = ⊤
 IsBlankLine (b ∷ bs) = b ≡ 35
 
--- A line says nothing if it is blank (it is empty or begins with `#`). It says a call if it spells
--- that call. It says that it is bad if it isn't blank and spells no call.
+-- A line that is empty or begins with `#` is blank, and says nothing. A line says a call if it
+-- spells that call. It says that it is bad if it isn't blank and spells no call.
 abbrev pub LineSays : List ℕ → Line → Type 0
 LineSays text line.Blank = IsBlankLine text
 LineSays text line.Bad = (IsBlankLine text → ⊥) × ((c : Call) → SpellsCall text c → ⊥)

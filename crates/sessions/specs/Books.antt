@@ -85,9 +85,9 @@ BeginsAtOpening is h =
 abbrev pub opening_over : {R P : Type 0} → (R → Behaviour P) → Charted R P → Limits → World P
 opening_over is chart limits = opening (is chart.start.register) chart.value limits (forest chart.trie)
 
--- the invariant of a book. Its log is legal (each reply is the one that its command gets), and
--- leads from the opening to the present world. This world counts as many logged commands as the log
--- has entries. The count is within its limit, which is at most 1048576.
+-- the invariant of a book. Its log is legal, which means that each reply is the one that its
+-- command gets, and leads from the opening to the present world. This world counts as many logged
+-- commands as the log has entries. The count is within its limit, which is at most 1048576.
 pub record IsHeld {R P : Type 0} (is : R → Behaviour P) (h : Held R P) : Type 0 where
   pub legal : IsLegal (opening_of is h) h.log
   pub after : world_of is h.now ≡ world_after (opening_of is h) h.log

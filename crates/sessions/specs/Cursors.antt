@@ -21,8 +21,8 @@ cursor_at cursors who = slice_index_or cursors who None
 abbrev pub first_cursor : Forest → Option Cursor
 first_cursor f = option_map (λ name. cursor name 0) (name_in f.branches 0)
 
--- whether an insert or a remove on `branch` changes the branch `other`: at a cell (the first
--- argument) it changes each branch that has the cell; at the end of `branch` (`None`) it changes
+-- whether an insert or a remove on `branch` changes the branch `other`: at a cell, the first
+-- argument, it changes each branch that has the cell; at the end of `branch` (`None`) it changes
 -- `branch` alone
 abbrev pub acts_in : Option ℕ → Forest → List ℕ → List ℕ → Bool
 acts_in None f branch other = pointwise nat_eq branch other

@@ -1,5 +1,5 @@
 -- What a walk over stored runs requires of the runs, and what it finds. `test` says of each place
--- whether it is a hit (a place at which a break is met).
+-- whether it is a hit, which means that a break is met there.
 use Rattle.std.specs.Prelude.{ℕ, ◌+◌, ◌≡◌, ◌<◌, ◌≤◌, Bool, true, false, List, [], ◌∷◌, Option, length, take, slice_index_or}
 use Rattle.std.specs.List.{list_any}
 use Rattle.frames.specs.declared.types.StepEvents.{StepEvents}
@@ -43,7 +43,7 @@ ReportsSteps b breaks test place c steps =
     (i : ℕ) → i < length steps → test ((place + 1) + i) ≡ is_met breaks (slice_index_or (history b c steps) i no_events) (replayed b c (take (i + 1) steps)).memory
 
 module _ {R P : Type 0} (is : R → Behaviour P) (breaks : List Break) (test : ℕ → Bool) where
-  -- the test is right for a part of a stored run (its first `count` steps), whose first step is at
+  -- the test is right for the first `count` steps of a stored run, the first of which is at
   -- `place`: at the place after each of these steps, it says whether one of the breaks is met
   pub record ReportsPart (place : ℕ) (part : RunPart R P) : Type 0 where
     pub within : part.count ≤ length part.run.steps

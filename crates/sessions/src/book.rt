@@ -1,4 +1,4 @@
-//! The book: a desk's world (what its commands see and change), and the log of these commands.
+//! The book: a desk's world, and the log of the commands that led to it.
 
 ghost use Rattle.std.specs.Prelude.{◌≡◌, ◌<◌, ◌≤◌, ◌⊎◌, Some, Ok, OnOk, IfOk, IfErr, IsSome, [], ◌∷◌, ◌++◌, length, vec_capacity};
 ghost use Rattle.std.specs.Arc.{arc_value};
@@ -42,9 +42,9 @@ use std::sync::Arc;
 use views::query::Query;
 use views::slip::Slip;
 
-/// A desk's world (the branches, and the sessions' cursors and breaks), and the log of the commands
-/// that led to it. In contracts a book also has the chart that it opened with, and the number of
-/// further entries that its log has memory reserved for.
+/// A desk's world, which has the branches and the sessions' cursors and breaks, and the log of the
+/// commands that led to it. In contracts a book also has the chart that it opened with, and the
+/// number of further entries that its log has memory reserved for.
 #[derive(Drop)]
 pub struct Book<R: Register> {
     first: Snapshot<Chart<R>>,

@@ -40,8 +40,8 @@ pub record SpellsLimbs (t : TowerSpec) (ls : List (List ℕ)) : Type 0 where
   pub lawful : are_lawful t limbs ≡ true
   pub parts : join_with_byte 10 ls ≡ flat_map limb_text limbs ++ rest
 
--- No byte is foreign (a byte that no file may have), and a prefix of the bytes spells a bench file;
--- so any fault is after that prefix.
+-- No byte is foreign, and a prefix of the bytes spells a bench file; so any fault is after that
+-- prefix.
 pub record SpellsFront (bytes : List ℕ) : Type 0 where
   pub front : List ℕ
   pub rest : List ℕ

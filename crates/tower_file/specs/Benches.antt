@@ -6,8 +6,7 @@ use Rattle.branch_terms.specs.Limbs.{are_lawful_after}
 use Rattle.tower_file.specs.declared.tower.TowerSpec.{TowerSpec}
 use Rattle.tower_file.specs.Towers.{is_lawful_tower, fits}
 
--- the contents of a bench file: a tower, and the limbs of a forest (each limb is a branch as a file
--- stores it)
+-- the contents of a bench file: a tower, and the limbs of a forest
 pub record Bench : Type 0 where
   pub spec : TowerSpec
   pub limbs : List Limb

@@ -26,7 +26,8 @@ abbrev pub ◌>>=◌ : {A B : Type 0} → Result A FileFault → (A → Result B
 abbrev pub is_file_byte : ℕ → Bool
 is_file_byte b = b == 10 || (nat_le 32 b && nat_le b 126)
 
--- the index of the first foreign byte (a byte that a file can't have); `None` if no byte is foreign
+-- the index of the first foreign byte, which is one that no file may have; `None` if no byte is
+-- foreign
 abbrev pub first_foreign : List ℕ → Option ℕ
 first_foreign bytes = position (λ b. not (is_file_byte b)) bytes
 

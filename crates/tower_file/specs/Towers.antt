@@ -34,17 +34,16 @@ processes_of (Matrix processes values last_tag last_stamp) = processes
 abbrev pub is_between : ℕ → ℕ → ℕ → Bool
 is_between least most n = nat_le least n && nat_le n most
 
--- whether a matrix with these numbers has at most 512 codes (each is one number for a stamp, a tag,
--- a process and a value), and at most 4,096 bits: one bit for each combination of a code, a writer
--- and a reader
+-- whether a matrix with these numbers has at most 512 codes, each one number for a stamp, a tag, a
+-- process and a value, and at most 4,096 bits: one bit for each combination of a code, a writer and
+-- a reader
 abbrev pub is_small_matrix : ℕ → ℕ → ℕ → ℕ → Bool
 is_small_matrix processes values last_tag last_stamp =
     let codes = (last_stamp + 1) * (last_tag + 1) * processes * values in
     nat_le codes MOST_VALUES && nat_le (processes * processes * codes) MOST_CELLS
 
 -- whether each number of the tower is in its range, and the tower isn't too large: a stamped
--- register or a matrix has at most 512 codes (each is one number for a value and what is stored
--- with it, such as its stamp), and a matrix has at most 4,096 bits
+-- register or a matrix has at most 512 codes, and a matrix has at most 4,096 bits
 abbrev pub is_lawful_tower : TowerSpec → Bool
 is_lawful_tower (Safe init) = nat_lt init 2
 is_lawful_tower (Copies readers init) = is_between 1 MOST_READERS readers && nat_lt init 2

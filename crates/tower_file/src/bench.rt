@@ -11,10 +11,10 @@ use branch_terms::Limbs;
 use branch_terms::limb::{Limb, are_lawful};
 use frames::types::Step;
 
-/// What a bench file says: a lawful tower, and at least one limb (a branch as a file stores it).
-/// Each limb has a well-formed name that no earlier limb has. Each limb's `from` and `shared` are
-/// below 10^9. Either both are 0, or the limb's last shared cell is one of the own cells of the
-/// earlier limb at index `from`. Each limb's steps fit the tower.
+/// What a bench file says: a lawful tower, and at least one limb. Each limb has a well-formed name
+/// that no earlier limb has. Each limb's `from` and `shared` are below 10^9. Either both are 0, or
+/// the limb's last shared cell is one of the own cells of the earlier limb at index `from`. Each
+/// limb's steps fit the tower.
 #[derive(Debug, Drop)]
 pub struct BenchFile {
     /// The tower.

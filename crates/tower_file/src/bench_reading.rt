@@ -147,8 +147,7 @@ fn limbs_of(alloc: Global, tower: &TowerSpec, lines: &mut Lines<'_>) -> Result<V
     }
 }
 
-/// Reads the lines of a bench file, without a check for foreign bytes (those that no file may
-/// have).
+/// Reads the lines of a bench file, without a check for bytes that no file may have.
 #[tactic(auto, using(crate::proofs::StepLoop::fewer_left))]
 fn bench_of_lines(alloc: Global, bytes: &[u8]) -> Result<BenchFile, FileFault>
     ensures exact { Gives as_bench result (spec.bench_of_lines (lines bytes.now)) }
@@ -163,8 +162,8 @@ fn bench_of_lines(alloc: Global, bytes: &[u8]) -> Result<BenchFile, FileFault>
     Ok(BenchFile::of_lawful(tower, limbs))
 }
 
-/// Reads a bench file. If its lines have a fault, also looks for a foreign byte (one that no file
-/// may have). The clauses of `parse_bench` say the same, one by one.
+/// Reads a bench file. If its lines have a fault, also looks for a byte that no file may have. The
+/// clauses of `parse_bench` say the same, one by one.
 fn bench_of(alloc: Global, bytes: &[u8]) -> Result<BenchFile, FileFault>
     ensures parsed { reading.Parses as_bench SpellsBench spec.bench_of_lines bytes.now result }
     ensures memory { MemoryOnlyIf result (SpellsFront bytes.now) }

@@ -27,8 +27,8 @@ impl TowerFile {
     ghost use Rattle.tower_file.specs.Said.{as_file};
 
     /// Returns the file with this version, tower and steps. Returns `None` if the tower isn't
-    /// lawful, or if some step doesn't fit the tower or can't be expressed in this version (a stop,
-    /// in version 1).
+    /// lawful, or if some step doesn't fit the tower or can't be expressed in this version, such as
+    /// a stop in version 1.
     pub fn new(version: Version, spec: TowerSpec, steps: Vec<Step>) -> Option<TowerFile>
         ensures { option_map as_file result ≡ checked_file version spec steps.items }
     {

@@ -61,8 +61,7 @@ impl TowerSpec {
     }
 
     /// Whether each number of the tower is in its range, and the tower isn't too large: a stamped
-    /// register or a matrix has at most 512 codes (each is one number for a value and what is
-    /// stored with it, such as its stamp), and a matrix has at most 4,096 bits.
+    /// register or a matrix has at most 512 codes, and a matrix has at most 4,096 bits.
     pub fn is_lawful(&self) -> bool
         ensures { result ≡ spec.is_lawful_tower self.now }
     {

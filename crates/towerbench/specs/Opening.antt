@@ -36,7 +36,7 @@ use Rattle.conversation.specs.Conversations.{Answering, IsAnswered, EndsWithFaul
 use Rattle.towerbench.specs.declared.fault.Fault.{Fault}
 use Rattle.towerbench.specs.declared.fault.Fault.TheVariants as fault
 
--- the limb (a branch as a file stores it) of a single branch `main`, which has these steps
+-- the limb of a single branch `main`, which has these steps
 abbrev pub main_limb : List Step → Limb
 main_limb steps = record { name = codes "main"; from = 0; shared = 0; steps = steps }
 

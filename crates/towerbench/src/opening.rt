@@ -1,10 +1,10 @@
-//! What a script's desk (its branches, sessions and log, inside a lock) is opened with.
+//! What the desk that a script is answered at is opened with.
 
 use command_line::Options;
 use tower_file::BenchFile;
 
-/// What is done with a seat (a desk and one of its chairs) after a script that ended well. After a
-/// fault the seat is always dropped.
+/// What is done with a seat after a script that ended well. After a fault the seat is always
+/// dropped.
 #[derive(Clone, Copy)]
 pub(crate) enum Fate {
     /// The seat is dropped, because the process goes on and needs the memory of the desk.

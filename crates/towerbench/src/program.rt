@@ -51,7 +51,7 @@ pub fn tool<F: Files + AllocGlobal + Threads + Wait + Sync, R: Read, W: Write, E
         (streams (R.remaining reader.old) (W.contents writer.old))
         (streams (R.remaining reader.new) (W.contents writer.new)) × (1 ≤ result)) }
     // If that error is OutOfMemory, the program ends with a fault, and the status is 1. After any
-    // other error (a word isn't text), the words are refused, and the status is 2.
+    // other error, a word that isn't text, the words are refused, and the status is 2.
     ensures no_memory { IfErr words (λ e. error_kind e ≡ ErrorKind.OutOfMemory → result ≡ 1) }
     ensures not_text { IfErr words (λ e. error_kind e ≢ ErrorKind.OutOfMemory → result ≡ 2) }
 {

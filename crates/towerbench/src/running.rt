@@ -29,15 +29,14 @@ use towers::{copies, matrix, regular, stamped, unary};
 
 /// Answers a script on the tower and the branches that the bytes of `file` spell, or, if `file` is
 /// `None`, on a safe bit at 0 and one branch without steps. Each option must be in its range. All
-/// whole lines (those with a line end) that have been read are answered before the next read. If
-/// the result is `Ok`, the script was read to its end, and the answers to all its lines were
-/// written.
+/// lines whose ends have been read are answered before the next read. If the result is `Ok`, the
+/// script was read to its end, and the answers to all its lines were written.
 ///
-/// After File (the file has a fault) or Refused (the branches can't be loaded), nothing has been
-/// read or written. After the stream fault Read or TooLong, the answers to all whole lines that
-/// were read have been written; after Memory, the answers to the first `count` of these lines, for
-/// some `count`; after Write, a prefix of the answers to the lines that were read, which may end
-/// within an answer.
+/// If the file has a fault (File), or the branches can't be loaded (Refused), nothing has been read
+/// or written. After the stream fault Read or TooLong, the answers to all whole lines that were
+/// read have been written; after Memory, the answers to the first `count` of these lines, for some
+/// `count`; after Write, a prefix of the answers to the lines that were read, which may end within
+/// an answer.
 pub fn run<H: Threads + Wait + Sync, R: Read, W: Write>(
     rt: &H,
     alloc: Global,

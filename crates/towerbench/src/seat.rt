@@ -31,11 +31,10 @@ use views::page::Page;
 use views::query::Query;
 use views::slip::Slip;
 
-/// A desk, and a chair at it (one caller's part of the desk). If the chair holds every share (all
-/// 16, under which calls are counted), no one else calls the desk; so each call finds just the
-/// history of logged calls that the chair has seen. At most 4 thieves (threads that take jobs) help
-/// with the chair's fills. All looks share one lens (a cache of configurations), which is made for
-/// the first look.
+/// A desk, and a chair at it, which is one caller's part of the desk. If the chair holds all 16
+/// shares, no one else calls the desk; so each call finds just the history of logged calls that the
+/// chair has seen. At most 4 thieves, which are threads that take jobs, help with the chair's
+/// fills. All looks share one lens, a cache of configurations that is made for the first look.
 #[derive(Drop)]
 pub(crate) struct Seat<'a, R: Register, W>
 where
@@ -156,8 +155,7 @@ impl<R: Register, W: Wait> Seat<'_, R, W> {
         paged(alloc, &mut self.lens, slip)
     }
 
-    /// The limbs of the branches (each limb is a branch as a file stores it), in the order in which
-    /// the branches were made.
+    /// The limbs of the branches, in the order in which the branches were made.
     ///
     /// # Errors
     ///
@@ -197,8 +195,8 @@ where
     }
 }
 
-/// Makes the page of a slip (what a look found) with `lens`, or with a new lens if that is `None`.
-/// If the look is refused, returns that refusal; if memory runs out, Memory.
+/// Makes the page of a slip with `lens`, or with a new lens if that is `None`. If the look is
+/// refused, returns that refusal; if memory runs out, Memory.
 fn paged<R: Register>(
     alloc: Global,
     lens: &mut Option<Lens<R>>,

@@ -25,14 +25,13 @@ use std::io::{Read, Write};
 use std::sync::Wait;
 use std::thread::Threads;
 
-/// Answers a script at a desk, by one of the desk's chairs (one caller's part of the desk). All
-/// whole lines (those with a line end) that have been read are answered before the next read. If
-/// the chair holds all 16 shares, the first line finds the world after the history of logged calls
-/// that the chair has seen; and if the result is then `Ok`, the answers to all lines of the script
-/// were written. At most 4 `thieves` (threads that take jobs) help with fills; if the result is
-/// `Ok`, and no line was refused memory, the answers don't depend on their number. A look or a fill
-/// is refused memory only if no other refusal is due, and a command only if the log isn't full. The
-/// desk and the chair are dropped.
+/// Answers a script at a desk, by one of the desk's chairs. All lines whose ends have been read are
+/// answered before the next read. If the chair holds all 16 shares, the first line finds the world
+/// after the history of logged calls that the chair has seen; and if the result is then `Ok`, the
+/// answers to all lines of the script were written. At most 4 `thieves`, which are threads that
+/// take jobs, help with fills; if the result is `Ok`, and no line was refused memory, the answers
+/// don't depend on their number. A look or a fill is refused memory only if no other refusal is
+/// due, and a command only if the log isn't full. The desk and the chair are dropped.
 ///
 /// # Errors
 ///

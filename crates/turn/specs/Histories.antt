@@ -1,4 +1,4 @@
--- The views of a turn's chairs (what each chair knows of the list of the turn's value), and how
+-- The views of a turn's chairs, each of which is what the chair knows of the value's list, and how
 -- calls change them. `by` gives the number of the chair that made an entry.
 use Rattle.std.specs.Prelude.{◌≡◌, ℕ, ◌≤◌, Bool, true, false, not, nat_lt, max, ◌==◌, if◌then◌else◌, List, [], ◌++◌, length, filter}
 use Rattle.turn.specs.declared.view.View.{View}

@@ -1,7 +1,7 @@
--- The invariant of a turn's table (shared memory of two words and a slot), and what each kind of
--- step on the table guarantees. Word 0 is 0 while the turn is free, and the slot then has the
--- value. Word 1 is the length of the value's list. Each chair has a seat at the table, which has
--- the chair's view (what the chair knows).
+-- The invariant of a turn's table, which is shared memory of two words and a slot, and what each
+-- kind of step on the table guarantees. Word 0 is 0 while the turn is free, and the slot then has
+-- the value. Word 1 is the length of the value's list. Each chair has a seat at the table, which
+-- has the chair's view: what the chair knows.
 use Rattle.std.specs.Prelude.{◌≡◌, ◌≢◌, ℕ, ◌<◌, ◌≤◌, true, false, List, [], ◌∷◌, ◌++◌, length, All, Option, Some}
 use mathlib.Core.Option.{none, some}
 use lib.ListN.{get_elem?}
@@ -91,6 +91,6 @@ module _ {T E : Type 0} where
   abbrev pub IsTurn : TableId → Seat (Option T) (View E) → Type 0
   IsTurn table place = (table.words ≡ 2) × (table.slots ≡ 1) × (place.table_id ≡ table)
 
-  -- `place` and `place'` are one seat of one table (of atomic words and slots), at two times
+  -- `place` and `place'` are one seat of one table, at two times
   abbrev pub IsSamePlace : Seat (Option T) (View E) → Seat (Option T) (View E) → Type 0
   IsSamePlace place place' = (place'.table_id ≡ place.table_id) × (place'.id ≡ place.id)

@@ -1,5 +1,5 @@
-//! Chairs: each caller of a turn (a lock around one value) has one. A chair may take the turn, and
-//! knows how much it has seen of the value's list of entries.
+//! Chairs: each caller of a turn has one. A chair may take the turn, and knows how much it has seen
+//! of the value's list of entries.
 
 ghost use Rattle.std.specs.Prelude.{◌≡◌, ◌<◌, false, []};
 ghost use Rattle.turn.specs.Shares.{count};
@@ -9,10 +9,9 @@ use crate::counted::Counted;
 use crate::rule::Place;
 use crate::shares::Shares;
 
-/// One caller's part of a turn (a lock around one value): at least one of the turn's 16 shares,
-/// and, for contracts alone, what the chair knows of the value's list. A chair can be sent to
-/// another thread if the value can. If a chair is dropped, its shares are lost, and the turn can't
-/// be closed.
+/// One caller's part of a turn: at least one of the turn's 16 shares, and, for contracts alone,
+/// what the chair knows of the value's list. A chair can be sent to another thread if the value
+/// can. If a chair is dropped, its shares are lost, and the turn can't be closed.
 pub struct Chair<T: Counted> {
     pub(crate) place: Place<T>,
     pub(crate) shares: Shares,

@@ -1,5 +1,5 @@
-//! The invariant of a turn's table (the shared memory that keeps the lock, the value and the list's
-//! length), and what each kind of step on the table guarantees.
+//! The invariant of a turn's table, the shared memory that keeps the lock, the value and the list's
+//! length, and what each kind of step on the table guarantees.
 
 ghost use Rattle.std.specs.Prelude.{Bool, List};
 

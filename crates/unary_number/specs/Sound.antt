@@ -44,9 +44,9 @@ module _ (not_found : Outcome) (values processes : ℕ) (two : LEAST_VALUES ≤ 
   looks_sound who reader i zero same above below all = answered
   looks_sound who reader i (suc left) same above below all = ((same, above, below, omega arith), λ o. refl)
 
-  -- after a scan has read a bit, the rest of its program is sound (it next reaches a task that the
-  -- reader can be in, or ends with an outcome that suits a read); x, which the scan gives if the
-  -- bit is 1, may be any value below `values`
+  -- after a scan has read a bit, the rest of its program is sound: it next reaches a task that the
+  -- reader can be in, or ends with an outcome that suits a read. x, which the scan gives if the bit
+  -- is 1, may be any value below `values`
   looked_sound : (who reader i left bit x : ℕ) → reader ≡ who → 1 ≤ who → who < processes → i + left + 1 ≡ values → x < values
       → IsSound (unary_table_with not_found values processes) (UnaryMayBeAt values processes who op.Read) (Answers values op.Read) (after_look x (looks_above not_found reader i left) (Value bit))
   looked_sound who reader i left bit x same above below all small = by_test (bit == 1)

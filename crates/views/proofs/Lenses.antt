@@ -106,7 +106,7 @@ module _ {R P : Type 0} (is : R → Behaviour P) where
         ]
       ]
 
-      -- and if a true configuration is put into it
+      -- a lens stays one if a true configuration is put into it
       pub put_lens : {X Y : Type 0} (place : RunPart R P) (c : Configuration R P) (new : LruCache (RunPart R P) (Configuration R P)) (result : Result X Y) → places.cap ≡ PLACES → IsAlike is c (part_end is place)
           → OnOk result (new ≡ lru_cache (put_entries (same_place E F) places place c) places.cap) → OnErr result (new ≡ places) → IsLens is new
       put_lens place c new (Ok x) most like ok err = subst (IsLens is) (sym ok) (put_true place c like, most)

@@ -19,6 +19,6 @@ abbrev pub MatchTheirKeys : {R P : Type 0} → (R → Behaviour P) → LruCache 
 MatchTheirKeys {R} {P} is places = (e : RunPart R P × Configuration R P) → Contains places.entries e → IsAlike is e.1 (part_end is e.0)
 
 -- what holds of each lens's cache: its configurations match their keys, and it may have at most
--- PLACES of them (a cache never has more than its capacity)
+-- PLACES of them; a cache never has more than its capacity
 abbrev pub IsLens : {R P : Type 0} → (R → Behaviour P) → LruCache (RunPart R P) (Configuration R P) → Type 0
 IsLens is places = MatchTheirKeys is places × (places.cap ≡ PLACES)

@@ -62,7 +62,7 @@ impl<R: Register> Lens<R> {
     /// The configuration after the first `count` steps of `run`, which must have more than `count`
     /// steps. The result is like the configuration that these steps reach from the run's entry
     /// (`IsAlike`): the two registers behave alike, and all else is equal. Replay begins at the
-    /// place that `nearest` gives: `count`, `count` - 1, or 0 (the run's entry).
+    /// place that `nearest` gives: `count`, `count` - 1, or 0, which is the run's entry.
     pub(crate) fn config_in(
         &mut self,
         alloc: Global,

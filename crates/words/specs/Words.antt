@@ -27,7 +27,7 @@ abbrev pub next : List (List ℕ) → List ℕ
 next [] = []
 next (part ∷ others) = part
 
--- the parts that are left after the next part (the first of these parts) is taken
+-- the parts that are left after the first of them is taken
 abbrev pub after_next : List (List ℕ) → List (List ℕ)
 after_next [] = []
 after_next (part ∷ others) = others

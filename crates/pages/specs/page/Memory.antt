@@ -36,8 +36,8 @@ abbrev pub writing_name : Option Bool → List ℕ
 writing_name None = codes "-"
 writing_name (Some v) = bit_name v
 
--- a dash if no read of a cell is in progress; else `h` if the read is hit (a write of the cell has
--- overlapped it), and `r` if it isn't
+-- a dash if no read of a cell is in progress; else `h` if a write of the cell has overlapped the
+-- read, and `r` if none has
 abbrev pub reading_name : Cell → List ℕ
 reading_name c = if c.reading then (if c.hit then codes "h" else codes "r") else codes "-"
 

@@ -36,8 +36,8 @@ abbrev pub short_op : Op → ℕ → List ℕ
 short_op (op.Write v) written = codes "w " ++ decimal written
 short_op op.Read written = codes "r"
 
--- The text of a frame's operation. The text of a write has a number: the code x (one number for a
--- stamp and a value) if the layer is Stamped, else the write's value.
+-- The text of a frame's operation. The text of a write has a number: the code x, which has its
+-- stamp and its value, if the layer is Stamped, else the write's value.
 abbrev pub frame_op : FrameLayer → Op → ℕ → List ℕ
 frame_op Stamped (op.Write v) x = short_op (op.Write v) x
 frame_op Stamped op.Read x = short_op op.Read 0
@@ -50,8 +50,8 @@ after_space n = codes " " ++ decimal n
 
 -- What follows the operation in a frame's text. Safe bit: how many bit actions the operation has
 -- made; copies: the reader whose copy is in use; unary number: the bit in use; matrix: the phase,
--- the part in use and a code (the greatest read so far, or the one being written); a construction
--- that names itself: both of its numbers; the other layers: nothing.
+-- the part in use, and the greatest code read so far or the one being written; a construction that
+-- names itself: both of its numbers; the other layers: nothing.
 abbrev pub frame_rest : FrameLayer → ℕ → ℕ → List ℕ
 frame_rest Safe i x = after_space i
 frame_rest Copies i x = after_space i

@@ -83,8 +83,8 @@ fn writing_name(writing: Option<bool>) -> &'static str
     }
 }
 
-/// A dash if no read of the bit is in progress; else `h` if the read is hit (a write of the bit has
-/// overlapped it), and `r` if it isn't.
+/// A dash if no read of the bit is in progress; else `h` if a write of the bit has overlapped the
+/// read, and `r` if none has.
 fn reading_name(cell: Cell) -> &'static str
     ensures { result.now ≡ spec.reading_name cell }
 {

@@ -1,4 +1,4 @@
-//! Makes a book from limbs (a limb is a branch as a file has it), and limbs from a book.
+//! Makes a book from limbs, and limbs from a book.
 
 ghost use Rattle.std.specs.Prelude.{◌≡◌, ◌<◌, Ok, OnOk, IfOk, IfErr, [], length};
 ghost use Rattle.schedule_trie.specs.Forest.{IsRefused};
@@ -19,13 +19,12 @@ use std::alloc::{AllocError, Global};
 
 impl<R: Register> Book<R> {
     /// A book before its first command: its log is empty, no session has joined, and its branches
-    /// are those that these limbs describe (a limb is a branch as a file has it). There has to be
-    /// at least one limb. The limbs have to be lawful, as follows. Each has a well-formed name that
-    /// no earlier limb has. Each either shares no cells (its `from` and `shared` are 0), or shares
-    /// the first cells of an earlier limb's branch; if it shares cells, the last shared cell is one
-    /// of the earlier limb's own cells, not one that the earlier limb shares. The limbs' steps have
-    /// to fit the register, the limits have to be in their ranges, and the initial value `value`
-    /// has to be one of the register's values.
+    /// are those that these limbs describe. There has to be at least one limb. The limbs have to be
+    /// lawful, as follows. Each has a well-formed name that no earlier limb has. Each either shares
+    /// no cells (its `from` and `shared` are 0), or shares the first cells of an earlier limb's
+    /// branch; if it shares cells, the last shared cell is one of the earlier limb's own cells, not
+    /// one that the earlier limb shares. The limbs' steps have to fit the register, the limits have
+    /// to be in their ranges, and the initial value `value` has to be one of the register's values.
     ///
     /// # Errors
     ///
@@ -57,13 +56,13 @@ impl<R: Register> Book<R> {
         Ok(Book::over(alloc, chart, limits)?)
     }
 
-    /// The limbs of the book's branches (a limb is a branch as a file has it), in the order the
-    /// branches were made. There is at least one limb. The limbs are lawful, as follows. Each has a
-    /// well-formed name that no earlier limb has. Each either shares no cells (its `from` and
-    /// `shared` are 0), or shares the first cells of an earlier limb's branch; if it shares cells,
-    /// the last shared cell is one of the earlier limb's own cells, not one that the earlier limb
-    /// shares. The limbs' steps fit the register. In each limb, the index of the branch that it
-    /// shares cells with, and the count of the shared cells, are within the book's limits.
+    /// The limbs of the book's branches, in the order the branches were made. There is at least one
+    /// limb. The limbs are lawful, as follows. Each has a well-formed name that no earlier limb
+    /// has. Each either shares no cells (its `from` and `shared` are 0), or shares the first cells
+    /// of an earlier limb's branch; if it shares cells, the last shared cell is one of the earlier
+    /// limb's own cells, not one that the earlier limb shares. The limbs' steps fit the register.
+    /// In each limb, the index of the branch that it shares cells with, and the count of the shared
+    /// cells, are within the book's limits.
     ///
     /// # Errors
     ///

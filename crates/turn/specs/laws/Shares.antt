@@ -126,7 +126,7 @@ first_held (true ∷ xs) l = (omega arith, refl)
 first_held (false ∷ xs) l = let r = first_held xs (omega (arith, count_false xs)) in let n : ℕ = position_or_len (λ held. held) xs in let e : 1 + n ≡ suc n = omega arith in
     (omega arith, ap (λ (k : ℕ). has_share (false ∷ xs) k) e ∙ r.1)
 
--- the number of a set that isn't empty (its least share) is below 16 and is in the set
+-- the number of a set that isn't empty, its least share, is below 16 and is in the set
 pub number_held : (shares : List Bool) → length shares ≡ 16 → 0 < count shares → (chair_number shares < 16) × (has_share shares (chair_number shares) ≡ true)
 number_held shares long some = let first = first_held shares some in let n : ℕ = position_or_len (λ held. held) shares in
     let is : chair_number shares ≡ n = ap (λ b. unwrap_or (cond b (Some n) None) 16) (lt-ltb n (length shares) first.0) in
