@@ -1,6 +1,6 @@
 //! Segments of cells that branches share.
 
-ghost use Rattle.std.specs.Prelude.{◌≡◌, ◌<◌, ◌≤◌, ◌+◌, ◌^◌, ◌++◌, ◌∷◌, [], length, None, IfOk, OnOk, OnErr, insert};
+ghost use Rattle.std.specs.Prelude.{◌≡◌, ◌<◌, ◌≤◌, ◌+◌, ◌^◌, ◌++◌, ◌∷◌, [], length, take, drop, vec_capacity, None, IfOk, OnOk, OnErr, insert};
 ghost use Rattle.std.specs.List.{remove};
 ghost use Rattle.schedule_trie.specs.Slots.{set_step};
 ghost use Rattle.branch_terms.specs.Forest.{renumbered};
@@ -73,7 +73,12 @@ impl<T: Drop> Segment<T> {
     }
 
     /// Inserts a cell at an offset, and clears the note. If memory runs out, nothing changes.
-    pub(crate) fn insert(&mut self, offset: usize, slot: Slot) -> Result<(), AllocError>
+    pub(crate) fn insert(
+        &mut self,
+        alloc: Global,
+        offset: usize,
+        slot: Slot,
+    ) -> Result<(), AllocError>
         requires { offset ≤ length self.old.slots.items }
         ensures slots { OnOk result (self.new.slots.items
             ≡ insert self.old.slots.items offset slot) }
@@ -81,7 +86,10 @@ impl<T: Drop> Segment<T> {
         ensures err_slots { OnErr result (self.new.slots.items ≡ self.old.slots.items) }
         ensures err_note { OnErr result (self.new.note ≡ self.old.note) }
     {
-        self.slots.insert(offset, slot)?;
+        // (to copy many cells out and back is cheaper than to move each by one)
+        let following = cells_from(alloc, &self.slots, offset)?;
+        self.slots.reserve(1)?;
+        end_with(&mut self.slots, offset, slot, &following);
         self.clear_note();
         Ok(())
     }
@@ -130,4 +138,24 @@ impl<T: Drop> Segment<T> {
     {
         self.note = None;
     }
+}
+
+/// Copies of the cells from an offset on.
+fn cells_from(alloc: Global, slots: &[Slot], offset: usize) -> Result<Vec<Slot>, AllocError>
+    requires { offset ≤ length slots.now }
+    ensures { IfOk result (λ v. v.items ≡ drop offset slots.now) }
+{
+    Vec::from_slice(alloc, &slots[offset..])
+}
+
+/// Puts a cell and these others in place of the cells from an offset on. There has to be memory
+/// for them.
+fn end_with(slots: &mut Vec<Slot>, offset: usize, slot: Slot, others: &[Slot])
+    requires offset { offset ≤ length slots.old.items }
+    requires room { offset + 1 + length others.now ≤ vec_capacity slots.old }
+    ensures { slots.new.items ≡ take offset slots.old.items ++ slot ∷ others.now }
+{
+    slots.truncate(offset);
+    slots.push_reserved(slot);
+    slots.extend_from_slice(others).unwrap();
 }
