@@ -1,5 +1,5 @@
 -- Cached lengths, each of an edition.
-use Rattle.std.proofs.Common.{◌≡◌, ℕ, zero, suc, ◌+◌, ◌<◌, ◌≤◌, Bool, true, false, nat_eq, List, [], ◌∷◌, length, Option, Some, None, slice_get, refl, sym, ap, if◌then◌else◌, arith, eq-eqb, eqb-true, true≢false}
+use Rattle.std.proofs.Common.{◌≡◌, ℕ, zero, suc, ◌+◌, ◌<◌, ◌≤◌, Bool, true, false, nat_eq, List, [], ◌∷◌, length, Option, Some, None, slice_get, refl, ap, if◌then◌else◌, arith, eqb-true}
 use Rattle.std.specs.Option.{IfSome, option_map}
 use Rattle.std.specs.List.{remove}
 use Rattle.std.specs.Map.{keys_of}
@@ -49,14 +49,6 @@ not_known edition v less = by (nat_eq v.edition edition) refl
     by : (b : Bool) → nat_eq v.edition edition ≡ b → (if b then Some v.cells else None) ≡ None
     by true same = let eq = eqb-true v.edition edition same in absurd (omega (arith, eq, less))
     by false other = refl
-
--- a length that was cached in this edition is known in it
-pub known_now : (cells edition : ℕ) → known_in edition (record { cells = cells; edition = edition }) ≡ Some cells
-known_now cells edition = by (nat_eq edition edition) (eq-eqb edition edition refl)
-  where
-    by : (b : Bool) → b ≡ true → (if b then Some cells else None) ≡ Some cells
-    by true e = refl
-    by false e = absurd (true≢false (sym e))
 
 abbrev pub same_name : List ℕ → List ℕ → Bool
 same_name = pointwise nat_eq
