@@ -1,11 +1,13 @@
 //! Conversations: a script is read in pieces, and the answers to its lines are written. The caller
-//! supplies the closure that answers one line. A file that a program needs first is read whole.
+//! supplies the closure that answers one line. A file that a program needs first is read whole, and
+//! one to save to is written whole.
 #![tactic(auto)]
 
 pub mod answering;
 pub mod converse;
 pub mod fault;
 pub mod limits;
+pub mod saved_file;
 pub mod source;
 pub mod streams;
 pub mod taken;
