@@ -27,6 +27,8 @@ INNER_ITEM = re.compile(r"\b(?:const|enum|fn|impl|mod|static|struct|trait|type|u
 # A name that may be a function's, as it is called or passed.
 CALL = re.compile(r"(?<=::)\w+|\w+(?=\()")
 OLD, NEW, FILE = "old: ", "new:", "file: "
+# A function that is refused after an edit of a definition.
+ONLY = re.compile(r"^only: (\S+)$", re.M)
 FLAGS = ["--jobs", "1"]
 # What a check says of a place, and what it says of a proof that names what the edit took away.
 OF_A_PLACE = re.compile(r"(note: )?\S+:\d+:\d+:")
@@ -160,10 +162,10 @@ def name_in(body):
 
 def selections(edit, crate):
     """Returns what to check, one after another until one refuses the edit: names of functions or modules; none for the whole crate."""
-    places = []
+    places, named = [], ONLY.findall(text_of(edit))
     for path, text, at in changes_of(edit, crate):
         if not path.startswith("src/"):
-            return [[]]
+            return [[*named], []] if named else [[]]
         places.append(place_of(path, text, at))
     modules = [module for module, _ in places]
     found = [[function or module for module, function in places], modules, []]

@@ -481,6 +481,10 @@ def selections_of_edits():
             [["CellModel::clone"], ["cell"], []],
         )
         same("no function", of("file: src/lib.rt", "old: pub mod cell;", "new: mod cell;"), [[]])
+        definition = ["file: specs/Cells.antt", "old: one", "new: two"]
+        put(f"{temporary}/specs/Cells.antt", "one\n")
+        same("a definition", of(*definition), [[]])
+        same("what it refuses", of("only: laws::safe", *definition), [["laws::safe"], []])
 
 
 def refusals_of_checks():
