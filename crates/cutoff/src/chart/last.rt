@@ -68,7 +68,7 @@ impl<R: Register> Chart<R> {
             fresh: self.fresh,
         };
         self.mark = None;
-        // runs are known to fit from each one that is stored from now on
+        // stored runs will be known to fit down to each one that is stored from now on
         self.fresh = self.fresh.or(Number::following(self.next));
         let (stored, replayed) = settle_to(
             alloc,
