@@ -1,6 +1,6 @@
 -- Worked examples of definitions that state an existence: one that holds, and a near miss.
 use Rattle.std.specs.Prelude.{⊤}
-use Rattle.std.proofs.Common.{ℕ, ◌≡◌, ◌++◌, true, false, List, [], ◌∷◌, None, Err, length, codes, replicate, ap, refl, sym, ◌∙◌, subst, inr, arith}
+use Rattle.std.proofs.Common.{ℕ, ◌≡◌, ◌++◌, List, [], ◌∷◌, None, Err, length, codes, replicate, ap, refl, sym, ◌∙◌, subst, inr, arith}
 use Rattle.frames.specs.declared.safe.SafePoint.{SafePoint}
 use Rattle.frames.specs.Behaviour.{Behaviour}
 use Rattle.frames.specs.SafeBit.{safe_behaviour}
@@ -11,6 +11,7 @@ use Rattle.schedule_trie.specs.Trie.{TrieOf, keyed_branch}
 use Rattle.cutoff.specs.Fitting.{StoredRun}
 use Rattle.cutoff.specs.Charts.{Charted}
 use Rattle.turn.specs.declared.view.View.{View}
+use Rattle.turn.specs.Histories.{first_view}
 use Rattle.sessions.specs.declared.command.Command.TheVariants as command
 use Rattle.sessions.specs.declared.reply.Reply.TheVariants.{Joined, No}
 use Rattle.sessions.specs.declared.log.Entry.{Entry}
@@ -52,14 +53,7 @@ first = record { first = chart; now = stored; log = []; room = 0 }
 
 -- a chair with every share that has seen these calls
 abbrev having : List Entry → View (Item ⊤ SafePoint)
-having calls = record {
-  shares = replicate 16 true;
-  calls = [];
-  seen = items first calls;
-  reported = 0;
-  holds = false;
-  met = ([], []);
-}
+having calls = first_view (items first calls)
 
 abbrev join : Entry
 join = entry 0 3 None command.Join Joined
@@ -96,16 +90,7 @@ Received-fails h = nothing h.found [] _ h.sees
 
 -- a reading that finds no call
 found_so : (says : ℕ → World SafePoint → Type 0) → says 0 (opening_of is first) → Reads is first says (having []) (having [])
-found_so says answer = record {
-  found = [];
-  finds = found_nothing;
-  legal = tt;
-  answers = answer;
-  sees = refl;
-  calls = refl;
-  shares = refl;
-  reported = refl;
-}
+found_so says answer = record { found = []; finds = found_nothing; legal = tt; answers = answer; sees = refl; calls = refl; shares = refl; reported = refl }
 
 -- a reading answers with the length of the history that it found, which has no call
 Reads-holds : Reads is first (λ n world. n ≡ 0) (having []) (having [])
