@@ -8,7 +8,9 @@ use Rattle.schedule_trie.specs.declared.limb.Limb.{Limb}
 use Rattle.schedule_trie.specs.declared.refusal.Refusal.{Refusal}
 use Rattle.schedule_trie.specs.declared.refusal.Refusal.TheVariants.{NoPlace}
 use Rattle.schedule_trie.specs.Forest.{Forest, slots_in, step_of, index_of, on_branch}
-use Rattle.schedule_trie.specs.Trie.{TrieOf, KeyedBranch, IsCut, forest, keys_in}
+use Rattle.schedule_trie.specs.declared.limits.Limits.{Limits}
+use Rattle.schedule_trie.specs.Limbs.{AreLawfulLimbs}
+use Rattle.schedule_trie.specs.Trie.{TrieOf, KeyedBranch, AreLimits, IsBlank, IsCut, forest, keys_in}
 use Rattle.cutoff.specs.Fitting.{StoredRun, reached}
 use Rattle.cutoff.specs.Links.{without_register, IsLinked}
 use Rattle.cutoff.specs.Prefixes.{IsMarked, AreFresh}
@@ -40,6 +42,27 @@ pub record IsCharted {R P : Type 0} (E : R → R → Bool) (is : R → Behaviour
 -- each limb's own steps fit the register with the behaviour b
 abbrev pub LimbsFit : {P : Type 0} → Behaviour P → List Limb → Type 0
 LimbsFit b limbs = All (λ l. AllFit b l.steps) limbs
+
+-- what a chart, a book and a desk need of the initial value and the limits that they are made with:
+-- the value is one of the register's, and the limits are in their ranges
+pub record CanBegin {P : Type 0} (b : Behaviour P) (value : ℕ) (limits : Limits) : Type 0 where
+  pub within : value < b.values
+  pub in_range : AreLimits limits
+
+-- what they need of limbs that they are made from: there is at least one, the limbs are lawful, and
+-- their steps fit the register
+pub record CanLoad {P : Type 0} (b : Behaviour P) (limbs : List Limb) : Type 0 where
+  pub some : 0 < length limbs
+  pub lawful : AreLawfulLimbs limbs
+  pub fit : LimbsFit b limbs
+
+-- a chart as it is made for a register with the behaviour b: it begins from the initial
+-- configuration with this value, its branches are cut into segments, and no run is stored
+pub record IsNewChart {R P : Type 0} (b : Behaviour P) (register : R) (initial : ℕ) (c : Charted R P) : Type 0 where
+  pub start : c.start ≡ initial_configuration b register initial
+  pub value : c.value ≡ initial
+  pub cut : IsCut c.trie
+  pub blank : IsBlank c.trie
 
 -- the keys of the segments of the branch at an index; none if the index is `None`
 abbrev pub keys_or : Option ℕ → List KeyedBranch → List ℕ

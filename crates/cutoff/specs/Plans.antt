@@ -1,11 +1,14 @@
 -- The jobs of a plan, and the conditions for an install.
-use Rattle.std.specs.Prelude.{ℕ, ◌≡◌, ◌⊎◌, Bool, true, List, [], ◌∷◌, ◌++◌, Option, None, Some, map, if◌then◌else◌}
+use Rattle.std.specs.Prelude.{ℕ, ◌≡◌, ◌⊎◌, Bool, true, List, [], ◌∷◌, ◌++◌, Option, None, Some, IsSome, Result, IfOk, IfErr, OnOk, map, if◌then◌else◌}
+use Rattle.std.specs.Global.{Vec}
 use Rattle.frames.specs.declared.types.Step.{Step}
 use Rattle.frames.specs.Behaviour.{Behaviour}
 use Rattle.frames.specs.Configuration.{Configuration, replayed}
 use Rattle.frames.specs.Equality.{SameConfiguration}
 use Rattle.checkpoints.specs.Segment.{SegmentRun}
-use Rattle.schedule_trie.specs.Trie.{TrieOf, KeyedBranch, keys_in, has, IsNoted}
+use Rattle.schedule_trie.specs.declared.refusal.Refusal.{Refusal}
+use Rattle.schedule_trie.specs.Forest.{index_of}
+use Rattle.schedule_trie.specs.Trie.{TrieOf, KeyedBranch, keys_in, has, forest, if_lacks, IsNoted}
 use Rattle.cutoff.specs.Fitting.{StoredRun, RunFits, Fits, IsChecked, steps_at}
 use Rattle.cutoff.specs.Charts.{Charted, keys_named}
 
@@ -70,6 +73,13 @@ module _ {R P : Type 0} (E : R → R → Bool) (b : Behaviour P) (trie : TrieOf 
 -- branches were made; no segment has two jobs
 abbrev pub IsPlan : {R P : Type 0} → (R → R → Bool) → Behaviour P → Charted R P → List ℕ → List (Planned R P) → Type 0
 IsPlan E b c name jobs = Plans E b c.trie c.start [] (keys_named c.trie name ∷ map keys_of c.trie.branches) jobs
+
+-- the result of a plan with the named branch first: the plan's jobs; or NoBranch if there is no such
+-- branch, else Memory
+pub record AnswersPlan {R P : Type 0} (E : R → R → Bool) (b : Behaviour P) (c : Charted R P) (name : List ℕ) (result : Result (Vec (Planned R P)) Refusal) : Type 0 where
+  pub ok : IfOk result (λ jobs. IsPlan E b c name jobs.items)
+  pub found : OnOk result (IsSome (index_of (forest c.trie).branches name))
+  pub err : IfErr result (λ e. if_lacks (index_of (forest c.trie).branches name) ≡ e)
 
 -- on each branch with the segment `key`, `run` fits that segment and stored runs fit all segments
 -- above it

@@ -1,15 +1,15 @@
 //! The chart: branches of a schedule, with stored runs of their segments.
 
-ghost use Rattle.std.specs.Prelude.{ℕ, ◌≡◌, ◌<◌, ◌≤◌, Some, IsSome, length, IfOk, IfErr, OnOk, Ok, Err};
+ghost use Rattle.std.specs.Prelude.{ℕ, ◌≡◌, ◌<◌, ◌≤◌, Some, length, IfOk, IfErr, OnOk, Ok, Err};
 ghost use Rattle.frames.specs.Configuration.{initial_configuration};
 ghost use Rattle.frames.specs.Recorded.{AllFit};
 ghost use Rattle.schedule_trie.specs.Forest.{index_of, opened, IsRefused, slots_in, len_of, name_in, cell_on_branch, place_of, path_of, AreNamedApart, IsForest};
 ghost use Rattle.std.specs.Arc.{arc_value};
-ghost use Rattle.cutoff.specs.Plans.{IsPlan};
+ghost use Rattle.cutoff.specs.Plans.{AnswersPlan};
 ghost use Rattle.cutoff.specs.Installs.{Installs};
-ghost use Rattle.cutoff.specs.Charts.{StepsFit, look};
+ghost use Rattle.cutoff.specs.Charts.{CanBegin, IsNewChart, StepsFit, look};
 ghost use Rattle.cutoff.specs.Settles.{IsSettled, KeepsOrFills};
-ghost use Rattle.schedule_trie.specs.Trie.{AreLimits, IsCut, IsBlank, forest, if_lacks};
+ghost use Rattle.schedule_trie.specs.Trie.{IsCut, IsBlank, forest, if_lacks};
 
 mod edits;
 mod last;
@@ -75,16 +75,11 @@ impl<R: Register> Chart<R> {
         limits: Limits,
         steps: &[Step],
     ) -> Result<Chart<R>, Refusal>
-        requires value { value < (R.behaviour register).values }
-        requires limits { AreLimits limits }
+        requires begins { CanBegin (R.behaviour register) value limits }
         requires fits { AllFit (R.behaviour register) steps.now }
         ensures forest { IfOk result (λ c. opened limits steps.now ≡ Ok (forest c.trie)) }
         ensures limits { IfOk result (λ c. c.trie.limits ≡ limits) }
-        ensures start { let initial = initial_configuration (R.behaviour register) register value in
-            IfOk result (λ c. c.start ≡ initial) }
-        ensures value { IfOk result (λ c. c.value ≡ value) }
-        ensures blank { IfOk result (λ c. IsBlank c.trie) }
-        ensures cut { IfOk result (λ c. IsCut c.trie) }
+        ensures new { IfOk result (IsNewChart (R.behaviour register) register value) }
         ensures err { IfErr result (IsRefused (opened limits steps.now)) }
     {
         let trie = Trie::new(alloc, limits, steps)?;
@@ -104,11 +99,7 @@ impl<R: Register> Chart<R> {
         requires cut { IsCut trie }
         requires blank { IsBlank trie }
         ensures trie { IfOk result (λ c. c.trie ≡ trie) }
-        ensures cut { IfOk result (λ c. IsCut c.trie) }
-        ensures blank { IfOk result (λ c. IsBlank c.trie) }
-        ensures start { let initial = initial_configuration (R.behaviour register) register value in
-            IfOk result (λ c. c.start ≡ initial) }
-        ensures value { IfOk result (λ c. c.value ≡ value) }
+        ensures new { IfOk result (IsNewChart (R.behaviour register) register value) }
     {
         let start = Config::initial(alloc, register, value)?;
         Ok(Chart {
@@ -267,12 +258,8 @@ impl<R: Register> Chart<R> {
     ///
     /// NoBranch; Memory.
     pub fn plan(&self, alloc: Global, branch: &Name) -> Result<Vec<Job<R>>, Refusal>
-        ensures ok { IfOk result
-            (λ jobs. IsPlan R.PartialEq.eq (R.behaviour self.now.start.register) self.now branch.now
-            jobs.items) }
-        ensures found { OnOk result (IsSome (index_of (forest self.now.trie).branches branch.now)) }
-        ensures err { IfErr result
-            (λ e. if_lacks (index_of (forest self.now.trie).branches branch.now) ≡ e) }
+        ensures { AnswersPlan R.PartialEq.eq (R.behaviour self.now.start.register) self.now
+            branch.now result }
     {
         let Some(index) = self.trie.index(branch) else {
             return Err(Refusal::NoBranch);

@@ -1,6 +1,6 @@
 -- Chairs of a desk, and how each call of the desk changes a chair's view, which is what the chair
 -- knows of the desk's history.
-use Rattle.std.specs.Prelude.{ℕ, ◌+◌, ◌<◌, ◌≡◌, ◌≤◌, ◌⊎◌, List, Option, Result, length}
+use Rattle.std.specs.Prelude.{ℕ, ◌+◌, ◌<◌, ◌≡◌, ◌≤◌, ◌⊎◌, List, [], Option, Result, length}
 use Rattle.frames.specs.Behaviour.{Behaviour}
 use Rattle.schedule_trie.specs.declared.refusal.Refusal.{Refusal}
 use Rattle.schedule_trie.specs.declared.refusal.Refusal.TheVariants.{LogFull, Memory}
@@ -8,7 +8,7 @@ use Rattle.pages.specs.declared.query.Query.{Query}
 use Rattle.turn.specs.declared.view.View.{View}
 use Rattle.turn.specs.declared.chair.Chair.{Chair}
 use Rattle.turn.specs.Shares.{HasAll, chair_number}
-use Rattle.turn.specs.Histories.{StartsWith}
+use Rattle.turn.specs.Histories.{StartsWith, first_view}
 use Rattle.turn.specs.Chairs.{IsOf, view}
 use Rattle.sessions.specs.declared.command.Command.{Command}
 use Rattle.sessions.specs.declared.log.Entry.{Entry}
@@ -24,6 +24,7 @@ use Rattle.desk.specs.declared.receipt.Answer.{Answer}
 use Rattle.desk.specs.declared.receipt.Saved.{Saved}
 use Rattle.desk.specs.declared.report.Report.{Report}
 use Rattle.desk.specs.Histories.{IsHistory, seen, own_calls}
+use Rattle.desk.specs.Items.{items}
 use Rattle.desk.specs.Works.{IsAnswer, IsSaving, NeedsBranch}
 
 module _ {R P : Type 0} where
@@ -35,6 +36,13 @@ module _ {R P : Type 0} where
   -- legal from the desk's opening
   abbrev pub IsChairOf : {g : _} → (R → Behaviour P) → Desk R P → Chair (List (Item R P)) (Item R P) g → Type 0
   IsChairOf is desk chair = IsOf desk.turn chair × IsHistory is (book_at_first desk) (view chair).seen
+
+  -- a desk as it is opened, with the world `first`, and its one chair, which holds every share and
+  -- has seen the opening alone
+  pub record IsNewDesk {g : _} (is : R → Behaviour P) (first : World P) (desk : Desk R P) (chair : Chair (List (Item R P)) (Item R P) g) : Type 0 where
+    pub owned : IsChairOf is desk chair
+    pub sees : view chair ≡ first_view (items (book_at_first desk) [])
+    pub opening : opening_of is (book_at_first desk) ≡ first
 
   -- `found` is the history that a chair with the view v finds when it takes the turn. It begins
   -- with what v has seen, is at least as long as any length that v has read, and is exactly what v

@@ -5,20 +5,19 @@ ghost use Rattle.frames.specs.Recorded.{AllFit};
 ghost use Rattle.schedule_trie.specs.Forest.{IsRefused, opened};
 ghost use Rattle.schedule_trie.specs.Forest as forests;
 ghost use Rattle.schedule_trie.specs.declared.refusal.Refusal.TheVariants.{Memory};
-ghost use Rattle.schedule_trie.specs.Trie.{AreLimits};
-ghost use Rattle.schedule_trie.specs.Limbs.{AreLawfulLimbs, forest_of, loaded};
-ghost use Rattle.cutoff.specs.Charts.{LimbsFit};
+ghost use Rattle.schedule_trie.specs.Limbs.{forest_of, loaded};
+ghost use Rattle.cutoff.specs.Charts.{CanBegin, CanLoad};
 ghost use Rattle.turn.specs.Shares.{HasAll, count, next_least};
-ghost use Rattle.turn.specs.Histories.{IsJoined, OwnsItsCalls, first_view, with_news, kept, handed};
+ghost use Rattle.turn.specs.Histories.{IsJoined, OwnsItsCalls, with_news, kept, handed};
 ghost use Rattle.turn.specs.Chairs.{view};
-ghost use Rattle.sessions.specs.World.{opening};
+ghost use Rattle.pages.specs.Strays.{IsRegularOrAtomic, ShowsNoStray};
+ghost use Rattle.sessions.specs.World.{opening_of_limbs, opening_of_steps};
 ghost use Rattle.sessions.specs.Logs.{IsLegal};
 ghost use Rattle.sessions.specs.Books.{opening_of};
-ghost use Rattle.desk.specs.Items.{items, made_under};
+ghost use Rattle.desk.specs.Items.{made_under};
 ghost use Rattle.desk.specs.Histories.{seen};
-ghost use Rattle.pages.specs.Strays.{IsRegularOrAtomic, ShowsNoStray};
 ghost use Rattle.desk.specs.Works.{IsPaged, answer_at, answer_by};
-ghost use Rattle.desk.specs.Chairs.{IsChairOf, Received, Looked, book_at_first};
+ghost use Rattle.desk.specs.Chairs.{IsChairOf, IsNewDesk, Received, Looked, book_at_first};
 
 use crate::act::Act;
 use crate::journal::Journal;
@@ -69,14 +68,10 @@ impl<R: Register> Desk<R> {
         limits: Limits,
         steps: &[Step],
     ) -> Result<(Desk<R>, Chair<R>), Refusal>
-        requires value { value < (R.behaviour register).values }
-        requires limits { AreLimits limits }
+        requires begins { CanBegin (R.behaviour register) value limits }
         requires fits { AllFit (R.behaviour register) steps.now }
-        ensures chair { IfOk result (λ r. IsChairOf R.behaviour r.0 r.1) }
-        ensures first { IfOk result (λ r. view r.1 ≡ first_view (items (book_at_first r.0) [])) }
-        ensures opening { let first = opening (R.behaviour register) value limits
-            (forests.opening_forest steps.now) in
-            IfOk result (λ r. opening_of R.behaviour (book_at_first r.0) ≡ first) }
+        ensures new { let first = opening_of_steps (R.behaviour register) value limits steps.now in
+            IfOk result (λ r. IsNewDesk R.behaviour first r.0 r.1) }
         ensures ok { OnOk result (opened limits steps.now ≡ Ok (forests.opening_forest steps.now)) }
         ensures err { IfErr result (IsRefused (opened limits steps.now)) }
     {
@@ -87,9 +82,8 @@ impl<R: Register> Desk<R> {
     /// Opens a desk on a book whose log is empty, with one chair that holds all 16 shares.
     fn over(alloc: Global, book: Book<R>) -> Result<(Desk<R>, Chair<R>), Refusal>
         requires { book.log ≡ [] }
-        ensures chair { IfOk result (λ r. IsChairOf R.behaviour r.0 r.1) }
-        ensures first { IfOk result (λ r. view r.1 ≡ first_view (items (book_at_first r.0) [])) }
-        ensures book { IfOk result (λ r. book_at_first r.0 ≡ book) }
+        ensures new { let first = opening_of R.behaviour book in
+            IfOk result (λ r. IsNewDesk R.behaviour first r.0 r.1) }
         ensures err { IfErr result (λ e. e ≡ Memory) }
     {
         let first = Snapshot::of(&book);
@@ -119,16 +113,10 @@ impl<R: Register> Desk<R> {
         limits: Limits,
         limbs: &[Limb],
     ) -> Result<(Desk<R>, Chair<R>), Refusal>
-        requires value { value < (R.behaviour register).values }
-        requires limits { AreLimits limits }
-        requires lawful { AreLawfulLimbs limbs.now }
-        requires some { 0 < length limbs.now }
-        requires fits { LimbsFit (R.behaviour register) limbs.now }
-        ensures chair { IfOk result (λ r. IsChairOf R.behaviour r.0 r.1) }
-        ensures first { IfOk result (λ r. view r.1 ≡ first_view (items (book_at_first r.0) [])) }
-        ensures opening { let first = opening (R.behaviour register) value limits
-            (forest_of limbs.now) in
-            IfOk result (λ r. opening_of R.behaviour (book_at_first r.0) ≡ first) }
+        requires limbs { CanLoad (R.behaviour register) limbs.now }
+        requires begins { CanBegin (R.behaviour register) value limits }
+        ensures new { let first = opening_of_limbs (R.behaviour register) value limits limbs.now in
+            IfOk result (λ r. IsNewDesk R.behaviour first r.0 r.1) }
         ensures ok { OnOk result (loaded limits limbs.now ≡ Ok (forest_of limbs.now)) }
         ensures err { IfErr result (IsRefused (loaded limits limbs.now)) }
     {

@@ -1,10 +1,9 @@
 //! The install of a job's run, as work that a chair does on the journal while it has the turn,
 //! which is the desk's lock.
 
-ghost use Rattle.std.specs.Prelude.{◌≡◌};
 ghost use Rattle.std.specs.Arc.{arc_value};
 ghost use Rattle.cutoff.specs.Installs.{Installs};
-ghost use Rattle.sessions.specs.Books.{opening_of, world_of};
+ghost use Rattle.sessions.specs.Books.{KeepsWorld};
 
 use crate::journal::Journal;
 use checkpoints::run::Run;
@@ -46,9 +45,7 @@ fn offer<R: Register>(book: &mut Book<R>, key: SegKey, run: Arc<Run<R>>) -> Inst
     ensures installs { let old = book.old.now.chart in
         Installs R.PartialEq.eq (R.behaviour old.start.register) old book.new.now.chart key
         (arc_value run) result }
-    ensures world { world_of R.behaviour book.new.now ≡ world_of R.behaviour book.old.now }
-    ensures opening { opening_of R.behaviour book.new ≡ opening_of R.behaviour book.old }
-    ensures log { book.new.log ≡ book.old.log }
+    ensures kept { KeepsWorld R.behaviour book.old book.new }
 {
     book.install(key, run)
 }

@@ -1,10 +1,7 @@
 //! The plan of a fill's round, as work that a chair does on the journal while it has the turn,
 //! which is the desk's lock.
 
-ghost use Rattle.std.specs.Prelude.{◌≡◌, IsSome, IfOk, IfErr, OnOk};
-ghost use Rattle.schedule_trie.specs.Forest.{index_of};
-ghost use Rattle.schedule_trie.specs.Trie.{forest, if_lacks};
-ghost use Rattle.cutoff.specs.Plans.{IsPlan};
+ghost use Rattle.cutoff.specs.Plans.{AnswersPlan};
 
 use crate::journal::Journal;
 use cutoff::plan::Job;
@@ -44,13 +41,8 @@ fn jobs_left<R: Register>(
     book: &Book<R>,
     branch: &Name,
 ) -> Result<Vec<Job<R>>, Refusal>
-    ensures ok { let chart = book.now.now.chart in IfOk result
-        (λ jobs. IsPlan R.PartialEq.eq (R.behaviour chart.start.register) chart branch.now
-        jobs.items) }
-    ensures found { OnOk result
-        (IsSome (index_of (forest book.now.now.chart.trie).branches branch.now)) }
-    ensures err { IfErr result
-        (λ e. if_lacks (index_of (forest book.now.now.chart.trie).branches branch.now) ≡ e) }
+    ensures { let chart = book.now.now.chart in
+        AnswersPlan R.PartialEq.eq (R.behaviour chart.start.register) chart branch.now result }
 {
     book.plan(alloc, branch)
 }

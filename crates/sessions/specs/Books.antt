@@ -1,5 +1,5 @@
 -- What a book guarantees by its type. `is` gives the behaviour of a register.
-use Rattle.std.specs.Prelude.{ℕ, ◌≡◌, ◌≤◌, ◌-◌, ◌⊎◌, false, List, Option, Some, None, Result, Ok, Err, length, vec_capacity, vec_len}
+use Rattle.std.specs.Prelude.{ℕ, ◌≡◌, ◌≤◌, ◌-◌, ◌⊎◌, false, List, [], Option, Some, None, Result, Ok, Err, length, vec_capacity, vec_len}
 use Rattle.std.specs.Global.{Vec}
 use Rattle.std.specs.declared.alloc.AllocError.{AllocError}
 use Rattle.frames.specs.Behaviour.{Behaviour}
@@ -84,6 +84,18 @@ BeginsAtOpening is h =
 -- and the branches of a chart
 abbrev pub opening_over : {R P : Type 0} → (R → Behaviour P) → Charted R P → Limits → World P
 opening_over is chart limits = opening (is chart.start.register) chart.value limits (forest chart.trie)
+
+-- a book as it is made: it opens with the world `first`, and nothing has changed since
+pub record IsNewBook {R P : Type 0} (is : R → Behaviour P) (first : World P) (h : Held R P) : Type 0 where
+  pub world : world_of is h.now ≡ first
+  pub opening : opening_of is h ≡ first
+  pub log : h.log ≡ []
+
+-- neither the world of a book nor its log changes
+pub record KeepsWorld {R P : Type 0} (is : R → Behaviour P) (old new : Held R P) : Type 0 where
+  pub world : world_of is new.now ≡ world_of is old.now
+  pub opening : opening_of is new ≡ opening_of is old
+  pub log : new.log ≡ old.log
 
 -- the invariant of a book. Its log is legal, which means that each reply is the one that its
 -- command gets, and leads from the opening to the present world. This world counts as many logged

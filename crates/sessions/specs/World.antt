@@ -1,8 +1,11 @@
 -- The world of a desk: what its commands see and change.
 use Rattle.std.specs.Prelude.{ℕ, List, [], Option, None, replicate}
 use Rattle.frames.specs.Behaviour.{Behaviour}
+use Rattle.frames.specs.declared.types.Step.{Step}
+use Rattle.schedule_trie.specs.declared.limb.Limb.{Limb}
 use Rattle.schedule_trie.specs.declared.limits.Limits.{Limits}
-use Rattle.schedule_trie.specs.Forest.{Forest}
+use Rattle.schedule_trie.specs.Forest.{Forest, opening_forest}
+use Rattle.schedule_trie.specs.Limbs.{forest_of}
 use Rattle.pages.specs.declared.breakpoint.Break.{Break}
 use Rattle.sessions.specs.declared.cursor.Cursor.{Cursor}
 
@@ -23,3 +26,11 @@ pub record World (P : Type 0) : Type 0 where
 abbrev pub opening : {P : Type 0} → Behaviour P → ℕ → Limits → Forest → World P
 opening b value limits f =
     record { tower = b; value = value; limits = limits; forest = f; cursors = replicate 16 None; breaks = replicate 16 []; edits = 0; logged = 0 }
+
+-- the world that opens with one branch, `main`, which has these steps
+abbrev pub opening_of_steps : {P : Type 0} → Behaviour P → ℕ → Limits → List Step → World P
+opening_of_steps b value limits steps = opening b value limits (opening_forest steps)
+
+-- the world that opens with the branches that these limbs describe
+abbrev pub opening_of_limbs : {P : Type 0} → Behaviour P → ℕ → Limits → List Limb → World P
+opening_of_limbs b value limits limbs = opening b value limits (forest_of limbs)

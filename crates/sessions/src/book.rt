@@ -1,19 +1,20 @@
 //! The book: a desk's world, and the log of the commands that led to it.
 
-ghost use Rattle.std.specs.Prelude.{◌≡◌, ◌<◌, ◌≤◌, ◌⊎◌, Some, Ok, OnOk, IfOk, IfErr, IsSome, [], ◌∷◌, ◌++◌, length, vec_capacity};
+ghost use Rattle.std.specs.Prelude.{◌≡◌, ◌<◌, ◌≤◌, ◌⊎◌, Some, Ok, OnOk, IfOk, IfErr, [], ◌∷◌, ◌++◌, length, vec_capacity};
 ghost use Rattle.std.specs.Arc.{arc_value};
 ghost use Rattle.frames.specs.Recorded.{AllFit};
-ghost use Rattle.schedule_trie.specs.Forest.{IsRefused, index_of, opened};
+ghost use Rattle.schedule_trie.specs.Forest.{IsRefused, opened};
 ghost use Rattle.schedule_trie.specs.Forest as forests;
-ghost use Rattle.schedule_trie.specs.Trie.{AreLimits, IsCut, forest, if_lacks};
-ghost use Rattle.cutoff.specs.Plans.{IsPlan};
+ghost use Rattle.schedule_trie.specs.Trie.{AreLimits, IsCut, forest};
+ghost use Rattle.cutoff.specs.Charts.{CanBegin};
+ghost use Rattle.cutoff.specs.Plans.{AnswersPlan};
 ghost use Rattle.cutoff.specs.Installs.{Installs};
-ghost use Rattle.sessions.specs.World.{opening};
+ghost use Rattle.sessions.specs.World.{opening_of_steps};
 ghost use Rattle.pages.specs.Strays.{IsRegularOrAtomic, ShowsNoStray};
 ghost use Rattle.sessions.specs.Logs.{IsLegal, world_after};
 ghost use Rattle.sessions.specs.Logs as spec;
 ghost use Rattle.sessions.specs.Looks.{looked_in, shown_in};
-ghost use Rattle.sessions.specs.Books.{ActsOnBook, BeginsAtOpening, IsHeld, RefusesMemoryLast, LacksMemory, opening_of, opening_over, world_of};
+ghost use Rattle.sessions.specs.Books.{ActsOnBook, BeginsAtOpening, IsHeld, IsNewBook, KeepsWorld, RefusesMemoryLast, LacksMemory, opening_of, opening_over};
 
 mod limbs;
 mod looks;
@@ -79,16 +80,10 @@ impl<R: Register> Book<R> {
         limits: Limits,
         steps: &[Step],
     ) -> Result<Book<R>, Refusal>
-        requires value { value < (R.behaviour register).values }
-        requires limits { AreLimits limits }
+        requires begins { CanBegin (R.behaviour register) value limits }
         requires fits { AllFit (R.behaviour register) steps.now }
-        ensures world { let first = opening (R.behaviour register) value limits
-            (forests.opening_forest steps.now)
-            in IfOk result (λ book. world_of R.behaviour book.now ≡ first) }
-        ensures opening { let first = opening (R.behaviour register) value limits
-            (forests.opening_forest steps.now) in IfOk result
-            (λ book. opening_of R.behaviour book ≡ first) }
-        ensures log { IfOk result (λ book. book.log ≡ []) }
+        ensures new { IfOk result (IsNewBook R.behaviour
+            (opening_of_steps (R.behaviour register) value limits steps.now)) }
         ensures ok { OnOk result (opened limits steps.now ≡ Ok (forests.opening_forest steps.now)) }
         ensures err { IfErr result (IsRefused (opened limits steps.now)) }
     {
@@ -104,11 +99,7 @@ impl<R: Register> Book<R> {
         requires limits { AreLimits limits }
         requires same_limits { chart.trie.limits ≡ limits }
         requires few_cells { (forest chart.trie).made ≤ limits.cells }
-        ensures world { let first = opening_over R.behaviour chart limits
-            in IfOk result (λ book. world_of R.behaviour book.now ≡ first) }
-        ensures opening { let first = opening_over R.behaviour chart limits
-            in IfOk result (λ book. opening_of R.behaviour book ≡ first) }
-        ensures log { IfOk result (λ book. book.log ≡ []) }
+        ensures { IfOk result (IsNewBook R.behaviour (opening_over R.behaviour chart limits)) }
     {
         let first = Snapshot::of(&chart);
         let breaks = no_breaks(alloc)?;
@@ -181,9 +172,7 @@ impl<R: Register> Book<R> {
             IfErr result (IsRefused (looked_in w query)) }
         ensures never_stray { IsRegularOrAtomic (opening_of R.behaviour self.old).tower
             → IfOk result (λ slip. ShowsNoStray slip.page) }
-        ensures world { world_of R.behaviour self.new.now ≡ world_of R.behaviour self.old.now }
-        ensures opening { opening_of R.behaviour self.new ≡ opening_of R.behaviour self.old }
-        ensures log { self.new.log ≡ self.old.log }
+        ensures kept { KeepsWorld R.behaviour self.old self.new }
     {
         match query {
             Query::Branches => self.look_at_branches(alloc),
@@ -202,13 +191,8 @@ impl<R: Register> Book<R> {
     ///
     /// NoBranch if no branch is called `branch`; otherwise Memory, if memory runs out.
     pub fn plan(&self, alloc: Global, branch: &Name) -> Result<Vec<Job<R>>, Refusal>
-        ensures ok { let chart = self.now.now.chart in IfOk result
-            (λ jobs. IsPlan R.PartialEq.eq (R.behaviour chart.start.register) chart branch.now
-            jobs.items) }
-        ensures found { OnOk result
-            (IsSome (index_of (forest self.now.now.chart.trie).branches branch.now)) }
-        ensures err { IfErr result
-            (λ e. if_lacks (index_of (forest self.now.now.chart.trie).branches branch.now) ≡ e) }
+        ensures { let chart = self.now.now.chart in
+            AnswersPlan R.PartialEq.eq (R.behaviour chart.start.register) chart branch.now result }
     {
         self.workspace.chart.plan(alloc, branch)
     }
@@ -221,9 +205,7 @@ impl<R: Register> Book<R> {
         ensures installs { let old = self.old.now.chart in
             Installs R.PartialEq.eq (R.behaviour old.start.register) old self.new.now.chart key
             (arc_value run) result }
-        ensures world { world_of R.behaviour self.new.now ≡ world_of R.behaviour self.old.now }
-        ensures opening { opening_of R.behaviour self.new ≡ opening_of R.behaviour self.old }
-        ensures log { self.new.log ≡ self.old.log }
+        ensures kept { KeepsWorld R.behaviour self.old self.new }
     {
         self.workspace.chart.install(key, run)
     }

@@ -11,7 +11,7 @@ use Rattle.tower_file.specs.Towers.{fits}
 use Rattle.tower_file.specs.Benches.{Bench, bench_of}
 use Rattle.std.specs.Io.KnownBytes.{Appends}
 use Rattle.branch_terms.specs.declared.limits.TheConstants.{MOST_CELLS_MADE}
-use Rattle.sessions.specs.World.{World}
+use Rattle.sessions.specs.World.{World, opening_of_limbs}
 use Rattle.script.specs.Answers.{answer_line}
 use Rattle.conversation.specs.declared.fault.StreamFault.{StreamFault}
 use Rattle.tower_file.specs.Said.{as_bench}
@@ -22,7 +22,7 @@ use Rattle.command_line.specs.Ranges.{limits_of}
 use Rattle.towerbench.specs.declared.opening.Opening.{Opening}
 use Rattle.towerbench.specs.Opening.{Course, course_on, IsEndedByFault, IsLeftBench}
 use Rattle.towerbench.proofs.UnchangedTower.{IsOn, ground_kept}
-use Rattle.towerbench.specs.Opening.{opening_of_limbs, course_from, course_of, IsDone}
+use Rattle.towerbench.specs.Opening.{course_from, course_of, IsDone}
 use Rattle.towerbench.specs.Openings.{Builds, CanOpen, IsOnTower, opening_world}
 use Rattle.towerbench.proofs.Benches.{tower_is}
 

@@ -5,7 +5,6 @@ use Rattle.std.specs.Io.KnownBytes.{Appends}
 use Rattle.std.specs.declared.alloc.Global.{Global}
 use Rattle.std.specs.declared.vec.Vec.{Vec}
 use Rattle.frames.specs.declared.types.Step.{Step}
-use Rattle.frames.specs.Behaviour.{Behaviour}
 use Rattle.frames.specs.SafeBit.{safe_behaviour}
 use Rattle.towers.specs.Towers.{copies_tower, regular_tower, unary_tower, stamped_tower, matrix_tower}
 use Rattle.tower_file.specs.declared.tower.TowerSpec.{TowerSpec}
@@ -25,8 +24,7 @@ use Rattle.schedule_trie.specs.declared.refusal.Refusal.{Refusal}
 use Rattle.schedule_trie.specs.declared.refusal.Refusal.TheVariants.{Memory}
 use Rattle.schedule_trie.specs.Forest.{Forest, IsRefused}
 use Rattle.schedule_trie.specs.Limbs.{forest_of, limbs, loaded}
-use Rattle.sessions.specs.World as sessions
-use Rattle.sessions.specs.World.{World}
+use Rattle.sessions.specs.World.{World, opening_of_limbs}
 use Rattle.script.specs.Answers.{answer_line}
 use Rattle.conversation.specs.declared.fault.StreamFault.{StreamFault}
 use Rattle.conversation.specs.Moments.{Streams}
@@ -59,11 +57,6 @@ said_by false bytes = file_reading bytes >>= λ f. Ok (bench_in f)
 abbrev pub opened_bench : Option (List ℕ) → Result Bench FileFault
 opened_bench None = Ok (one_branch (Safe 0) [])
 opened_bench (Some bytes) = said_by (is_bench bytes) bytes
-
--- the world that a script's first line finds: a register with this behaviour and initial value,
--- these limits, and the branches that these limbs describe
-abbrev pub opening_of_limbs : {P : Type 0} → Behaviour P → ℕ → Limits → List Limb → World P
-opening_of_limbs b value limits ls = sessions.opening b value limits (forest_of ls)
 
 -- What scripts do. From a script's lines, and from marks that say which lines were refused memory,
 -- `answering` gives the answers, and `leaving` gives the branches that the lines leave.

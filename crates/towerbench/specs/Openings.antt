@@ -8,7 +8,7 @@ use Rattle.frames.specs.Configuration.{fits_step}
 use Rattle.schedule_trie.specs.declared.limb.Limb.{Limb}
 use Rattle.schedule_trie.specs.declared.limits.Limits.{Limits}
 use Rattle.branch_terms.specs.declared.limits.TheConstants.{MOST_CELLS_MADE}
-use Rattle.sessions.specs.World.{World}
+use Rattle.sessions.specs.World.{World, opening_of_limbs}
 use Rattle.conversation.specs.Moments.{Streams}
 use Rattle.tower_file.specs.declared.tower.TowerSpec.{TowerSpec}
 use Rattle.tower_file.specs.Said.{as_bench}
@@ -19,7 +19,7 @@ use Rattle.towerbench.specs.declared.opening.Opening.{Opening}
 use Rattle.towerbench.specs.declared.opening.Setup.{Setup}
 use Rattle.towerbench.specs.declared.opening.Reporting.{Reporting}
 use Rattle.towerbench.specs.declared.opening.Reporting.TheVariants.{Nothing, Branches}
-use Rattle.towerbench.specs.Opening.{opening_of_limbs, course_from, course_of, EndsOver}
+use Rattle.towerbench.specs.Opening.{course_from, course_of, EndsOver}
 
 -- This register, from this initial value, does what tower t does: the same steps fit both, and
 -- scripts get the same answers and leave the same branches on both.

@@ -2,13 +2,12 @@
 //! how many cells it shares with which branch, and its own steps.
 
 ghost use Rattle.std.specs.Prelude.{◌≡◌, ◌<◌, length, IfOk, IfErr, Ok};
-ghost use Rattle.frames.specs.Configuration.{initial_configuration};
 ghost use Rattle.schedule_trie.specs.Forest.{IsRefused};
-ghost use Rattle.schedule_trie.specs.Trie.{AreLimits, IsBlank, IsCut, forest};
+ghost use Rattle.schedule_trie.specs.Trie.{forest};
 ghost use Rattle.schedule_trie.specs.Limbs as spec;
 ghost use Rattle.schedule_trie.specs.Limbs.{FitLimits, AreLawfulLimbs, forest_of, limbs, loaded};
 ghost use Rattle.schedule_trie.specs.Renumbering.{IsRenumbered};
-ghost use Rattle.cutoff.specs.Charts.{LimbsFit};
+ghost use Rattle.cutoff.specs.Charts.{CanBegin, CanLoad, IsNewChart, LimbsFit};
 
 use super::Chart;
 use frames::register::Register;
@@ -38,19 +37,12 @@ impl<R: Register> Chart<R> {
         limits: Limits,
         limbs: &[Limb],
     ) -> Result<Chart<R>, Refusal>
-        requires value { value < (R.behaviour register).values }
-        requires limits { AreLimits limits }
-        requires lawful { AreLawfulLimbs limbs.now }
-        requires some { 0 < length limbs.now }
-        requires fits { LimbsFit (R.behaviour register) limbs.now }
+        requires limbs { CanLoad (R.behaviour register) limbs.now }
+        requires begins { CanBegin (R.behaviour register) value limits }
         ensures forest { IfOk result (λ c. loaded limits limbs.now ≡ Ok (forest c.trie)) }
         ensures again { IfOk result (λ c. spec.limbs (forest c.trie) ≡ limbs.now) }
         ensures limits { IfOk result (λ c. c.trie.limits ≡ limits) }
-        ensures start { let initial = initial_configuration (R.behaviour register) register value in
-            IfOk result (λ c. c.start ≡ initial) }
-        ensures value { IfOk result (λ c. c.value ≡ value) }
-        ensures blank { IfOk result (λ c. IsBlank c.trie) }
-        ensures cut { IfOk result (λ c. IsCut c.trie) }
+        ensures new { IfOk result (IsNewChart (R.behaviour register) register value) }
         ensures err { IfErr result (IsRefused (loaded limits limbs.now)) }
     {
         let trie = Trie::load(alloc, limits, limbs)?;

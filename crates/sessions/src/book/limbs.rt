@@ -1,12 +1,11 @@
 //! Makes a book from limbs, and limbs from a book.
 
-ghost use Rattle.std.specs.Prelude.{◌≡◌, ◌<◌, Ok, OnOk, IfOk, IfErr, [], length};
+ghost use Rattle.std.specs.Prelude.{◌≡◌, Ok, OnOk, IfOk, IfErr};
 ghost use Rattle.schedule_trie.specs.Forest.{IsRefused};
-ghost use Rattle.schedule_trie.specs.Trie.{AreLimits};
-ghost use Rattle.schedule_trie.specs.Limbs.{AreLawfulLimbs, forest_of, loaded};
-ghost use Rattle.cutoff.specs.Charts.{LimbsFit};
-ghost use Rattle.sessions.specs.World.{opening};
-ghost use Rattle.sessions.specs.Books.{opening_of, world_of};
+ghost use Rattle.schedule_trie.specs.Limbs.{forest_of, loaded};
+ghost use Rattle.cutoff.specs.Charts.{CanBegin, CanLoad};
+ghost use Rattle.sessions.specs.World.{opening_of_limbs};
+ghost use Rattle.sessions.specs.Books.{IsNewBook, world_of};
 ghost use Rattle.sessions.specs.Saves.{IsSaved};
 
 use super::Book;
@@ -37,18 +36,10 @@ impl<R: Register> Book<R> {
         limits: Limits,
         limbs: &[Limb],
     ) -> Result<Book<R>, Refusal>
-        requires value { value < (R.behaviour register).values }
-        requires limits { AreLimits limits }
-        requires lawful { AreLawfulLimbs limbs.now }
-        requires some { 0 < length limbs.now }
-        requires fits { LimbsFit (R.behaviour register) limbs.now }
-        ensures world { let first = opening (R.behaviour register) value limits
-            (forest_of limbs.now)
-            in IfOk result (λ book. world_of R.behaviour book.now ≡ first) }
-        ensures opening { let first = opening (R.behaviour register) value limits
-            (forest_of limbs.now)
-            in IfOk result (λ book. opening_of R.behaviour book ≡ first) }
-        ensures log { IfOk result (λ book. book.log ≡ []) }
+        requires limbs { CanLoad (R.behaviour register) limbs.now }
+        requires begins { CanBegin (R.behaviour register) value limits }
+        ensures new { IfOk result (IsNewBook R.behaviour
+            (opening_of_limbs (R.behaviour register) value limits limbs.now)) }
         ensures ok { OnOk result (loaded limits limbs.now ≡ Ok (forest_of limbs.now)) }
         ensures err { IfErr result (IsRefused (loaded limits limbs.now)) }
     {

@@ -1,18 +1,16 @@
+use Rattle.std.proofs.Common.{ap}
 use Rattle.turn.specs.Chairs.{view}
+use Rattle.sessions.specs.Books.{opening_of}
 use Rattle.desk.proofs.FirstChair.{begun, begun_legal}
 use Rattle.desk.proofs.desk.Desk.over.Goals as goal
 
-first : goal.returns-clause-first
-first g c =
-    begun (view c.in-Ok.chair) c.in_ok-journal.journal c.args.book c.of-first.result.value c.in-Ok.ensures.chair
-    c.in_ok-journal.ensures c.requires c.of-first.ensures
-
-pub returns-clause-first : goal.returns-clause-first
-returns-clause-first g c = first g c
-
-pub returns-clause-chair : goal.returns-clause-chair
-returns-clause-chair g c =
-    (c.in-Ok.ensures.turn, begun_legal g.R.Behaves.behaviour c.of-first.result.value (view c.in-Ok.chair) (first g c))
-
-pub returns-clause-book : goal.returns-clause-book
-returns-clause-book g c = c.of-first.ensures
+pub returns-clause-new : goal.returns-clause-new
+returns-clause-new g c =
+    let is = g.R.Behaves.behaviour in
+    let sees = begun (view c.in-Ok.chair) c.in_ok-journal.journal c.args.book c.of-first.result.value c.in-Ok.ensures.chair
+    c.in_ok-journal.ensures c.requires c.of-first.ensures in
+    record {
+      owned = (c.in-Ok.ensures.turn, begun_legal is c.of-first.result.value (view c.in-Ok.chair) sees);
+      sees = sees;
+      opening = ap (opening_of is) c.of-first.ensures;
+    }

@@ -14,5 +14,5 @@ returns-clause-kept g c =
     let is = g.R.Behaves.behaviour in
     let first = c.journal.inside.first.value in
     let told = c.offer-answer.ensures in
-    reads_so is first c.deref_mut-book.result.now c.offer-answer.new.book (taken is first c.deref_mut-book.ensures.value c.journal.invariant c.journal.view_is) told.opening c.lemma_invariant-2.ensures.log
-    (λ n w. Unit {0}) told.world told.log tt
+    reads_so is first c.deref_mut-book.result.now c.offer-answer.new.book (taken is first c.deref_mut-book.ensures.value c.journal.invariant c.journal.view_is) told.kept.opening c.lemma_invariant-2.ensures.log
+    (λ n w. Unit {0}) told.kept.world told.kept.log tt

@@ -1,7 +1,7 @@
-use Rattle.std.proofs.Common.{◌≡◌, ◌∙◌, Some, Ok, OnOk, IfOk, IfErr, length, refl, ap, subst}
+use Rattle.std.proofs.Common.{◌≡◌, Some, Ok, OnOk, IfOk, IfErr, length, refl, subst}
 use Rattle.schedule_trie.specs.Forest.{IsRefused}
 use Rattle.pages.specs.Strays.{IsRegularOrAtomic}
-use Rattle.sessions.specs.Books.{book_of, opening_of, stored, world_of}
+use Rattle.sessions.specs.Books.{book_of, stored, world_of}
 use Rattle.sessions.specs.Looks.{looked_in, shown_in}
 use Rattle.sessions.proofs.Books.{book_same, opens_same}
 use Rattle.sessions.proofs.KeptBranches.{kept_world}
@@ -34,17 +34,15 @@ pub returns-in_default-clause-never_stray : goal.returns-in_default-clause-never
 returns-in_default-clause-never_stray g c =
     rw (← c.self.view_is) (λ lawful. c.at.ensures.never_stray (subst IsRegularOrAtomic (same_tower g.R.Behaves.behaviour _ c.self.invariant.held) lawful))
 
-pub returns-in_default-clause-world : goal.returns-in_default-clause-world
-returns-in_default-clause-world g c =
+pub returns-in_default-clause-kept : goal.returns-in_default-clause-kept
+returns-in_default-clause-kept g c =
     let i = c.self.inside in
-    kept_world g.R.Behaves.behaviour i.workspace c.at.new.chart (length i.log.items) c.at.ensures.kept ∙ ap (λ h. world_of g.R.Behaves.behaviour h.now) c.self.view_is
-
-pub returns-in_default-clause-opening : goal.returns-in_default-clause-opening
-returns-in_default-clause-opening g c =
-    let i = c.self.inside in
-    opens_same g.R.Behaves.behaviour (book_of i.first.value i.workspace i.log) (book_of i.first.value (record i.workspace { chart = c.at.new.chart }) i.log) refl
-    (kept_world g.R.Behaves.behaviour i.workspace c.at.new.chart (length i.log.items) c.at.ensures.kept)
-    ∙ ap (opening_of g.R.Behaves.behaviour) c.self.view_is
+    let world = kept_world g.R.Behaves.behaviour i.workspace c.at.new.chart (length i.log.items) c.at.ensures.kept in
+    rw (← c.self.view_is) (record {
+      world = world;
+      opening = opens_same g.R.Behaves.behaviour (book_of i.first.value i.workspace i.log) (book_of i.first.value (record i.workspace { chart = c.at.new.chart }) i.log) refl world;
+      log = refl;
+    })
 
 pub invariant_of-self : goal.invariant_of-self
 invariant_of-self g c =
