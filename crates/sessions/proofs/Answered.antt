@@ -16,10 +16,10 @@ lacks_some None h = refl
 lacks_some (Some x) h = absurd (h x refl)
 
 -- if the first list has no refusal, the first refusal is that of the second list
-pub first_behind : (xs ys : List (Option Refusal)) → first_refusal xs ≡ None → first_refusal (xs ++ ys) ≡ first_refusal ys
-first_behind [] ys e = refl
-first_behind (None ∷ xs) ys e = first_behind xs ys e
-first_behind (Some r ∷ xs) ys e = cc
+pub first_after : (xs ys : List (Option Refusal)) → first_refusal xs ≡ None → first_refusal (xs ++ ys) ≡ first_refusal ys
+first_after [] ys e = refl
+first_after (None ∷ xs) ys e = first_after xs ys e
+first_after (Some r ∷ xs) ys e = cc
 
 pub first_before : (xs ys : List (Option Refusal)) (r : Refusal) → first_refusal xs ≡ Some r → first_refusal (xs ++ ys) ≡ Some r
 first_before [] ys r e = cc
@@ -55,7 +55,7 @@ module _ {P : Type 0} (who : ℕ) (guard : Option ℕ) (c : Command) (w : World 
     pub not_early : None ≡ first_refusal (early_refusals who guard c w) → first_refusal (refusals who guard c w) ≡ first_refusal (late_refusals who c w)
     not_early e =
         ap (λ t. first_refusal (refused_if t LogFull ∷ (early_refusals who guard c w ++ late_refusals who c w))) room
-        ∙ first_behind (early_refusals who guard c w) (late_refusals who c w) (sym e)
+        ∙ first_after (early_refusals who guard c w) (late_refusals who c w) (sym e)
 
     counted : (r : Refusal) → is_logged (No r) ≡ true → refused r w ≡ with_one_logged w
     counted LogFull h = cc

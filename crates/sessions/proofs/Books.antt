@@ -85,14 +85,14 @@ module _ {R P : Type 0} (is : R → Behaviour P) (first : Charted R P) (s t : Wo
     acts : command_result e.who e.if_at e.command (world_of is old.now) ≡ record { world = world_of is new.now; reply = e.reply }
     acts = has (length log.items) room ∙ λ i. record { world = world_of is (stored t (sym counted i)); reply = e.reply }
 
-    is_told : is_logged e.reply ≡ true
-    is_told = ap (λ a. is_logged a.reply) (sym acts) ∙ (acted_logged e.who (world_of is old.now) e.if_at e.command room).0
+    in_log : is_logged e.reply ≡ true
+    in_log = ap (λ a. is_logged a.reply) (sym acts) ∙ (acted_logged e.who (world_of is old.now) e.if_at e.command room).0
 
     limits_same : new.now.limits ≡ old.now.limits
     limits_same = ap (λ a. a.world.limits) (sym acts) ∙ (acted_logged e.who (world_of is old.now) e.if_at e.command room).2
 
     pub done_acts : ActsOnBook is old new e
-    done_acts = record { acts = acts; logs = added ∙ ap (λ t. cond t (old.log ++ e ∷ []) old.log) (sym is_told) }
+    done_acts = record { acts = acts; logs = added ∙ ap (λ t. cond t (old.log ++ e ∷ []) old.log) (sym in_log) }
 
     pub opens_more : opening_of is new ≡ opening_of is old
     opens_more = ap (opening_over is first) limits_same
@@ -108,7 +108,7 @@ module _ {R P : Type 0} (is : R → Behaviour P) (first : Charted R P) (s t : Wo
         let apart = subst (λ f. AreNamedApart f.branches) (sym (ap (λ a. a.world.forest) acts)) after.apart in
         record {
           held = record {
-            legal = subst (λ v. IsLegal v new.log) (sym opens_more) (subst (IsLegal w) (sym added) (legal_more w old.log e h.legal replied is_told));
+            legal = subst (λ v. IsLegal v new.log) (sym opens_more) (subst (IsLegal w) (sym added) (legal_more w old.log e h.legal replied in_log));
             after = ap (λ a. a.world) (sym acts) ∙ ap (λ v. (acted_by e v).world) h.after ∙ sym (after_more w old.log e) ∙ λ i. world_after (sym opens_more i) (sym added i);
             count = refl;
             few = omega (arith, count, log_limit, few);

@@ -26,9 +26,9 @@ module _ {R P : Type 0} (is : R → Behaviour P) (old : StoredWorld R P) (who : 
   pub break_unset : (r : Result Reply Refusal) (Is : Refusal → Type 0) → IsErrAnd r Is → ((x : Refusal) → Is x → x ≡ Memory)
       → slice_set old.breaks who new ≡ old.breaks
       → Does is who (command.Break b) old (record old { breaks = slice_set old.breaks who new }) r
-  break_unset (Ok reply) Is told one same = absurd told
-  break_unset (Err x) Is told one same = record {
-    why = inr (one x told, refl);
+  break_unset (Ok reply) Is is_error one same = absurd is_error
+  break_unset (Err x) Is is_error one same = record {
+    why = inr (one x is_error, refl);
     same = λ i. world_of is (record old { breaks = same i });
   }
 

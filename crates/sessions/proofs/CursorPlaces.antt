@@ -59,13 +59,13 @@ same_name (x ∷ xs) (y ∷ ys) e = by (same_name xs ys) (nat_eq x y) refl e
   where
     by : (pointwise nat_eq xs ys ≡ true → xs ≡ ys) → (b : Bool) → nat_eq x y ≡ b → (b && pointwise nat_eq xs ys) ≡ true → x ∷ xs ≡ y ∷ ys
     by rest true h g =
-        let behind : xs ≡ ys = rest g in
+        let following : xs ≡ ys = rest g in
         let here : x ≡ y = same_number x y h in
         cc
     by rest false h g = cc
 
 -- a cursor is at a place that exists: its branch has this index, and is long enough
-pub record Stands (bs : List Branch) (c : Cursor) : Type 0 where
+pub record IsOnBranch (bs : List Branch) (c : Cursor) : Type 0 where
   pub index : ℕ
   pub named : name_in bs index ≡ Some c.branch
   pub within : c.place ≤ length (slots_in bs index)
@@ -84,19 +84,19 @@ looked f place (Some i) e = (i, refl, by (nat_lt (length (slots_in f.branches i)
     by true h g = absurd (cc)
     by false h g = not_above (length (slots_in f.branches i)) place h
 
-pub stands : (f : Forest) (c : Cursor) → IsAtPlace f c → Stands f.branches c
-stands f c e =
+pub on_branch : (f : Forest) (c : Cursor) → IsAtPlace f c → IsOnBranch f.branches c
+on_branch f c e =
     let p = looked f c.place (index_of f.branches c.branch) e in
     record { index = p.0; named = named_at c.branch f.branches p.0 p.1; within = p.2 }
 
-pub stands_in : (f : Forest) (c : Cursor) → AreNamedApart f.branches → Stands f.branches c → IsAtPlace f c
-stands_in f c apart s =
+pub from_branch : (f : Forest) (c : Cursor) → AreNamedApart f.branches → IsOnBranch f.branches c → IsAtPlace f c
+from_branch f c apart s =
     ap (λ o. forests.on_found o (looked_at f c.place)) (found_apart f.branches s.index c.branch apart s.named)
     ∙ ap (λ b. cond b (Err NoPlace) (Ok f)) (lt_false (length (slots_in f.branches s.index)) c.place s.within)
 
 -- a cursor's place still exists if the branches keep their names and none of them is shorter
-pub stands_longer : (bs cs : List Branch) (c : Cursor) → map name_of cs ≡ map name_of bs → ((j : ℕ) → length (slots_in bs j) ≤ length (slots_in cs j)) → Stands bs c → Stands cs c
-stands_longer bs cs c names longer s =
+pub on_longer : (bs cs : List Branch) (c : Cursor) → map name_of cs ≡ map name_of bs → ((j : ℕ) → length (slots_in bs j) ≤ length (slots_in cs j)) → IsOnBranch bs c → IsOnBranch cs c
+on_longer bs cs c names longer s =
     let more = longer s.index in
     record { index = s.index; named = ap (λ ns. slice_get ns s.index) names ∙ s.named; within = omega (arith, s.within) }
 
@@ -215,7 +215,7 @@ same_place f held j k l s t d e c =
     omega arith
 
 -- an edit at a place of a branch, and a cursor
-module _ (f : Forest) (held : IsForest f) (name : List ℕ) (place i : ℕ) (found : index_of f.branches name ≡ Some i) (c : Cursor) (s : Stands f.branches c) where
+module _ (f : Forest) (held : IsForest f) (name : List ℕ) (place i : ℕ) (found : index_of f.branches name ≡ Some i) (c : Cursor) (s : IsOnBranch f.branches c) where
   abbrev here : List Slot
   here = slots_in f.branches i
 
@@ -232,8 +232,8 @@ module _ (f : Forest) (held : IsForest f) (name : List ℕ) (place i : ℕ) (fou
   cell_none past = ap (λ o. cell_by o f place) found ∙ ap (option_map cell_of) (slice_get_past here place past)
 
   -- at the end of a branch no cursor is after the place
-  last_behind : length here ≤ place → is_shifted_by f name place c ≡ true → ⊥
-  last_behind past e =
+  none_shifted : length here ≤ place → is_shifted_by f name place c ≡ true → ⊥
+  none_shifted past e =
       let p = and_parts (pointwise nat_eq name c.branch) (nat_lt place c.place) (ap (λ o. acts_in o f name c.branch && nat_lt place c.place) (sym (cell_none past)) ∙ e) in
       let same : name ≡ c.branch = same_name name c.branch p.0 in
       let index : Some i ≡ Some s.index = sym found ∙ ap (index_of f.branches) same ∙ found_apart f.branches s.index c.branch held.apart s.named in
@@ -243,38 +243,38 @@ module _ (f : Forest) (held : IsForest f) (name : List ℕ) (place i : ℕ) (fou
       omega (arith, s.within)
 
   -- a cursor after a cell is on a branch that has it
-  has_behind : (t : Slot) → slice_get here place ≡ Some t → is_shifted_by f name place c ≡ true → ((k : ℕ) × (position (is_cell t.cell) there ≡ Some k)) × (place < c.place)
-  has_behind t at e =
+  shifted_after : (t : Slot) → slice_get here place ≡ Some t → is_shifted_by f name place c ≡ true → ((k : ℕ) × (position (is_cell t.cell) there ≡ Some k)) × (place < c.place)
+  shifted_after t at e =
       let p = and_parts (is_some (place_of f c.branch t.cell)) (nat_lt place c.place) (ap (λ o. acts_in o f name c.branch && nat_lt place c.place) (sym (cell_is t at)) ∙ e) in
       (some_at (position (is_cell t.cell) there) (ap is_some (sym (placed t.cell)) ∙ p.0), above place c.place p.1)
 
-  goes : (cs : List Branch) (sh : Shift) → (is_shifted_by f name place c ≡ true → Stands cs (cursor c.branch (shifted_place sh c.place)))
-      → (is_shifted_by f name place c ≡ false → Stands cs c) → Stands cs (shifted sh f name place c)
+  goes : (cs : List Branch) (sh : Shift) → (is_shifted_by f name place c ≡ true → IsOnBranch cs (cursor c.branch (shifted_place sh c.place)))
+      → (is_shifted_by f name place c ≡ false → IsOnBranch cs c) → IsOnBranch cs (shifted sh f name place c)
   goes cs sh up down = by (is_shifted_by f name place c) refl
     where
-      by : (b : Bool) → is_shifted_by f name place c ≡ b → Stands cs (cond b (cursor c.branch (shifted_place sh c.place)) c)
+      by : (b : Bool) → is_shifted_by f name place c ≡ b → IsOnBranch cs (cond b (cursor c.branch (shifted_place sh c.place)) c)
       by true e = up e
       by false e = down e
 
-  insert_last : (new : Slot) → length here ≤ place → Stands (only_in i (put_last new) f.branches) (shifted shift.Up f name place c)
+  insert_last : (new : Slot) → length here ≤ place → IsOnBranch (only_in i (put_last new) f.branches) (shifted shift.Up f name place c)
   insert_last new past =
-      goes (only_in i (put_last new) f.branches) shift.Up (λ e. absurd (last_behind past e))
-      (λ e. stands_longer f.branches (only_in i (put_last new) f.branches) c (names_only_in i (put_last new) f.branches)
+      goes (only_in i (put_last new) f.branches) shift.Up (λ e. absurd (none_shifted past e))
+      (λ e. on_longer f.branches (only_in i (put_last new) f.branches) c (names_only_in i (put_last new) f.branches)
       (longer_only_in i (put_last new) f.branches (λ l. let more = length-append l (new ∷ []) in omega arith)) s)
 
-  insert_before : (new t : Slot) → slice_get here place ≡ Some t → Stands (everywhere (put_before t.cell new) f.branches) (shifted shift.Up f name place c)
+  insert_before : (new t : Slot) → slice_get here place ≡ Some t → IsOnBranch (everywhere (put_before t.cell new) f.branches) (shifted shift.Up f name place c)
   insert_before new t at =
       let g = put_before t.cell new in
       let cs = everywhere g f.branches in
       let names = names_everywhere g f.branches in
       goes cs shift.Up
       (λ e.
-      let p = has_behind t at e in
+      let p = shifted_after t at e in
       let q = cell_found t.cell p.0.0 there t p.0.1 in
       let more : suc (length there) ≤ length (g there) = put_one_more t.cell new there p.0.0 q.0 q.1 q.2 in
       let same : length (slots_in cs s.index) ≡ length (g there) = ap length (slots_everywhere g f.branches s.index refl) in
       record { index = s.index; named = ap (λ ns. slice_get ns s.index) names ∙ s.named; within = omega (arith, s.within) })
-      (λ e. stands_longer f.branches cs c names
+      (λ e. on_longer f.branches cs c names
       (λ j. let same : length (slots_in cs j) ≡ length (g (slots_in f.branches j)) = ap length (slots_everywhere g f.branches j refl) in
       let more = put_longer t.cell new (slots_in f.branches j) in omega arith) s)
 
@@ -300,10 +300,10 @@ module _ (f : Forest) (held : IsForest f) (name : List ℕ) (place i : ℕ) (fou
       let one = one_place t at k h in
       let acts : (true && nat_lt place c.place) ≡ false =
       ap (λ o. is_some o && nat_lt place c.place) (sym (placed t.cell ∙ h)) ∙ ap (λ o. acts_in o f name c.branch && nat_lt place c.place) (sym (cell_is t at)) ∙ e in
-      let behind : c.place ≤ place = not_above place c.place acts in
+      let before : c.place ≤ place = not_above place c.place acts in
       omega (arith, one)
 
-  remove_at : (t : Slot) → slice_get here place ≡ Some t → Stands (everywhere (without t.cell) f.branches) (shifted shift.Down f name place c)
+  remove_at : (t : Slot) → slice_get here place ≡ Some t → IsOnBranch (everywhere (without t.cell) f.branches) (shifted shift.Down f name place c)
   remove_at t at =
       let g = without t.cell in
       let cs = everywhere g f.branches in
@@ -311,7 +311,7 @@ module _ (f : Forest) (held : IsForest f) (name : List ℕ) (place i : ℕ) (fou
       let same : length (slots_in cs s.index) ≡ length (g there) = ap length (slots_everywhere g f.branches s.index refl) in
       let few : length there ≤ suc (length (g there)) = one_gone t.cell there (once t.cell) in
       goes cs shift.Down
-      (λ e. let p = has_behind t at e in record { index = s.index; named = named; within = omega (arith, s.within, p.1) })
+      (λ e. let p = shifted_after t at e in record { index = s.index; named = named; within = omega (arith, s.within, p.1) })
       (λ e. record { index = s.index; named = named; within = stays t at e (position (is_cell t.cell) there) refl (length (slots_in cs s.index)) same few })
 
 -- one more branch
@@ -325,19 +325,19 @@ slots_more [] more j name e = absurd (cc)
 slots_more (b ∷ bs) more zero name e = refl
 slots_more (b ∷ bs) more (suc j) name e = slots_more bs more j name e
 
-stands_more : (bs more : List Branch) (c : Cursor) → Stands bs c → Stands (bs ++ more) c
-stands_more bs more c s =
+on_more : (bs more : List Branch) (c : Cursor) → IsOnBranch bs c → IsOnBranch (bs ++ more) c
+on_more bs more c s =
     let same : length (slots_in (bs ++ more) s.index) ≡ length (slots_in bs s.index) = ap length (slots_more bs more s.index c.branch s.named) in
     record { index = s.index; named = name_more bs more s.index c.branch s.named; within = omega (arith, s.within) }
 
--- or one less
-stands_less : (bs : List Branch) (i : ℕ) (c : Cursor) (j : ℕ) → (i ≡ j → ⊥) → name_in bs j ≡ Some c.branch → c.place ≤ length (slots_in bs j) → Stands (remove bs i) c
-stands_less [] i c j apart e h = absurd (cc)
-stands_less (b ∷ bs) zero c zero apart e h = absurd (apart refl)
-stands_less (b ∷ bs) zero c (suc j) apart e h = record { index = j; named = e; within = h }
-stands_less (b ∷ bs) (suc i) c zero apart e h = record { index = 0; named = e; within = h }
-stands_less (b ∷ bs) (suc i) c (suc j) apart e h =
-    let s = stands_less bs i c j (λ same. apart (ap suc same)) e h in
+-- one branch less
+on_fewer : (bs : List Branch) (i : ℕ) (c : Cursor) (j : ℕ) → (i ≡ j → ⊥) → name_in bs j ≡ Some c.branch → c.place ≤ length (slots_in bs j) → IsOnBranch (remove bs i) c
+on_fewer [] i c j apart e h = absurd (cc)
+on_fewer (b ∷ bs) zero c zero apart e h = absurd (apart refl)
+on_fewer (b ∷ bs) zero c (suc j) apart e h = record { index = j; named = e; within = h }
+on_fewer (b ∷ bs) (suc i) c zero apart e h = record { index = 0; named = e; within = h }
+on_fewer (b ∷ bs) (suc i) c (suc j) apart e h =
+    let s = on_fewer bs i c j (λ same. apart (ap suc same)) e h in
     record { index = suc s.index; named = s.named; within = s.within }
 
 below : (a b : ℕ) → a ≤ b → (a ≡ b → ⊥) → a < b
@@ -401,9 +401,9 @@ abbrev Stays : Edit → Cursor → Type 0
 Stays (Drop name) c = pointwise nat_eq name c.branch ≡ false
 Stays edit c = Unit {0}
 
-module _ (limits : Limits) (f : Forest) (held : IsForest f) (c : Cursor) (s : Stands f.branches c) where
+module _ (limits : Limits) (f : Forest) (held : IsForest f) (c : Cursor) (s : IsOnBranch f.branches c) where
   abbrev Goes : Edit → Forest → Type 0
-  Goes edit g = Stands g.branches (on_cursor edit f c)
+  Goes edit g = IsOnBranch g.branches (on_cursor edit f c)
 
   edited_one : (edit : Edit) → Stays edit c → IfOk (edited limits f edit) (Goes edit)
   unfolding on_cursor
@@ -415,7 +415,7 @@ module _ (limits : Limits) (f : Forest) (held : IsForest f) (c : Cursor) (s : St
       (λ room. by i found (not_above (length (slots_in f.branches i)) place fits) (nat_eq place (length (slots_in f.branches i))) refl)))
     where
       by : (i : ℕ) → index_of f.branches name ≡ Some i → place ≤ length (slots_in f.branches i) → (b : Bool) → nat_eq place (length (slots_in f.branches i)) ≡ b
-          → Stands
+          → IsOnBranch
           (cond b (only_in i (put_last (forests.slot f.made step)) f.branches) (everywhere (put_before (cell_in (slots_in f.branches i) place) (forests.slot f.made step)) f.branches))
           (shifted shift.Up f name place c)
       by i found within true same =
@@ -424,7 +424,7 @@ module _ (limits : Limits) (f : Forest) (held : IsForest f) (c : Cursor) (s : St
       by i found within false other =
           let apart = other_number place (length (slots_in f.branches i)) other in
           let t = at_place (slots_in f.branches i) place (below place (length (slots_in f.branches i)) within apart) in
-          subst (λ x. Stands (everywhere (put_before x (forests.slot f.made step)) f.branches) (shifted shift.Up f name place c)) (sym (cell_in_at (slots_in f.branches i) place t.0 t.1))
+          subst (λ x. IsOnBranch (everywhere (put_before x (forests.slot f.made step)) f.branches) (shifted shift.Up f name place c)) (sym (cell_in_at (slots_in f.branches i) place t.0 t.1))
           (insert_before f held name place i found c s (forests.slot f.made step) t.0 t.1)
   edited_one (Remove name place) h =
       let goes = Goes (Remove name place) in
@@ -432,13 +432,13 @@ module _ (limits : Limits) (f : Forest) (held : IsForest f) (c : Cursor) (s : St
       (λ i found. asked_ok goes (nat_le (length (slots_in f.branches i)) place) NoPlace _ (λ fits.
       let here = slots_in f.branches i in
       let t = at_place here place (not_below (length here) place fits) in
-      subst (λ x. Stands (everywhere (without x) f.branches) (shifted shift.Down f name place c)) (sym (cell_in_at here place t.0 t.1)) (remove_at f held name place i found c s t.0 t.1)))
+      subst (λ x. IsOnBranch (everywhere (without x) f.branches) (shifted shift.Down f name place c)) (sym (cell_in_at here place t.0 t.1)) (remove_at f held name place i found c s t.0 t.1)))
   edited_one (Replace name place step) h =
       let goes = Goes (Replace name place step) in
       found_ok goes (index_of f.branches name) (forests.at_cell f place (forests.replaced_by step))
       (λ i found. asked_ok goes (nat_le (length (slots_in f.branches i)) place) NoPlace _ (λ fits.
       let change = forests.replaced_by step (cell_in (slots_in f.branches i) place) in
-      stands_longer f.branches (everywhere change f.branches) c (names_everywhere change f.branches)
+      on_longer f.branches (everywhere change f.branches) c (names_everywhere change f.branches)
       (λ j. let same : length (slots_in (everywhere change f.branches) j) ≡ length (change (slots_in f.branches j)) = ap length (slots_everywhere change f.branches j refl) in
       let more = replaced_longer step (cell_in (slots_in f.branches i) place) (slots_in f.branches j) in omega arith) s))
   edited_one (Fork name place new) h =
@@ -448,19 +448,19 @@ module _ (limits : Limits) (f : Forest) (held : IsForest f) (c : Cursor) (s : St
       (λ other. asked_ok goes (not (is_well_formed new)) BadName _
       (λ formed. asked_ok goes (nat_lt (length (slots_in f.branches i)) place) NoPlace _
       (λ fits. asked_ok goes (nat_le limits.branches (length f.branches)) TooManyBranches _
-      (λ room. stands_more f.branches (forests.branch new (take place (slots_in f.branches i)) ∷ []) c s)))))
+      (λ room. on_more f.branches (forests.branch new (take place (slots_in f.branches i)) ∷ []) c s)))))
   edited_one (Detach name) h =
       let goes = Goes (Detach name) in
       found_ok goes (index_of f.branches name) (forests.detach_at limits f)
       (λ i found. asked_ok goes (nat_lt limits.cells (f.made + length (slots_in f.branches i))) Full _ (λ room.
       let change = forests.renumbered f.made in
-      stands_longer f.branches (only_in i change f.branches) c (names_only_in i change f.branches) (longer_only_in i change f.branches (renumbered_longer f.made)) s))
+      on_longer f.branches (only_in i change f.branches) c (names_only_in i change f.branches) (longer_only_in i change f.branches (renumbered_longer f.made)) s))
   edited_one (Drop name) h =
       let goes = Goes (Drop name) in
       found_ok goes (index_of f.branches name) (forests.drop_at f)
       (λ i found. asked_ok goes (nat_le (length f.branches) 1) LastBranch _ (λ more.
       let named = named_at name f.branches i found in
-      stands_less f.branches i c s.index (λ same. other_name name c.branch h (named_one f.branches i s.index name c.branch same named s.named)) s.named s.within))
+      on_fewer f.branches i c s.index (λ same. other_name name c.branch h (named_one f.branches i s.index name c.branch same named s.named)) s.named s.within))
 
 -- the cells that are ever made stay within the limits
 module _ (limits : Limits) (f : Forest) (few : f.made ≤ limits.cells) where
@@ -494,10 +494,10 @@ module _ (limits : Limits) (f : Forest) (few : f.made ≤ limits.cells) where
   pub made_within : (g : Forest) (edit : Edit) → edited limits f edit ≡ Ok g → g.made ≤ limits.cells
   made_within g edit e = from_ok IsFew (edited limits f edit) g e (few_after edit)
 
--- of all cursors
-each_stands : (f g : Forest) (change : Cursor → Cursor) (cursors : List (Option Cursor)) → ((who : ℕ) (c : Cursor) → cursor_at cursors who ≡ Some c → IsAtPlace f c → IsAtPlace g (change c))
+-- if each cursor is at a place that exists after a change, all are
+each_placed : (f g : Forest) (change : Cursor → Cursor) (cursors : List (Option Cursor)) → ((who : ℕ) (c : Cursor) → cursor_at cursors who ≡ Some c → IsAtPlace f c → IsAtPlace g (change c))
     → AreAtPlaces f cursors → AreAtPlaces g (each_cursor change cursors)
-each_stands f g change cursors one all who =
+each_placed f g change cursors one all who =
     subst (λ o. IfSome o (IsAtPlace g)) (sym (get_or-map (option_map change) cursors who None)) (by (cursor_at cursors who) refl (all who))
   where
     by : (o : Option Cursor) → cursor_at cursors who ≡ o → IfSome o (IsAtPlace f) → IfSome (option_map change o) (IsAtPlace g)
@@ -512,23 +512,23 @@ all_kept f g cursors one all who = by (cursor_at cursors who) refl (all who)
     by (Some c) e h = one who c e h
 
 module _ (limits : Limits) (f g : Forest) (held : IsForest f) (apart : AreNamedApart g.branches) (cursors : List (Option Cursor)) (all : AreAtPlaces f cursors) where
-  one_stands : (edit : Edit) → edited limits f edit ≡ Ok g → (c : Cursor) → Stays edit c → IsAtPlace f c → IsAtPlace g (on_cursor edit f c)
-  one_stands edit e c stays here = stands_in g (on_cursor edit f c) apart (from_ok (Goes limits f held c (stands f c here) edit) (edited limits f edit) g e (edited_one limits f held c (stands f c here) edit stays))
+  one_placed : (edit : Edit) → edited limits f edit ≡ Ok g → (c : Cursor) → Stays edit c → IsAtPlace f c → IsAtPlace g (on_cursor edit f c)
+  one_placed edit e c stays here = from_branch g (on_cursor edit f c) apart (from_ok (Goes limits f held c (on_branch f c here) edit) (edited limits f edit) g e (edited_one limits f held c (on_branch f c here) edit stays))
 
   -- after an edit that drops no branch with a cursor on it, each cursor is at a place that exists
-  pub edited_stand : (edit : Edit) → edited limits f edit ≡ Ok g → drops_occupied edit cursors ≡ false → AreAtPlaces g (moved_by edit f cursors)
+  pub edited_placed : (edit : Edit) → edited limits f edit ≡ Ok g → drops_occupied edit cursors ≡ false → AreAtPlaces g (moved_by edit f cursors)
   unfolding on_cursor
-  edited_stand (Insert name place step) e h = each_stands f g (shifted shift.Up f name place) cursors (λ who c at. one_stands (Insert name place step) e c tt) all
-  edited_stand (Remove name place) e h = each_stands f g (shifted shift.Down f name place) cursors (λ who c at. one_stands (Remove name place) e c tt) all
-  edited_stand (Replace name place step) e h = all_kept f g cursors (λ who c at. one_stands (Replace name place step) e c tt) all
-  edited_stand (Fork name place new) e h = all_kept f g cursors (λ who c at. one_stands (Fork name place new) e c tt) all
-  edited_stand (Detach name) e h = all_kept f g cursors (λ who c at. one_stands (Detach name) e c tt) all
-  edited_stand (Drop name) e h = all_kept f g cursors (λ who c at. one_stands (Drop name) e c (not_there name cursors who c h at)) all
+  edited_placed (Insert name place step) e h = each_placed f g (shifted shift.Up f name place) cursors (λ who c at. one_placed (Insert name place step) e c tt) all
+  edited_placed (Remove name place) e h = each_placed f g (shifted shift.Down f name place) cursors (λ who c at. one_placed (Remove name place) e c tt) all
+  edited_placed (Replace name place step) e h = all_kept f g cursors (λ who c at. one_placed (Replace name place step) e c tt) all
+  edited_placed (Fork name place new) e h = all_kept f g cursors (λ who c at. one_placed (Fork name place new) e c tt) all
+  edited_placed (Detach name) e h = all_kept f g cursors (λ who c at. one_placed (Detach name) e c tt) all
+  edited_placed (Drop name) e h = all_kept f g cursors (λ who c at. one_placed (Drop name) e c (not_there name cursors who c h at)) all
 
 -- after a session's cursor is put at a place that exists, all cursors are at such places
-pub put_stands : (f : Forest) (cursors : List (Option Cursor)) (who : ℕ) (o : Option Cursor) → who < length cursors → IfSome o (IsAtPlace f) → AreAtPlaces f cursors
+pub put_placed : (f : Forest) (cursors : List (Option Cursor)) (who : ℕ) (o : Option Cursor) → who < length cursors → IfSome o (IsAtPlace f) → AreAtPlaces f cursors
     → AreAtPlaces f (slice_set cursors who o)
-put_stands f cursors who o h one all k = by (nat_eq k who) refl
+put_placed f cursors who o h one all k = by (nat_eq k who) refl
   where
     by : (b : Bool) → nat_eq k who ≡ b → IfSome (cursor_at (slice_set cursors who o) k) (IsAtPlace f)
     by true e =
@@ -537,12 +537,12 @@ put_stands f cursors who o h one all k = by (nat_eq k who) refl
     by false e = subst (λ p. IfSome p (IsAtPlace f)) (sym (get_or-set_other cursors who k o None (other_number k who e))) (all k)
 
 -- the first cursor of a session that joins is at a place that exists
-pub first_stands : (f : Forest) → AreNamedApart f.branches → IfSome (first_cursor f) (IsAtPlace f)
-first_stands f apart = by (name_in f.branches 0) refl
+pub first_placed : (f : Forest) → AreNamedApart f.branches → IfSome (first_cursor f) (IsAtPlace f)
+first_placed f apart = by (name_in f.branches 0) refl
   where
     by : (o : Option (List ℕ)) → name_in f.branches 0 ≡ o → IfSome (option_map (λ name. cursor name 0) o) (IsAtPlace f)
     by None e = tt
-    by (Some name) e = stands_in f (cursor name 0) apart (record { index = 0; named = e; within = omega arith })
+    by (Some name) e = from_branch f (cursor name 0) apart (record { index = 0; named = e; within = omega arith })
 
 -- no branch has more cells than were made, since it has each at most once
 cells_apart : (slots : List Slot) → ((k l : ℕ) (s t : Slot) → slice_get slots k ≡ Some s → slice_get slots l ≡ Some t → s.cell ≡ t.cell → k ≡ l) → IsDistinct nat_eq (map cell_of slots)
@@ -580,7 +580,7 @@ are_within f cursors held few all who = by (cursor_at cursors who) (all who)
   where
     by : (o : Option Cursor) → IfSome o (IsAtPlace f) → IfSome o (λ c. c.place ≤ MOST_CELLS_MADE)
     by None h = tt
-    by (Some c) h = let s = stands f c h in omega (arith, s.within, few_within f held s.index, few)
+    by (Some c) h = let s = on_branch f c h in omega (arith, s.within, few_within f held s.index, few)
 
 -- a place that is at most a branch's length exists, if a cursor is on that branch
 pub goes_within : (f : Forest) (c : Cursor) (place n : ℕ) → IsAtPlace f c → len_of f c.branch ≡ Some n → place ≤ n → IsAtPlace f (cursor c.branch place)
@@ -591,9 +591,9 @@ goes_within f c place n h len few =
     ap (λ o. forests.on_found o (looked_at f place)) p.1 ∙ ap (λ b. cond b (Err NoPlace) (Ok f)) (lt_false (length (slots_in f.branches p.0)) place (omega arith))
 
 -- the place of a hit exists
-pub hit_stands : (f : Forest) (c : Cursor) (place : ℕ) → IsAtPlace f c → place < length (steps_in f c.branch) + 1
+pub hit_exists : (f : Forest) (c : Cursor) (place : ℕ) → IsAtPlace f c → place < length (steps_in f c.branch) + 1
     → IsAtPlace f (cursor c.branch place)
-hit_stands f c place h within =
+hit_exists f c place h within =
     let p = looked f c.place (index_of f.branches c.branch) h in
     let n = length (slots_in f.branches p.0) in
     let len : len_of f c.branch ≡ Some n = ap (option_map (λ i. length (slots_in f.branches i))) p.1 in

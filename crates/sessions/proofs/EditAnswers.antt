@@ -79,19 +79,19 @@ module _ {P : Type 0} (who : ℕ) (c : Command) (w : World P) where
   none (Ok f) h = refl
   none (Err e) h = cc
 
-  wanting : (edit : Edit) (r : Refusal) → drops_occupied edit w.cursors ≡ false → IsRefused (edited w.limits w.forest edit) r
+  late_or_memory : (edit : Edit) (r : Refusal) → drops_occupied edit w.cursors ≡ false → IsRefused (edited w.limits w.forest edit) r
       → (first_refusal (late_by (Some edit) who c w) ≡ Some r) ⊎ ((r ≡ Memory) × (first_refusal (late_by (Some edit) who c w) ≡ None))
-  wanting edit r stays (inl e) = inl (refused edit r e)
-  wanting edit r stays (inr m) =
+  late_or_memory edit r stays (inl e) = inl (refused edit r e)
+  late_or_memory edit r stays (inr m) =
       inr (m.0, ap (λ b. first_refusal (refusal_in (edited w.limits w.forest edit) ∷ refused_if b Occupied ∷ [])) stays ∙ none (edited w.limits w.forest edit) m.1)
 
   late_edit : (edit : Edit) (r : Refusal) → WhyRefused edit (edited w.limits w.forest edit) r
       → (first_refusal (late_by (Some edit) who c w) ≡ Some r) ⊎ ((r ≡ Memory) × (first_refusal (late_by (Some edit) who c w) ≡ None))
-  late_edit (Insert name place step) r h = wanting (Insert name place step) r refl h
+  late_edit (Insert name place step) r h = late_or_memory (Insert name place step) r refl h
   late_edit (Remove name place) r h = inl (refused (Remove name place) r h)
   late_edit (Replace name place step) r h = inl (refused (Replace name place step) r h)
-  late_edit (Fork name place new) r h = wanting (Fork name place new) r refl h
-  late_edit (Detach name) r h = wanting (Detach name) r refl h
+  late_edit (Fork name place new) r h = late_or_memory (Fork name place new) r refl h
+  late_edit (Detach name) r h = late_or_memory (Detach name) r refl h
   late_edit (Drop name) r h = inl (refused (Drop name) r h)
 
   -- an edit that is done
@@ -169,9 +169,9 @@ module _ {R P : Type 0} (is : R → Behaviour P) (n : ℕ) (old : Workspace R P)
     pub undone_edit : (r : Result Reply Refusal) (e : Refusal) (Is : Refusal → Type 0) → IsErrAnd r Is → ((x : Refusal) → Is x → x ≡ e) → (is_held_up edit (forest old.chart.trie) old.cursors ≡ true → ◌≡◌ {A = Result (Unit {0}) Refusal} (Err e) (Err Occupied))
         → (is_held_up edit (forest old.chart.trie) old.cursors ≡ false → Edits old.chart chart edit (Err e)) → (chart ≡ old.chart) × (cursors ≡ old.cursors)
         → Does is who c (stored old n) (stored (record old { chart = chart; cursors = cursors }) n) r
-    undone_edit (Ok reply) e Is told one up h kept = absurd told
-    undone_edit (Err x) e Is told one up h kept =
+    undone_edit (Ok reply) e Is is_error one up h kept = absurd is_error
+    undone_edit (Err x) e Is is_error one up h kept =
         record {
-          why = subst (IsLate who c (world_of is (stored old n))) (sym (one x told)) (why_edit e up h);
+          why = subst (IsLate who c (world_of is (stored old n))) (sym (one x is_error)) (why_edit e up h);
           same = λ i. world_of is (stored (record old { chart = kept.0 i; cursors = kept.1 i }) n);
         }

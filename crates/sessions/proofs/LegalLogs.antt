@@ -7,8 +7,8 @@ use Rattle.sessions.specs.Logs.{acted_by, world_after, IsLegal, is_logged}
 module _ {P : Type 0} where
   pub legal_more : (w : World P) (log : List Entry) (e : Entry) → IsLegal w log → (acted_by e (world_after w log)).reply ≡ e.reply → is_logged e.reply ≡ true
       → IsLegal w (log ++ e ∷ [])
-  legal_more w [] e h same told = (same, told, tt)
-  legal_more w (f ∷ log) e h same told = (h.0, h.1, legal_more (acted_by f w).world log e h.2 same told)
+  legal_more w [] e h same logged = (same, logged, tt)
+  legal_more w (f ∷ log) e h same logged = (h.0, h.1, legal_more (acted_by f w).world log e h.2 same logged)
 
   pub after_more : (w : World P) (log : List Entry) (e : Entry) → world_after w (log ++ e ∷ []) ≡ (acted_by e (world_after w log)).world
   after_more w [] e = refl

@@ -44,9 +44,9 @@ opening_so is chart register value limits f same_register same_value same =
     λ i. opening (is (same_register i)) (same_value i) limits (same i)
 
 -- a chart's limbs are what is saved of its world
-pub saved_so : {R P A E : Type 0} (is : R → Behaviour P) (s : Workspace R P) (n : ℕ) (items : A → List Limb) (told : Result A E)
-    → IfOk told (λ r. items r ≡ limbs (forest s.chart.trie)) → IfOk told (λ r. AreLawfulLimbs (items r)) → IfOk told (λ r. 0 < length (items r))
-    → IfOk told (λ r. FitLimits s.chart.trie.limits (items r)) → IfOk told (λ r. LimbsFit (is s.chart.start.register) (items r))
-    → IfOk told (λ r. IsSaved (world_of is (stored s n)) (items r))
+pub saved_so : {R P A E : Type 0} (is : R → Behaviour P) (s : Workspace R P) (n : ℕ) (items : A → List Limb) (result : Result A E)
+    → IfOk result (λ r. items r ≡ limbs (forest s.chart.trie)) → IfOk result (λ r. AreLawfulLimbs (items r)) → IfOk result (λ r. 0 < length (items r))
+    → IfOk result (λ r. FitLimits s.chart.trie.limits (items r)) → IfOk result (λ r. LimbsFit (is s.chart.start.register) (items r))
+    → IfOk result (λ r. IsSaved (world_of is (stored s n)) (items r))
 saved_so is s n items (Ok r) same lawful some near fit = record { same = same; lawful = lawful; some = some; fit = fit; near = near }
 saved_so is s n items (Err e) same lawful some near fit = tt

@@ -34,8 +34,8 @@ not_past who h = grind (arith, nat_tests)
 -- a session's cursor
 module _ (cursors : List (Option declared.Cursor)) (who : ℕ) (default cursor : Option declared.Cursor)
     (sixteen : length cursors ≡ 16) (within : who < 16) (here : get_or cursors who default ≡ cursor) where
-  pub stands_at : cursor_at cursors who ≡ cursor
-  stands_at = get_or_default cursors who None default (omega (arith, within, sixteen)) ∙ here
+  pub cursor_is : cursor_at cursors who ≡ cursor
+  cursor_is = get_or_default cursors who None default (omega (arith, within, sixteen)) ∙ here
 
   pub lacks_so : lacks_cursor who cursors ≡ is_none cursor
-  lacks_so = ap (λ b. b || is_none (cursor_at cursors who)) (not_past who within) ∙ ap is_none stands_at
+  lacks_so = ap (λ b. b || is_none (cursor_at cursors who)) (not_past who within) ∙ ap is_none cursor_is

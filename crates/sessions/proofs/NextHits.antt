@@ -96,9 +96,9 @@ module _ (test : ℕ → Bool) (from : ℕ) where
       ap (λ m. find p (reverse (places_with test m))) (sym next) ∙ ap (λ l. find p (reverse l)) (places_more test n) ∙ find_last test p (places_with test n) n (test n) in
       subst (Found Back (suc n)) (sym parted) (by_last n (test n && nat_lt n from) (find p (reverse (places_with test n))) refl (back n))
 
-  told : (way : Way) (n : ℕ) → Found way n (next_place way from (places_with test n))
-  told Forth n = forth n
-  told Back n = back n
+  found : (way : Way) (n : ℕ) → Found way n (next_place way from (places_with test n))
+  found Forth n = forth n
+  found Back n = back n
 
   some_hit : (way : Way) (n : ℕ) (o : Option ℕ) → Found way n o → IfSome o (λ k. IsNextHit way test n from k)
   some_hit way n None h = tt
@@ -106,4 +106,4 @@ module _ (test : ℕ → Bool) (from : ℕ) where
 
   -- the place that a seek finds
   pub next_is_hit : (way : Way) (n : ℕ) (o : Option ℕ) → o ≡ next_place way from (places_with test n) → IfSome o (λ k. IsNextHit way test n from k)
-  next_is_hit way n o e = some_hit way n o (subst (Found way n) (sym e) (told way n))
+  next_is_hit way n o e = some_hit way n o (subst (Found way n) (sym e) (found way n))

@@ -25,15 +25,15 @@ abbrev limits : Limits
 limits = record { cells = 65536; branches = 2; log = 1000 }
 
 -- the world after commands of session 0
-abbrev behind : List Command → World SafePoint → World SafePoint
-behind [] w = w
-behind (c ∷ cs) w = behind cs (command_result 0 None c w).world
+abbrev after : List Command → World SafePoint → World SafePoint
+after [] w = w
+after (c ∷ cs) w = after cs (command_result 0 None c w).world
 
 abbrev at_first : World SafePoint
 at_first = opening safe_behaviour 0 limits (forests.opening_forest (step.Read 1 ∷ step.Go 1 0 ∷ step.Go 1 0 ∷ []))
 
 abbrev joined : World SafePoint
-joined = behind (command.Join ∷ []) at_first
+joined = after (command.Join ∷ []) at_first
 
 -- a reply to session 0
 abbrev says : Command → World SafePoint → Reply
@@ -71,7 +71,7 @@ newer = refl
 
 -- a branch that is forked, and dropped once no cursor is on it
 abbrev forked : World SafePoint
-forked = behind (command.Fork main 0 a ∷ command.Go a 0 ∷ []) joined
+forked = after (command.Fork main 0 a ∷ command.Go a 0 ∷ []) joined
 
 occupied : says (command.Drop a) forked ≡ No Occupied
 occupied = refl
@@ -79,39 +79,39 @@ occupied = refl
 too_many : says (command.Fork main 0 (codes "b")) forked ≡ No TooManyBranches
 too_many = refl
 
-dropped : says (command.Drop a) (behind (command.Leave ∷ []) forked) ≡ Edited 2
+dropped : says (command.Drop a) (after (command.Leave ∷ []) forked) ≡ Edited 2
 dropped = refl
 
 -- a write and a read that overlaps it
 abbrev overlapped : World SafePoint
 overlapped =
-    behind (command.Join ∷ [])
+    after (command.Join ∷ [])
     (opening safe_behaviour 0 limits (forests.opening_forest (step.Write 0 1 ∷ step.Go 0 0 ∷ step.Read 1 ∷ step.Go 1 0 ∷ step.Go 0 0 ∷ step.Go 1 0 ∷ [])))
 
-chosen : says command.Seek (behind (command.Break break.Chosen ∷ []) overlapped) ≡ Moved main 6
+chosen : says command.Seek (after (command.Break break.Chosen ∷ []) overlapped) ≡ Moved main 6
 chosen = refl
 
-no_hit : says command.Seek (behind (command.Break break.Chosen ∷ command.Seek ∷ []) overlapped) ≡ NoHit
+no_hit : says command.Seek (after (command.Break break.Chosen ∷ command.Seek ∷ []) overlapped) ≡ NoHit
 no_hit = refl
 
-bit : says command.Seek (behind (command.Break (break.Bit 0 1) ∷ []) overlapped) ≡ Moved main 5
+bit : says command.Seek (after (command.Break (break.Bit 0 1) ∷ []) overlapped) ≡ Moved main 5
 bit = refl
 
-back : says command.Back (behind (command.Break (break.Bit 0 1) ∷ command.Go main 6 ∷ []) overlapped) ≡ Moved main 5
+back : says command.Back (after (command.Break (break.Bit 0 1) ∷ command.Go main 6 ∷ []) overlapped) ≡ Moved main 5
 back = refl
 
-back_no_hit : says command.Back (behind (command.Break (break.Bit 0 1) ∷ command.Go main 6 ∷ command.Back ∷ []) overlapped) ≡ NoHit
+back_no_hit : says command.Back (after (command.Break (break.Bit 0 1) ∷ command.Go main 6 ∷ command.Back ∷ []) overlapped) ≡ NoHit
 back_no_hit = refl
 
-cleared : says (command.Clear break.Chosen) (behind (command.Break break.Chosen ∷ command.Seek ∷ []) overlapped) ≡ BreakCleared
+cleared : says (command.Clear break.Chosen) (after (command.Break break.Chosen ∷ command.Seek ∷ []) overlapped) ≡ BreakCleared
 cleared = refl
 
 -- a log of one entry
 abbrev one_logged : World SafePoint
-one_logged = behind (command.Join ∷ []) (opening safe_behaviour 0 (record { cells = 65536; branches = 2; log = 1 }) (forests.opening_forest []))
+one_logged = after (command.Join ∷ []) (opening safe_behaviour 0 (record { cells = 65536; branches = 2; log = 1 }) (forests.opening_forest []))
 
 log_full : says command.Join one_logged ≡ No LogFull
 log_full = refl
 
-stays_full : (behind (command.Join ∷ []) one_logged).logged ≡ 1
+stays_full : (after (command.Join ∷ []) one_logged).logged ≡ 1
 stays_full = refl

@@ -33,7 +33,7 @@ module _ {R P : Type 0} (b : Behaviour P) where
   length-history c (s ∷ steps) = ap suc (length-history (stepped b c s) steps)
 
 -- a step in a segment of a branch, after the steps `before`
-module _ {P : Type 0} (b : Behaviour P) (value : ℕ) (breaks : List Break) (before segment behind steps : List Step) (all : steps ≡ before ++ (segment ++ behind)) where
+module _ {P : Type 0} (b : Behaviour P) (value : ℕ) (breaks : List Break) (before segment following steps : List Step) (all : steps ≡ before ++ (segment ++ following)) where
   at : Alone P
   at = shown b value before
 
@@ -41,13 +41,13 @@ module _ {P : Type 0} (b : Behaviour P) (value : ℕ) (breaks : List Break) (bef
   unfolding at
   events_in i within =
       let first = first_configuration b value in
-      let parted : history b first steps ≡ history b first before ++ (history b at segment ++ history b (replayed b at segment) behind) =
-      ap (history b first) all ∙ history-append b first before (segment ++ behind) ∙ ap (λ l. history b first before ++ l) (history-append b at segment behind) in
+      let parted : history b first steps ≡ history b first before ++ (history b at segment ++ history b (replayed b at segment) following) =
+      ap (history b first) all ∙ history-append b first before (segment ++ following) ∙ ap (λ l. history b first before ++ l) (history-append b at segment following) in
       let long : length before + i ≡ length (history b first before) + i = ap (λ n. n + i) (sym (length-history b first before)) in
-      let later : List StepEvents = history b at segment ++ history b (replayed b at segment) behind in
+      let later : List StepEvents = history b at segment ++ history b (replayed b at segment) following in
       ap (λ l. get_or l (length before + i) no_events) parted ∙ ap (λ n. get_or (history b first before ++ later) n no_events) long
       ∙ get_or-append-add (history b first before) later i no_events
-      ∙ get_or_append_left (history b at segment) (history b (replayed b at segment) behind) no_events i (omega (arith, within, length-history b at segment))
+      ∙ get_or_append_left (history b at segment) (history b (replayed b at segment) following) no_events i (omega (arith, within, length-history b at segment))
 
   shown_in : (i : ℕ) → i < length segment → shown b value (take (suc (length before + i)) steps) ≡ replayed b at (take (i + 1) segment)
   unfolding at
@@ -55,8 +55,8 @@ module _ {P : Type 0} (b : Behaviour P) (value : ℕ) (breaks : List Break) (bef
       let first = first_configuration b value in
       let next : suc (length before + i) ≡ length before + (i + 1) = omega arith in
       let taken : take (suc (length before + i)) steps ≡ before ++ take (i + 1) segment =
-      ap (take (suc (length before + i))) all ∙ ap (λ n. take n (before ++ (segment ++ behind))) next ∙ take-append-add before (segment ++ behind) (i + 1)
-      ∙ ap (λ l. before ++ l) (take-append-le (i + 1) segment behind (omega (arith, within))) in
+      ap (take (suc (length before + i))) all ∙ ap (λ n. take n (before ++ (segment ++ following))) next ∙ take-append-add before (segment ++ following) (i + 1)
+      ∙ ap (λ l. before ++ l) (take-append-le (i + 1) segment following (omega (arith, within))) in
       ap (replayed b first) taken ∙ replayed-append b first before (take (i + 1) segment)
 
   pub hit_in : (i : ℕ) → i < length segment
@@ -80,10 +80,10 @@ module _ {R P : Type 0} (E : R → R → Bool) (is : R → Behaviour P) (alike :
   along_more k ks = map-append step_of (slots_of (segment_at old.segments k)) (line (segment_at old.segments) ks)
 
   -- a run that follows a front, and counts whole
-  one : (before : List Step) (c : Configuration R P) (k : ℕ) (ks : List ℕ) (part : RunPart R P) → is c.register ≡ b → without_register c ≡ shown b value before
+  reports_run : (before : List Step) (c : Configuration R P) (k : ℕ) (ks : List ℕ) (part : RunPart R P) → is c.register ≡ b → without_register c ≡ shown b value before
       → steps ≡ before ++ along (k ∷ ks) → RunFits E c (steps_at old k) part.run → part.count ≡ length (steps_at old k)
       → ReportsPart is breaks (is_hit b value steps breaks) (length before) part
-  one before c k ks part home comes all fits count =
+  reports_run before c k ks part home comes all fits count =
       let own : is part.run.entry.register ≡ b = alike part.run.entry.register c.register fits.entry.register ∙ home in
       let entry : without_register part.run.entry ≡ shown b value before = alone_same E part.run.entry c fits.entry ∙ comes in
       let parted : steps ≡ before ++ (part.run.steps ++ along ks) =
@@ -99,15 +99,15 @@ module _ {R P : Type 0} (E : R → R → Bool) (is : R → Behaviour P) (alike :
             ∙ ap (λ d. is_met breaks (slice_index_or (history b d part.run.steps) i no_events) (replayed b d (take (i + 1) part.run.steps)).memory) entry);
       }
 
-  nothing : (place : ℕ) (parts : List (RunPart R P)) → parts ≡ [] → ReportsParts is breaks (is_hit b value steps breaks) place parts
-  nothing place parts e = subst (ReportsParts is breaks (is_hit b value steps breaks) place) (sym e) tt
+  reports_none : (place : ℕ) (parts : List (RunPart R P)) → parts ≡ [] → ReportsParts is breaks (is_hit b value steps breaks) place parts
+  reports_none place parts e = subst (ReportsParts is breaks (is_hit b value steps breaks) place) (sym e) tt
 
   -- the runs of a settle of all that follows a front
-  told : (before : List Step) (c : Configuration R P) (keys : List ℕ) (rest : ℕ) (parts : List (RunPart R P)) (n : ℕ) → is c.register ≡ b → without_register c ≡ shown b value before
+  reports_runs : (before : List Step) (c : Configuration R P) (keys : List ℕ) (rest : ℕ) (parts : List (RunPart R P)) (n : ℕ) → is c.register ≡ b → without_register c ≡ shown b value before
       → steps ≡ before ++ along keys → rest ≡ length (along keys) → Settles E b old new c rest (reached old rest keys) parts n
       → ReportsParts is breaks (is_hit b value steps breaks) (length before) parts
-  told before c [] rest parts n home comes all long h = nothing (length before) parts h.0
-  told before c (k ∷ ks) rest parts n home comes all long h = by (λ before' c' rest' parts' n'. told before' c' ks rest' parts' n') (nat_eq rest 0) parts h
+  reports_runs before c [] rest parts n home comes all long h = reports_none (length before) parts h.0
+  reports_runs before c (k ∷ ks) rest parts n home comes all long h = by (λ before' c' rest' parts' n'. reports_runs before' c' ks rest' parts' n') (nat_eq rest 0) parts h
     where
       Later : Type 0
       Later = (before' : List Step) (c' : Configuration R P) (rest' : ℕ) (parts' : List (RunPart R P)) (n' : ℕ) → is c'.register ≡ b → without_register c' ≡ shown b value before'
@@ -124,27 +124,27 @@ module _ {R P : Type 0} (E : R → R → Bool) (is : R → Behaviour P) (alike :
           let next : without_register (replayed b c segment) ≡ shown b value (before ++ segment) =
           replayed_alone b c segment ∙ ap (λ d. replayed b d segment) comes ∙ sym (replayed-append b (first_configuration b value) before segment) in
           let place : length (before ++ segment) ≡ length before + part.count = length-append before segment ∙ ap (λ m. length before + m) (sym count) in (
-            one before c k ks part home comes all s.3.fits count,
+            reports_run before c k ks part home comes all s.3.fits count,
             subst (λ m. ReportsParts is breaks (is_hit b value steps breaks) m parts') place
                 (later (before ++ segment) (replayed b c segment) (rest - length segment) parts' s.1 (ap is (register_kept b c segment) ∙ home) next parted (omega (arith, total)) s.4),
           )
 
       by : Later → (t : Bool) (parts' : List (RunPart R P)) → Settles E b old new c rest (cond t [] (k ∷ reached old (rest - length (steps_at old k)) ks)) parts' n
           → ReportsParts is breaks (is_hit b value steps breaks) (length before) parts'
-      by later true parts' s = nothing (length before) parts' s.0
+      by later true parts' s = reports_none (length before) parts' s.0
       by later false [] s = absurd s
       by later false (part ∷ parts') s = some later part parts' s
 
 module _ {R P : Type 0} (E : R → R → Bool) (is : R → Behaviour P) (alike : (x y : R) → E x y ≡ true → is x ≡ is y) where
   -- the runs that a settle of a whole branch gives agree with the test of its places
-  pub runs_tell : (old new : Charted R P) (name : List ℕ) (len : ℕ) (parts : List (RunPart R P)) (n : ℕ) (breaks : List Break) → len ≡ length (steps_in (forest old.trie) name)
+  pub runs_report : (old new : Charted R P) (name : List ℕ) (len : ℕ) (parts : List (RunPart R P)) (n : ℕ) (breaks : List Break) → len ≡ length (steps_in (forest old.trie) name)
       → old.start ≡ initial_configuration (is old.start.register) old.start.register old.value
       → IsSettled E (is old.start.register) old new name len parts n
       → ReportsParts is breaks (is_hit (is old.start.register) old.value (steps_in (forest old.trie) name) breaks) 0 parts
-  runs_tell old new name len parts n breaks long begins h =
+  runs_report old new name len parts n breaks long begins h =
       let b = is old.start.register in
       let named = steps_named old.trie name in
-      told E is alike b old.trie new.trie old.value breaks (steps_in (forest old.trie) name) [] old.start (keys_named old.trie name) len parts n refl (ap without_register begins) named
+      reports_runs E is alike b old.trie new.trie old.value breaks (steps_in (forest old.trie) name) [] old.start (keys_named old.trie name) len parts n refl (ap without_register begins) named
       (long ∙ ap length named) h.settles
 
 -- one step of many
@@ -171,13 +171,13 @@ module _ {R P : Type 0} (b : Behaviour P) where
   recorded_front c (x ∷ steps) (suc count) (suc i) h = recorded_front (stepped b c x) steps count i (omega (arith, h))
 
 -- what a run says about its places
-module _ {R P : Type 0} (is : R → Behaviour P) (breaks : List Break) (test : ℕ → Bool) (place : ℕ) (run : SegmentRun R P) (count : ℕ) (tells : ReportsPart is breaks test place (record { run = run; count = count })) where
-  pub events_tell : IsRun (is run.entry.register) run → list_any is_on_bit breaks ≡ false → (i : ℕ) → i < length (take count run.events)
+module _ {R P : Type 0} (is : R → Behaviour P) (breaks : List Break) (test : ℕ → Bool) (place : ℕ) (run : SegmentRun R P) (count : ℕ) (reports : ReportsPart is breaks test place (record { run = run; count = count })) where
+  pub events_report : IsRun (is run.entry.register) run → list_any is_on_bit breaks ≡ false → (i : ℕ) → i < length (take count run.events)
       → test ((place + 1) + i) ≡ records_any breaks (slice_index_or (take count run.events) i no_events)
-  events_tell true_run none i h =
+  events_report true_run none i h =
       let within : i < count = omega (arith, h, length-take count run.events) in
       let b = is run.entry.register in
-      tells.each i within
+      reports.each i within
       ∙ met_by_records breaks (slice_index_or (history b run.entry run.steps) i no_events) (replayed b run.entry (take (i + 1) run.steps)).memory none
       ∙ ap (λ events. records_any breaks (slice_index_or events i no_events)) (sym true_run.events)
       ∙ ap (records_any breaks) (sym (get_or-take count run.events i no_events within))
@@ -185,21 +185,21 @@ module _ {R P : Type 0} (is : R → Behaviour P) (breaks : List Break) (test : �
   pub events_count : IsRun (is run.entry.register) run → length (take count run.events) ≡ count
   events_count true_run =
       let long : length run.events ≡ length run.steps = ap length true_run.events ∙ length-history (is run.entry.register) run.entry run.steps in
-      omega (arith, length-take count run.events, long, tells.within)
+      omega (arith, length-take count run.events, long, reports.within)
 
-  pub steps_tell : (i : ℕ) → i < length (take count run.steps)
+  pub steps_report : (i : ℕ) → i < length (take count run.steps)
       → test ((place + 1) + i) ≡ is_met breaks (slice_index_or (history (is run.entry.register) run.entry (take count run.steps)) i no_events)
       (replayed (is run.entry.register) run.entry (take (i + 1) (take count run.steps))).memory
-  steps_tell i h =
+  steps_report i h =
       let within : i < count = omega (arith, h, length-take count run.steps) in
       let b = is run.entry.register in
-      tells.each i within
+      reports.each i within
       ∙ ap (λ events. is_met breaks events (replayed b run.entry (take (i + 1) run.steps)).memory) (sym (recorded_front b run.entry run.steps count i within))
       ∙ ap (λ steps. is_met breaks (slice_index_or (history b run.entry (take count run.steps)) i no_events) (replayed b run.entry steps).memory)
       (sym (take-take (i + 1) count run.steps (omega (arith, within))))
 
   pub steps_count : length (take count run.steps) ≡ count
-  steps_count = omega (arith, length-take count run.steps, tells.within)
+  steps_count = omega (arith, length-take count run.steps, reports.within)
 
 -- runs that follow one another
 module _ {R P Z : Type 0} where
@@ -216,13 +216,13 @@ module _ {R P Z : Type 0} where
   counted_within [] (suc n) = omega arith
   counted_within (y ∷ runs) (suc n) = omega (arith, counted_within runs n)
 
-  pub tells_at : (is : R → Behaviour P) (breaks : List Break) (test : ℕ → Bool) (place : ℕ) (runs : List (Arc (SegmentRun R P) Z × ℕ)) (i : ℕ) (x : Arc (SegmentRun R P) Z × ℕ)
+  pub reports_at : (is : R → Behaviour P) (breaks : List Break) (test : ℕ → Bool) (place : ℕ) (runs : List (Arc (SegmentRun R P) Z × ℕ)) (i : ℕ) (x : Arc (SegmentRun R P) Z × ℕ)
       → i < length runs → x ≡ get_or runs i x → ReportsParts is breaks test place (map part_of runs) → ReportsPart is breaks test (place + counted (map part_of (take i runs))) (part_of x)
-  tells_at is breaks test place [] i x h e t = absurd (omega (arith, h))
-  tells_at is breaks test place (y ∷ runs) zero x h e t =
+  reports_at is breaks test place [] i x h e t = absurd (omega (arith, h))
+  reports_at is breaks test place (y ∷ runs) zero x h e t =
       let none : place ≡ place + 0 = omega arith in
       let same : y ≡ x = sym e in
       subst (λ n. ReportsPart is breaks test n (part_of x)) none (subst (λ (z : Arc (SegmentRun R P) Z × ℕ). ReportsPart is breaks test place (part_of z)) same t.0)
-  tells_at is breaks test place (y ∷ runs) (suc i) x h e t =
+  reports_at is breaks test place (y ∷ runs) (suc i) x h e t =
       let next : (place + y.1) + counted (map part_of (take i runs)) ≡ place + (y.1 + counted (map part_of (take i runs))) = omega arith in
-      subst (λ n. ReportsPart is breaks test n (part_of x)) next (tells_at is breaks test (place + y.1) runs i x (omega (arith, h)) e t.1)
+      subst (λ n. ReportsPart is breaks test n (part_of x)) next (reports_at is breaks test (place + y.1) runs i x (omega (arith, h)) e t.1)

@@ -45,19 +45,19 @@ module _ (test : ℕ → Bool) where
 
   pub forth_more : (from place : ℕ) (hit : Bool) (found result : Option ℕ) → test place ≡ hit → found ≡ least_above from (places_with test place)
       → result ≡ option_or found (cond (hit && nat_lt from place) (Some place) None) → result ≡ least_above from (places_with test (place + 1))
-  forth_more from place hit found result told before after =
+  forth_more from place hit found result tested before after =
       after ∙ ap (λ o. option_or o (cond (hit && nat_lt from place) (Some place) None)) before
-      ∙ ap (option_or (find (nat_lt from) (places_with test place))) (sym (find_one (nat_lt from) place hit) ∙ ap (λ h. find (nat_lt from) (cond h (place ∷ []) [])) (sym told))
+      ∙ ap (option_or (find (nat_lt from) (places_with test place))) (sym (find_one (nat_lt from) place hit) ∙ ap (λ h. find (nat_lt from) (cond h (place ∷ []) [])) (sym tested))
       ∙ sym (find-append (nat_lt from) (places_with test place) (cond (test place) (place ∷ []) []))
       ∙ ap (find (nat_lt from)) (sym (places_more place))
 
   pub back_more : (from place : ℕ) (hit : Bool) (found result : Option ℕ) → test place ≡ hit → found ≡ greatest_below from (places_with test place)
       → result ≡ cond (hit && nat_lt place from) (Some place) found → result ≡ greatest_below from (places_with test (place + 1))
-  back_more from place hit found result told before after =
+  back_more from place hit found result tested before after =
       let below : ℕ → Bool = λ k. nat_lt k from in
       after ∙ ap (cond (hit && below place) (Some place)) before
       ∙ sym (find_last below (places_with test place) place hit)
-      ∙ ap (λ h. find below (reverse (places_with test place ++ cond h (place ∷ []) []))) (sym told)
+      ∙ ap (λ h. find below (reverse (places_with test place ++ cond h (place ∷ []) []))) (sym tested)
       ∙ ap (λ l. find below (reverse l)) (sym (places_more place))
 
   or_none : (o : Option ℕ) → o ≡ option_or o None
@@ -67,9 +67,9 @@ module _ (test : ℕ → Bool) where
   -- a place at which no break is met leaves the search as it was
   pub none_more : (way : Way) (from place : ℕ) (hit : Bool) (found : Option ℕ) → hit ≡ false → test place ≡ hit → found ≡ next_place way from (places_with test place)
       → found ≡ next_place way from (places_with test (place + 1))
-  none_more way from place true found none told before = cc
-  none_more Forth from place false found none told before = forth_more from place false found found told before (or_none found)
-  none_more Back from place false found none told before = back_more from place false found found told before refl
+  none_more way from place true found none tested before = cc
+  none_more Forth from place false found none tested before = forth_more from place false found found tested before (or_none found)
+  none_more Back from place false found none tested before = back_more from place false found found tested before refl
 
 -- without an event no break is met
 pub none_in : (breaks : List Break) → false ≡ list_any (λ break. is_in break None) breaks
@@ -110,17 +110,17 @@ met_by_records (break ∷ breaks) events m e =
     ∙ ap (λ b. is_recorded break events || b) (met_by_records breaks events m none.1)
 
 -- if a test agrees with steps, it agrees with the first of them, and with those after it
-pub tells_first : (breaks : List Break) (test : ℕ → Bool) (place : ℕ) (events : StepEvents) (later : List StepEvents) → ReportsEvents breaks test place (events ∷ later)
+pub reports_first : (breaks : List Break) (test : ℕ → Bool) (place : ℕ) (events : StepEvents) (later : List StepEvents) → ReportsEvents breaks test place (events ∷ later)
     → test (place + 1) ≡ records_any breaks events
-tells_first breaks test place events later tells =
+reports_first breaks test place events later reports =
     let here : place + 1 ≡ (place + 1) + 0 = omega arith in
-    ap test here ∙ tells 0 (omega arith)
+    ap test here ∙ reports 0 (omega arith)
 
-pub tells_behind : (breaks : List Break) (test : ℕ → Bool) (place : ℕ) (events : StepEvents) (later : List StepEvents) → ReportsEvents breaks test place (events ∷ later)
+pub reports_after : (breaks : List Break) (test : ℕ → Bool) (place : ℕ) (events : StepEvents) (later : List StepEvents) → ReportsEvents breaks test place (events ∷ later)
     → ReportsEvents breaks test (place + 1) later
-tells_behind breaks test place events later tells i within =
+reports_after breaks test place events later reports i within =
     let next : ((place + 1) + 1) + i ≡ (place + 1) + suc i = omega arith in
-    ap test next ∙ tells (suc i) (omega (arith, within))
+    ap test next ∙ reports (suc i) (omega (arith, within))
 
 -- whether a break is met, or one of the breaks after it
 module _ (breaks : List Break) (events : StepEvents) (store m : Memory) (i : ℕ) (default : Break) (t : Bool)

@@ -47,5 +47,5 @@ module _ {R P : Type 0} (is : R → Behaviour P) (old new : StoredWorld R P) (wh
 
   -- a seek that finds no memory is refused as Memory
   pub unsought : (r : Result Reply Refusal) (Is : Refusal → Type 0) → IsErrAnd r Is → ((x : Refusal) → Is x → x ≡ Memory) → Does is who (seek_command way) old new r
-  unsought (Ok reply) Is told one = absurd told
-  unsought (Err x) Is told one = record { why = inr (one x told, never_late who (world_of is old) way); same = same }
+  unsought (Ok reply) Is is_error one = absurd is_error
+  unsought (Err x) Is is_error one = record { why = inr (one x is_error, never_late who (world_of is old) way); same = same }

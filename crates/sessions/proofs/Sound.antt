@@ -25,7 +25,7 @@ use Rattle.sessions.specs.Acts.{answered, breaks_after, command_result, cursors_
 use Rattle.sessions.specs.Books.{IsLawfulWorld}
 use Rattle.sessions.proofs.Answered.{early_none}
 use Rattle.sessions.proofs.NextHits.{next_is_hit}
-use Rattle.sessions.proofs.CursorPlaces.{edited_stand, first_stands, hit_stands, made_within, put_stands}
+use Rattle.sessions.proofs.CursorPlaces.{edited_placed, first_placed, hit_exists, made_within, put_placed}
 
 none_in : (xs ys : List (Option Refusal)) → first_refusal (xs ++ ys) ≡ None → (first_refusal xs ≡ None) × (first_refusal ys ≡ None)
 none_in [] ys e = (refl, e)
@@ -65,7 +65,7 @@ module _ {P : Type 0} (who : ℕ) (w : World P) (sound : IsLawfulWorld w) (held 
       at c h (Some k) e =
           let steps = steps_in w.forest c.branch in
           let hit = next_is_hit (is_hit w.tower w.value steps (breaks_at w.breaks who)) c.place towards (length steps + 1) (Some k) e in
-          hit_stands w.forest c k h hit.within
+          hit_exists w.forest c k h hit.within
 
       by : (o : Option Cursor) → IfSome o (IsAtPlace w.forest) → IfSome (option_and_then (hit_from towards w (breaks_at w.breaks who)) o) (IsAtPlace w.forest)
       by None h = tt
@@ -77,7 +77,7 @@ module _ {P : Type 0} (who : ℕ) (w : World P) (sound : IsLawfulWorld w) (held 
   edit_placed edit (Err r) e b d apart h = absurd (cc)
   edit_placed edit (Ok g) e true d apart h = absurd (cc)
   edit_placed edit (Ok g) e false d apart h =
-      (edited_stand w.limits w.forest g held apart w.cursors sound.all_placed edit e d, made_within w.limits w.forest sound.few_cells g edit e)
+      (edited_placed w.limits w.forest g held apart w.cursors sound.all_placed edit e d, made_within w.limits w.forest sound.few_cells g edit e)
 
   breaks_so : (c : Command) → length (breaks_after who c w.breaks) ≡ length w.breaks
   breaks_so command.Join = length-set w.breaks who _
@@ -88,14 +88,14 @@ module _ {P : Type 0} (who : ℕ) (w : World P) (sound : IsLawfulWorld w) (held 
 
   module _ (within : who < 16) where
     put : (o : Option Cursor) → IfSome o (IsAtPlace w.forest) → ArePlaced (slice_set w.cursors who o)
-    put o one = (put_stands w.forest w.cursors who o (omega (arith, within, sound.cursors)) one sound.all_placed, length-set w.cursors who o ∙ sound.cursors)
+    put o one = (put_placed w.forest w.cursors who o (omega (arith, within, sound.cursors)) one sound.all_placed, length-set w.cursors who o ∙ sound.cursors)
 
     put_hit : (o : Option Cursor) → IfSome o (IsAtPlace w.forest) → ArePlaced (put_cursor who o w.cursors)
     put_hit None one = same
     put_hit (Some c) one = put (Some c) one
 
     placed : (c : Command) → first_refusal (other_refusals who c w) ≡ None → ArePlaced (cursors_after who c w)
-    placed command.Join h = put (first_cursor w.forest) (first_stands w.forest held.apart)
+    placed command.Join h = put (first_cursor w.forest) (first_placed w.forest held.apart)
     placed command.Leave h = put None tt
     placed (command.Go branch place) h = put (Some (cursor branch place)) (looked_ok w.forest place (index_of w.forest.branches branch) h)
     placed command.Seek h = put_hit (hit_of way.Forth w who) (hit_placed way.Forth)

@@ -6,7 +6,7 @@ use Rattle.frames.specs.Recorded.{AllFit}
 use Rattle.pages.specs.Breaks.{is_met}
 use Rattle.sessions.specs.Seeks.{next_place, no_events, places_with}
 use Rattle.sessions.specs.Walks.{records_any}
-use Rattle.sessions.proofs.Runs.{events_tell, events_count, steps_tell, steps_count}
+use Rattle.sessions.proofs.Runs.{events_report, events_count, steps_report, steps_count}
 use Rattle.sessions.proofs.seek.along_run.Goals as goal
 
 pub along_steps-requires-clause-fits : goal.along_steps-requires-clause-fits
@@ -19,7 +19,7 @@ along_steps-requires-clause-fits g c =
     (subst (AllFit b) (sym steps) (All-take (λ s. fits_step b s ≡ true) c.args.count run.steps c.steps.ensures.kept.fits))
 
 pub returns-then-any_on_bit : goal.returns-then-any_on_bit
-returns-then-any_on_bit g c = λ test tells start.
+returns-then-any_on_bit g c = λ test reports start.
     let is = g.R.Behaves.behaviour in
     let run = c.args.run.now in
     let breaks = c.args.search.now.breaks.now in
@@ -42,11 +42,11 @@ returns-then-any_on_bit g c = λ test tells start.
     → c.args.progress.found ≡ next_place c.args.search.now.way c.args.search.now.from (places_with test (place + 1))
     → c.along_steps.result ≡ next_place c.args.search.now.way c.args.search.now.from (places_with test ((place + length c.front-steps.result.now) + 1))) copied
     c.along_steps.ensures) in
-    subst (λ n. c.along_steps.result ≡ next_place c.args.search.now.way c.args.search.now.from (places_with test ((place + n) + 1))) (steps_count is breaks test place run c.args.count tells)
-    (all test (steps_tell is breaks test place run c.args.count tells) start)
+    subst (λ n. c.along_steps.result ≡ next_place c.args.search.now.way c.args.search.now.from (places_with test ((place + n) + 1))) (steps_count is breaks test place run c.args.count reports)
+    (all test (steps_report is breaks test place run c.args.count reports) start)
 
 pub returns : goal.returns
-returns g c = λ test tells start.
+returns g c = λ test reports start.
     let is = g.R.Behaves.behaviour in
     let run = c.args.run.now in
     let breaks = c.args.search.now.breaks.now in
@@ -60,8 +60,8 @@ returns g c = λ test tells start.
     → ((i : ℕ) → i < length es → test ((place + 1) + i) ≡ records_any breaks (slice_index_or es i no_events))
     → c.args.progress.found ≡ next_place c.args.search.now.way c.args.search.now.from (places_with test (place + 1))
     → c.along_events.result ≡ next_place c.args.search.now.way c.args.search.now.from (places_with test ((place + length es) + 1))) events c.along_events.ensures in
-    subst (λ n. c.along_events.result ≡ next_place c.args.search.now.way c.args.search.now.from (places_with test ((place + n) + 1))) (events_count is breaks test place run c.args.count tells c.events.ensures.kept)
-    (all test (events_tell is breaks test place run c.args.count tells c.events.ensures.kept (sym c.any_on_bit.ensures ∙ c.if-any_on_bit.false)) start)
+    subst (λ n. c.along_events.result ≡ next_place c.args.search.now.way c.args.search.now.from (places_with test ((place + n) + 1))) (events_count is breaks test place run c.args.count reports c.events.ensures.kept)
+    (all test (events_report is breaks test place run c.args.count reports c.events.ensures.kept (sym c.any_on_bit.ensures ∙ c.if-any_on_bit.false)) start)
 
 pub along_steps-requires-clause-room : goal.along_steps-requires-clause-room
 along_steps-requires-clause-room g c =

@@ -38,11 +38,11 @@ loop-i-preserved g c =
     record {
       config = after;
       found = λ test each start.
-          let told : test ((place + 1) + i) ≡ c.is_met-hit.result =
+          let tested : test ((place + 1) + i) ≡ c.is_met-hit.result =
           each i within ∙ ap (λ es. is_met c.args.search.now.breaks.now es (replayed b first (take (i + 1) steps)).memory) (recorded_next b first steps i s within item ∙ sym events)
           ∙ ap (λ d. is_met c.args.search.now.breaks.now c.step-events.result d.memory) (sym after) ∙ sym c.is_met-hit.ensures in
           subst (λ n. c.with_place-found.result ≡ next_place c.args.search.now.way c.args.search.now.from (places_with test n)) next
-          (c.with_place-found.ensures test told
+          (c.with_place-found.ensures test tested
           (subst (λ n. c.loop-i.found ≡ next_place c.args.search.now.way c.args.search.now.from (places_with test n)) here (c.loop-i.invariant.found test each start)));
     }
 

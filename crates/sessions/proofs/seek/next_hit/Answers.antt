@@ -21,14 +21,14 @@ found g c =
     let memory : c.in_ok-first.first.memory ≡ b.initial old.value =
     ap (λ d. d.memory) (c.in_ok-first.ensures ∙ c.initial.ensures.initial) ∙ λ i. (is (kept.start i).register).initial (kept.value i) in
     let zero : is_hit b old.value steps breaks 0 ≡ is_met breaks no_events c.in_ok-first.first.memory = ap (is_met breaks no_events) (sym memory) in
-    let tells : ReportsParts is breaks (is_hit b old.value steps breaks) 0 (map part_of c.as_slice.result.now) =
+    let reports : ReportsParts is breaks (is_hit b old.value steps breaks) 0 (map part_of c.as_slice.result.now) =
     subst (ReportsParts is breaks (is_hit b old.value steps breaks) 0) (sym c.as_slice.ensures) (c.in_ok-runs.ensures.reports breaks) in
     let long : counted (map part_of c.as_slice.result.now) ≡ length steps = ap counted c.as_slice.ensures ∙ c.in_ok-runs.ensures.counts in
     IfOk-weaker c.along_runs.result
     (λ all. (test : ℕ → Bool) → test 0 ≡ is_met breaks no_events c.in_ok-first.first.memory → ReportsParts is breaks test 0 (map part_of c.as_slice.result.now)
     → all ≡ next_place c.args.search.now.way c.args.search.now.from (places_with test (counted (map part_of c.as_slice.result.now) + 1)))
     _
-    (λ all h. h (is_hit b old.value steps breaks) zero tells ∙ ap (λ n. next_place c.args.search.now.way c.args.search.now.from (places_with (is_hit b old.value steps breaks) (n + 1))) long)
+    (λ all h. h (is_hit b old.value steps breaks) zero reports ∙ ap (λ n. next_place c.args.search.now.way c.args.search.now.from (places_with (is_hit b old.value steps breaks) (n + 1))) long)
     c.along_runs.ensures
 
 pub returns-clause-hit : goal.returns-clause-hit

@@ -2,12 +2,12 @@ use Rattle.std.proofs.Common.{◌∙◌, refl, subst, inl}
 use Rattle.schedule_trie.specs.Trie.{forest}
 use Rattle.cutoff.specs.Settles.{KeepsOrFills}
 use Rattle.views.proofs.Spots.{len_is_step_count}
-use Rattle.sessions.proofs.Runs.{runs_tell}
+use Rattle.sessions.proofs.Runs.{runs_report}
 use Rattle.sessions.proofs.seek.settled.Goals as goal
 
 pub returns-in-Ok-clause-reports : goal.returns-in-Ok-clause-reports
 returns-in-Ok-clause-reports g c = λ breaks.
-    runs_tell g.R.PartialEq.eq g.R.Behaves.behaviour g.met.R.Register.alike c.args.chart.now c.settle.new.self c.args.branch.now c.in-Some.len
+    runs_report g.R.PartialEq.eq g.R.Behaves.behaviour g.met.R.Register.alike c.args.chart.now c.settle.new.self c.args.branch.now c.in-Some.len
     c.in-Ok.spot.runs c.in-Ok.spot.replayed breaks (len_is_step_count (forest c.args.chart.now.trie) c.args.branch.now c.in-Some.len c.in-Some.ensures)
     c.in-Ok.ensures.begins c.in-Ok.ensures.ok
 

@@ -13,6 +13,6 @@ returns-clause-new g c =
 
 pub returns-clause-ok : goal.returns-clause-ok
 returns-clause-ok g c =
-    let told = c.in_ok-chart.ensures.forest in
-    let same = loaded_is c.args.limits c.args.limbs.now (forest c.in_ok-chart.chart.trie) told in
-    told ∙ ap Ok same.0
+    let opened = c.in_ok-chart.ensures.forest in
+    let same = loaded_is c.args.limits c.args.limbs.now (forest c.in_ok-chart.chart.trie) opened in
+    opened ∙ ap Ok same.0

@@ -10,7 +10,7 @@ use Rattle.sessions.specs.Books.{opening_of}
 use Rattle.sessions.specs.Logs.{world_after}
 use Rattle.sessions.specs.Looks.{cursor_page, looked_in, shown_in}
 use Rattle.sessions.proofs.Answered.{lacks_some}
-use Rattle.sessions.proofs.Looks.{stands_at, lacks_so}
+use Rattle.sessions.proofs.Looks.{cursor_is, lacks_so}
 use Rattle.sessions.proofs.book.Book.look_at_cursor.Goals as goal
 
 pub returns-clause-page : goal.returns-clause-page
@@ -19,7 +19,7 @@ returns-clause-page g c =
     let who = c.args.who in
     let within = c.if-index-ge-SESSIONS.false in
     let after = c.self.invariant.held.after ∙ ap (λ h. world_after (opening_of g.R.Behaves.behaviour h) h.log) c.self.view_is in
-    let found = stands_at s.cursors who _ (Some c.in-Some.cursor) c.self.invariant.sound.cursors within c.in-Some.is in
+    let found = cursor_is s.cursors who _ (Some c.in-Some.cursor) c.self.invariant.sound.cursors within c.in-Some.is in
     let breaks : breaks_at s.breaks.items who ≡ c.new-breaks.result =
     get_or_default s.breaks.items who [] c.index.result.now (omega (arith, within, c.self.invariant.sound.breaks))
     ∙ sym (c.new-breaks.ensures ∙ c.in_ok-breaks.ensures.items ∙ c.as_slice.ensures ∙ c.index.ensures) in

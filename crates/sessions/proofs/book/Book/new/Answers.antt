@@ -13,5 +13,5 @@ returns-clause-new g c =
 
 pub returns-clause-ok : goal.returns-clause-ok
 returns-clause-ok g c =
-    let told = c.in_ok-chart.ensures.forest in
-    told ∙ ap Ok (opened_is c.args.limits c.args.steps.now (forest c.in_ok-chart.chart.trie) told)
+    let opened = c.in_ok-chart.ensures.forest in
+    opened ∙ ap Ok (opened_is c.args.limits c.args.steps.now (forest c.in_ok-chart.chart.trie) opened)

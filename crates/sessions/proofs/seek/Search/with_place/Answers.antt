@@ -4,11 +4,11 @@ use Rattle.sessions.proofs.seek.Search.with_place.Goals as goal
 
 pub returns-in-Forth : goal.returns-in-Forth
 returns-in-Forth c = rw c.in-Forth.is
-    (λ test told before. forth_more test c.args.self.now.from c.args.place true c.args.found c.first_of.result (told ∙ c.if-not-hit.false) before c.first_of.ensures)
+    (λ test tested before. forth_more test c.args.self.now.from c.args.place true c.args.found c.first_of.result (tested ∙ c.if-not-hit.false) before c.first_of.ensures)
 
 pub returns-in-Back : goal.returns-in-Back
 returns-in-Back c = rw c.in-Back.is
-    (λ test told before. back_more test c.args.self.now.from c.args.place true c.args.found c.last_of.result (told ∙ c.if-not-hit.false) before c.last_of.ensures)
+    (λ test tested before. back_more test c.args.self.now.from c.args.place true c.args.found c.last_of.result (tested ∙ c.if-not-hit.false) before c.last_of.ensures)
 
 pub returns-then-not-hit : goal.returns-then-not-hit
-returns-then-not-hit c test told before = none_more test c.args.self.now.way c.args.self.now.from c.args.place c.args.hit c.args.found c.if-not-hit.true told before
+returns-then-not-hit c test tested before = none_more test c.args.self.now.way c.args.self.now.from c.args.place c.args.hit c.args.found c.if-not-hit.true tested before
