@@ -27,8 +27,8 @@ module _ {P : Type 0} where
 
   one_more : (t : Bool) (w : World P) (e : Entry) (n : ℕ) (after : World P) → is_full w ≡ t → (acted_by e w).reply ≡ e.reply → is_logged e.reply ≡ true
       → IsCounted (acted_by e w).world after n → IsCounted w after (suc n)
-  one_more true w e n after full same told rest = absurd (let none : false ≡ true = ap (λ a. is_logged a.reply) (sym (acted_full e.who w e.if_at e.command full)) ∙ (ap is_logged same ∙ told) in cc)
-  one_more false w e n after room same told rest =
+  one_more true w e n after full same in_log rest = absurd (let none : false ≡ true = ap (λ a. is_logged a.reply) (sym (acted_full e.who w e.if_at e.command full)) ∙ (ap is_logged same ∙ in_log) in cc)
+  one_more false w e n after room same in_log rest =
       let a = acted_logged e.who w e.if_at e.command room in
       let here : (acted_by e w).world.logged ≡ w.logged + 1 = a.1 in
       let count = rest.0 in

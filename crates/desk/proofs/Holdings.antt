@@ -34,7 +34,7 @@ use Rattle.desk.proofs.Answering.{replies_so}
 module _ {R P : Type 0} (is : R → Behaviour P) (first : Held R P) (v w : View (Item R P)) where
   -- a list of items that a chair finds
   finds_so : (before : List (Item R P)) (found : List Entry) → StartsWith before v.seen → v.reported ≤ length before → (HasAll v.shares → before ≡ v.seen) → before ≡ items first found → Finds v found
-  finds_so before found starts told whole is_found =
+  finds_so before found starts not_fewer whole is_found =
       let long = ap length is_found ∙ length_items first found in
       record {
         begins = calls_begin first found v.seen (subst (λ l. StartsWith l v.seen) is_found starts);
@@ -50,7 +50,7 @@ module _ {R P : Type 0} (is : R → Behaviour P) (first : Held R P) (v w : View 
   module _ (who : ℕ) (guard : Option ℕ) (command : Command) (receipt : Receipt) where
     pub received : IsHistory is first v.seen → Holding made_under (λ before after. IsAct is who guard command before after receipt) v w
         → Received is first who guard command v w receipt × IsHistory is first w.seen
-    received h (before, added, starts, told, one, after, act, whole) =
+    received h (before, added, starts, not_fewer, one, after, act, whole) =
         let found = act.found in
         let one_first : first ≡ act.first = same_first first act.first (calls_in v.seen) found v.seen h.whole (subst (λ l. StartsWith l v.seen) act.finds starts) in
         let is_found : before ≡ items first found = act.finds ∙ ap (λ o. items o found) (sym one_first) in
@@ -69,7 +69,7 @@ module _ {R P : Type 0} (is : R → Behaviour P) (first : Held R P) (v w : View 
         let room : receipt.reply ≡ No Memory → length found < (opening_of is first).limits.log = λ e. subst (λ o. length found < (opening_of is o).limits.log) (sym one_first) (act.room e) in (
           record {
             found = found;
-            finds = finds_so before found starts told whole is_found;
+            finds = finds_so before found starts not_fewer whole is_found;
             legal = legal;
             sees = sees;
             owns = ap (λ x. own_calls x) after ∙ (calls_append v.calls added ∙ (ap (λ l. own_calls v ++ calls_in l) both.0 ∙ (ap (λ l. own_calls v ++ l) (calls_as R P (logged (call n) [])) ∙ sym (logged_last (call n) (own_calls v)))));
@@ -83,9 +83,9 @@ module _ {R P : Type 0} (is : R → Behaviour P) (first : Held R P) (v w : View 
           history_so w.seen (logged (call n) found) list legal,
         )
 
-  module _ (tells : ℕ → World P → Type 0) where
-    pub reads_on : IsHistory is first v.seen → Holding made_under (λ before after. IsReading is tells before after) v w → Reads is first tells v w × IsHistory is first w.seen
-    reads_on h (before, added, starts, told, one, after, reading, whole) =
+  module _ (says : ℕ → World P → Type 0) where
+    pub reads_on : IsHistory is first v.seen → Holding made_under (λ before after. IsReading is says before after) v w → Reads is first says v w × IsHistory is first w.seen
+    reads_on h (before, added, starts, not_fewer, one, after, reading, whole) =
         let found = reading.found in
         let one_first : first ≡ reading.first = same_first first reading.first (calls_in v.seen) found v.seen h.whole (subst (λ l. StartsWith l v.seen) reading.finds starts) in
         let is_found : before ≡ items first found = reading.finds ∙ ap (λ o. items o found) (sym one_first) in
@@ -95,9 +95,9 @@ module _ {R P : Type 0} (is : R → Behaviour P) (first : Held R P) (v w : View 
         let legal : IsLegal (opening_of is first) found = subst (λ o. IsLegal (opening_of is o) found) (sym one_first) reading.legal in (
           record {
             found = found;
-            finds = finds_so before found starts told whole is_found;
+            finds = finds_so before found starts not_fewer whole is_found;
             legal = legal;
-            answers = subst (λ o. tells (length found) (world_after (opening_of is o) found)) (sym one_first) reading.answers;
+            answers = subst (λ o. says (length found) (world_after (opening_of is o) found)) (sym one_first) reading.answers;
             sees = sees;
             calls = ap (λ x. x.calls) after ∙ (ap (λ l. v.calls ++ l) nothing ∙ append-nil v.calls);
             shares = ap (λ x. x.shares) after;
@@ -107,7 +107,7 @@ module _ {R P : Type 0} (is : R → Behaviour P) (first : Held R P) (v w : View 
         )
 
     -- a weaker relation also holds of a reading
-    reads_more : (more : ℕ → World P → Type 0) → ((n : ℕ) (world : World P) → tells n world → more n world) → Reads is first tells v w → Reads is first more v w
+    reads_more : (more : ℕ → World P → Type 0) → ((n : ℕ) (world : World P) → says n world → more n world) → Reads is first says v w → Reads is first more v w
     reads_more more on r = record {
       found = r.found;
       finds = r.finds;
@@ -120,7 +120,7 @@ module _ {R P : Type 0} (is : R → Behaviour P) (first : Held R P) (v w : View 
     }
 
     -- a reading keeps what the chair had seen
-    pub reads_stay : Reads is first tells v w → KeepsSeen v w
+    pub reads_stay : Reads is first says v w → KeepsSeen v w
     reads_stay r = record {
       begins = subst (λ l. StartsWith l (seen v)) (sym r.sees) r.finds.begins;
       whole = λ all. r.sees ∙ r.finds.whole all;
@@ -136,7 +136,7 @@ module _ {R P : Type 0} (is : R → Behaviour P) (first : Held R P) (v w : View 
     pub looked_so : Looked is first query v w (record { at = at; result = slip }) × IsHistory is first w.seen
     looked_so =
         let reads = reads_on asked h held in
-        (reads_more asked (λ n world. (at ≡ n) × IsAnswer world query slip) (λ n world told. (told.0, told.1)) reads.0, reads.1)
+        (reads_more asked (λ n world. (at ≡ n) × IsAnswer world query slip) (λ n world said. (said.0, said.1)) reads.0, reads.1)
 
     pub looked_no_stray : IsRegularOrAtomic (opening_of is first).tower → IfOk slip ShowsNoStray
     looked_no_stray lawful =
@@ -147,7 +147,7 @@ module _ {R P : Type 0} (is : R → Behaviour P) (first : Held R P) (v w : View 
   pub looked_on : (query : Query) (at : ℕ) (slip result : Result Page Refusal) → IsPaged slip result → Looked is first query v w (record { at = at; result = slip })
       → Looked is first query v w (record { at = at; result = result })
   looked_on query at slip result paged =
-      reads_more (λ n world. (at ≡ n) × IsAnswer world query slip) (λ n world. (at ≡ n) × IsAnswer world query result) (λ n world told. (told.0, paged_so world query slip result paged told.1))
+      reads_more (λ n world. (at ≡ n) × IsAnswer world query slip) (λ n world. (at ≡ n) × IsAnswer world query result) (λ n world said. (said.0, paged_so world query slip result paged said.1))
 
 -- a fill: first a reading that needs the branch, then steps that keep what the chair has seen
 pub filled_so : {R P A : Type 0} (is : R → Behaviour P) (first : Held R P) (v u w : View (Item R P)) (branch : List ℕ) (planned : Result A Refusal) (result : Result Report Refusal)
@@ -181,5 +181,5 @@ module _ {R P : Type 0} where
   }
 
 -- a chair that kept what it had seen still keeps it after a reading
-pub stays_read : {R P : Type 0} (is : R → Behaviour P) (first : Held R P) (u v w : View (Item R P)) (tells : ℕ → World P → Type 0) → KeepsSeen u v → Reads is first tells v w → KeepsSeen u w
-stays_read is first u v w tells stays reads = stays_on u v w stays (reads_stay is first v w tells reads)
+pub stays_read : {R P : Type 0} (is : R → Behaviour P) (first : Held R P) (u v w : View (Item R P)) (says : ℕ → World P → Type 0) → KeepsSeen u v → Reads is first says v w → KeepsSeen u w
+stays_read is first u v w says stays reads = stays_on u v w stays (reads_stay is first v w says reads)

@@ -54,9 +54,9 @@ answer_no_stray (Ok slip) h = h
 answer_no_stray (Err e) h = tt
 
 -- a save is refused only as Memory
-pub wants_memory : {P : Type 0} (n : ℕ) (w : World P) (r : Result Saved Refusal) (Is : Refusal → Type 0) → IsErrAnd r Is → ((x : Refusal) → Is x → x ≡ Memory) → IsSaving n w r
-wants_memory n w (Ok saved) Is k same = absurd k
-wants_memory n w (Err x) Is k same = same x k
+pub may_be_memory : {P : Type 0} (n : ℕ) (w : World P) (r : Result Saved Refusal) (Is : Refusal → Type 0) → IsErrAnd r Is → ((x : Refusal) → Is x → x ≡ Memory) → IsSaving n w r
+may_be_memory n w (Ok saved) Is k same = absurd k
+may_be_memory n w (Err x) Is k same = same x k
 
 -- what is found of a branch, and what refuses it
 needs : {P A : Type 0} (w : World P) (branch : List ℕ) (r : Result A Refusal) → OnOk r (IsSome (index_of w.forest.branches branch))
@@ -87,8 +87,8 @@ module _ {R P : Type 0} (is : R → Behaviour P) where
         let count : length old.log ≡ new.now.logged = ap length (sym same_log) ∙ held.count in
         omega arith
     by_room false room =
-        let told = (acted_logged who (world_of is old.now) guard command room).0 in
-        let none : false ≡ true = ap (λ a. is_logged a.reply) (sym acts) ∙ told in
+        let in_log = (acted_logged who (world_of is old.now) guard command room).0 in
+        let none : false ≡ true = ap (λ a. is_logged a.reply) (sym acts) ∙ in_log in
         absurd (cc)
 
     pub full_log : length old.log ≡ new.now.limits.log
@@ -132,10 +132,10 @@ module _ {R P : Type 0} (is : R → Behaviour P) where
       shorter_log : ActsOnBook is old new call ⊎ LacksMemory is old new receipt.reply → RefusesMemoryLast is old who guard command receipt.reply
           → receipt.reply ≡ No Memory → length old.log < (opening_of is first).limits.log
       unfolding call
-      shorter_log (inl a) last wanting =
-          absurd (none_wanted old new (last wanting).first who guard command (a.acts ∙ ap (λ r. record { world = world_of is new.now; reply = r }) wanting))
-      shorter_log (inr w) last wanting =
-          subst (λ (o : World P). length old.log < o.limits.log) (same ∙ book.opened) (shorter old new (last wanting).first held w.world w.log)
+      shorter_log (inl a) last no_memory =
+          absurd (none_wanted old new (last no_memory).first who guard command (a.acts ∙ ap (λ r. record { world = world_of is new.now; reply = r }) no_memory))
+      shorter_log (inr w) last no_memory =
+          subst (λ (o : World P). length old.log < o.limits.log) (same ∙ book.opened) (shorter old new (last no_memory).first held w.world w.log)
 
       pub acts_so : ActsOnBook is old new (entry chair who guard command receipt.reply) ⊎ LacksMemory is old new receipt.reply
           → RefusesMemoryLast is old who guard command receipt.reply → receipt.at ≡ length new.log
@@ -170,9 +170,9 @@ module _ {R P : Type 0} (is : R → Behaviour P) where
           one_at_most false = inl refl
 
     -- work that leaves world and log answers from the history that it found
-    pub reads_so : (tells : ℕ → World P → Type 0) → world_of is new.now ≡ world_of is old.now → new.log ≡ old.log → tells (length old.log) (world_of is old.now)
-        → IsReading is tells before (items first new.log)
-    reads_so tells world log told =
+    pub reads_so : (says : ℕ → World P → Type 0) → world_of is new.now ≡ world_of is old.now → new.log ≡ old.log → says (length old.log) (world_of is old.now)
+        → IsReading is says before (items first new.log)
+    reads_so says world log said =
         let here : world_of is old.now ≡ world_after (opening_of is first) old.log =
         sym world ∙ (held.after ∙ (ap (λ w. world_after w new.log) (same ∙ book.opened) ∙ ap (world_after (opening_of is first)) log)) in
         record {
@@ -181,7 +181,7 @@ module _ {R P : Type 0} (is : R → Behaviour P) where
           finds = sym book.listed;
           leaves = ap (items first) log ∙ book.listed;
           legal = subst (λ l. IsLegal (opening_of is first) l) log (subst (λ w. IsLegal w new.log) (same ∙ book.opened) held.legal);
-          answers = subst (tells (length old.log)) here told;
+          answers = subst (says (length old.log)) here said;
         }
 
     abbrev world_found : World P
@@ -202,8 +202,8 @@ module _ {R P : Type 0} (is : R → Behaviour P) where
 
   -- work that leaves the book answers from the history that it found
   module _ (first old : Held R P) {before : List (Item R P)} (book : IsBook is first old before) (held : IsHeld is old) where
-    pub stays_so : (tells : ℕ → World P → Type 0) → tells (length old.log) (world_of is old.now) → IsReading is tells before before
-    stays_so tells told = subst (λ l. IsReading is tells before l) book.listed (reads_so first old old book refl held tells refl refl told)
+    pub stays_so : (says : ℕ → World P → Type 0) → says (length old.log) (world_of is old.now) → IsReading is says before before
+    stays_so says said = subst (λ l. IsReading is says before l) book.listed (reads_so first old old book refl held says refl refl said)
 
     pub plans_so : {A : Type 0} (branch : List ℕ) (r : Result A Refusal) → OnOk r (IsSome (index_of (forest old.now.chart.trie).branches branch))
         → IfErr r (λ e. if_lacks (index_of (forest old.now.chart.trie).branches branch) ≡ e) → IsReading is (λ n w. NeedsBranch branch w r) before before

@@ -39,14 +39,6 @@ one_below x (suc n) below =
     ⊎_elim (λ (last : n ≡ x). let here : one_at x n ≡ 1 = subst (λ (y : ℕ). one_at x y ≡ 1) (sym last) (one_here x) in omega (arith, one_at_above x n (omega arith)))
     (λ (before : x < n). let other : one_at x n ≡ 0 = one_elsewhere x n (omega arith) in omega (arith, one_below x n before)) (last_or_before x n below)
 
--- numbers that weigh no more than those below n are below n
-below_all : (n : ℕ) (xs : List ℕ) → ((g : ℕ → ℕ) → weigh g xs ≤ weigh_below g n) → All (λ x. x < n) xs
-below_all n [] less = λ k d none. absurd (omega arith)
-below_all n (x ∷ xs) less =
-    let here : x < n = ⊎_elim (λ (below : x < n). below)
-    (λ (above : n ≤ x). absurd (let p = less (one_at x) in let q = one_at_above x n above in let r = one_here x in omega arith)) (search rules) in
-    All-cons (λ y. y < n) x xs here (below_all n xs (λ g. let p = less g in omega arith))
-
 weigh_each : (xs : List ℕ) → weigh (λ _. 1) xs ≡ length xs
 weigh_each [] = refl
 weigh_each (x ∷ xs) = omega (arith, weigh_each xs)

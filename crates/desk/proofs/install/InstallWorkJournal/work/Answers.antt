@@ -13,6 +13,6 @@ pub returns-clause-kept : goal.returns-clause-kept
 returns-clause-kept g c =
     let is = g.R.Behaves.behaviour in
     let first = c.journal.inside.first.value in
-    let told = c.offer-answer.ensures in
-    reads_so is first c.deref_mut-book.result.now c.offer-answer.new.book (taken is first c.deref_mut-book.ensures.value c.journal.invariant c.journal.view_is) told.kept.opening c.lemma_invariant-2.ensures.log
-    (λ n w. Unit {0}) told.kept.world told.kept.log tt
+    let offered = c.offer-answer.ensures in
+    reads_so is first c.deref_mut-book.result.now c.offer-answer.new.book (taken is first c.deref_mut-book.ensures.value c.journal.invariant c.journal.view_is) offered.kept.opening c.lemma_invariant-2.ensures.log
+    (λ n w. Unit {0}) offered.kept.world offered.kept.log tt
