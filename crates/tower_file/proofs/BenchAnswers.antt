@@ -21,7 +21,7 @@ use Rattle.words.specs.Words.{lines, words, next, after_next, is_end}
 use Rattle.words.specs.Steps.{step_of_words}
 use Rattle.words.proofs.Steps.{first_word}
 use Rattle.frames.specs.declared.types.Step.{Step}
-use Rattle.tower_file.proofs.StepLoop.{want_of_memory}
+use Rattle.tower_file.proofs.StepLoop.{memory_only}
 use Rattle.tower_file.proofs.BenchLimbs.{limbs_text}
 use Rattle.tower_file.proofs.BenchSound.{line_goes_on, limbs_are, begun, bench_is}
 use Rattle.tower_file.proofs.Formats.{IsFormat}
@@ -109,8 +109,8 @@ module _ {t : TowerSpec} {all : List (List ℕ)} {n : ℕ} {limbs : List Limb} {
     pub fails : (view : X → List Limb) (part : Result (List Limb) FileFault) → then_line t n limbs (next ls) ≡ part → Fails e.kind e part → Gives view r (limbs_of t 3 [] all)
     fails view part said h = hands_on r e Is failed is same view part (limbs_of t 3 [] all) h (λ f. by_said (Err e) (said ∙ f))
 
-    pub wants_memory : (part : Result (List Limb) FileFault) → then_line t n limbs (next ls) ≡ part → (e.kind ≡ Memory → IsOk part) → MemoryOnlyIf r (SpellsLimbs t all)
-    wants_memory part said h = want_of_memory r e Is failed is same (SpellsLimbs t all) (λ k. let more = ok_some part (h k) in front_read more.0 (said ∙ more.1))
+    pub memory_on_line : (part : Result (List Limb) FileFault) → then_line t n limbs (next ls) ≡ part → (e.kind ≡ Memory → IsOk part) → MemoryOnlyIf r (SpellsLimbs t all)
+    memory_on_line part said h = memory_only r e Is failed is same (SpellsLimbs t all) (λ k. let more = ok_some part (h k) in front_read more.0 (said ∙ more.1))
 
 pub fewer : (ls : List (List ℕ)) → is_end (after_next ls) ≡ false → length (after_next ls) < length ls
 fewer [] h = absurd (true≢false h)

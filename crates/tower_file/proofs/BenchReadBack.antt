@@ -150,23 +150,23 @@ AreRead t e ls all = (n : ℕ) → limbs_of t n e ls ≡ Ok all
 
 next_again : (t : TowerSpec) (e : List Limb) (l : List ℕ) (ls : List (List ℕ)) (more all : List Limb) → is_end ls ≡ false → ((n : ℕ) → then_line t n e l ≡ Ok more)
     → AreRead t more ls all → AreRead t e (l ∷ ls) all
-next_again t e l ls more all behind first others =
-    λ n. limbs_more t n e l ls behind ∙ ap (λ (r : Result (List Limb) FileFault). r >>= λ x. limbs_of t (n + 1) x ls) (first n) ∙ others (n + 1)
+next_again t e l ls more all followed first others =
+    λ n. limbs_more t n e l ls followed ∙ ap (λ (r : Result (List Limb) FileFault). r >>= λ x. limbs_of t (n + 1) x ls) (first n) ∙ others (n + 1)
 
 abbrev with_steps : Limb → List Step → Limb
 with_steps l ss = record { name = l.name; from = l.from; shared = l.shared; steps = l.steps ++ ss }
 
 steps_again : (t : TowerSpec) (e : List Limb) (l : Limb) (ss : List Step) (rest : List (List ℕ)) (all : List Limb) → IsFew t → list_all (fits t) ss ≡ true → is_end rest ≡ false
     → AreRead t (e ++ with_steps l ss ∷ []) rest all → AreRead t (e ++ l ∷ []) (steps_before ss rest) all
-steps_again t e l [] rest all small fit behind read =
+steps_again t e l [] rest all small fit followed read =
     let same : with_steps l [] ≡ l = ap (λ ss. record { name = l.name; from = l.from; shared = l.shared; steps = ss }) (append-nil l.steps) in
     subst (λ x. AreRead t (e ++ x ∷ []) rest all) same read
-steps_again t e l (s ∷ ss) rest all small fit behind read =
+steps_again t e l (s ∷ ss) rest all small fit followed read =
     let a = and_parts (fits t s) (list_all (fits t) ss) fit in
     let same : with_steps l (s ∷ ss) ≡ with_steps (limb_with_step l s) ss =
     ap (λ xs. record { name = l.name; from = l.from; shared = l.shared; steps = xs }) (sym (append_assoc l.steps (s ∷ []) ss)) in
-    next_again t (e ++ l ∷ []) (step_text s) (steps_before ss rest) (e ++ limb_with_step l s ∷ []) all (more_steps ss rest behind) (λ n. step_line_again t n e l s small a.0)
-    (steps_again t e (limb_with_step l s) ss rest all small a.1 behind (subst (λ x. AreRead t (e ++ x ∷ []) rest all) same read))
+    next_again t (e ++ l ∷ []) (step_text s) (steps_before ss rest) (e ++ limb_with_step l s ∷ []) all (more_steps ss rest followed) (λ n. step_line_again t n e l s small a.0)
+    (steps_again t e (limb_with_step l s) ss rest all small a.1 followed (subst (λ x. AreRead t (e ++ x ∷ []) rest all) same read))
 
 ended_again : (t : TowerSpec) (e : List Limb) → has_limbs e ≡ true → AreRead t e ([] ∷ []) e
 unfolding limbs_of

@@ -143,28 +143,28 @@ limbs_are t n limbs (l ∷ k ∷ ls) all h =
 
 -- ---- files
 
-whole_bench : (ls : List (List ℕ)) (t : TowerSpec) (behind : List ℕ) → next ls ≡ bench_header → is_end (after_next ls) ≡ false
-    → IsTowerLine (is_end (after_next (after_next ls))) (next (after_next ls)) t → join_with_byte 10 (after_next (after_next ls)) ≡ behind
-    → join_with_byte 10 ls ≡ text_with_end bench_header ++ text_with_end (tower_text t) ++ behind
-whole_bench [] t behind e more tower same = absurd cc
-whole_bench (l ∷ []) t behind e more tower same = absurd cc
-whole_bench (l ∷ k ∷ []) t behind e more tower same = absurd (true≢false tower.whole)
-whole_bench (l ∷ k ∷ r ∷ rs) t behind e more tower same =
+whole_bench : (ls : List (List ℕ)) (t : TowerSpec) (following : List ℕ) → next ls ≡ bench_header → is_end (after_next ls) ≡ false
+    → IsTowerLine (is_end (after_next (after_next ls))) (next (after_next ls)) t → join_with_byte 10 (after_next (after_next ls)) ≡ following
+    → join_with_byte 10 ls ≡ text_with_end bench_header ++ text_with_end (tower_text t) ++ following
+whole_bench [] t following e more tower same = absurd cc
+whole_bench (l ∷ []) t following e more tower same = absurd cc
+whole_bench (l ∷ k ∷ []) t following e more tower same = absurd (true≢false tower.whole)
+whole_bench (l ∷ k ∷ r ∷ rs) t following e more tower same =
     ap (λ x. x ++ 10 ∷ (k ++ 10 ∷ join_with_byte 10 (r ∷ rs))) e
     ∙ ap (λ x. bench_header ++ 10 ∷ (x ++ 10 ∷ join_with_byte 10 (r ∷ rs))) tower.spelled
     ∙ ap (λ x. bench_header ++ 10 ∷ (tower_text t ++ 10 ∷ x)) same
-    ∙ three_lines bench_header (tower_text t) behind
+    ∙ three_lines bench_header (tower_text t) following
 
 -- the first two lines of a bench file: its header, and the line of a lawful tower
 pub record IsBegun (ls : List (List ℕ)) (t : TowerSpec) : Type 0 where
   pub lawful : is_lawful_tower t ≡ true
-  pub spelled : (behind : List ℕ) → join_with_byte 10 (after_next (after_next ls)) ≡ behind → join_with_byte 10 ls ≡ text_with_end bench_header ++ text_with_end (tower_text t) ++ behind
+  pub spelled : (following : List ℕ) → join_with_byte 10 (after_next (after_next ls)) ≡ following → join_with_byte 10 ls ≡ text_with_end bench_header ++ text_with_end (tower_text t) ++ following
 
 pub begun : (ls : List (List ℕ)) (t : TowerSpec) → has_header bench_header ls ≡ true → tower_of (after_next ls) ≡ Ok t → IsBegun ls t
 begun ls t header tower =
     let first = header_is bench_header ls header in
     let second = tower_line (after_next ls) t tower in
-    record { lawful = second.lawful; spelled = λ behind same. whole_bench ls t behind first.0 first.1 second same }
+    record { lawful = second.lawful; spelled = λ following same. whole_bench ls t following first.0 first.1 second same }
 
 pub bench_is : (ls : List (List ℕ)) (b : Bench) → bench_of_lines ls ≡ Ok b → SpellsBench (join_with_byte 10 ls) b
 bench_is ls b h =
@@ -174,9 +174,9 @@ bench_is ls b h =
     let d = bind_ok (limbs_of t 3 [] (after_next (after_next ls))) (λ limbs. Ok (bench_of t limbs)) b c.2 in
     let limbs = d.0 in
     let front = begun ls t a.0 c.1 in
-    let behind = limbs_are t 3 [] (after_next (after_next ls)) limbs d.1 in
+    let following = limbs_are t 3 [] (after_next (after_next ls)) limbs d.1 in
     subst (SpellsBench (join_with_byte 10 ls)) (ok_is (bench_of t limbs) b d.2)
     (record {
-      lawful = and_from (is_lawful_tower t && has_limbs limbs) (are_lawful t limbs) (and_from (is_lawful_tower t) (has_limbs limbs) front.lawful behind.some) (behind.lawful refl);
-      spelled = front.spelled (limbs_text limbs) behind.spelled;
+      lawful = and_from (is_lawful_tower t && has_limbs limbs) (are_lawful t limbs) (and_from (is_lawful_tower t) (has_limbs limbs) front.lawful following.some) (following.lawful refl);
+      spelled = front.spelled (limbs_text limbs) following.spelled;
     })

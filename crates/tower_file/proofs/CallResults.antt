@@ -23,13 +23,13 @@ pub spells_steps : (bytes : List ℕ) (v : Version) (t : TowerSpec) (left : List
     → left ≡ after_next (after_next (lines bytes)) → HasSomeStep (steps_of v t 3 left) → SpellsSteps bytes
 spells_steps bytes v t left plain version tower same h =
     let ls = lines bytes in
-    let behind = after_next (after_next ls) in
+    let following = after_next (after_next ls) in
     record {
       file = file_of v t (h.0 ∷ h.1);
       spells = reading_is tower_format bytes (file_of v t (h.0 ∷ h.1))
           (ap (λ (o : Option ℕ). reading_from file_of_lines o bytes) plain
-          ∙ ap (λ (o : Option Version). ok_or o (fault BadHeader 1) >>= λ w. tower_of (after_next ls) >>= λ u. steps_of w u 3 behind >>= λ ss. Ok (file_of w u ss)) version
-          ∙ ap (λ (r : Result TowerSpec FileFault). r >>= λ u. steps_of v u 3 behind >>= λ ss. Ok (file_of v u ss)) tower
+          ∙ ap (λ (o : Option Version). ok_or o (fault BadHeader 1) >>= λ w. tower_of (after_next ls) >>= λ u. steps_of w u 3 following >>= λ ss. Ok (file_of w u ss)) version
+          ∙ ap (λ (r : Result TowerSpec FileFault). r >>= λ u. steps_of v u 3 following >>= λ ss. Ok (file_of v u ss)) tower
           ∙ ap (λ (r : Result (List Step) FileFault). r >>= λ ss. Ok (file_of v t ss)) (ap (steps_of v t 3) (sym same) ∙ h.2));
       some = omega arith;
     }

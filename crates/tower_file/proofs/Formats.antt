@@ -70,15 +70,15 @@ module _ {F : Type 0} {Spells : List ℕ → F → Type 0} {of_lines : List (Lis
         record { found = found bytes whole exact; only = only bytes whole exact; exact = exact; no_file = spells_none bytes whole exact }
 
 -- Memory is reported only if there is no foreign byte
-memory_told : (bytes : List ℕ) (P : Type 0) (e : FileFault) (o : Option ℕ) → first_foreign bytes ≡ o → (e.kind ≡ Memory → first_foreign bytes ≡ None → P)
+memory_in_order : (bytes : List ℕ) (P : Type 0) (e : FileFault) (o : Option ℕ) → first_foreign bytes ≡ o → (e.kind ≡ Memory → first_foreign bytes ≡ None → P)
     → (fault_in_order o bytes e).kind ≡ Memory → P
-memory_told bytes P e (Some k) foreign h memory = absurd cc
-memory_told bytes P e None foreign h memory = h memory foreign
+memory_in_order bytes P e (Some k) foreign h memory = absurd cc
+memory_in_order bytes P e None foreign h memory = h memory foreign
 
 module _ {F : Type 0} (bytes : List ℕ) (P : Type 0) where
-  of_lines_told : (r : Result F FileFault) → MemoryOnlyIf r (first_foreign bytes ≡ None → P) → MemoryOnlyIf (foreign_first bytes r) P
-  of_lines_told (Ok f) h = tt
-  of_lines_told (Err e) h = memory_told bytes P e (first_foreign bytes) refl h
+  memory_of_lines : (r : Result F FileFault) → MemoryOnlyIf r (first_foreign bytes ≡ None → P) → MemoryOnlyIf (foreign_first bytes r) P
+  memory_of_lines (Ok f) h = tt
+  memory_of_lines (Err e) h = memory_in_order bytes P e (first_foreign bytes) refl h
 
   pub plain_memory : (r whole : Result F FileFault) → MemoryOnlyIf r (first_foreign bytes ≡ None → P) → whole ≡ foreign_first bytes r → MemoryOnlyIf whole P
-  plain_memory r whole known same = subst (λ (w : Result F FileFault). MemoryOnlyIf w P) (sym same) (of_lines_told r known)
+  plain_memory r whole known same = subst (λ (w : Result F FileFault). MemoryOnlyIf w P) (sym same) (memory_of_lines r known)

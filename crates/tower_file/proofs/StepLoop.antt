@@ -84,8 +84,8 @@ module _ {X : Type 0} (r : Result X FileFault) (e : FileFault) (Is : FileFault �
       by (Ok x) f i = absurd i
       by (Err x) f i = subst (λ (y : FileFault). Fails y.kind y total) (sym (same x i ∙ bad)) (t ∙ ap (λ (y : FileFault). Err y) bad)
 
-  pub want_of_memory : (P : Type 0) → (e.kind ≡ Memory → P) → MemoryOnlyIf r P
-  want_of_memory P h = by r failed is
+  pub memory_only : (P : Type 0) → (e.kind ≡ Memory → P) → MemoryOnlyIf r P
+  memory_only P h = by r failed is
     where
       by : (q : Result X FileFault) → IsErr q → IsErrAnd q Is → MemoryOnlyIf q P
       by (Ok x) f i = absurd i
@@ -93,7 +93,7 @@ module _ {X : Type 0} (r : Result X FileFault) (e : FileFault) (Is : FileFault �
 
   -- a fault other than out of memory
   pub known_fault : (P : Type 0) → (e.kind ≡ Memory → ⊥) → MemoryOnlyIf r P
-  known_fault P known = want_of_memory P (λ k. absurd (known k))
+  known_fault P known = memory_only P (λ k. absurd (known k))
 
 pub bad_step_is_known : (e : FileFault) (n : ℕ) → e ≡ fault BadStep n → e.kind ≡ Memory → ⊥
 bad_step_is_known e n bad k =

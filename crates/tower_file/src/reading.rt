@@ -133,11 +133,11 @@ fn next_step(
 
 /// Adds a step, if there was memory for all earlier steps. Returns whether all steps so far are
 /// kept.
-fn keep(steps: &mut Vec<Step>, step: Step, room_was_left: bool) -> bool
+fn keep(steps: &mut Vec<Step>, step: Step, were_kept: bool) -> bool
     ensures kept { result ≡ true → steps.new.items ≡ steps.old.items ++ step ∷ [] }
-    ensures room_was_left { result ≡ true → room_was_left ≡ true }
+    ensures were_kept { result ≡ true → were_kept ≡ true }
 {
-    room_was_left && steps.push(step).is_ok()
+    were_kept && steps.push(step).is_ok()
 }
 
 /// Reads the steps from the lines that are left. The first of these is line 3. A fault on any line
@@ -155,24 +155,24 @@ fn steps_of(
         result (spec.HasSomeStep (spec.steps_of version tower.now 3 lines.old)) }
 {
     let mut steps = Vec::new(alloc);
-    let mut has_room = true;
+    let mut are_kept = true;
     let mut number = 3;
     'reading: loop {
         let next = next_step(version, tower, lines, number)?;
         let Some(step) = next else {
             break;
         };
-        has_room = keep(&mut steps, step, has_room);
+        are_kept = keep(&mut steps, step, are_kept);
         number += 1;
     }
-    if !has_room {
+    if !are_kept {
         return Err(OUT_OF_MEMORY);
     }
     Ok(steps)
 }
 
-/// Reads the lines of a file, without a check for foreign bytes (those that no file may have). Only
-/// the steps need memory.
+/// Reads the lines of a file, without a check for bytes that no file may have. Only the steps need
+/// memory.
 #[tactic(auto, using(crate::proofs::StepLoop::fewer_left))]
 fn file_of_lines(alloc: Global, bytes: &[u8]) -> Result<TowerFile, FileFault>
     ensures exact { Gives as_file result (spec.file_of_lines (lines bytes.now)) }
@@ -211,8 +211,8 @@ pub(crate) fn foreign_first<T>(bytes: &[u8], of_lines: Result<T, FileFault>) -> 
     }
 }
 
-/// Reads a tower file. If its lines have a fault, also looks for a foreign byte (one that no file
-/// may have). The clauses of `parse` say the same, one by one.
+/// Reads a tower file. If its lines have a fault, also looks for a byte that no file may have. The
+/// clauses of `parse` say the same, one by one.
 fn file_of(alloc: Global, bytes: &[u8]) -> Result<TowerFile, FileFault>
     ensures parsed { spec.Parses as_file Spells spec.file_of_lines bytes.now result }
     ensures memory { MemoryOnlyIf result (SpellsSteps bytes.now) }

@@ -2,7 +2,7 @@ use Rattle.std.proofs.Common.{rules, ◌≡◌, true, Ok, None}
 use Rattle.words.specs.Words.{lines, after_next}
 use Rattle.tower_file.specs.BenchSpelling.{bench_header, SpellsFront}
 use Rattle.tower_file.specs.Reading.{first_foreign, has_header, tower_of}
-use Rattle.tower_file.proofs.StepLoop.{want_of_memory, known_fault}
+use Rattle.tower_file.proofs.StepLoop.{memory_only, known_fault}
 use Rattle.tower_file.proofs.BenchAnswers.{bench_lawful, spells_front}
 use Rattle.tower_file.proofs.bench_reading.bench_of_lines.Goals as goal
 
@@ -14,9 +14,9 @@ pub returns-in_err-limbs-clause-memory : goal.returns-in_err-limbs-clause-memory
 returns-in_err-limbs-clause-memory c =
     let header : has_header bench_header (lines c.args.bytes.now) ≡ true = search rules in
     let tower : tower_of (after_next (lines c.args.bytes.now)) ≡ Ok c.in_ok-tower.tower = search rules in
-    let behind : c.tower_of.new.lines ≡ after_next (after_next (lines c.args.bytes.now)) = search rules in
-    want_of_memory c.from_residual-in_err-limbs.result _ _ c.from_residual-in_err-limbs.ensures.0 c.from_residual-in_err-limbs.ensures.1 (λ x h. h) (first_foreign c.args.bytes.now ≡ None → SpellsFront c.args.bytes.now)
-    (λ k plain. spells_front c.args.bytes.now c.in_ok-tower.tower c.tower_of.new.lines plain header tower behind (c.in_err-limbs.ensures.memory k))
+    let following : c.tower_of.new.lines ≡ after_next (after_next (lines c.args.bytes.now)) = search rules in
+    memory_only c.from_residual-in_err-limbs.result _ _ c.from_residual-in_err-limbs.ensures.0 c.from_residual-in_err-limbs.ensures.1 (λ x h. h) (first_foreign c.args.bytes.now ≡ None → SpellsFront c.args.bytes.now)
+    (λ k plain. spells_front c.args.bytes.now c.in_ok-tower.tower c.tower_of.new.lines plain header tower following (c.in_err-limbs.ensures.memory k))
 
 pub of_lawful-requires : goal.of_lawful-requires
 of_lawful-requires c =

@@ -5,7 +5,7 @@ use Rattle.words.specs.Steps.{step_of_words}
 use Rattle.tower_file.specs.declared.fault.FileFault.{FileFault}
 use Rattle.tower_file.specs.Faults.{Gives}
 use Rattle.tower_file.specs.BenchReading.{then_line, limbs_at_end, limbs_of}
-use Rattle.tower_file.proofs.BenchAnswers.{at_end, fewer, goes_on, fails, wants_memory, is_then_step}
+use Rattle.tower_file.proofs.BenchAnswers.{at_end, fewer, goes_on, fails, memory_on_line, is_then_step}
 use Rattle.tower_file.proofs.bench_reading.limbs_of.Goals as goal
 
 pub returns-then-is_end-clause-read : goal.returns-then-is_end-clause-read
@@ -30,7 +30,7 @@ pub returns-in_err-add_line-clause-memory : goal.returns-in_err-add_line-clause-
 returns-in_err-add_line-clause-memory c =
     let kept : c.next_step.new.self ≡ c.reading.lines = search rules in
     let whole : is_end (after_next c.reading.lines) ≡ false = search rules in
-    wants_memory c.reading.invariant.so_far whole c.from_residual-in_err-add_line.result _ _ c.from_residual-in_err-add_line.ensures.0 c.from_residual-in_err-add_line.ensures.1 (λ x h. h) _
+    memory_on_line c.reading.invariant.so_far whole c.from_residual-in_err-add_line.result _ _ c.from_residual-in_err-add_line.ensures.0 c.from_residual-in_err-add_line.ensures.1 (λ x h. h) _
     (ap (then_line c.args.tower.now c.reading.number c.reading.limbs) (sym (c.next-line.ensures.part ∙ ap next kept))) c.in_err-add_line.ensures.memory
 
 pub reading-preserved : goal.reading-preserved
@@ -57,7 +57,7 @@ returns-in_err-add_step-clause-memory c =
     let line = next c.reading.lines in
     let whole : is_end (after_next c.reading.lines) ≡ false = search rules in
     let spelled : step_of_words (words line) ≡ Some c.in-Some.step = search rules in
-    wants_memory c.reading.invariant.so_far whole c.from_residual.result _ _ c.from_residual.ensures.0 c.from_residual.ensures.1 (λ x h. h) _
+    memory_on_line c.reading.invariant.so_far whole c.from_residual.result _ _ c.from_residual.ensures.0 c.from_residual.ensures.1 (λ x h. h) _
     (is_then_step c.args.tower.now c.reading.number c.reading.limbs line c.in-Some.step spelled) (λ k. c.in_err-add_step.ensures.memory k line spelled)
 
 pub reading-preserved-in-Some : goal.reading-preserved-in-Some

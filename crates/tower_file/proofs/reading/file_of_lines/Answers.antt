@@ -8,7 +8,7 @@ use Rattle.tower_file.specs.Reading.{first_foreign, version_of, tower_of}
 use Rattle.tower_file.specs.Spelling.{SpellsSteps}
 use Rattle.tower_file.proofs.Sound.{steps_are}
 use Rattle.tower_file.proofs.CallResults.{spells_steps}
-use Rattle.tower_file.proofs.StepLoop.{want_of_memory, known_fault}
+use Rattle.tower_file.proofs.StepLoop.{memory_only, known_fault}
 use Rattle.tower_file.proofs.reading.file_of_lines.Goals as goal
 
 pub returns-in_err-tower-clause-memory : goal.returns-in_err-tower-clause-memory
@@ -20,9 +20,9 @@ returns-in_err-steps-clause-memory c =
     let v = c.in-Some.version in
     let version : version_of (lines c.args.bytes.now) ≡ Some v = search rules in
     let tower : tower_of (after_next (lines c.args.bytes.now)) ≡ Ok c.in_ok-tower.tower = search rules in
-    let behind : c.tower_of.new.lines ≡ after_next (after_next (lines c.args.bytes.now)) = search rules in
-    want_of_memory c.from_residual-in_err-steps.result _ _ c.from_residual-in_err-steps.ensures.0 c.from_residual-in_err-steps.ensures.1 (λ x h. h) (first_foreign c.args.bytes.now ≡ None → SpellsSteps c.args.bytes.now)
-    (λ k plain. spells_steps c.args.bytes.now v c.in_ok-tower.tower c.tower_of.new.lines plain version tower behind (c.in_err-steps.ensures.memory k))
+    let following : c.tower_of.new.lines ≡ after_next (after_next (lines c.args.bytes.now)) = search rules in
+    memory_only c.from_residual-in_err-steps.result _ _ c.from_residual-in_err-steps.ensures.0 c.from_residual-in_err-steps.ensures.1 (λ x h. h) (first_foreign c.args.bytes.now ≡ None → SpellsSteps c.args.bytes.now)
+    (λ k plain. spells_steps c.args.bytes.now v c.in_ok-tower.tower c.tower_of.new.lines plain version tower following (c.in_err-steps.ensures.memory k))
 
 pub of_lawful-requires : goal.of_lawful-requires
 of_lawful-requires c =

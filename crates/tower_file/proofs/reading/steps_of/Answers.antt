@@ -30,17 +30,17 @@ reading-preserved c =
         i.0 ++ step ∷ [],
         ap (λ (ls : List (List _)). with_front (i.0 ++ step ∷ []) (steps_of c.args.version c.args.tower.now (c.reading.number + 1) ls)) c.next_step.ensures.left
             ∙ goes_on c.args.version c.args.tower.now c.reading.number i.0 c.reading.lines total i.1 step has,
-        λ h. c.keep-has_room.ensures.kept h ∙ ap (λ (xs : List Step). xs ++ step ∷ []) (i.2 (c.keep-has_room.ensures.room_was_left h)),
+        λ h. c.keep-are_kept.ensures.kept h ∙ ap (λ (xs : List Step). xs ++ step ∷ []) (i.2 (c.keep-are_kept.ensures.were_kept h)),
         λ h. omega (arith, length-append i.0 (step ∷ [])),
       );
     }
 
-pub returns-then-not-has_room-clause-memory : goal.returns-then-not-has_room-clause-memory
-returns-then-not-has_room-clause-memory c =
+pub returns-then-not-are_kept-clause-memory : goal.returns-then-not-are_kept-clause-memory
+returns-then-not-are_kept-clause-memory c =
     let i = c.reading.invariant.read in
     let total = steps_of c.args.version c.args.tower.now 3 c.args.lines.now in
     let none = sym c.next_step.ensures.step ∙ c.in_ok-next.was ∙ ap (λ (o : Option Step). Ok o) c.in_default.is in
-    let full : c.reading.has_room ≡ false = search rules in
+    let full : c.reading.are_kept ≡ false = search rules in
     λ same. some_step total i.0 (ends c.args.version c.args.tower.now c.reading.number i.0 c.reading.lines total i.1 none) (i.3 full)
 
 pub returns-clause-read : goal.returns-clause-read
@@ -48,5 +48,5 @@ returns-clause-read c =
     let i = c.reading.invariant.read in
     let total = steps_of c.args.version c.args.tower.now 3 c.args.lines.now in
     let none = sym c.next_step.ensures.step ∙ c.in_ok-next.was ∙ ap (λ (o : Option Step). Ok o) c.in_default.is in
-    let room : c.reading.has_room ≡ true = search rules in
+    let room : c.reading.are_kept ≡ true = search rules in
     ends c.args.version c.args.tower.now c.reading.number i.0 c.reading.lines total i.1 none ∙ ap (λ (xs : List Step). Ok xs) (sym (i.2 room))

@@ -8,7 +8,7 @@ abbrev pub invariant-reading : goal.invariant-reading
 invariant-reading l = record {
   few : l.number + length l.lines ≤ 2 ^ 63 + 3;
   read : (front : List Step) × (with_front front (steps_of l.version l.tower l.number l.lines) ≡ steps_of l.version l.tower 3 l.fn.lines)
-      × (l.has_room ≡ true → l.steps.items ≡ front) × (l.has_room ≡ false → 0 < length front);
+      × (l.are_kept ≡ true → l.steps.items ≡ front) × (l.are_kept ≡ false → 0 < length front);
 }
 
 abbrev pub decreases-reading : goal.decreases-reading
