@@ -1,13 +1,9 @@
 -- If no cursor is after an edit's place, the edit moves none.
 use Rattle.std.proofs.Common.{◌≡◌, ℕ, Bool, true, false, ◌&&◌, ◌||◌, nat_lt, List, [], ◌∷◌, Option, Some, None, if◌then◌else◌, refl, sym, ap, ◌∙◌}
-use Rattle.std.specs.Borrow.{Bor}
 use Rattle.std.specs.Option.{option_map}
 use Rattle.std.specs.List.{list_any}
 use Rattle.schedule_trie.specs.Forest.{Forest, cell_on_branch}
-use Rattle.frames.specs.declared.types.Step.{Step}
-use Rattle.schedule_trie.specs.Edits.{Edit, edit_in}
-use Rattle.schedule_trie.specs.declared.edit.Edit.{Edit as Borrowed}
-use Rattle.schedule_trie.specs.declared.edit.Edit.TheVariants as borrowed
+use Rattle.schedule_trie.specs.Edits.{Edit}
 use Rattle.sessions.specs.declared.cursor.Cursor.{Cursor}
 use Rattle.sessions.specs.declared.cursor.Shift.{Shift}
 use Rattle.sessions.specs.Cursors.{acts_in, cursor, each_cursor, shifted, shifted_place, is_after_place}
@@ -35,12 +31,3 @@ module _ (way : Shift) (f : Forest) (branch : List ℕ) (place : ℕ) where
 pub unmoved : (edit : Edit) (branch : List ℕ) (place : ℕ) (shift : Shift) (cursors : List (Option Cursor)) → ((f : Forest) (old : List (Option Cursor)) → moved_by edit f old ≡ each_cursor (shifted shift f branch place) old)
     → false ≡ list_any (is_after_place place) cursors → (f : Forest) → cursors ≡ moved_by edit f cursors
 unmoved edit branch place shift cursors is none f = sym (is f cursors ∙ all_stay shift f branch place cursors (sym none))
-
-pub unmoved_other : (edit : Borrowed) (cursors : List (Option Cursor)) (f : Forest) → ((branch : Bor (List ℕ)) (place : ℕ) (step : Step) → edit ≡ borrowed.Insert branch place step → ⊥)
-    → ((branch : Bor (List ℕ)) (place : ℕ) → edit ≡ borrowed.Remove branch place → ⊥) → cursors ≡ moved_by (edit_in edit) f cursors
-unmoved_other (borrowed.Insert branch place step) cursors f insert remove = absurd (insert branch place step refl)
-unmoved_other (borrowed.Remove branch place) cursors f insert remove = absurd (remove branch place refl)
-unmoved_other (borrowed.Replace branch place step) cursors f insert remove = refl
-unmoved_other (borrowed.Fork branch place name) cursors f insert remove = refl
-unmoved_other (borrowed.Detach branch) cursors f insert remove = refl
-unmoved_other (borrowed.Drop branch) cursors f insert remove = refl

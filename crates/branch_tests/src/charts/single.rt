@@ -136,7 +136,14 @@ pub(super) fn edit<R: Register>(
 ) -> Result<(), Refusal>
     requires { FitsEdit (R.behaviour chart.old.start.register) (edit_in edit.now) }
 {
-    chart.edit(alloc, edit)
+    match *edit {
+        Edit::Insert(branch, place, step) => chart.insert(alloc, branch, place, step),
+        Edit::Remove(branch, place) => chart.remove(branch, place),
+        Edit::Replace(branch, place, step) => chart.replace(branch, place, step),
+        Edit::Fork(branch, place, name) => chart.fork(alloc, branch, place, *name),
+        Edit::Detach(branch) => chart.detach(alloc, branch),
+        Edit::Drop(branch) => chart.drop_branch(branch),
+    }
 }
 
 /// Forks a branch after the first cell of `main`.

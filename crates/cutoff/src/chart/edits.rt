@@ -6,38 +6,19 @@ ghost use Rattle.std.specs.Prelude.{◌≡◌, ◌⊎◌, Some, None, true};
 ghost use Rattle.frames.specs.Configuration.{fits_step};
 ghost use Rattle.schedule_trie.specs.Forest.{len_of};
 ghost use Rattle.schedule_trie.specs.Trie.{forest};
-ghost use Rattle.schedule_trie.specs.Edits.{edit_in, Insert, Remove, Replace, Fork, Detach, Drop};
-ghost use Rattle.cutoff.specs.Edits.{Edits, FitsEdit};
+ghost use Rattle.schedule_trie.specs.Edits.{Insert, Remove, Replace, Fork, Detach, Drop};
+ghost use Rattle.cutoff.specs.Edits.{Edits};
 
 use super::Chart;
 use crate::number::Number;
 use frames::register::Register;
 use frames::types::Step;
-use schedule_trie::edit::{Edit, Edited};
+use schedule_trie::edit::Edited;
 use schedule_trie::name::Name;
 use schedule_trie::trie::{SegKey, Trie};
 use std::alloc::Global;
 
 impl<R: Register> Chart<R> {
-    /// Makes an edit by the call for its kind. Its step, if it has one, must fit the register.
-    ///
-    /// # Errors
-    ///
-    /// Those of that call. On an error nothing changes.
-    pub fn edit(&mut self, alloc: Global, edit: &Edit<'_>) -> Edited
-        requires { FitsEdit (R.behaviour self.old.start.register) (edit_in edit.now) }
-        ensures { Edits self.old self.new (edit_in edit.now) result }
-    {
-        match *edit {
-            Edit::Insert(branch, place, step) => self.insert(alloc, branch, place, step),
-            Edit::Remove(branch, place) => self.remove(branch, place),
-            Edit::Replace(branch, place, step) => self.replace(branch, place, step),
-            Edit::Fork(branch, place, name) => self.fork(alloc, branch, place, *name),
-            Edit::Detach(branch) => self.detach(alloc, branch),
-            Edit::Drop(branch) => self.drop_branch(branch),
-        }
-    }
-
     /// Inserts a new cell with this step, which must fit the register, before the cell at `place`
     /// of a branch, in each branch that has that cell. The segment that had that cell loses its
     /// stored run. If `place` is the branch's length, the new cell goes to the end of that branch

@@ -1,15 +1,13 @@
 //! Edits of a workspace's branches. Each accepted edit is counted.
 
-ghost use Rattle.std.specs.Prelude.{◌≡◌, ℕ, true, false, List, Option, Some, Err, OnOk, OnErr};
+ghost use Rattle.std.specs.Prelude.{◌≡◌, ℕ, true, false, Some, Err, OnOk, OnErr};
 ghost use Rattle.cutoff.specs.Edits.{Edits, FitsEdit};
 ghost use Rattle.sessions.specs.Bounds.{AreWithin, CanAct};
-ghost use Rattle.sessions.specs.Cursors as spec;
 ghost use Rattle.sessions.specs.Edits.{edit_of, is_held_up, moved_by};
 ghost use Rattle.sessions.specs.Books.{Does, stored};
 ghost use Rattle.sessions.specs.declared.command.Command.{Command};
 ghost use Rattle.schedule_trie.specs.Trie.{forest};
 ghost use Rattle.schedule_trie.specs.Edits.{Drop, edit_in};
-ghost use Rattle.schedule_trie.specs.Forest.{Forest};
 
 use super::Workspace;
 use crate::cursor::{Cursor, SESSIONS, Shift, any_after, is_occupied, shifted};
@@ -62,14 +60,25 @@ fn change_and_move<R: Register>(
     ensures kept { OnErr result ((chart.new ≡ chart.old) × (cursors.new ≡ cursors.old)) }
 {
     match *edit {
-        Edit::Insert(branch, place, _) if any_after(cursors, place) => {
-            change_and_shift(alloc, chart, cursors, edit, (branch, place, Shift::Up))
+        Edit::Insert(branch, place, step) if any_after(cursors, place) => {
+            let moved = shifted(chart, cursors, branch, place, Shift::Up);
+            chart.insert(alloc, branch, place, step)?;
+            *cursors = moved;
+            Ok(())
         }
+        Edit::Insert(branch, place, step) => chart.insert(alloc, branch, place, step),
         Edit::Remove(branch, place) if any_after(cursors, place) => {
-            change_and_shift(alloc, chart, cursors, edit, (branch, place, Shift::Down))
+            let moved = shifted(chart, cursors, branch, place, Shift::Down);
+            chart.remove(branch, place)?;
+            *cursors = moved;
+            Ok(())
         }
+        Edit::Remove(branch, place) => chart.remove(branch, place),
+        Edit::Replace(branch, place, step) => chart.replace(branch, place, step),
+        Edit::Fork(branch, place, name) => chart.fork(alloc, branch, place, *name),
+        Edit::Detach(branch) => chart.detach(alloc, branch),
         Edit::Drop(branch) if holds_up(chart, cursors, branch) => Err(Refusal::Occupied),
-        _ => chart.edit(alloc, edit),
+        Edit::Drop(branch) => chart.drop_branch(branch),
     }
 }
 
@@ -78,31 +87,4 @@ fn holds_up<R: Register>(chart: &Chart<R>, cursors: &[Option<Cursor>], branch: &
     ensures { result ≡ is_held_up (Drop branch.now) (forest chart.now.trie) cursors.now }
 {
     chart.len(branch).is_some() && chart.branches() > 1 && is_occupied(cursors, branch)
-}
-
-/// Makes an insert (Up) or a remove (Down) in a chart, and moves the cursors after its place; `at`
-/// is its branch, its place and its direction. Fails with the edit's errors; then nothing is
-/// changed. It isn't inlined, since each call sets up an array of cursors.
-#[inline(never)]
-fn change_and_shift<R: Register>(
-    alloc: Global,
-    chart: &mut Chart<R>,
-    cursors: &mut [Option<Cursor>; SESSIONS],
-    edit: &Edit<'_>,
-    at: (&Name, u32, Shift),
-) -> Result<(), Refusal>
-    requires fits { FitsEdit (R.behaviour chart.old.start.register) (edit_in edit.now) }
-    requires within { AreWithin cursors.old }
-    requires shift { (f : Forest) (old : List (Option Cursor)) → moved_by (edit_in edit.now) f old
-        ≡ spec.each_cursor (spec.shifted at.2 f at.0.now at.1) old }
-    ensures chart { Edits chart.old chart.new (edit_in edit.now) result }
-    ensures moved { OnOk result
-        (cursors.new ≡ moved_by (edit_in edit.now) (forest chart.old.trie) cursors.old) }
-    ensures kept { OnErr result (cursors.new ≡ cursors.old) }
-{
-    let (branch, place, shift) = at;
-    let moved = shifted(chart, cursors, branch, place, shift);
-    chart.edit(alloc, edit)?;
-    *cursors = moved;
-    Ok(())
 }

@@ -5,7 +5,7 @@ use super::jobs::installed;
 use super::shown::text_of_slip;
 use super::{are_edited, edits, limits, name, names};
 use crate::registers::switch::Switch;
-use crate::registers::{READ, WRITE};
+use crate::registers::READ;
 use cutoff::{Chart, Spot};
 use frames::Config;
 use schedule_trie::{Edit, Name, Refusal};
@@ -36,18 +36,12 @@ fn made(alloc: Global, chart: &mut Chart<Switch>, edit: &Edit<'_>) -> Result<(),
     }
 }
 
-/// Replaces the first step of a branch by a write, by the call that takes any edit.
-fn write_first(alloc: Global, chart: &mut Chart<Switch>, branch: &Name) -> Result<(), Refusal> {
-    chart.edit(alloc, &Edit::Replace(branch, 0, WRITE))
-}
-
-/// Makes each edit by its own call, and the last again by the call that takes any edit.
+/// Makes each edit.
 fn make_all(alloc: Global, chart: &mut Chart<Switch>, names: &[Name; 3]) -> Result<(), Refusal> {
-    let [main, _, _] = names;
     for edit in &edits(names) {
         made(alloc, chart, edit)?;
     }
-    write_first(alloc, chart, main)
+    Ok(())
 }
 
 /// A chart after all edits. The contract promises nothing, so that the tests' proofs stay small.
