@@ -38,11 +38,16 @@ unseen_more (s ∷ seen) (suc k) = unseen_more seen k
 abbrev pub IsUnseen : List Sight → ℕ → Type 0
 IsUnseen seen k = sight_at seen k ≡ Unseen
 
+-- what a plan knows of a key, by the answer that the key is one of the marked ones
+pub known_at : (Marked : ℕ → Type 0) (seen : List Sight) (k : ℕ) (is fits : Bool) → (is ≡ true → Marked k) → ((is ≡ true) × (fits ≡ true)) ⊎ (sight_at seen k ≡ sight_of fits) → IsKnownAt Marked seen (Some k) fits
+known_at Marked seen k is fits marked (inl known) = inl (marked known.0, known.1)
+known_at Marked seen k is fits marked (inr known) = inr known
+
 module _ (seen : List Sight) (keys : List ℕ) where
-  pub unseen_part : (mark : Option ℕ) (at : Option ℕ) (own all : List ℕ) (fits : Bool) → IsClimbing (IsUnseen seen) keys at own → IsKnownAt mark seen at fits → all ≡ reverse own
-      → IsUnseenPart mark seen keys fits all
-  unseen_part mark at own all fits c known turned =
-      subst (IsUnseenPart mark seen keys fits) (sym turned) (record { above = at; reached = c.reached; path = c.is; lacks = c.free; known = known })
+  pub unseen_part : (Marked : ℕ → Type 0) (at : Option ℕ) (own all : List ℕ) (fits : Bool) → IsClimbing (IsUnseen seen) keys at own → IsKnownAt Marked seen at fits → all ≡ reverse own
+      → IsUnseenPart Marked seen keys fits all
+  unseen_part Marked at own all fits c known turned =
+      subst (IsUnseenPart Marked seen keys fits) (sym turned) (record { above = at; reached = c.reached; path = c.is; lacks = c.free; known = known })
 
 -- the steps of a segment of a branch fit
 segment_fits : {R P : Type 0} (b : Behaviour P) (trie : TrieOf (StoredRun R P)) (keys : List ℕ) (k : ℕ) → has k keys ≡ true → AllFit b (map step_of (line (segment_at trie.segments) keys))
@@ -202,13 +207,12 @@ module _ {R P : Type 0} (E : R → R → Bool) (per : IsPartialEquivalence E) (i
           see_on seen after jobs new key fits were at others (come_seen c.0 new (Some key) fits (visit_below c.0 c.1)) grows
 
   -- what is known of a key that was visited or is marked is true
-  known_come : (mark : Option ℕ) (seen : List Sight) (jobs : List (Planned R P)) (last : Option ℕ) (fits : Bool) → IsEquivalence E → IsMarked E is trie start mark
-      → AreSeen E is trie start seen jobs → IsKnownAt mark seen last fits → HasDescended E is trie start jobs jobs last fits
-  known_come mark seen jobs None fits equal marked seen_so known =
+  known_come : (seen : List Sight) (jobs : List (Planned R P)) (last : Option ℕ) (fits : Bool) → IsEquivalence E
+      → AreSeen E is trie start seen jobs → IsKnownAt (λ k. IsMarked E is trie start (Some k)) seen last fits → HasDescended E is trie start jobs jobs last fits
+  known_come seen jobs None fits equal seen_so known =
       subst (HasDescended E is trie start jobs jobs None) (sym known) ((λ i h. record { register = equal.refl start.register; memory = refl; running = refl; stopped = refl }), refl)
-  known_come mark seen jobs (Some k) fits equal marked seen_so (inl known) =
-      subst (HasDescended E is trie start jobs jobs (Some k)) (sym known.1) (subst (IsMarked E is trie start) known.0 marked, refl)
-  known_come mark seen jobs (Some k) fits equal marked seen_so (inr known) = by fits (subst (IsSight E is trie start jobs k) known (seen_so k))
+  known_come seen jobs (Some k) fits equal seen_so (inl known) = subst (HasDescended E is trie start jobs jobs (Some k)) (sym known.1) (known.0, refl)
+  known_come seen jobs (Some k) fits equal seen_so (inr known) = by fits (subst (IsSight E is trie start jobs k) known (seen_so k))
     where
       by : (f : Bool) → IsSight E is trie start jobs k (sight_of f) → HasDescended E is trie start jobs jobs (Some k) f
       by true h = h
@@ -227,17 +231,17 @@ pub record IsPlanning {R P : Type 0} (E : R → R → Bool) (is : R → Behaviou
 
 module _ {R P : Type 0} (E : R → R → Bool) (per : IsPartialEquivalence E) (is : R → Behaviour P) (alike : (x y : R) → E x y ≡ true → is x ≡ is y)
     (trie : TrieOf (StoredRun R P)) (start : Configuration R P) (old : List (Planned R P)) (i : ℕ) where
-  pub planning_starts : (mark : Option ℕ) (seen was : List Sight) (left given : List ℕ) (fits : Bool) → IsEquivalence E → IsMarked E is trie start mark → AreSeen E is trie start seen old
-      → was ≡ seen → given ≡ left → IsUnseenPart mark was (keys_in trie.branches i) fits left → IsPlanning E is trie start old old seen i given fits
-  planning_starts mark seen was left given fits equal marked seen_so found same unseen =
-      let part = subst (λ l. IsUnseenPart mark l (keys_in trie.branches i) fits left) found unseen in
+  pub planning_starts : (seen was : List Sight) (left given : List ℕ) (fits : Bool) → IsEquivalence E → AreSeen E is trie start seen old
+      → was ≡ seen → given ≡ left → IsUnseenPart (λ k. IsMarked E is trie start (Some k)) was (keys_in trie.branches i) fits left → IsPlanning E is trie start old old seen i given fits
+  planning_starts seen was left given fits equal seen_so found same unseen =
+      let part = subst (λ l. IsUnseenPart (λ k. IsMarked E is trie start (Some k)) l (keys_in trie.branches i) fits left) found unseen in
       subst (λ l. IsPlanning E is trie start old old seen i l fits) (sym same) (record {
         above = part.above;
         reached = part.reached;
         path = part.path;
         lacks = part.lacks;
         seen_so = seen_so;
-        come = known_come E per is alike trie start mark seen old part.above fits equal marked seen_so part.known;
+        come = known_come E per is alike trie start seen old part.above fits equal seen_so part.known;
       })
 
   module _ (jobs : List (Planned R P)) (seen : List Sight) (key : ℕ) (rest : List ℕ) (fits : Bool) (p : IsPlanning E is trie start old jobs seen i (key ∷ rest) fits) where

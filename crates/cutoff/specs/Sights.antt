@@ -23,19 +23,20 @@ sight_of true = Fit
 sight_of false = Unfit
 
 -- `fits` is a plan's answer to whether stored runs fit down to a key; if there is no key, `fits` is
--- true; otherwise `fits` is true and the key is marked, or `fits` is what a visit of the key found
-abbrev pub IsKnownAt : Option ℕ → List Sight → Option ℕ → Bool → Type 0
-IsKnownAt mark seen None fits = fits ≡ true
-IsKnownAt mark seen (Some k) fits = ((mark ≡ Some k) × (fits ≡ true)) ⊎ (sight_at seen k ≡ sight_of fits)
+-- true; otherwise `fits` is true and the key is one of the marked ones, or `fits` is what a visit of
+-- the key found
+abbrev pub IsKnownAt : (ℕ → Type 0) → List Sight → Option ℕ → Bool → Type 0
+IsKnownAt Marked seen None fits = fits ≡ true
+IsKnownAt Marked seen (Some k) fits = (Marked k × (fits ≡ true)) ⊎ (sight_at seen k ≡ sight_of fits)
 
 -- `left` are the last keys of a branch, none of which the plan has visited; `fits` is the plan's
 -- answer to whether stored runs fit down to the key right above them (true if there is no such key)
-pub record IsUnseenPart (mark : Option ℕ) (seen : List Sight) (keys : List ℕ) (fits : Bool) (left : List ℕ) : Type 0 where
+pub record IsUnseenPart (Marked : ℕ → Type 0) (seen : List Sight) (keys : List ℕ) (fits : Bool) (left : List ℕ) : Type 0 where
   pub above : Option ℕ
   pub reached : HasClimbedTo keys above
   pub path : keys ≡ keys_to keys above ++ left
   pub lacks : (k : ℕ) → has k left ≡ true → sight_at seen k ≡ Unseen
-  pub known : IsKnownAt mark seen above fits
+  pub known : IsKnownAt Marked seen above fits
 
 -- on each branch with `key`, `above` is the key right above it, or `None` if `key` is the first
 abbrev pub IsAbove : {T : Type 0} → TrieOf T → ℕ → Option ℕ → Type 0

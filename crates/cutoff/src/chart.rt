@@ -269,6 +269,7 @@ impl<R: Register> Chart<R> {
             trie: &self.trie,
             start: &self.start,
             mark: self.mark,
+            fresh: self.fresh,
         };
         let jobs = plan_all(&base, index)?;
         Ok(jobs)

@@ -1,6 +1,6 @@
 //! Plans: for each branch, a job for its first segment that no stored run fits.
 
-ghost use Rattle.std.specs.Prelude.{◌≡◌, ℕ, List, [], ◌∷◌, Option, None, Some, OnOk, IfOk, map};
+ghost use Rattle.std.specs.Prelude.{◌≡◌, ℕ, true, List, [], ◌∷◌, Option, None, Some, OnOk, IfOk, map};
 ghost use Rattle.std.specs.Arc.{arc_value};
 ghost use Rattle.frames.specs.Configuration.{Configuration};
 ghost use Rattle.frames.specs.Recorded.{AllFit};
@@ -10,9 +10,11 @@ ghost use Rattle.cutoff.specs.Fitting.{steps_at};
 ghost use Rattle.cutoff.specs.Charts.{StepsFit};
 ghost use Rattle.cutoff.specs.Links.{AreLinked};
 ghost use Rattle.cutoff.specs.Plans.{Descends, Planned, Plans, with_job, job_of, keys_of};
-ghost use Rattle.cutoff.specs.Prefixes.{IsMarked, exit_or_start};
+ghost use Rattle.cutoff.specs.Prefixes.{AreFresh, IsMarked, exit_or_start};
 ghost use Rattle.cutoff.specs.Sights.{AreSeen, HasDescendedAbove, HasDescended, IsUnseenPart, LooksBelow, sight_at, unseen};
 
+use crate::number::Number;
+use crate::prefix::is_marked;
 use crate::settle::{fitting, segment_cells};
 use crate::sight::{Sight, known, record_fit};
 use crate::stored::{Stored, entry_below, shared_entry, stored_at};
@@ -58,19 +60,20 @@ struct Planning<R: Register> {
 }
 
 /// What a plan is made from: memory; the branches, with their stored runs; the configuration before
-/// their first steps; and the marked segment.
+/// their first steps; the marked segment; and the number from which on runs were last found to fit.
 #[derive(Drop)]
 pub(crate) struct Base<'a, R: Register> {
     pub(crate) alloc: Global,
     pub(crate) trie: &'a Trie<Stored<R>>,
     pub(crate) start: &'a Config<R>,
     pub(crate) mark: Option<SegKey>,
+    pub(crate) fresh: Number,
 }
 
 /// For each branch, a job for its first segment that no stored run fits. The job of the branch at
 /// `index`, if it has one, comes first, then the jobs of the other branches in order. No segment
-/// has two jobs. Each segment is visited at most once. To plan for a branch that has the marked
-/// segment, only segments below the marked one are visited.
+/// has two jobs. Each segment is visited at most once. To plan for a branch, only segments are
+/// visited that are below the last one down to which stored runs are known to fit.
 pub(crate) fn plan_all<R: Register>(
     base: &Base<'_, R>,
     index: usize,
@@ -79,6 +82,8 @@ pub(crate) fn plan_all<R: Register>(
     requires cut { IsCut base.now.trie.now }
     requires marked { IsMarked R.PartialEq.eq R.behaviour base.now.trie.now base.now.start.now
         base.now.mark }
+    requires fresh { AreFresh R.PartialEq.eq R.behaviour base.now.trie.now base.now.start.now
+        base.now.fresh }
     requires fits { StepsFit (R.behaviour base.now.start.now.register) (forest base.now.trie.now) }
     ensures { IfOk result
         (λ jobs. Plans R.PartialEq.eq (R.behaviour base.now.start.now.register) base.now.trie.now
@@ -112,6 +117,8 @@ fn plan_branch<R: Register>(
     requires cut { IsCut base.now.trie.now }
     requires marked { IsMarked R.PartialEq.eq R.behaviour base.now.trie.now base.now.start.now
         base.now.mark }
+    requires fresh { AreFresh R.PartialEq.eq R.behaviour base.now.trie.now base.now.start.now
+        base.now.fresh }
     requires fits { StepsFit (R.behaviour base.now.start.now.register) (forest base.now.trie.now) }
     requires seen { AreSeen R.PartialEq.eq R.behaviour base.now.trie.now base.now.start.now
         planning.old.seen.items planning.old.jobs.items }
@@ -130,25 +137,30 @@ fn plan_branch<R: Register>(
     Ok(())
 }
 
-/// Climbs from the last segment of a branch until it meets a segment that is marked or was visited.
-/// Returns whether stored runs fit down to that segment, and leaves in `keys` the keys of the
-/// branch's segments below that one, in order. If it meets no such segment, returns true, and
-/// leaves all keys of the branch.
+/// Climbs from the last segment of a branch until it meets a segment down to which stored runs are
+/// known to fit, or one that was visited. Returns whether stored runs fit down to that segment, and
+/// leaves in `keys` the keys of the branch's segments below that one, in order. If it meets no such
+/// segment, returns true, and leaves all keys of the branch.
 fn unseen_keys<R: Register>(
     base: &Base<'_, R>,
     seen: &[Sight],
     index: usize,
     keys: &mut Vec<SegKey>,
 ) -> Result<bool, AllocError>
-    requires { IsCut base.now.trie.now }
+    requires cut { IsCut base.now.trie.now }
+    requires marked { IsMarked R.PartialEq.eq R.behaviour base.now.trie.now base.now.start.now
+        base.now.mark }
+    requires fresh { AreFresh R.PartialEq.eq R.behaviour base.now.trie.now base.now.start.now
+        base.now.fresh }
     ensures { IfOk result
-        (λ fits. IsUnseenPart base.now.mark seen.now (keys_in base.now.trie.now.branches index) fits
+        (λ fits. IsUnseenPart (λ k. IsMarked R.PartialEq.eq R.behaviour base.now.trie.now
+        base.now.start.now (Some k)) seen.now (keys_in base.now.trie.now.branches index) fits
         keys.new.items) }
 {
     keys.clear();
     let mut at = base.trie.last_at(index);
     while let Some(key) = at {
-        if let Some(fits) = known(base.mark, seen, key) {
+        if let Some(fits) = known(is_down(base, key), seen, key) {
             keys.reverse();
             return Ok(fits);
         }
@@ -157,6 +169,25 @@ fn unseen_keys<R: Register>(
     }
     keys.reverse();
     Ok(true)
+}
+
+/// Whether stored runs are known to fit down to the segment `key`, without a visit: it is marked, or
+/// its run was last found to fit with the number `fresh` or a greater one.
+fn is_down<R: Register>(base: &Base<'_, R>, key: SegKey) -> bool
+    requires marked { IsMarked R.PartialEq.eq R.behaviour base.now.trie.now base.now.start.now
+        base.now.mark }
+    requires fresh { AreFresh R.PartialEq.eq R.behaviour base.now.trie.now base.now.start.now
+        base.now.fresh }
+    ensures { result ≡ true
+        → IsMarked R.PartialEq.eq R.behaviour base.now.trie.now base.now.start.now (Some key) }
+{
+    if is_marked(base.mark, key) {
+        return true;
+    }
+    match base.trie.note(key) {
+        Some(stored) => stored.checked().is_from(base.fresh),
+        None => false,
+    }
 }
 
 /// Visits the segment `key`, and returns whether stored runs fit down to it. `above_fits` says

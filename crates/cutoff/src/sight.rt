@@ -1,10 +1,9 @@
 //! What a plan has found at each segment. Stored runs fit down to a segment if they fit all
 //! segments of its branch from the first one to it.
 
-ghost use Rattle.std.specs.Prelude.{◌≡◌, ◌⊎◌, ℕ, Some, true, OnOk, MatchOption};
+ghost use Rattle.std.specs.Prelude.{◌≡◌, ◌⊎◌, ℕ, true, OnOk, MatchOption};
 ghost use Rattle.cutoff.specs.Sights as spec;
 
-use crate::prefix::is_marked;
 use schedule_trie::trie::SegKey;
 use std::alloc::AllocError;
 
@@ -35,13 +34,14 @@ fn sight_at(seen: &[Sight], key: SegKey) -> Sight
     }
 }
 
-/// Whether stored runs fit down to the segment `key`: true if it is marked, else what the plan has
-/// found there; `None` if it isn't marked and the plan hasn't visited it.
-pub(crate) fn known(mark: Option<SegKey>, seen: &[Sight], key: SegKey) -> Option<bool>
+/// Whether stored runs fit down to the segment `key`: true if `fits`, else what the plan has found
+/// there; `None` if the plan hasn't visited it either.
+pub(crate) fn known(fits: bool, seen: &[Sight], key: SegKey) -> Option<bool>
     ensures { MatchOption result (spec.sight_at seen.now key ≡ spec.unseen)
-        (λ fits. spec.IsKnownAt mark seen.now (Some key) fits) }
+        (λ known. ((fits ≡ true) × (known ≡ true)) ⊎ (spec.sight_at seen.now key
+        ≡ spec.sight_of known)) }
 {
-    if is_marked(mark, key) {
+    if fits {
         return Some(true);
     }
     match sight_at(seen, key) {

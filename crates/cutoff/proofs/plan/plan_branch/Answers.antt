@@ -6,8 +6,8 @@ use Rattle.cutoff.proofs.plan.plan_branch.Goals as goal
 pub loop-key-init : goal.loop-key-init
 loop-key-init g c =
     planning_starts g.R.PartialEq.eq g.met.R.PartialEq.laws g.R.Behaves.behaviour g.met.R.Register.alike c.args.base.now.trie.now c.args.base.now.start.now c.args.planning.now.jobs.items c.args.index
-    c.args.base.now.mark c.args.planning.now.seen.items _ c.unseen_keys.new.keys.items c.as_slice-key-items.result.now c.in_ok-fits.fits
-    g.met.R.Eq.laws c.requires.marked c.requires.seen c.deref.ensures.value c.as_slice-key-items.ensures.value c.in_ok-fits.ensures
+    c.args.planning.now.seen.items _ c.unseen_keys.new.keys.items c.as_slice-key-items.result.now c.in_ok-fits.fits
+    g.met.R.Eq.laws c.requires.seen c.deref.ensures.value c.as_slice-key-items.ensures.value c.in_ok-fits.ensures
 
 pub visit-requires-clause-fits : goal.visit-requires-clause-fits
 visit-requires-clause-fits g c =

@@ -1,23 +1,24 @@
-use Rattle.std.proofs.Common.{length, sym, ap, subst, refl, arith}
+use Rattle.std.proofs.Common.{ℕ, Some, length, sym, ap, subst, refl, arith}
 use Rattle.schedule_trie.specs.Trie.{keys_in}
 use Rattle.schedule_trie.specs.Climbs.{keys_to, HasClimbedTo}
 use Rattle.schedule_trie.proofs.climbs.Climbs.{IsLast, last_is, step_up}
 use Rattle.schedule_trie.proofs.limbs.OwnParts.{climbing_first, climbing_up}
+use Rattle.cutoff.specs.Prefixes.{IsMarked}
 use Rattle.cutoff.specs.Sights.{IsKnownAt}
 use Rattle.cutoff.proofs.Climbs.{path_once, shorter}
-use Rattle.cutoff.proofs.Sights.{IsUnseen, unseen_part}
+use Rattle.cutoff.proofs.Sights.{IsUnseen, known_at, unseen_part}
 use Rattle.cutoff.proofs.plan.unseen_keys.Goals as goal
 
 pub loop-at-init : goal.loop-at-init
 loop-at-init g c =
     let keys = keys_in c.args.base.now.trie.now.branches c.args.index in
-    let last = subst (IsLast keys) (sym c.last_at-at.ensures) (last_is keys (path_once c.args.base.now.trie.now c.requires c.args.index)) in
+    let last = subst (IsLast keys) (sym c.last_at-at.ensures) (last_is keys (path_once c.args.base.now.trie.now c.requires.cut c.args.index)) in
     rw c.clear.ensures.items (record { climbing = climbing_first (IsUnseen c.args.seen.now) keys c.last_at-at.result last })
 
 pub loop-at-smaller : goal.loop-at-smaller
 loop-at-smaller g c =
     let keys = keys_in c.args.base.now.trie.now.branches c.args.index in
-    let s = step_up keys c.in-Some.key c.above-at.result (path_once c.args.base.now.trie.now c.requires c.args.index) (subst (HasClimbedTo keys) c.in-Some.is c.loop-at.invariant.climbing.reached)
+    let s = step_up keys c.in-Some.key c.above-at.result (path_once c.args.base.now.trie.now c.requires.cut c.args.index) (subst (HasClimbedTo keys) c.in-Some.is c.loop-at.invariant.climbing.reached)
     (λ front back e. c.above-at.ensures.each c.args.index front back e) in
     let fewer = shorter keys c.in-Some.key c.above-at.result s in
     let at = ap (λ o. length (keys_to keys o)) c.in-Some.is in
@@ -27,18 +28,21 @@ pub loop-at-preserved : goal.loop-at-preserved
 loop-at-preserved g c =
     let keys = keys_in c.args.base.now.trie.now.branches c.args.index in
     let at = c.loop-at.invariant.climbing in
-    let s = step_up keys c.in-Some.key c.above-at.result (path_once c.args.base.now.trie.now c.requires c.args.index) (subst (HasClimbedTo keys) c.in-Some.is at.reached)
+    let s = step_up keys c.in-Some.key c.above-at.result (path_once c.args.base.now.trie.now c.requires.cut c.args.index) (subst (HasClimbedTo keys) c.in-Some.is at.reached)
     (λ front back e. c.above-at.ensures.each c.args.index front back e) in
     record { climbing = climbing_up (IsUnseen c.args.seen.now) keys c.loop-at.at c.in-Some.key c.above-at.result c.loop-at.keys.items c.push.new.self.items c.in-Some.is c.in_ok-push.ensures.items at s c.in_default-known.ensures }
 
 pub returns-in-Some-known : goal.returns-in-Some-known
 returns-in-Some-known g c =
     let keys = keys_in c.args.base.now.trie.now.branches c.args.index in
-    unseen_part c.args.seen.now keys c.args.base.now.mark c.loop-at.at c.loop-at.keys.items c.reverse.new.self.items c.in-Some-known.fits c.loop-at.invariant.climbing
-    (subst (λ o. IsKnownAt c.args.base.now.mark c.args.seen.now o c.in-Some-known.fits) (sym c.in-Some.is) c.in-Some-known.ensures) c.reverse.ensures.items
+    let Marked = λ (k : ℕ). IsMarked g.R.PartialEq.eq g.R.Behaves.behaviour c.args.base.now.trie.now c.args.base.now.start.now (Some k) in
+    unseen_part c.args.seen.now keys Marked c.loop-at.at c.loop-at.keys.items c.reverse.new.self.items c.in-Some-known.fits c.loop-at.invariant.climbing
+    (subst (λ o. IsKnownAt Marked c.args.seen.now o c.in-Some-known.fits) (sym c.in-Some.is) (known_at Marked c.args.seen.now c.in-Some.key c.is_down.result c.in-Some-known.fits c.is_down.ensures c.in-Some-known.ensures))
+    c.reverse.ensures.items
 
 pub returns : goal.returns
 returns g c =
     let keys = keys_in c.args.base.now.trie.now.branches c.args.index in
-    unseen_part c.args.seen.now keys c.args.base.now.mark c.loop-at.at c.loop-at.keys.items c.reverse-2.new.self.items _ c.loop-at.invariant.climbing
-    (subst (λ o. IsKnownAt c.args.base.now.mark c.args.seen.now o _) (sym c.in_default.is) refl) c.reverse-2.ensures.items
+    let Marked = λ (k : ℕ). IsMarked g.R.PartialEq.eq g.R.Behaves.behaviour c.args.base.now.trie.now c.args.base.now.start.now (Some k) in
+    unseen_part c.args.seen.now keys Marked c.loop-at.at c.loop-at.keys.items c.reverse-2.new.self.items _ c.loop-at.invariant.climbing
+    (subst (λ o. IsKnownAt Marked c.args.seen.now o _) (sym c.in_default.is) refl) c.reverse-2.ensures.items
