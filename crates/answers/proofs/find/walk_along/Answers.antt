@@ -21,22 +21,16 @@ step_at-requires g c = record {
 pub unreachable-requires : goal.unreachable-requires
 unreachable-requires g c =
     let r = c.args.moves.now.register in
-    let is = g.R.Behaves.behaviour in
-    let q = c.args.moves.now.question.now in
-    let i = c.loop-mark.mark-index in
-    none_taken is (is r) q c.requires.0 c.loop-mark.state c.loop-mark.steps.items (drop (i + 1) c.args.path.now) c.step_at.result
-    (taken_at is (is r) q c.requires.0 c.loop-mark.state (g.R.Register.Holds r) (g.R.Register.Reaches r) (g.met.R.Register.lawful r)
-    c.loop-mark.steps.items c.args.path.now i _ c.step_at.result c.loop-mark-test.true (c.loop-mark.invariant.building c.requires.0 c.requires.1) c.step_at.ensures) c.in_default.is
+    none_taken _ _ _ _ _ _ _ _
+    (taken_at g.R.Behaves.behaviour (g.R.Behaves.behaviour r) c.args.moves.now.question.now c.requires.0 c.loop-mark.state (g.R.Register.Holds r) (g.R.Register.Reaches r) (g.met.R.Register.lawful r)
+    c.loop-mark.steps.items c.args.path.now c.loop-mark.mark-index _ c.step_at.result c.loop-mark-test.true (c.loop-mark.invariant.building c.requires.0 c.requires.1) c.step_at.ensures) c.in_default.is
 
 pub advanced-requires : goal.advanced-requires
 advanced-requires g c =
     let r = c.args.moves.now.register in
-    let is = g.R.Behaves.behaviour in
-    let q = c.args.moves.now.question.now in
-    let i = c.loop-mark.mark-index in
-    taken_fits is (is r) q c.requires.0 c.loop-mark.state c.loop-mark.steps.items c.in-Some.step (drop (i + 1) c.args.path.now) c.step_at.result
-    (taken_at is (is r) q c.requires.0 c.loop-mark.state (g.R.Register.Holds r) (g.R.Register.Reaches r) (g.met.R.Register.lawful r)
-    c.loop-mark.steps.items c.args.path.now i _ c.step_at.result c.loop-mark-test.true (c.loop-mark.invariant.building c.requires.0 c.requires.1) c.step_at.ensures) c.in-Some.is
+    taken_fits _ _ _ _ _ _ _ _ _
+    (taken_at g.R.Behaves.behaviour (g.R.Behaves.behaviour r) c.args.moves.now.question.now c.requires.0 c.loop-mark.state (g.R.Register.Holds r) (g.R.Register.Reaches r) (g.met.R.Register.lawful r)
+    c.loop-mark.steps.items c.args.path.now c.loop-mark.mark-index _ c.step_at.result c.loop-mark-test.true (c.loop-mark.invariant.building c.requires.0 c.requires.1) c.step_at.ensures) c.in-Some.is
 
 pub loop-mark-preserved : goal.loop-mark-preserved
 loop-mark-preserved g c =
