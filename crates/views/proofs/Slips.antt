@@ -13,7 +13,7 @@ use Rattle.cutoff.specs.Settles.{last_part}
 use Rattle.pages.specs.declared.query.ConfigKind.{ConfigKind}
 use Rattle.pages.specs.declared.query.EventsKind.{EventsKind}
 use Rattle.pages.specs.declared.page.head.Head.{Head}
-use Rattle.views.specs.Spots.{part_end, parts_end, parts_events, IsSpotOf}
+use Rattle.views.specs.Spots.{part_end, parts_end, IsSpotOf}
 use Rattle.pages.specs.Pages.{config_page, events_page}
 use Rattle.views.specs.RunPages.{last_page, all_page, content_page, found_last}
 use Rattle.views.specs.Looks.{config_at, events_at}
