@@ -4,7 +4,8 @@
 pub mod call;
 pub mod laws;
 pub mod line;
-pub mod look;
+mod place;
+mod request;
 pub mod text;
 mod verb;
 
