@@ -24,6 +24,19 @@ module _ {J : Type 0} where
       let within = took.within in
       omega (arith, length-append v.taken (x.index ∷ []))
 
+-- a loop has `left` items to go, which are these; and a vector of this length and capacity has memory
+-- reserved for as many more
+pub record IsReserved {A : Type 0} (items : List A) (left len capacity : ℕ) : Type 0 where
+  pub count : left ≡ length items
+  pub room : len + left ≤ capacity
+
+module _ {A : Type 0} (items rest : List A) (next : A) (left len capacity : ℕ) (split : items ≡ next ∷ rest) (was : IsReserved items left len capacity) where
+  pub next_fits : len < capacity
+  next_fits = omega (arith, was.count, was.room, ap length split)
+
+  pub rest_is_reserved : (fewer more same : ℕ) → fewer + 1 ≡ left → more ≡ len + 1 → same ≡ capacity → IsReserved rest fewer more same
+  rest_is_reserved fewer more same gone added kept = record { count = omega (arith, was.count, ap length split, gone); room = omega (arith, was.room, gone, added, kept) }
+
 module _ {D : Type 0} where
   pub ran_within : (n : ℕ) (ran rest : List (Taken D)) (t : Taken D) → ran ≡ t ∷ rest → All (λ x. x.index < n) ran → t.index < n
   ran_within n ran rest t is all = let now : All (λ (x : Taken D). x.index < n) (t ∷ rest) = subst (All (λ (x : Taken D). x.index < n)) is all in now 0 t (omega arith)

@@ -23,9 +23,6 @@ impl Crew {
         jobs: Vec<J>,
         gate: &G,
     ) -> Result<Vec<Done<J::Key, J::Run>>, AllocError>
-    where
-        J::Key: Drop,
-        J::Run: Drop,
         ensures { IfOk result (λ all. OneForEach J.named J.gives jobs.items all.items) }
     {
         let mut all = Vec::with_capacity(alloc, jobs.len())?;

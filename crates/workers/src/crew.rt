@@ -52,9 +52,6 @@ fn work<W: Wait, J: Runnable + Drop, G: Gate<W>>(
     gate: &G,
     bench: Bench<J, Done<J::Key, J::Run>>,
 ) -> Bench<J, Done<J::Key, J::Run>>
-where
-    J::Key: Drop,
-    J::Run: Drop,
     requires fifo { worker_flavor bench.0 ≡ 0 }
     requires ready { IsAtWork (IsDoneOf J.named J.gives) (worker_view bench.0).jobs
         (worker_view bench.0) bench.1.items }
@@ -85,8 +82,8 @@ fn share<R: Threads + Wait + Sync, J: Runnable + Send + Drop, G: Gate<R> + Sync>
     bench: Bench<J, Done<J::Key, J::Run>>,
 ) -> Bench<J, Done<J::Key, J::Run>>
 where
-    J::Key: Send + Drop,
-    J::Run: Send + Drop,
+    J::Key: Send,
+    J::Run: Send,
     requires fifo { worker_flavor bench.0 ≡ 0 }
     requires parts { thieves < (worker_view bench.0).parts }
     requires ready { IsAtWork (IsDoneOf J.named J.gives) (worker_view bench.0).jobs
@@ -159,8 +156,8 @@ impl Crew {
         gate: &G,
     ) -> Result<Vec<Done<J::Key, J::Run>>, AllocError>
     where
-        J::Key: Send + Drop,
-        J::Run: Send + Drop,
+        J::Key: Send,
+        J::Run: Send,
         requires { thieves ≤ 4 }
         ensures { IfOk result (λ all. OneForEach J.named J.gives jobs.items all.items) }
     {

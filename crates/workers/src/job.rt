@@ -11,9 +11,9 @@ use std::sync::Wait;
 /// memory.
 pub trait Runnable {
     /// The type of a job's key, which names the job.
-    type Key;
+    type Key: Drop;
     /// The type of what a job gives when it runs.
-    type Run;
+    type Run: Drop;
 
     /// The job's key, for contracts.
     ghost named: { Self → Self.Key };

@@ -37,9 +37,6 @@ pub(crate) fn hire<J: Runnable + Drop>(
     owner: &mut Owner<J>,
     jobs: usize,
 ) -> Result<Thief<J, Done<J::Key, J::Run>>, AllocError>
-where
-    J::Key: Drop,
-    J::Run: Drop,
     requires parts { 1 < (worker_view owner.old).parts }
     requires room { length (worker_view owner.old).jobs ≤ jobs }
     ensures same { SameWorker owner.old owner.new }
@@ -67,9 +64,6 @@ pub(crate) fn steal_all<W: Wait, J: Runnable + Drop, G: Gate<W>>(
     gate: &G,
     thief: Thief<J, Done<J::Key, J::Run>>,
 ) -> Thief<J, Done<J::Key, J::Run>>
-where
-    J::Key: Drop,
-    J::Run: Drop,
     requires pass { IsPassOf (stealer_deque thief.deque) thief.pass }
     requires room { length (view thief.pass).jobs ≤ vec_capacity thief.ran }
     requires ran { HasRunItsJobs (IsDoneOf J.named J.gives) (view thief.pass).jobs
