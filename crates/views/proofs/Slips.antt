@@ -1,37 +1,58 @@
 -- The page that a settled place's slip gives.
-use Rattle.std.proofs.Common.{◌≡◌, ℕ, List, [], ◌∷◌, Option, Some, None, take, length, refl, sym, ap, ◌∙◌}
+use Rattle.std.proofs.Common.{◌≡◌, ℕ, ◌<◌, Bool, true, List, [], ◌∷◌, Option, Some, None, take, length, refl, sym, ap, subst, ◌∙◌}
+use Rattle.std.specs.Cmp.{IsEquivalence}
 use Rattle.std.specs.Option.{option_map}
 use Rattle.std.specs.declared.alloc.Global.{Global}
 use Rattle.std.specs.declared.sync.Arc.{Arc}
 use Rattle.checkpoints.specs.Segment.{SegmentRun}
-use Rattle.frames.specs.declared.types.Step.{Step}
 use Rattle.frames.specs.Behaviour.{Behaviour}
-use Rattle.frames.specs.Configuration.{Configuration}
+use Rattle.frames.specs.Configuration.{Configuration, initial_configuration}
 use Rattle.frames.specs.Recorded.{indexed, shown}
+use Rattle.schedule_trie.specs.Forest.{len_of}
+use Rattle.schedule_trie.specs.Trie.{forest}
+use Rattle.cutoff.specs.Charts.{Charted, StepsFit}
 use Rattle.cutoff.specs.Fitting.{RunPart, part_of}
-use Rattle.cutoff.specs.Settles.{last_part}
+use Rattle.cutoff.specs.Settles.{IsSettled, last_part}
 use Rattle.pages.specs.declared.query.ConfigKind.{ConfigKind}
 use Rattle.pages.specs.declared.query.EventsKind.{EventsKind}
 use Rattle.pages.specs.declared.page.head.Head.{Head}
 use Rattle.views.specs.Spots.{part_end, parts_end, IsSpotOf}
 use Rattle.pages.specs.Pages.{config_page, events_page}
+use Rattle.pages.specs.Strays.{Judges, JudgesFrom}
 use Rattle.views.specs.RunPages.{last_page, all_page, content_page, found_last}
-use Rattle.views.specs.Looks.{config_at, events_at}
+use Rattle.views.specs.ChartLooks.{config_in, events_in}
+use Rattle.views.specs.Looks.{steps_in}
 use Rattle.views.proofs.BehaviourAlone.{page_alone}
+use Rattle.views.proofs.Spots.{spot_of}
+use Rattle.views.proofs.Strays.{events_judge, fit_in}
 
-module _ {R P : Type 0} (is : R → Behaviour P) (start : Configuration R P) (value : ℕ) (steps : List Step) (place len : ℕ) (parts : List (RunPart R P)) (spot : IsSpotOf is start value steps place len parts)
-    (branch : List ℕ) where
+-- these parts are the result of settling a branch's first steps
+module _ {R P : Type 0} (E : R → R → Bool) (equal : IsEquivalence E) (is : R → Behaviour P) (alike : (x y : R) → E x y ≡ true → is x ≡ is y) (old new : Charted R P) (branch : List ℕ) (place len : ℕ)
+    (parts : List (RunPart R P)) (n : ℕ) (long : Some len ≡ len_of (forest old.trie) branch) (begins : old.start ≡ initial_configuration (is old.start.register) old.start.register old.value)
+    (settled : IsSettled E (is old.start.register) old new branch place parts n) where
+  spot : IsSpotOf is old.start old.value (steps_in (forest old.trie) branch) place len parts
+  spot = spot_of E equal is alike old new branch place len parts n long begins settled
+
   abbrev head_of : ℕ → Head
   head_of n = record { branch = branch; place = place; len = n }
 
-  pub last_is_place : (kind : ConfigKind) → last_page is kind (head_of len) start parts ≡ config_at (is start.register) value kind branch place steps
+  pub last_is_place : (kind : ConfigKind) → last_page is kind (head_of len) old.start parts ≡ config_in is old kind branch place
   last_is_place kind =
-      ap (λ n. last_page is kind (head_of n) start parts) spot.counted
-      ∙ page_alone (is (parts_end is start parts).register) (is start.register) kind (head_of (length steps)) (parts_end is start parts) (shown (is start.register) value (take place steps)) spot.home spot.arrives
+      ap (λ n. last_page is kind (head_of n) old.start parts) spot.counted
+      ∙ page_alone (is (parts_end is old.start parts).register) (is old.start.register) kind (head_of (length (steps_in (forest old.trie) branch))) (parts_end is old.start parts)
+      (shown (is old.start.register) old.value (take place (steps_in (forest old.trie) branch))) spot.home spot.arrives
 
-  pub all_are_events : (kind : EventsKind) → all_page is kind (head_of len) parts ≡ events_at (is start.register) value kind branch place steps
+  pub all_are_events : (kind : EventsKind) → all_page is kind (head_of len) parts ≡ events_in is old kind branch place
   all_are_events kind =
-      ap (λ n. all_page is kind (head_of n) parts) spot.counted ∙ ap (λ events. events_page kind (head_of (length steps)) (indexed 0 events)) spot.records
+      ap (λ n. all_page is kind (head_of n) parts) spot.counted
+      ∙ ap (λ events. events_page kind (head_of (length (steps_in (forest old.trie) branch))) (indexed 0 events)) spot.records
+
+  -- any verdicts on the page of events are on what the register records on these steps
+  pub all_judge : (kind : EventsKind) → old.value < (is old.start.register).values → StepsFit (is old.start.register) (forest old.trie) → JudgesFrom old.value kind
+      → Judges (is old.start.register) (all_page is kind (head_of len) parts)
+  all_judge kind within fits judged =
+      subst (Judges (is old.start.register)) (sym (all_are_events kind))
+      (events_judge (is old.start.register) old.value kind branch place (steps_in (forest old.trie) branch) within (fit_in (is old.start.register) (forest old.trie) branch fits) judged)
 
 -- if no part is the last, there are no parts
 no_last : {R P : Type 0} (parts : List (RunPart R P)) → last_part parts ≡ None → parts ≡ []

@@ -11,26 +11,22 @@ use Rattle.frames.specs.declared.types.Step.{Step}
 use Rattle.frames.specs.declared.verdict.ReadVerdict.{ReadVerdict}
 use Rattle.frames.specs.declared.verdict.Verdict.TheVariants.{Stray}
 use Rattle.frames.specs.Behaviour.{Behaviour}
-use Rattle.frames.specs.Configuration.{Configuration, fits_step}
+use Rattle.frames.specs.Configuration.{fits_step}
 use Rattle.frames.specs.Recorded.{AllFit, recorded}
 use Rattle.frames.specs.correctness.Verdicts.{Known, accepted, initially, after, verdict_of_event, verdicts_from, verdicts}
 use Rattle.frames.specs.correctness.Regularity.{OnReturn, EachRead, NotStray}
 use Rattle.frames.specs.correctness.Regularity.{NeverStray}
 use Rattle.frames.proofs.NeverStray.{regular_never_stray, atomic_never_stray}
 use Rattle.schedule_trie.specs.Forest.{Forest, index_of, path_by}
-use Rattle.cutoff.specs.Fitting.{RunPart}
 use Rattle.cutoff.specs.Charts.{StepsFit}
 use Rattle.pages.specs.declared.query.EventsKind.{EventsKind}
 use Rattle.pages.specs.declared.query.EventsKind.TheVariants as which
 use Rattle.pages.specs.declared.query.Query.TheVariants as query
 use Rattle.pages.specs.declared.page.Page.{Page}
 use Rattle.pages.specs.declared.page.Page.TheVariants as page
-use Rattle.views.specs.Spots.{IsSpotOf}
-use Rattle.views.specs.RunPages.{all_page}
 use Rattle.views.specs.Looks.{steps_in, events_at, judged_from, NeverShowsStray}
 use Rattle.views.specs.Slips.{Slipped}
 use Rattle.pages.specs.Strays.{OnVerdicts, AreVerdictsOn, Judges, JudgesIts, ShowsNoStray, IsRegularOrAtomic, JudgesFrom}
-use Rattle.views.proofs.Slips.{all_are_events}
 
 NoneStray : List ReadVerdict → Type 0
 NoneStray reads = All (λ read. read.verdict ≢ Stray) reads
@@ -112,14 +108,6 @@ events_judge {P} b value (which.Verdict from) branch place steps within fit h = 
           fit = All-take (λ s. fits_step b s ≡ true) place steps fit;
           judged = ap (λ v. verdicts v (recorded b value (take place steps))) h;
         }
-
--- the page of a slip's events judges what the register records on the branch's first steps
-pub all_judge : {R P : Type 0} (is : R → Behaviour P) (start : Configuration R P) (value : ℕ) (steps : List Step) (place len : ℕ) (parts : List (RunPart R P))
-    → IsSpotOf is start value steps place len parts → value < (is start.register).values → AllFit (is start.register) steps → (what : EventsKind) (branch : List ℕ) → JudgesFrom value what
-    → Judges (is start.register) (all_page is what (record { branch = branch; place = place; len = len }) parts)
-all_judge is start value steps place len parts spot within fit what branch judged =
-    subst (Judges (is start.register)) (sym (all_are_events is start value steps place len parts spot branch what))
-    (events_judge (is start.register) value what branch place steps within fit judged)
 
 -- each step of a branch fits
 pub fit_in : {P : Type 0} (b : Behaviour P) (f : Forest) (name : List ℕ) → StepsFit b f → AllFit b (steps_in f name)

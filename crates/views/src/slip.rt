@@ -3,10 +3,9 @@
 ghost use Rattle.std.specs.Prelude.{◌≡◌, Some, None, true, Ok, IfOk, OnOk, IfErr, IfSome};
 ghost use Rattle.schedule_trie.specs.Forest.{IsRefused};
 ghost use Rattle.schedule_trie.specs.Trie.{forest};
-ghost use Rattle.cutoff.specs.Charts.{look};
 ghost use Rattle.views.specs.Looks as spec;
 ghost use Rattle.views.specs.Looks.{looked, IsChartKept};
-ghost use Rattle.views.specs.ChartLooks.{shown_by, config_in, events_in, steps_page};
+ghost use Rattle.views.specs.ChartLooks.{IsLookAt, shown_by, config_in, events_in, steps_page};
 ghost use Rattle.views.specs.RunPages.{found_last};
 ghost use Rattle.pages.specs.Strays.{IsRegularOrAtomic, Judges, JudgesIts, JudgesFrom, ShowsNoStray};
 
@@ -169,12 +168,8 @@ fn config_slip<R: Register>(
 ) -> Result<Slip<R>, Refusal>
     ensures page { IfOk result
         (λ slip. slip.page ≡ config_in R.behaviour chart.old kind branch place) }
-    ensures found { OnOk result (look (forest chart.old.trie) branch place
-        ≡ Ok (forest chart.old.trie)) }
-    ensures err { IfErr result (IsRefused (look (forest chart.old.trie) branch place)) }
+    ensures look { IsLookAt R.behaviour chart.old branch place result }
     ensures kept { IsChartKept chart.old chart.new }
-    ensures judged { IfOk result (λ slip. slip.judged ≡ Some chart.old.start.register) }
-    ensures judges { IfOk result (λ slip. Judges (R.behaviour chart.old.start.register) slip.page) }
 {
     let judged = judged_by(chart);
     let last = chart.settle_last(alloc, &branch, place)?;
@@ -195,12 +190,8 @@ fn events_slip<R: Register>(
     requires { JudgesFrom chart.old.value kind }
     ensures page { IfOk result
         (λ slip. slip.page ≡ events_in R.behaviour chart.old kind branch place) }
-    ensures found { OnOk result (look (forest chart.old.trie) branch place
-        ≡ Ok (forest chart.old.trie)) }
-    ensures err { IfErr result (IsRefused (look (forest chart.old.trie) branch place)) }
+    ensures look { IsLookAt R.behaviour chart.old branch place result }
     ensures kept { IsChartKept chart.old chart.new }
-    ensures judged { IfOk result (λ slip. slip.judged ≡ Some chart.old.start.register) }
-    ensures judges { IfOk result (λ slip. Judges (R.behaviour chart.old.start.register) slip.page) }
 {
     chart.lemma_steps_fit();
     let judged = judged_by(chart);
@@ -237,11 +228,7 @@ fn steps_slip<R: Register>(
     branch: Name,
 ) -> Result<Slip<R>, Refusal>
     ensures page { IfOk result (λ slip. slip.page ≡ steps_page (forest chart.now.trie) branch) }
-    ensures found { OnOk result
-        (look (forest chart.now.trie) branch 0 ≡ Ok (forest chart.now.trie)) }
-    ensures err { IfErr result (IsRefused (look (forest chart.now.trie) branch 0)) }
-    ensures judged { IfOk result (λ slip. slip.judged ≡ Some chart.now.start.register) }
-    ensures judges { IfOk result (λ slip. Judges (R.behaviour chart.now.start.register) slip.page) }
+    ensures look { IsLookAt R.behaviour chart.now branch 0 result }
 {
     let judged = judged_by(chart);
     let steps = Listed::new(chart.path(alloc, &branch)?);
