@@ -1,20 +1,19 @@
 -- What is left to settle of a branch: the segments down to `hung`, then those whose runs hang from
 -- the run at `hung`.
-use Rattle.std.proofs.Common.{◌≡◌, ◌⊎◌, ◌≤◌, inl, inr, ℕ, suc, ◌+◌, ◌<◌, Bool, true, List, [], ◌∷◌, ◌++◌, length, drop, get_or, Option, Some, None, refl, sym, ap, subst, ◌∙◌, arith, append-nil, append_assoc}
+use Rattle.std.proofs.Common.{◌≡◌, ℕ, suc, ◌+◌, ◌<◌, Bool, true, List, [], ◌∷◌, ◌++◌, length, drop, get_or, Option, Some, None, refl, sym, ap, subst, ◌∙◌, arith, append-nil, append_assoc}
 use Rattle.std.specs.Cmp.{IsPartialEquivalence, IsEquivalence}
 use Rattle.std.specs.Option.{option_map}
 use Rattle.std.proofs.Math.Seq.{drop-cons}
 use Rattle.std.proofs.lemmas.List.{append_cancel_left, append_cancel_right}
 use Rattle.frames.specs.Behaviour.{Behaviour}
 use Rattle.frames.specs.Configuration.{Configuration}
-use Rattle.schedule_trie.specs.Trie.{TrieOf, segment_at, note_of, keys_in, has}
+use Rattle.schedule_trie.specs.Trie.{TrieOf, keys_in, has}
 use Rattle.schedule_trie.specs.Climbs.{keys_up_to, keys_to, last_from}
 use Rattle.schedule_trie.proofs.lists.NoRepeats.{has-in, has-left}
 use Rattle.schedule_trie.proofs.limbs.OwnParts.{last_reached}
 use Rattle.schedule_trie.proofs.lists.KeyPositions.{parting}
 use Rattle.cutoff.specs.Fitting.{StoredRun, run_of, run_at}
-use Rattle.cutoff.specs.Links.{run_checked}
-use Rattle.cutoff.specs.Prefixes.{HasTrueRun, RunsDown, RunsTo, Hangs, IsMarked, AreFresh, AreKeysAfter, IsHung, exit_or_start, exit_or, run_named}
+use Rattle.cutoff.specs.Prefixes.{HasTrueRun, RunsDown, RunsTo, Hangs, IsKnown, IsMarked, AreKeysAfter, IsHung, exit_or_start, exit_or, run_named}
 use Rattle.cutoff.specs.Settles.{SettlesTo}
 use Rattle.cutoff.proofs.Prefixes.{down_same, down_more}
 use Rattle.cutoff.proofs.RestWalks.{IsGoing, hanging_settles}
@@ -87,7 +86,7 @@ module _ {R P : Type 0} (E : R → R → Bool) (per : IsPartialEquivalence E) (i
   last_from-append above [] below = refl
   last_from-append above (k ∷ keys) below = last_from-append (Some k) keys below
 
-  pub hung_runs : (top front i : ℕ) → IsHung E is trie top front i → has front (keys_in trie.branches i) ≡ true → RunsTo E is trie start (Some top) (keys_in trie.branches i)
+  hung_runs : (top front i : ℕ) → IsHung E is trie top front i → has front (keys_in trie.branches i) ≡ true → RunsTo E is trie start (Some top) (keys_in trie.branches i)
       → RunsTo E is trie start (Some front) (keys_in trie.branches i)
   hung_runs top front i h there d =
       let keys = keys_in trie.branches i in
@@ -97,8 +96,7 @@ module _ {R P : Type 0} (E : R → R → Bool) (per : IsPartialEquivalence E) (i
       (subst (λ l. RunsDown E is trie (is start.register) start l (exit_or_start trie start (last_from (Some top) h.below))) (sym h.path)
       (hung_down (keys_up_to top keys) h.below (Some top) d (h.hangs start)))
 
-  -- a segment is marked if it was, or if its run is fresh
-  pub known_marked : (mark fresh : Option ℕ) (k : ℕ) (o : Option (StoredRun R P)) → IsMarked E is trie start mark → AreFresh E is trie start fresh → o ≡ note_of (segment_at trie.segments k)
-      → (mark ≡ Some k) ⊎ ((a : ℕ) × (b : ℕ) × (run_checked o ≡ Some a) × (fresh ≡ Some b) × (b ≤ a)) → IsMarked E is trie start (Some k)
-  known_marked mark fresh k o marked all noted (inl here) = subst (IsMarked E is trie start) here marked
-  known_marked mark fresh k o marked all noted (inr late) = subst (AreFresh E is trie start) late.3 all k late.0 (ap run_checked (sym noted) ∙ late.2) late.4
+  -- if runs fit down to the segment at which a climb ended, they fit down to the lowest it passed
+  pub known_front : (key top front : ℕ) → ((i : ℕ) → has key (keys_in trie.branches i) ≡ true → has front (keys_in trie.branches i) ≡ true)
+      → ((i : ℕ) → has key (keys_in trie.branches i) ≡ true → IsHung E is trie top front i) → IsMarked E is trie start (Some top) → IsKnown E is trie start key (Some front)
+  known_front key top front there hung marked = λ i h. (there i h, hung_runs top front i (hung i h) (there i h) (marked i (hung i h).there))

@@ -10,12 +10,14 @@ use Rattle.schedule_trie.specs.declared.slot.Slot.{Slot}
 use Rattle.schedule_trie.specs.declared.refusal.Refusal.{Refusal}
 use Rattle.schedule_trie.specs.declared.refusal.Refusal.TheVariants.{NoPlace, Memory}
 use Rattle.schedule_trie.specs.Forest.{Forest, IsRefused, slots_in, step_of, index_of, on_found}
-use Rattle.schedule_trie.specs.Trie.{TrieOf, SegmentOf, segment_at, line, forest, has, keys_in, SharesAbove, IsCut}
+use Rattle.schedule_trie.specs.Trie.{TrieOf, SegmentOf, segment_at, note_of, line, forest, has, keys_in, SharesAbove, IsCut}
 use Rattle.schedule_trie.proofs.branches.Lines.{slots_in_on}
 use Rattle.cutoff.specs.Fitting.{StoredRun, KeepsRuns}
 use Rattle.cutoff.specs.Settles.{IsFilled}
 use Rattle.cutoff.specs.Links.{without_register, IsLinked}
 use Rattle.cutoff.specs.Prefixes.{IsMarked, AreFresh}
+use Rattle.cutoff.specs.Known.{AreKnown, IsDown}
+use Rattle.cutoff.specs.declared.known.Known.{Known}
 use Rattle.cutoff.specs.Charts.{Charted, IsCharted, StepsFit, keys_or, keys_named, looked_at, look}
 
 -- the same cells at each key
@@ -67,6 +69,14 @@ charted_marked E is next fresh mark first other c all_marked marked was = record
   marked = marked;
   fresh_marked = all_marked;
 }
+
+-- what a chart's mark and numbers say of its stored runs
+pub chart_known : {R P : Type 0} (E : R → R → Bool) (is : R → Behaviour P) (next : ℕ) (known : Known) (c : Charted R P) → IsCharted E is next known.fresh known.mark c → AreKnown E is c.trie c.start known
+chart_known E is next known c was = record { linked = (next, was.linked); cut = was.whole; fits = was.fits; down = by }
+  where
+    by : (k : ℕ) → IsDown known k (note_of (segment_at c.trie.segments k)) → IsMarked E is c.trie c.start (Some k)
+    by k (inl here) = subst (IsMarked E is c.trie c.start) here was.marked
+    by k (inr late) = subst (AreFresh E is c.trie c.start) late.3 was.fresh_marked k late.0 late.2 late.4
 
 -- the named branch, by its index in the order the branches were made
 module _ {R P : Type 0} (b : Behaviour P) (trie : TrieOf (StoredRun R P)) (name : List ℕ) (index len : ℕ) (at : index_of (forest trie).branches name ≡ Some index)

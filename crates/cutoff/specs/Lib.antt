@@ -8,4 +8,5 @@ pub mod Edits
 pub mod Plans
 pub mod Sights
 pub mod Installs
+pub mod Known
 pub mod EarlyCutoff

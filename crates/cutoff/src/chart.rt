@@ -17,6 +17,7 @@ mod limbs;
 
 use crate::check::check_above;
 use crate::install::{Installation, fits_down, has_segment};
+use crate::known::Known;
 use crate::number::{Number, take_number};
 use crate::plan::{Base, Job, plan_all};
 use crate::runs::{Spot, runs_in};
@@ -268,8 +269,10 @@ impl<R: Register> Chart<R> {
             alloc,
             trie: &self.trie,
             start: &self.start,
-            mark: self.mark,
-            fresh: self.fresh,
+            known: Known {
+                mark: self.mark,
+                fresh: self.fresh,
+            },
         };
         let jobs = plan_all(&base, index)?;
         Ok(jobs)

@@ -6,14 +6,13 @@ ghost use Rattle.std.specs.Prelude.{◌≡◌, ◌≤◌, ℕ, Option, None, Som
 ghost use Rattle.std.specs.Option.{option_copied, option_map};
 ghost use Rattle.checkpoints.specs.Segment.{IsRun};
 ghost use Rattle.frames.specs.Recorded.{AllFit};
-ghost use Rattle.schedule_trie.specs.Trie.{forest, keys_in, line, segment_at, IsCut};
+ghost use Rattle.schedule_trie.specs.Trie.{keys_in, line, segment_at, IsCut};
 ghost use Rattle.cutoff.specs.Fitting.{KeepsRuns, counted_of, part_of, reached, run_of, steps_at};
 ghost use Rattle.cutoff.specs.Settles.{IsSegmentSettled, IsFilled, SettlesTo};
-ghost use Rattle.cutoff.specs.Charts.{StepsFit};
 ghost use Rattle.cutoff.specs.Links.{IsLinkedAt};
-ghost use Rattle.cutoff.specs.Prefixes.{AreFresh, IsMarked, IsPlaceIn, IsLeft, exit_or, note_named};
+ghost use Rattle.cutoff.specs.Prefixes.{AreFresh, IsLeft, exit_or, note_named};
 
-use crate::prefix::{Known, Rest, keys_down_to, rest_to};
+use crate::prefix::{Rest, keys_down_to};
 use crate::settle::{fitting, replay_segment, store_replayed};
 use crate::stored::{Stored, entry_below, shared_entry, stored_at};
 use checkpoints::run::Run;
@@ -89,7 +88,7 @@ fn settle_below<R: Register>(
 /// `rest.hung` or a segment below it needs no replay: the runs stored below that segment, down to
 /// `key`, then still fit. Returns what is now stored in the segment `key`, and how many steps were
 /// replayed.
-fn settle_rest<R: Register>(
+pub(crate) fn settle_rest<R: Register>(
     alloc: Global,
     trie: &mut Trie<Stored<R>>,
     next: &mut u64,
@@ -140,41 +139,6 @@ fn settle_rest<R: Register>(
         }
     }
     Ok((above, replayed))
-}
-
-/// Settles the segments of a branch from the first down to `key`: replays each that no stored run
-/// fits, and stores the new run. Returns what is now stored in the segment `key`, and how many
-/// steps were replayed.
-pub(crate) fn settle_to<R: Register>(
-    alloc: Global,
-    trie: &mut Trie<Stored<R>>,
-    next: &mut u64,
-    start: &Config<R>,
-    known: &Known,
-    key: SegKey,
-) -> Result<(Option<Stored<R>>, u32), AllocError>
-    requires linked { IsLinkedAt R.PartialEq.eq start.now next.old None trie.old }
-    requires cut { IsCut trie.old }
-    requires marked { IsMarked R.PartialEq.eq R.behaviour trie.old start.now known.now.mark }
-    requires fresh { AreFresh R.PartialEq.eq R.behaviour trie.old start.now known.now.fresh }
-    requires fits { StepsFit (R.behaviour start.now.register) (forest trie.old) }
-    requires there { (i : ℕ) × (count : ℕ) × (place : ℕ) × IsPlaceIn trie.old key count place i
-        × (length (line (segment_at trie.old.segments) (keys_in trie.old.branches i))
-        ≤ 4294967295) }
-    ensures stored { IfOk result (λ r. r.0 ≡ note_named trie.new (Some key)) }
-    ensures settles { IfOk result (λ r. (i count place : ℕ) → IsPlaceIn trie.old key count place i
-        → SettlesTo R.PartialEq.eq R.behaviour trie.old trie.new start.now key count place i r.1) }
-    ensures keeps { (i count place : ℕ) → IsPlaceIn trie.old key count place i
-        → KeepsRuns trie.old trie.new (IsFilled R.PartialEq.eq (R.behaviour start.now.register)
-        trie.old trie.new start.now (reached trie.old place (keys_in trie.old.branches i))) }
-    ensures linked { IsLinkedAt R.PartialEq.eq start.now next.new None trie.new }
-    ensures fresh { (first : Option ℕ)
-        → AreFresh R.PartialEq.eq R.behaviour trie.old start.now first
-        → AreFresh R.PartialEq.eq R.behaviour trie.new start.now first }
-{
-    let rest = rest_to(alloc, trie, start, known, key)?;
-    let settled = settle_rest(alloc, trie, next, start, &rest, key)?;
-    Ok(settled)
 }
 
 /// The run of `stored`, of which `count` steps count; `None` if nothing is stored.

@@ -11,6 +11,7 @@ pub mod chart;
 mod check;
 mod climb;
 pub mod install;
+mod known;
 pub mod last;
 pub mod laws;
 mod number;

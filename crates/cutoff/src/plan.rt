@@ -5,16 +5,15 @@ ghost use Rattle.std.specs.Arc.{arc_value};
 ghost use Rattle.frames.specs.Configuration.{Configuration};
 ghost use Rattle.frames.specs.Recorded.{AllFit};
 ghost use Rattle.schedule_trie.specs.Forest.{step_of};
-ghost use Rattle.schedule_trie.specs.Trie.{keys_in, forest, IsCut};
+ghost use Rattle.schedule_trie.specs.Trie.{keys_in, IsCut};
 ghost use Rattle.cutoff.specs.Fitting.{steps_at};
-ghost use Rattle.cutoff.specs.Charts.{StepsFit};
+ghost use Rattle.cutoff.specs.Known.{AreKnown};
 ghost use Rattle.cutoff.specs.Links.{AreLinked};
 ghost use Rattle.cutoff.specs.Plans.{Descends, Planned, Plans, with_job, job_of, keys_of};
-ghost use Rattle.cutoff.specs.Prefixes.{AreFresh, IsMarked, exit_or_start};
+ghost use Rattle.cutoff.specs.Prefixes.{IsMarked, exit_or_start};
 ghost use Rattle.cutoff.specs.Sights.{AreSeen, HasDescendedAbove, HasDescended, IsUnseenPart, LooksBelow, sight_at, unseen};
 
-use crate::number::Number;
-use crate::prefix::is_marked;
+use crate::known::{Known, is_down};
 use crate::settle::fitting;
 use crate::sight::{Sight, known, record_fit};
 use crate::stored::{Stored, entry_below, shared_entry, stored_at};
@@ -60,14 +59,13 @@ struct Planning<R: Register> {
 }
 
 /// What a plan is made from: memory; the branches, with their stored runs; the configuration before
-/// their first steps; the marked segment; and the number from which on runs were last found to fit.
+/// their first steps; and what is known of the runs.
 #[derive(Drop)]
 pub(crate) struct Base<'a, R: Register> {
     pub(crate) alloc: Global,
     pub(crate) trie: &'a Trie<Stored<R>>,
     pub(crate) start: &'a Config<R>,
-    pub(crate) mark: Option<SegKey>,
-    pub(crate) fresh: Number,
+    pub(crate) known: Known,
 }
 
 /// For each branch, a job for its first segment that no stored run fits. The job of the branch at
@@ -78,13 +76,8 @@ pub(crate) fn plan_all<R: Register>(
     base: &Base<'_, R>,
     index: usize,
 ) -> Result<Vec<Job<R>>, AllocError>
-    requires linked { AreLinked R.PartialEq.eq base.now.start.now base.now.trie.now }
-    requires cut { IsCut base.now.trie.now }
-    requires marked { IsMarked R.PartialEq.eq R.behaviour base.now.trie.now base.now.start.now
-        base.now.mark }
-    requires fresh { AreFresh R.PartialEq.eq R.behaviour base.now.trie.now base.now.start.now
-        base.now.fresh }
-    requires fits { StepsFit (R.behaviour base.now.start.now.register) (forest base.now.trie.now) }
+    requires known { AreKnown R.PartialEq.eq R.behaviour base.now.trie.now base.now.start.now
+        base.now.known }
     ensures { IfOk result
         (λ jobs. Plans R.PartialEq.eq (R.behaviour base.now.start.now.register) base.now.trie.now
         base.now.start.now []
@@ -113,13 +106,8 @@ fn plan_branch<R: Register>(
     keys: &mut Vec<SegKey>,
     planning: &mut Planning<R>,
 ) -> Result<(), AllocError>
-    requires linked { AreLinked R.PartialEq.eq base.now.start.now base.now.trie.now }
-    requires cut { IsCut base.now.trie.now }
-    requires marked { IsMarked R.PartialEq.eq R.behaviour base.now.trie.now base.now.start.now
-        base.now.mark }
-    requires fresh { AreFresh R.PartialEq.eq R.behaviour base.now.trie.now base.now.start.now
-        base.now.fresh }
-    requires fits { StepsFit (R.behaviour base.now.start.now.register) (forest base.now.trie.now) }
+    requires known { AreKnown R.PartialEq.eq R.behaviour base.now.trie.now base.now.start.now
+        base.now.known }
     requires seen { AreSeen R.PartialEq.eq R.behaviour base.now.trie.now base.now.start.now
         planning.old.seen.items planning.old.jobs.items }
     ensures seen { OnOk result (AreSeen R.PartialEq.eq R.behaviour base.now.trie.now
@@ -147,11 +135,8 @@ fn unseen_keys<R: Register>(
     index: usize,
     keys: &mut Vec<SegKey>,
 ) -> Result<bool, AllocError>
-    requires cut { IsCut base.now.trie.now }
-    requires marked { IsMarked R.PartialEq.eq R.behaviour base.now.trie.now base.now.start.now
-        base.now.mark }
-    requires fresh { AreFresh R.PartialEq.eq R.behaviour base.now.trie.now base.now.start.now
-        base.now.fresh }
+    requires known { AreKnown R.PartialEq.eq R.behaviour base.now.trie.now base.now.start.now
+        base.now.known }
     ensures { IfOk result
         (λ fits. IsUnseenPart (λ k. IsMarked R.PartialEq.eq R.behaviour base.now.trie.now
         base.now.start.now (Some k)) seen.now (keys_in base.now.trie.now.branches index) fits
@@ -160,34 +145,16 @@ fn unseen_keys<R: Register>(
     keys.clear();
     let mut at = base.trie.last_at(index);
     while let Some(key) = at {
-        if let Some(fits) = known(is_down(base, key), seen, key) {
+        let (note, above) = base.trie.step_up_from(key);
+        if let Some(fits) = known(is_down(&base.known, key, note), seen, key) {
             keys.reverse();
             return Ok(fits);
         }
         keys.push(key)?;
-        at = base.trie.above(key);
+        at = above;
     }
     keys.reverse();
     Ok(true)
-}
-
-/// Whether stored runs are known to fit down to the segment `key`, without a visit: it is marked, or
-/// its run was last found to fit with the number `fresh` or a greater one.
-fn is_down<R: Register>(base: &Base<'_, R>, key: SegKey) -> bool
-    requires marked { IsMarked R.PartialEq.eq R.behaviour base.now.trie.now base.now.start.now
-        base.now.mark }
-    requires fresh { AreFresh R.PartialEq.eq R.behaviour base.now.trie.now base.now.start.now
-        base.now.fresh }
-    ensures { result ≡ true
-        → IsMarked R.PartialEq.eq R.behaviour base.now.trie.now base.now.start.now (Some key) }
-{
-    if is_marked(base.mark, key) {
-        return true;
-    }
-    match base.trie.note(key) {
-        Some(stored) => stored.checked().is_from(base.fresh),
-        None => false,
-    }
 }
 
 /// Visits the segment `key`, and returns whether stored runs fit down to it. `above_fits` says

@@ -3,31 +3,21 @@
 //! fit. A run hangs from the run right above it if the lower run's link is the upper run's number:
 //! the lower run then begins at the upper run's exit.
 
-ghost use Rattle.std.specs.Prelude.{◌≡◌, ◌≤◌, ◌⊎◌, ℕ, None, Some, true, IfOk, reverse};
-ghost use Rattle.std.specs.Bool.{Decides};
+ghost use Rattle.std.specs.Prelude.{◌≡◌, ℕ, None, Some, true, IfOk, reverse};
 ghost use Rattle.std.specs.Option.{option_copied};
 ghost use Rattle.frames.specs.Configuration.{Configuration};
-ghost use Rattle.schedule_trie.specs.Trie.{forest, has, keys_in, IsCut};
+ghost use Rattle.schedule_trie.specs.Trie.{has, keys_in, IsCut};
 ghost use Rattle.schedule_trie.specs.Climbs.{keys_to, HasClimbedTo};
-ghost use Rattle.cutoff.specs.Links.{AreLinked, run_checked};
-ghost use Rattle.cutoff.specs.Prefixes.{AreFresh, AreKeysAfter, IsMarked, IsKnown, IsPlaceIn, IsHung, IsLeft, IsTop};
-ghost use Rattle.cutoff.specs.Charts.{StepsFit};
+ghost use Rattle.cutoff.specs.Links.{AreLinked};
+ghost use Rattle.cutoff.specs.Prefixes.{AreKeysAfter, IsKnown, IsPlaceIn, IsHung, IsLeft, IsTop};
+ghost use Rattle.cutoff.specs.Known.{AreKnown};
 
-use crate::number::Number;
+use crate::known::{Known, is_down, may_stop};
 use crate::stored::Stored;
 use frames::config::Config;
 use frames::register::Register;
 use schedule_trie::trie::{SegKey, Trie};
 use std::alloc::{AllocError, Global};
-
-/// What is known of stored runs: they fit all segments from the first down to the marked one, if
-/// one is marked, and down to each one whose run was last found to fit with the number `fresh` or a
-/// greater one.
-#[derive(Drop)]
-pub(crate) struct Known {
-    pub(crate) mark: Option<SegKey>,
-    pub(crate) fresh: Number,
-}
 
 /// What is left to settle of a branch down to one of its segments, the target. Stored runs are
 /// known to fit from the first segment down to `front`; if `front` is `None`, no run is known to
@@ -59,10 +49,7 @@ fn known_prefix<R: Register>(
     known: &Known,
     first: Top<'_, R>,
 ) -> Option<SegKey>
-    requires linked { AreLinked R.PartialEq.eq start.now trie.now }
-    requires cut { IsCut trie.now }
-    requires marked { IsMarked R.PartialEq.eq R.behaviour trie.now start.now known.now.mark }
-    requires fresh { AreFresh R.PartialEq.eq R.behaviour trie.now start.now known.now.fresh }
+    requires known { AreKnown R.PartialEq.eq R.behaviour trie.now start.now known.now }
     requires there { (i : ℕ) × (has first.key (keys_in trie.now.branches i) ≡ true) }
     requires top { IsTop trie.now first.key (option_copied first.stored) first.above }
     ensures { IsKnown R.PartialEq.eq R.behaviour trie.now start.now first.entry.key result }
@@ -71,7 +58,7 @@ fn known_prefix<R: Register>(
     let mut top = first;
     // a branch has at most one segment for each cell ever made
     for _ in 0..trie.made() {
-        if is_known(known, top.key, top.stored) {
+        if is_down(known, top.key, top.stored) {
             return Some(front);
         }
         let Some(next) = top.above else {
@@ -139,39 +126,6 @@ fn hung_from<'a, R: Register>(trie: &'a Trie<Stored<R>>, known: &Known, key: Seg
     }
 }
 
-/// Whether stored runs are known to fit all segments from the first down to `key`, in which
-/// `stored` is stored.
-#[inline(always)]
-fn is_known<R: Register>(known: &Known, key: SegKey, stored: Option<&Stored<R>>) -> bool
-    ensures { result ≡ true → (known.now.mark ≡ Some key) ⊎ ((a : ℕ) × (b : ℕ)
-        × (run_checked (option_copied stored.entry) ≡ Some a) × (known.now.fresh ≡ Some b) × (b ≤ a)) }
-{
-    match stored {
-        Some(stored) => is_marked(known.mark, key) || stored.checked().is_from(known.fresh),
-        None => false,
-    }
-}
-
-/// Whether a climb of runs that hang from one another had better stop at the segment `key`, in which
-/// `stored` is stored: if stored runs are known to fit down to it. Takes fewer instructions than
-/// `is_known`, and is also true of a run without a number.
-#[inline(always)]
-fn may_stop<R: Register>(known: &Known, key: SegKey, stored: &Stored<R>) -> bool
-    ensures { known.now.mark ≡ Some key → result ≡ true }
-{
-    key == known.mark.unwrap_or(usize::MAX) || !stored.checked().is_before(known.fresh)
-}
-
-/// Whether the segment `key` is the marked one; false if none is marked.
-pub(crate) fn is_marked(mark: Option<SegKey>, key: SegKey) -> bool
-    ensures { Decides result (mark ≡ Some key) }
-{
-    match mark {
-        Some(mark) => mark == key,
-        None => false,
-    }
-}
-
 /// What is left to settle down to the segment `key`, on each branch that has this segment; all
 /// these branches have the same segments above it.
 pub(crate) fn rest_to<R: Register>(
@@ -181,11 +135,7 @@ pub(crate) fn rest_to<R: Register>(
     known: &Known,
     key: SegKey,
 ) -> Result<Rest, AllocError>
-    requires linked { AreLinked R.PartialEq.eq start.now trie.now }
-    requires cut { IsCut trie.now }
-    requires marked { IsMarked R.PartialEq.eq R.behaviour trie.now start.now known.now.mark }
-    requires fresh { AreFresh R.PartialEq.eq R.behaviour trie.now start.now known.now.fresh }
-    requires fits { StepsFit (R.behaviour start.now.register) (forest trie.now) }
+    requires known { AreKnown R.PartialEq.eq R.behaviour trie.now start.now known.now }
     requires there { (i : ℕ) × (has key (keys_in trie.now.branches i) ≡ true) }
     ensures { IfOk result (λ r. (i count place : ℕ) → IsPlaceIn trie.now key count place i
         → IsLeft R.PartialEq.eq R.behaviour trie.now start.now r.front r.keys.items r.hung

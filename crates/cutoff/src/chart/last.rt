@@ -10,9 +10,10 @@ ghost use Rattle.cutoff.specs.Charts.{look};
 ghost use Rattle.cutoff.specs.Settles.{IsSettledLast, KeepsOrFills};
 
 use super::{Chart, branch_to};
-use crate::last::{Last, counted, settle_to};
+use crate::known::Known;
+use crate::last::{Last, counted, settle_rest};
 use crate::number::Number;
-use crate::prefix::Known;
+use crate::prefix::rest_to;
 use frames::register::Register;
 use schedule_trie::name::Name;
 use schedule_trie::refusal::Refusal;
@@ -67,15 +68,16 @@ impl<R: Register> Chart<R> {
             mark: self.mark,
             fresh: self.fresh,
         };
+        let rest = rest_to(alloc, &self.trie, &self.start, &known, key)?;
         self.mark = None;
         // stored runs will be known to fit down to each one that is stored from now on
         self.fresh = self.fresh.or(Number::following(self.next));
-        let (stored, replayed) = settle_to(
+        let (stored, replayed) = settle_rest(
             alloc,
             &mut self.trie,
             &mut self.next,
             &self.start,
-            &known,
+            &rest,
             key,
         )?;
         self.mark = Some(key);

@@ -12,7 +12,7 @@ loop-key-init g c =
 pub visit-requires-clause-fits : goal.visit-requires-clause-fits
 visit-requires-clause-fits g c =
     at_fits g.R.PartialEq.eq g.met.R.PartialEq.laws g.R.Behaves.behaviour g.met.R.Register.alike c.args.base.now.trie.now c.args.base.now.start.now c.args.planning.now.jobs.items c.args.index
-    c.as_slice-key-items.result.now c.loop-key.key-index c.loop-key.fits c.loop-key-test.true c.loop-key.invariant c.requires.fits
+    c.as_slice-key-items.result.now c.loop-key.key-index c.loop-key.fits c.loop-key-test.true c.loop-key.invariant c.requires.known.fits
 
 pub visit-requires-clause-seen : goal.visit-requires-clause-seen
 visit-requires-clause-seen g c = c.loop-key.invariant.seen_so
@@ -35,7 +35,7 @@ loop-key-preserved g c =
     c.as_slice-key-items.result.now c.loop-key.key-index c.loop-key.fits c.loop-key-test.true c.loop-key.invariant in
     at_on g.R.PartialEq.eq g.met.R.PartialEq.laws g.R.Behaves.behaviour g.met.R.Register.alike c.args.base.now.trie.now c.args.base.now.start.now c.args.planning.now.jobs.items c.args.index
     c.as_slice-key-items.result.now c.loop-key.key-index c.loop-key.fits c.loop-key-test.true c.loop-key.invariant
-    c.requires.cut c.in_ok-fits-2.ensures.seen c.in_ok-fits-2.ensures.others (c.in_ok-fits-2.ensures.arrives c.args.planning.now.jobs.items comes)
+    c.requires.known.cut c.in_ok-fits-2.ensures.seen c.in_ok-fits-2.ensures.others (c.in_ok-fits-2.ensures.arrives c.args.planning.now.jobs.items comes)
 
 pub returns-clause-seen : goal.returns-clause-seen
 returns-clause-seen g c = c.loop-key.invariant.seen_so

@@ -3,6 +3,7 @@ use Rattle.schedule_trie.specs.Trie.{keys_in}
 use Rattle.schedule_trie.specs.Climbs.{keys_to, HasClimbedTo}
 use Rattle.schedule_trie.proofs.climbs.Climbs.{IsLast, last_is, step_up}
 use Rattle.schedule_trie.proofs.limbs.OwnParts.{climbing_first, climbing_up}
+use Rattle.cutoff.specs.Known.{IsDown}
 use Rattle.cutoff.specs.Prefixes.{IsMarked}
 use Rattle.cutoff.specs.Sights.{IsKnownAt}
 use Rattle.cutoff.proofs.Climbs.{path_once, shorter}
@@ -12,15 +13,15 @@ use Rattle.cutoff.proofs.plan.unseen_keys.Goals as goal
 pub loop-at-init : goal.loop-at-init
 loop-at-init g c =
     let keys = keys_in c.args.base.now.trie.now.branches c.args.index in
-    let last = subst (IsLast keys) (sym c.last_at-at.ensures) (last_is keys (path_once c.args.base.now.trie.now c.requires.cut c.args.index)) in
+    let last = subst (IsLast keys) (sym c.last_at-at.ensures) (last_is keys (path_once c.args.base.now.trie.now c.requires.known.cut c.args.index)) in
     rw c.clear.ensures.items (record { climbing = climbing_first (IsUnseen c.args.seen.now) keys c.last_at-at.result last })
 
 pub loop-at-smaller : goal.loop-at-smaller
 loop-at-smaller g c =
     let keys = keys_in c.args.base.now.trie.now.branches c.args.index in
-    let s = step_up keys c.in-Some.key c.above-at.result (path_once c.args.base.now.trie.now c.requires.cut c.args.index) (subst (HasClimbedTo keys) c.in-Some.is c.loop-at.invariant.climbing.reached)
-    (λ front back e. c.above-at.ensures.each c.args.index front back e) in
-    let fewer = shorter keys c.in-Some.key c.above-at.result s in
+    let s = step_up keys c.in-Some.key c.step_up_from-above.result.1 (path_once c.args.base.now.trie.now c.requires.known.cut c.args.index) (subst (HasClimbedTo keys) c.in-Some.is c.loop-at.invariant.climbing.reached)
+    (λ front back e. c.step_up_from-above.ensures.each c.args.index front back e) in
+    let fewer = shorter keys c.in-Some.key c.step_up_from-above.result.1 s in
     let at = ap (λ o. length (keys_to keys o)) c.in-Some.is in
     omega (arith, fewer, at)
 
@@ -28,16 +29,16 @@ pub loop-at-preserved : goal.loop-at-preserved
 loop-at-preserved g c =
     let keys = keys_in c.args.base.now.trie.now.branches c.args.index in
     let at = c.loop-at.invariant.climbing in
-    let s = step_up keys c.in-Some.key c.above-at.result (path_once c.args.base.now.trie.now c.requires.cut c.args.index) (subst (HasClimbedTo keys) c.in-Some.is at.reached)
-    (λ front back e. c.above-at.ensures.each c.args.index front back e) in
-    record { climbing = climbing_up (IsUnseen c.args.seen.now) keys c.loop-at.at c.in-Some.key c.above-at.result c.loop-at.keys.items c.push.new.self.items c.in-Some.is c.in_ok-push.ensures.items at s c.in_default-known.ensures }
+    let s = step_up keys c.in-Some.key c.step_up_from-above.result.1 (path_once c.args.base.now.trie.now c.requires.known.cut c.args.index) (subst (HasClimbedTo keys) c.in-Some.is at.reached)
+    (λ front back e. c.step_up_from-above.ensures.each c.args.index front back e) in
+    record { climbing = climbing_up (IsUnseen c.args.seen.now) keys c.loop-at.at c.in-Some.key c.step_up_from-above.result.1 c.loop-at.keys.items c.push.new.self.items c.in-Some.is c.in_ok-push.ensures.items at s c.in_default-known.ensures }
 
 pub returns-in-Some-known : goal.returns-in-Some-known
 returns-in-Some-known g c =
     let keys = keys_in c.args.base.now.trie.now.branches c.args.index in
     let Marked = λ (k : ℕ). IsMarked g.R.PartialEq.eq g.R.Behaves.behaviour c.args.base.now.trie.now c.args.base.now.start.now (Some k) in
     unseen_part c.args.seen.now keys Marked c.loop-at.at c.loop-at.keys.items c.reverse.new.self.items c.in-Some-known.fits c.loop-at.invariant.climbing
-    (subst (λ o. IsKnownAt Marked c.args.seen.now o c.in-Some-known.fits) (sym c.in-Some.is) (known_at Marked c.args.seen.now c.in-Some.key c.is_down.result c.in-Some-known.fits c.is_down.ensures c.in-Some-known.ensures))
+    (subst (λ o. IsKnownAt Marked c.args.seen.now o c.in-Some-known.fits) (sym c.in-Some.is) (known_at Marked c.args.seen.now c.in-Some.key c.is_down.result c.in-Some-known.fits (λ down. c.requires.known.down c.in-Some.key (subst (IsDown c.args.base.now.known c.in-Some.key) c.step_up_from-above.ensures.note (c.is_down.ensures down))) c.in-Some-known.ensures))
     c.reverse.ensures.items
 
 pub returns : goal.returns
@@ -46,3 +47,7 @@ returns g c =
     let Marked = λ (k : ℕ). IsMarked g.R.PartialEq.eq g.R.Behaves.behaviour c.args.base.now.trie.now c.args.base.now.start.now (Some k) in
     unseen_part c.args.seen.now keys Marked c.loop-at.at c.loop-at.keys.items c.reverse-2.new.self.items _ c.loop-at.invariant.climbing
     (subst (λ o. IsKnownAt Marked c.args.seen.now o _) (sym c.in_default.is) refl) c.reverse-2.ensures.items
+
+pub step_up_from-above-requires : goal.step_up_from-above-requires
+step_up_from-above-requires g c =
+    c.requires.known.cut.held c.args.index c.in-Some.key (subst (HasClimbedTo (keys_in c.args.base.now.trie.now.branches c.args.index)) c.in-Some.is c.loop-at.invariant.climbing.reached)

@@ -4,11 +4,12 @@ use Rattle.frames.specs.Equality.{SameConfiguration}
 use Rattle.schedule_trie.specs.Trie.{has, keys_in, note_of, segment_at}
 use Rattle.schedule_trie.specs.Climbs.{keys_to, HasClimbedTo}
 use Rattle.schedule_trie.proofs.climbs.Climbs.{step_up}
+use Rattle.cutoff.specs.Known.{IsDown}
 use Rattle.cutoff.specs.Prefixes.{RunsDown, IsKnown}
 use Rattle.cutoff.proofs.Climbs.{path_once}
 use Rattle.cutoff.proofs.Fits.{stored_at}
 use Rattle.cutoff.proofs.HungRuns.{hung_here}
-use Rattle.cutoff.proofs.LeftToSettle.{hung_runs, known_marked}
+use Rattle.cutoff.proofs.LeftToSettle.{known_front}
 use Rattle.cutoff.proofs.Prefixes.{up_new, none_known}
 use Rattle.cutoff.proofs.prefix.known_prefix.Given.{Over}
 use Rattle.cutoff.proofs.prefix.known_prefix.Goals as goal
@@ -20,42 +21,34 @@ loop-init g c = record {
   top = c.requires.top;
 }
 
-pub returns-then-is_known : goal.returns-then-is_known
-returns-then-is_known g c = λ i h.
-    let E = g.R.PartialEq.eq in
-    let is = g.R.Behaves.behaviour in
-    let trie = c.args.trie.now in
-    let start = c.args.start.now in
-    let there = c.loop.invariant.there i h in
-    let hung = c.loop.invariant.hung i h in
-    let marked = known_marked E g.met.R.PartialEq.laws is g.met.R.Register.alike trie start c.args.known.now.mark c.args.known.now.fresh c.loop.top.key _
-    c.requires.marked c.requires.fresh c.loop.invariant.top.noted (c.is_known.ensures c.if-is_known.true) in
-    (there, hung_runs E g.met.R.PartialEq.laws is g.met.R.Register.alike trie start c.loop.top.key c.loop.front i hung there (marked i hung.there))
+pub returns-then-is_down : goal.returns-then-is_down
+returns-then-is_down g c =
+    known_front g.R.PartialEq.eq g.met.R.PartialEq.laws g.R.Behaves.behaviour g.met.R.Register.alike c.args.trie.now c.args.start.now c.args.first.key c.loop.top.key c.loop.front c.loop.invariant.there c.loop.invariant.hung
+    (c.requires.known.down c.loop.top.key (subst (IsDown c.args.known.now c.loop.top.key) c.loop.invariant.top.noted (c.is_down.ensures c.if-is_down.true)))
 
 pub returns-then-eq : goal.returns-then-eq
-returns-then-eq g c = λ i h.
+returns-then-eq g c =
     let E = g.R.PartialEq.eq in
     let is = g.R.Behaves.behaviour in
     let trie = c.args.trie.now in
     let start = c.args.start.now in
     let top = c.loop.top.key in
-    let keys = keys_in trie.branches i in
     let s = c.in_ok-stored.stored.now in
-    let there = c.loop.invariant.there i h in
-    let hung = c.loop.invariant.hung i h in
-    let told = c.requires.linked.1 in
+    let told = c.requires.known.linked.1 in
     let noted : note_of (segment_at trie.segments top) ≡ Some s = sym c.loop.invariant.top.noted ∙ ap option_copied c.in_ok-stored.was in
-    let step = step_up keys top c.loop.top.above (path_once trie c.requires.cut i) hung.there (λ front back e. c.loop.invariant.top.each i front back e) in
     let begun : SameConfiguration E s.run.entry start = subst (λ d. SameConfiguration E d start) c.entry-begun.ensures.entry (c.eq.ensures.same.0 c.if-eq.true) in
-    let down = up_new E g.met.R.PartialEq.laws is g.met.R.Register.alike trie top s noted c.entry-begun.ensures.kept (stored_at E start.register told.exits trie top s (told.each top) noted).covers
-    start keys c.loop.top.above step (subst (λ o. RunsDown E is trie (is start.register) start (keys_to keys o) s.run.entry) (sym c.in_default.is) begun) in
-    (there, hung_runs E g.met.R.PartialEq.laws is g.met.R.Register.alike trie start top c.loop.front i hung there down)
+    known_front E g.met.R.PartialEq.laws is g.met.R.Register.alike trie start c.args.first.key top c.loop.front c.loop.invariant.there c.loop.invariant.hung
+    (λ i h.
+    let keys = keys_in trie.branches i in
+    let step = step_up keys top c.loop.top.above (path_once trie c.requires.known.cut i) h (λ front back e. c.loop.invariant.top.each i front back e) in
+    up_new E g.met.R.PartialEq.laws is g.met.R.Register.alike trie top s noted c.entry-begun.ensures.kept (stored_at E start.register told.exits trie top s (told.each top) noted).covers
+    start keys c.loop.top.above step (subst (λ o. RunsDown E is trie (is start.register) start (keys_to keys o) s.run.entry) (sym c.in_default.is) begun))
 
 -- the segment right above the one at which the climb ended
 next_there : (g : Over) (c : goal.After-hung_from-top g) (i : ℕ) → has c.args.first.key (keys_in c.args.trie.now.branches i) ≡ true → has c.in-Some.next (keys_in c.args.trie.now.branches i) ≡ true
 next_there g c i h =
     let keys = keys_in c.args.trie.now.branches i in
-    let step = step_up keys c.loop.top.key c.loop.top.above (path_once c.args.trie.now c.requires.cut i) (c.loop.invariant.hung i h).there (λ front back e. c.loop.invariant.top.each i front back e) in
+    let step = step_up keys c.loop.top.key c.loop.top.above (path_once c.args.trie.now c.requires.known.cut i) (c.loop.invariant.hung i h).there (λ front back e. c.loop.invariant.top.each i front back e) in
     subst (HasClimbedTo keys) c.in-Some.is step.reached
 
 pub loop-preserved : goal.loop-preserved
@@ -71,7 +64,7 @@ hung_from-top-requires-clause-there g c =
     let i = c.requires.there.0 in
     let h = c.requires.there.1 in
     let keys = keys_in trie.branches i in
-    let step = step_up keys c.loop.top.key c.loop.top.above (path_once trie c.requires.cut i) (c.loop.invariant.hung i h).there (λ front back e. c.loop.invariant.top.each i front back e) in
+    let step = step_up keys c.loop.top.key c.loop.top.above (path_once trie c.requires.known.cut i) (c.loop.invariant.hung i h).there (λ front back e. c.loop.invariant.top.each i front back e) in
     (i, subst (HasClimbedTo keys) c.in-Some.is step.reached)
 
 pub returns-else-eq : goal.returns-else-eq

@@ -17,7 +17,7 @@ pub keys_down_to-requires-clause-there : goal.keys_down_to-requires-clause-there
 keys_down_to-requires-clause-there g c =
     let i = c.requires.there.0 in (
       i,
-      (step_up (keys_in c.args.trie.now.branches i) c.hung_from-top.result.key c.hung_from-top.result.above (path_once c.args.trie.now c.requires.cut i)
+      (step_up (keys_in c.args.trie.now.branches i) c.hung_from-top.result.key c.hung_from-top.result.above (path_once c.args.trie.now c.requires.known.cut i)
           (c.hung_from-top.ensures.hung i c.requires.there.1).there (λ front back e. c.hung_from-top.ensures.top.each i front back e)).reached,
     )
 
@@ -34,14 +34,14 @@ returns-then-eq g c =
         subst (HasClimbedTo (keys_in trie.branches i)) (sym known) h,
         (λ j. keys_to (keys_in trie.branches i) (sym known j) ++ sym c.new-keys.ensures.items j),
       ),
-    ) c.requires.fits
+    ) c.requires.known.fits
 
 pub returns : goal.returns
 returns g c =
     let to : (i : ℕ) → has c.hung_from-top.result.key (keys_in c.args.trie.now.branches i) ≡ true → IsStepUp (keys_in c.args.trie.now.branches i) c.hung_from-top.result.key c.hung_from-top.result.above =
-    λ i h. step_up (keys_in c.args.trie.now.branches i) c.hung_from-top.result.key c.hung_from-top.result.above (path_once c.args.trie.now c.requires.cut i) h
+    λ i h. step_up (keys_in c.args.trie.now.branches i) c.hung_from-top.result.key c.hung_from-top.result.above (path_once c.args.trie.now c.requires.known.cut i) h
     (λ front back e. c.hung_from-top.ensures.top.each i front back e) in
     left_in g.R.PartialEq.eq g.met.R.Eq.laws g.R.Behaves.behaviour c.args.trie.now c.args.start.now c.hung_from-top.result.key c.args.key c.known_prefix-prefix.result c.in_ok-front.front c.in_ok-front.keys.items
     c.hung_from-top.ensures.hung c.known_prefix-prefix.ensures c.hung_from-top.result.above (c.hung_from-top.result.key ∷ []) (λ i h. ((to i h).reached, (to i h).is))
     (subst (λ l. AreKeysAfter c.args.trie.now c.hung_from-top.result.above l c.known_prefix-prefix.result c.in_ok-front.front c.in_ok-front.keys.items)
-    (ap reverse (c.in_ok-push.ensures.items ∙ ap (λ l. l ++ c.hung_from-top.result.key ∷ []) c.new-keys.ensures.items)) c.in_ok-front.ensures.following) c.requires.fits
+    (ap reverse (c.in_ok-push.ensures.items ∙ ap (λ l. l ++ c.hung_from-top.result.key ∷ []) c.new-keys.ensures.items)) c.in_ok-front.ensures.following) c.requires.known.fits

@@ -3,7 +3,13 @@ use Rattle.schedule_trie.specs.Forest.{index_of}
 use Rattle.schedule_trie.specs.Trie.{forest, keys_in}
 use Rattle.cutoff.specs.Charts.{keys_named, keys_or}
 use Rattle.cutoff.specs.Plans.{AnswersPlan, Plans, keys_of}
+use Rattle.cutoff.proofs.SameBranches.{chart_known}
 use Rattle.cutoff.proofs.chart.Chart.plan.Goals as goal
+
+pub plan_all-requires : goal.plan_all-requires
+plan_all-requires g c = record {
+  known = chart_known g.R.PartialEq.eq g.R.Behaves.behaviour c.self.inside.next _ (record { trie = c.self.inside.trie; start = c.self.inside.start; value = c.self.inside.value }) c.self.invariant;
+}
 
 pub returns : goal.returns
 returns g c =

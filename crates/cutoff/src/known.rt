@@ -1,0 +1,52 @@
+//! Tests whether stored runs are known to fit down to a segment, without a look at those above it.
+
+ghost use Rattle.std.specs.Prelude.{◌≡◌, Some, true};
+ghost use Rattle.std.specs.Bool.{Decides};
+ghost use Rattle.std.specs.Option.{option_copied};
+ghost use Rattle.cutoff.specs.Known.{IsDown};
+
+use crate::number::Number;
+use crate::stored::Stored;
+use frames::register::Register;
+use schedule_trie::trie::SegKey;
+
+/// What is known of stored runs: they fit all segments from the first down to the marked one, if
+/// one is marked, and down to each one whose run was last found to fit with the number `fresh` or a
+/// greater one.
+#[derive(Drop)]
+pub(crate) struct Known {
+    pub(crate) mark: Option<SegKey>,
+    pub(crate) fresh: Number,
+}
+
+/// Whether stored runs are known to fit all segments from the first down to `key`, in which
+/// `stored` is stored.
+#[inline(always)]
+pub(crate) fn is_down<R: Register>(known: &Known, key: SegKey, stored: Option<&Stored<R>>) -> bool
+    ensures { result ≡ true → IsDown known.now key (option_copied stored.entry) }
+{
+    match stored {
+        Some(stored) => is_marked(known.mark, key) || stored.checked().is_from(known.fresh),
+        None => false,
+    }
+}
+
+/// Whether a climb of runs that hang from one another had better stop at the segment `key`, in which
+/// `stored` is stored: if stored runs are known to fit down to it. Takes fewer instructions than
+/// `is_down`, and is also true of a run without a number.
+#[inline(always)]
+pub(crate) fn may_stop<R: Register>(known: &Known, key: SegKey, stored: &Stored<R>) -> bool
+    ensures { known.now.mark ≡ Some key → result ≡ true }
+{
+    key == known.mark.unwrap_or(usize::MAX) || !stored.checked().is_before(known.fresh)
+}
+
+/// Whether the segment `key` is the marked one; false if none is marked.
+fn is_marked(mark: Option<SegKey>, key: SegKey) -> bool
+    ensures { Decides result (mark ≡ Some key) }
+{
+    match mark {
+        Some(mark) => mark == key,
+        None => false,
+    }
+}
