@@ -20,7 +20,7 @@ use Rattle.views.specs.Spots.{part_end, parts_end, IsSpotOf}
 use Rattle.pages.specs.Pages.{config_page, events_page}
 use Rattle.pages.specs.Strays.{Judges, JudgesFrom}
 use Rattle.views.specs.RunPages.{last_page, all_page, content_page, found_last}
-use Rattle.views.specs.ChartLooks.{config_in, events_in}
+use Rattle.views.specs.ChartLooks.{config_page_in, events_page_in}
 use Rattle.views.specs.Looks.{steps_in}
 use Rattle.views.proofs.BehaviourAlone.{page_alone}
 use Rattle.views.proofs.Spots.{spot_of}
@@ -36,13 +36,13 @@ module _ {R P : Type 0} (E : R → R → Bool) (equal : IsEquivalence E) (is : R
   abbrev head_of : ℕ → Head
   head_of n = record { branch = branch; place = place; len = n }
 
-  pub last_is_place : (kind : ConfigKind) → last_page is kind (head_of len) old.start parts ≡ config_in is old kind branch place
+  pub last_is_place : (kind : ConfigKind) → last_page is kind (head_of len) old.start parts ≡ config_page_in is old kind branch place
   last_is_place kind =
       ap (λ n. last_page is kind (head_of n) old.start parts) spot.counted
       ∙ page_alone (is (parts_end is old.start parts).register) (is old.start.register) kind (head_of (length (steps_in (forest old.trie) branch))) (parts_end is old.start parts)
       (shown (is old.start.register) old.value (take place (steps_in (forest old.trie) branch))) spot.home spot.arrives
 
-  pub all_are_events : (kind : EventsKind) → all_page is kind (head_of len) parts ≡ events_in is old kind branch place
+  pub all_are_events : (kind : EventsKind) → all_page is kind (head_of len) parts ≡ events_page_in is old kind branch place
   all_are_events kind =
       ap (λ n. all_page is kind (head_of n) parts) spot.counted
       ∙ ap (λ events. events_page kind (head_of (length (steps_in (forest old.trie) branch))) (indexed 0 events)) spot.records

@@ -21,12 +21,12 @@ shown_by is chart query = page_of (is chart.start.register) chart.value (forest 
 
 -- the page of the kind `what` that shows the configuration after the first `place` steps of a
 -- chart's branch
-abbrev pub config_in : {R P : Type 0} → (R → Behaviour P) → Charted R P → ConfigKind → List ℕ → ℕ → Page
-config_in is chart what branch place = config_at (is chart.start.register) chart.value what branch place (steps_in (forest chart.trie) branch)
+abbrev pub config_page_in : {R P : Type 0} → (R → Behaviour P) → Charted R P → ConfigKind → List ℕ → ℕ → Page
+config_page_in is chart what branch place = config_at (is chart.start.register) chart.value what branch place (steps_in (forest chart.trie) branch)
 
 -- the page of the kind `what` that shows the events of the first `place` steps of a chart's branch
-abbrev pub events_in : {R P : Type 0} → (R → Behaviour P) → Charted R P → EventsKind → List ℕ → ℕ → Page
-events_in is chart what branch place = events_at (is chart.start.register) chart.value what branch place (steps_in (forest chart.trie) branch)
+abbrev pub events_page_in : {R P : Type 0} → (R → Behaviour P) → Charted R P → EventsKind → List ℕ → ℕ → Page
+events_page_in is chart what branch place = events_at (is chart.start.register) chart.value what branch place (steps_in (forest chart.trie) branch)
 
 -- the page that shows all steps of a branch of a forest
 abbrev pub steps_page : Forest → List ℕ → Page

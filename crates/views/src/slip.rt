@@ -5,7 +5,7 @@ ghost use Rattle.schedule_trie.specs.Forest.{IsRefused};
 ghost use Rattle.schedule_trie.specs.Trie.{forest};
 ghost use Rattle.views.specs.Looks as spec;
 ghost use Rattle.views.specs.Looks.{looked, IsChartKept};
-ghost use Rattle.views.specs.ChartLooks.{IsLookAt, shown_by, config_in, events_in, steps_page};
+ghost use Rattle.views.specs.ChartLooks.{IsLookAt, shown_by, config_page_in, events_page_in, steps_page};
 ghost use Rattle.views.specs.RunPages.{found_last};
 ghost use Rattle.pages.specs.Strays.{IsRegularOrAtomic, Judges, JudgesIts, JudgesFrom, ShowsNoStray};
 
@@ -167,7 +167,7 @@ fn config_slip<R: Register>(
     place: u32,
 ) -> Result<Slip<R>, Refusal>
     ensures page { IfOk result
-        (λ slip. slip.page ≡ config_in R.behaviour chart.old kind branch place) }
+        (λ slip. slip.page ≡ config_page_in R.behaviour chart.old kind branch place) }
     ensures look { IsLookAt R.behaviour chart.old branch place result }
     ensures kept { IsChartKept chart.old chart.new }
 {
@@ -189,7 +189,7 @@ fn events_slip<R: Register>(
 ) -> Result<Slip<R>, Refusal>
     requires { JudgesFrom chart.old.value kind }
     ensures page { IfOk result
-        (λ slip. slip.page ≡ events_in R.behaviour chart.old kind branch place) }
+        (λ slip. slip.page ≡ events_page_in R.behaviour chart.old kind branch place) }
     ensures look { IsLookAt R.behaviour chart.old branch place result }
     ensures kept { IsChartKept chart.old chart.new }
 {

@@ -4,8 +4,8 @@
 use super::jobs::installed;
 use super::shown::text_of_slip;
 use super::{are_edited, edits, limits, name, names};
-use crate::registers::switch::Switch;
 use crate::registers::READ;
+use crate::registers::switch::Switch;
 use cutoff::{Chart, Spot};
 use frames::Config;
 use schedule_trie::{Edit, Name, Refusal};
