@@ -4,14 +4,14 @@ ghost use Rattle.std.specs.Prelude.{◌≡◌, ℕ, true, List, [], ◌∷◌, O
 ghost use Rattle.std.specs.Arc.{arc_value};
 ghost use Rattle.frames.specs.Configuration.{Configuration};
 ghost use Rattle.frames.specs.Recorded.{AllFit};
-ghost use Rattle.schedule_trie.specs.Forest.{step_of};
-ghost use Rattle.schedule_trie.specs.Trie.{keys_in, IsCut};
-ghost use Rattle.cutoff.specs.Fitting.{steps_at};
-ghost use Rattle.cutoff.specs.Known.{AreKnown};
-ghost use Rattle.cutoff.specs.Links.{AreLinked};
 ghost use Rattle.cutoff.specs.Plans.{Descends, Planned, Plans, with_job, job_of, keys_of};
 ghost use Rattle.cutoff.specs.Prefixes.{IsMarked, exit_or_start};
 ghost use Rattle.cutoff.specs.Sights.{AreSeen, HasDescendedAbove, HasDescended, IsUnseenPart, LooksBelow, sight_at, unseen};
+ghost use Rattle.cutoff.specs.Fitting.{steps_at};
+ghost use Rattle.cutoff.specs.Known.{AreKnown};
+ghost use Rattle.cutoff.specs.Links.{AreLinked};
+ghost use Rattle.schedule_trie.specs.Trie.{keys_in, IsCut};
+ghost use Rattle.schedule_trie.specs.Forest.{step_of};
 
 use crate::known::{Known, is_down};
 use crate::settle::fitting;

@@ -5,9 +5,9 @@ ghost use Rattle.std.specs.Option.{option_map};
 ghost use Rattle.frames.specs.Configuration.{initial_configuration};
 ghost use Rattle.schedule_trie.specs.Forest.{IsRefused, len_of};
 ghost use Rattle.schedule_trie.specs.Trie.{forest};
-ghost use Rattle.cutoff.specs.Fitting.{part_of};
-ghost use Rattle.cutoff.specs.Charts.{look};
 ghost use Rattle.cutoff.specs.Settles.{IsSettledLast, KeepsOrFills};
+ghost use Rattle.cutoff.specs.Charts.{look};
+ghost use Rattle.cutoff.specs.Fitting.{part_of};
 
 use super::{Chart, branch_to};
 use crate::known::Known;

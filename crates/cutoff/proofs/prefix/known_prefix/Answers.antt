@@ -28,12 +28,12 @@ returns-then-is_down g c =
 
 pub returns-then-eq : goal.returns-then-eq
 returns-then-eq g c =
+    let top = c.loop.top.key in
+    let s = c.in_ok-stored.stored.now in
     let E = g.R.PartialEq.eq in
     let is = g.R.Behaves.behaviour in
     let trie = c.args.trie.now in
     let start = c.args.start.now in
-    let top = c.loop.top.key in
-    let s = c.in_ok-stored.stored.now in
     let told = c.requires.known.linked.1 in
     let noted : note_of (segment_at trie.segments top) ≡ Some s = sym c.loop.invariant.top.noted ∙ ap option_copied c.in_ok-stored.was in
     let begun : SameConfiguration E s.run.entry start = subst (λ d. SameConfiguration E d start) c.entry-begun.ensures.entry (c.eq.ensures.same.0 c.if-eq.true) in

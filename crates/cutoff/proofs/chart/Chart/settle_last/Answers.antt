@@ -120,11 +120,11 @@ returns-in_err-stored-clause-keeps g c =
     let keeps = c.settle_rest.ensures.keeps index (c.in-Some.offset + 1) c.args.place (c.in_ok-rest.ensures index (c.in-Some.offset + 1) c.args.place lies) in
     keeps_named g.R.PartialEq.eq g.R.Behaves.behaviour c.args.self.now c.self.inside.trie c.settle_rest.new.trie c.self.inside.start c.self.inside.value c.self.view_is c.args.branch.now c.args.place index c.in_ok-index.ensures.index keeps
 
+pub returns-in_err-rest-clause-begins : goal.returns-in_err-rest-clause-begins
+returns-in_err-rest-clause-begins g c = seen_begins c.self.view_is g.R.PartialEq.eq g.R.Behaves.behaviour c.self.inside.next c.self.inside.fresh c.self.inside.mark c.self.invariant
+
 pub returns-in_err-rest-clause-err : goal.returns-in_err-rest-clause-err
 returns-in_err-rest-clause-err g c =
     let found = c.in_ok-index.ensures in
     let there = look_there (g.R.Behaves.behaviour c.self.inside.start.register) c.self.inside.trie c.args.branch.now c.in_ok-index.index c.in_ok-index.len found.index found.long c.args.place found.within in
     out_of_memory c.from_residual-in_err-rest.result (ap (λ v. look (forest v.trie) c.args.branch.now c.args.place) (sym c.self.view_is) ∙ there) c.from_residual-in_err-rest.ensures.1
-
-pub returns-in_err-rest-clause-begins : goal.returns-in_err-rest-clause-begins
-returns-in_err-rest-clause-begins g c = seen_begins c.self.view_is g.R.PartialEq.eq g.R.Behaves.behaviour c.self.inside.next c.self.inside.fresh c.self.inside.mark c.self.invariant
