@@ -88,8 +88,7 @@ fn shifted_one<R: Register>(
 }
 
 /// The cursors of all sessions after an insert (Up) or a remove (Down) at `place` of `branch`.
-/// `chart` is the chart before that edit. It isn't inlined, since each call sets up an array.
-#[inline(never)]
+/// `chart` is the chart before that edit.
 pub(crate) fn shifted<R: Register>(
     chart: &Chart<R>,
     cursors: &[Option<Cursor>],

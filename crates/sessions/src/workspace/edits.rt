@@ -7,13 +7,15 @@ ghost use Rattle.sessions.specs.Edits.{edit_of, is_held_up, moved_by};
 ghost use Rattle.sessions.specs.Books.{Does, stored};
 ghost use Rattle.sessions.specs.declared.command.Command.{Command};
 ghost use Rattle.schedule_trie.specs.Trie.{forest};
-ghost use Rattle.schedule_trie.specs.Edits.{Drop, edit_in};
+ghost use Rattle.schedule_trie.specs.Edits.{Insert, Remove, Drop, edit_in};
+ghost use Rattle.frames.specs.Configuration.{fits_step};
 
 use super::Workspace;
 use crate::cursor::{Cursor, SESSIONS, Shift, any_after, is_occupied, shifted};
 use crate::reply::Reply;
 use cutoff::chart::Chart;
 use frames::register::Register;
+use frames::types::Step;
 use schedule_trie::edit::Edit;
 use schedule_trie::name::Name;
 use schedule_trie::refusal::Refusal;
@@ -61,17 +63,11 @@ fn change_and_move<R: Register>(
 {
     match *edit {
         Edit::Insert(branch, place, step) if any_after(cursors, place) => {
-            let moved = shifted(chart, cursors, branch, place, Shift::Up);
-            chart.insert(alloc, branch, place, step)?;
-            *cursors = moved;
-            Ok(())
+            insert_and_shift(alloc, chart, cursors, branch, place, step)
         }
         Edit::Insert(branch, place, step) => chart.insert(alloc, branch, place, step),
         Edit::Remove(branch, place) if any_after(cursors, place) => {
-            let moved = shifted(chart, cursors, branch, place, Shift::Down);
-            chart.remove(branch, place)?;
-            *cursors = moved;
-            Ok(())
+            remove_and_shift(chart, cursors, branch, place)
         }
         Edit::Remove(branch, place) => chart.remove(branch, place),
         Edit::Replace(branch, place, step) => chart.replace(branch, place, step),
@@ -80,6 +76,50 @@ fn change_and_move<R: Register>(
         Edit::Drop(branch) if holds_up(chart, cursors, branch) => Err(Refusal::Occupied),
         Edit::Drop(branch) => chart.drop_branch(branch),
     }
+}
+
+/// Inserts a cell at a place of a branch, and moves the cursors after it. Fails with the insert's
+/// errors; then nothing is changed. It isn't inlined, since each call sets up an array of cursors.
+#[inline(never)]
+fn insert_and_shift<R: Register>(
+    alloc: Global,
+    chart: &mut Chart<R>,
+    cursors: &mut [Option<Cursor>; SESSIONS],
+    branch: &Name,
+    place: u32,
+    step: Step,
+) -> Result<(), Refusal>
+    requires fits { fits_step (R.behaviour chart.old.start.register) step ≡ true }
+    requires within { AreWithin cursors.old }
+    ensures chart { Edits chart.old chart.new (Insert branch.now place step) result }
+    ensures moved { OnOk result (cursors.new
+        ≡ moved_by (Insert branch.now place step) (forest chart.old.trie) cursors.old) }
+    ensures kept { OnErr result (cursors.new ≡ cursors.old) }
+{
+    let moved = shifted(chart, cursors, branch, place, Shift::Up);
+    chart.insert(alloc, branch, place, step)?;
+    *cursors = moved;
+    Ok(())
+}
+
+/// Removes the cell at a place of a branch, and moves the cursors after it, as `insert_and_shift`.
+#[inline(never)]
+fn remove_and_shift<R: Register>(
+    chart: &mut Chart<R>,
+    cursors: &mut [Option<Cursor>; SESSIONS],
+    branch: &Name,
+    place: u32,
+) -> Result<(), Refusal>
+    requires { AreWithin cursors.old }
+    ensures chart { Edits chart.old chart.new (Remove branch.now place) result }
+    ensures moved { OnOk result
+        (cursors.new ≡ moved_by (Remove branch.now place) (forest chart.old.trie) cursors.old) }
+    ensures kept { OnErr result (cursors.new ≡ cursors.old) }
+{
+    let moved = shifted(chart, cursors, branch, place, Shift::Down);
+    chart.remove(branch, place)?;
+    *cursors = moved;
+    Ok(())
 }
 
 /// Whether a branch exists and isn't the only one, but has a cursor on it.

@@ -11,10 +11,10 @@ on_ok (Err e) p = tt
 
 pub returns-in-Insert-2-clause-moved : goal.returns-in-Insert-2-clause-moved
 returns-in-Insert-2-clause-moved g c =
-    on_ok c.insert-in-Insert-2.result
+    on_ok c.insert.result
     (unmoved (edit_in c.args.edit.now) c.in-Insert.branch.now c.in-Insert.place Up c.args.cursors.now (λ f old. rw c.in-Insert.is refl) c.if-any_after.ensures (forest c.args.chart.now.trie))
 
 pub returns-in-Remove-2-clause-moved : goal.returns-in-Remove-2-clause-moved
 returns-in-Remove-2-clause-moved g c =
-    on_ok c.remove-in-Remove-2.result
+    on_ok c.remove.result
     (unmoved (edit_in c.args.edit.now) c.in-Remove.branch.now c.in-Remove.place Down c.args.cursors.now (λ f old. rw c.in-Remove.is refl) c.if-any_after-2.ensures (forest c.args.chart.now.trie))
