@@ -31,16 +31,6 @@ pub(crate) fn is_down<R: Register>(known: &Known, key: SegKey, stored: Option<&S
     }
 }
 
-/// Whether a climb of runs that hang from one another had better stop at the segment `key`, in which
-/// `stored` is stored: if stored runs are known to fit down to it. Takes fewer instructions than
-/// `is_down`, and is also true of a run without a number.
-#[inline(always)]
-pub(crate) fn may_stop<R: Register>(known: &Known, key: SegKey, stored: &Stored<R>) -> bool
-    ensures { known.now.mark ≡ Some key → result ≡ true }
-{
-    key == known.mark.unwrap_or(usize::MAX) || !stored.checked().is_before(known.fresh)
-}
-
 /// Whether the segment `key` is the marked one; false if none is marked.
 fn is_marked(mark: Option<SegKey>, key: SegKey) -> bool
     ensures { Decides result (mark ≡ Some key) }

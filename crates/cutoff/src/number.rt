@@ -76,15 +76,8 @@ impl Number {
         ensures { Decides result
             ((a : ℕ) × (b : ℕ) × (self ≡ Some a) × (first ≡ Some b) × (b ≤ a)) }
     {
-        self.word != u64::MAX && first.word <= self.word
-    }
-
-    /// Whether this is less than `first`. No number counts as greater than every number.
-    #[inline(always)]
-    pub(crate) fn is_before(self, first: Number) -> bool
-        ensures { (a : ℕ) → (b : ℕ) → self ≡ Some a → first ≡ Some b → b ≤ a → result ≡ false }
-    {
-        self.word < first.word
+        // `first` comes first, since it is the same in a whole climb: it is then tested once.
+        first.word != u64::MAX && self.word != u64::MAX && first.word <= self.word
     }
 
     /// This number; `other` if it is none.

@@ -12,7 +12,7 @@ ghost use Rattle.cutoff.specs.Links.{AreLinked};
 ghost use Rattle.cutoff.specs.Prefixes.{AreKeysAfter, IsKnown, IsPlaceIn, IsHung, IsLeft, IsTop};
 ghost use Rattle.cutoff.specs.Known.{AreKnown};
 
-use crate::known::{Known, is_down, may_stop};
+use crate::known::{Known, is_down};
 use crate::stored::Stored;
 use frames::config::Config;
 use frames::register::Register;
@@ -100,7 +100,7 @@ fn hung_from<'a, R: Register>(trie: &'a Trie<Stored<R>>, known: &Known, key: Seg
     let mut at = above;
     // a branch has at most one segment for each cell ever made
     for _ in 0..trie.made() {
-        if may_stop(known, hung, lower) {
+        if is_down(known, hung, Some(lower)) {
             break;
         }
         let Some(key) = at else {

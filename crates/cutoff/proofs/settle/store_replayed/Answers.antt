@@ -1,9 +1,7 @@
-use Rattle.std.proofs.Common.{◌≡◌, ℕ, ◌<◌, ◌≤◌, length, Some, refl, ap, sym, subst, ◌∙◌, arith}
+use Rattle.std.proofs.Common.{◌≡◌, ℕ, ◌<◌, ◌≤◌, length, Some, ap, sym, subst, ◌∙◌, arith}
 use Rattle.std.specs.Arc.{arc_value}
 use Rattle.checkpoints.specs.Segment.{IsRun}
 use Rattle.schedule_trie.specs.Trie.{IsNoted}
-use Rattle.schedule_trie.proofs.edits.PushSteps.{on_err}
-use Rattle.cutoff.specs.Fitting.{steps_at}
 use Rattle.cutoff.specs.Links.{without_register}
 use Rattle.cutoff.proofs.Links.{linked_none}
 use Rattle.cutoff.proofs.Segments.{segment_replayed, replayed_linked}
