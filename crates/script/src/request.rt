@@ -3,7 +3,7 @@
 ghost use Rattle.std.specs.Prelude.{◌≡◌, None};
 ghost use Rattle.words.specs.Words.{one_number};
 ghost use Rattle.words.specs.Steps.{step_of_words};
-ghost use Rattle.script.specs.declared.call.Request.TheVariants.{Act, Look};
+ghost use Rattle.script.specs.declared.call.Request.TheVariants.{Act};
 ghost use Rattle.script.specs.Lines as spec;
 
 use crate::call::Request;
@@ -46,18 +46,17 @@ fn guarded(session: u32, word: &[u8], words: &mut Parts<'_>) -> Option<Request>
 fn with_guard(edits: u32, request: Option<Request>) -> Option<Request>
     ensures { result ≡ spec.with_guard edits request }
 {
-    match request {
-        Some(
-            Request::Act {
-                if_at: None,
-                command,
-            },
-        ) => {
-            let if_at = Some(u64::from(edits));
-            Some(Request::Act { if_at, command })
-        }
-        _ => None,
-    }
+    let Some(
+        Request::Act {
+            if_at: None,
+            command,
+        },
+    ) = request
+    else {
+        return None;
+    };
+    let if_at = Some(u64::from(edits));
+    Some(Request::Act { if_at, command })
 }
 
 /// Reads the words of a request without a guard after its first word.
@@ -65,17 +64,30 @@ fn request_of(session: u32, verb: Verb, words: &mut Parts<'_>) -> Option<Request
     ensures { result ≡ spec.request_of session verb words.old }
 {
     match verb {
-        Verb::Branches => words.is_end().then_some(look(Query::Branches)),
+        Verb::Branches => words.is_end().then_some(Request::Look(Query::Branches)),
         Verb::Cursor => words
             .is_end()
-            .then_some(look(Query::Cursor { who: session })),
-        Verb::Steps => only_branch(words).map(|b| look(Query::Steps { b })),
-        Verb::Process => number_at(words).map(|(b, k, p)| look(Query::Process { b, k, p })),
-        Verb::State => branch_and_place(words).map(|(b, k)| look(Query::State { b, k })),
-        Verb::Pending => branch_and_place(words).map(|(b, k)| look(Query::Pending { b, k })),
-        Verb::Bits => branch_and_place(words).map(|(b, k)| look(Query::Bits { b, k })),
-        Verb::History => branch_and_place(words).map(|(b, k)| look(Query::History { b, k })),
-        Verb::Verdict => branch_and_place(words).map(|(b, k)| look(Query::Verdict { b, k })),
+            .then_some(Request::Look(Query::Cursor { who: session })),
+        Verb::Steps => only_branch(words).map(|b| Request::Look(Query::Steps { b })),
+        Verb::Process => number_at(words).map(|(b, k, p)| Request::Look(Query::Process {
+            b,
+            k,
+            p,
+        })),
+        Verb::State => branch_and_place(words).map(|(b, k)| Request::Look(Query::State { b, k })),
+        Verb::Pending => branch_and_place(words).map(|(b, k)| Request::Look(Query::Pending {
+            b,
+            k,
+        })),
+        Verb::Bits => branch_and_place(words).map(|(b, k)| Request::Look(Query::Bits { b, k })),
+        Verb::History => branch_and_place(words).map(|(b, k)| Request::Look(Query::History {
+            b,
+            k,
+        })),
+        Verb::Verdict => branch_and_place(words).map(|(b, k)| Request::Look(Query::Verdict {
+            b,
+            k,
+        })),
         Verb::Fill => only_branch(words).map(Request::Fill),
         Verb::Join => words.is_end().then_some(act(Command::Join)),
         Verb::Leave => words.is_end().then_some(act(Command::Leave)),
@@ -91,13 +103,6 @@ fn request_of(session: u32, verb: Verb, words: &mut Parts<'_>) -> Option<Request
         Verb::Detach => only_branch(words).map(|b| act(Command::Detach { b })),
         Verb::Drop => only_branch(words).map(|b| act(Command::Drop { b })),
     }
-}
-
-/// The request of a look.
-fn look(query: Query) -> Request
-    ensures { result ≡ Look query }
-{
-    Request::Look(query)
 }
 
 /// The request of a command without a guard.
