@@ -18,10 +18,15 @@ use Rattle.words.specs.Words.{next, after_next, number, one_number, two_numbers}
 use Rattle.words.specs.Steps.{step_of_words}
 use Rattle.words.proofs.Numbers.{number-decimal}
 use Rattle.script.specs.declared.verb.Verb.{Verb}
+use Rattle.script.specs.declared.verb.Verb.TheVariants as verb
+use Rattle.script.specs.declared.verb.LookVerb.{LookVerb}
+use Rattle.script.specs.declared.verb.LookVerb.TheVariants as look
+use Rattle.script.specs.declared.verb.CommandVerb.{CommandVerb}
+use Rattle.script.specs.declared.verb.CommandVerb.TheVariants as act
 use Rattle.script.specs.declared.call.Request.{Request}
 use Rattle.script.specs.declared.call.Request.TheVariants.{Act, Look, Fill}
 use Rattle.script.specs.declared.call.Call.{Call}
-use Rattle.script.specs.Lines.{branch_word, only_branch, branch_and_place, placed, break_of, verb_of, request_of, unguarded, with_guard, request_by, request, call_of}
+use Rattle.script.specs.Lines.{branch_word, only_branch, branch_and_place, placed, break_of, verb_of, look_of, command_of, guarded_by, guarded, request_by, request_of, call_of}
 use Rattle.script.specs.Spelling.{Word, spelled, step_words, break_words, place_words, command_words, query_words, request_words, call_words, is_visible, is_sound, IsOwn}
 use Rattle.script.proofs.Shapes.{call_with}
 use Rattle.script.proofs.Bytes.{lt_is}
@@ -91,55 +96,61 @@ break_again break.Refused h = refl
 
 -- ---- commands and looks
 
--- the words of a command without a guard, and those of a look
-module _ (session : ℕ) where
-  command_again : (c : Command) → AreSound (command_words c) → unguarded session (map spelled (command_words c)) ≡ Some (Act None c)
-  command_again command.Join h = refl
-  command_again command.Leave h = refl
-  command_again (command.Insert b k s) h = ap (option_map (λ (p : List ℕ × ℕ × Step). Act None (command.Insert p.0 p.1 p.2))) (placed_again b k step_of_words (step_words s) s (step_again s) (both (Text (codes "insert")) (Text b ∷ Number k ∷ step_words s) h).1)
-  command_again (command.Remove b k) h = ap (option_map (λ (p : List ℕ × ℕ). Act None (command.Remove p.0 p.1))) (place_again b k (both (Text (codes "remove")) (place_words b k) h).1)
-  command_again (command.Replace b k s) h = ap (option_map (λ (p : List ℕ × ℕ × Step). Act None (command.Replace p.0 p.1 p.2))) (placed_again b k step_of_words (step_words s) s (step_again s) (both (Text (codes "replace")) (Text b ∷ Number k ∷ step_words s) h).1)
-  command_again (command.Fork b k name) h = ap (option_map (λ (p : List ℕ × ℕ × List ℕ). Act None (command.Fork p.0 p.1 p.2))) (placed_again b k only_branch (Text name ∷ []) name (branch_of_again name) (both (Text (codes "fork")) (Text b ∷ Number k ∷ Text name ∷ []) h).1)
-  command_again (command.Detach b) h = ap (option_map (λ (x : List ℕ). Act None (command.Detach x))) (branch_of_again b (both (Text (codes "detach")) (Text b ∷ []) h).1)
-  command_again (command.Drop b) h = ap (option_map (λ (x : List ℕ). Act None (command.Drop x))) (branch_of_again b (both (Text (codes "drop")) (Text b ∷ []) h).1)
-  command_again (command.Go b k) h = ap (option_map (λ (p : List ℕ × ℕ). Act None (command.Go p.0 p.1))) (place_again b k (both (Text (codes "go")) (place_words b k) h).1)
-  command_again command.Seek h = refl
-  command_again command.Back h = refl
-  command_again (command.Break br) h = ap (option_map (λ (x : Break). Act None (command.Break x))) (break_again br (both (Text (codes "break")) (break_words br) h).1)
-  command_again (command.Clear br) h = ap (option_map (λ (x : Break). Act None (command.Clear x))) (break_again br (both (Text (codes "clear")) (break_words br) h).1)
+-- a command's first word selects the verb by which the words after it are read as the command
+command_again : (c : Command) → AreSound (command_words c)
+    → (v : CommandVerb) × (verb_of (next (map spelled (command_words c))) ≡ Some (verb.Command v)) × (command_of v (after_next (map spelled (command_words c))) ≡ Some c)
+command_again command.Join h = (act.Join, refl, refl)
+command_again command.Leave h = (act.Leave, refl, refl)
+command_again (command.Insert b k s) h = (act.Insert, refl, ap (option_map (λ (p : List ℕ × ℕ × Step). command.Insert p.0 p.1 p.2)) (placed_again b k step_of_words (step_words s) s (step_again s) (both (Text (codes "insert")) (Text b ∷ Number k ∷ step_words s) h).1))
+command_again (command.Remove b k) h = (act.Remove, refl, ap (option_map (λ (p : List ℕ × ℕ). command.Remove p.0 p.1)) (place_again b k (both (Text (codes "remove")) (place_words b k) h).1))
+command_again (command.Replace b k s) h = (act.Replace, refl, ap (option_map (λ (p : List ℕ × ℕ × Step). command.Replace p.0 p.1 p.2)) (placed_again b k step_of_words (step_words s) s (step_again s) (both (Text (codes "replace")) (Text b ∷ Number k ∷ step_words s) h).1))
+command_again (command.Fork b k name) h = (act.Fork, refl, ap (option_map (λ (p : List ℕ × ℕ × List ℕ). command.Fork p.0 p.1 p.2)) (placed_again b k only_branch (Text name ∷ []) name (branch_of_again name) (both (Text (codes "fork")) (Text b ∷ Number k ∷ Text name ∷ []) h).1))
+command_again (command.Detach b) h = (act.Detach, refl, ap (option_map command.Detach) (branch_of_again b (both (Text (codes "detach")) (Text b ∷ []) h).1))
+command_again (command.Drop b) h = (act.Drop, refl, ap (option_map command.Drop) (branch_of_again b (both (Text (codes "drop")) (Text b ∷ []) h).1))
+command_again (command.Go b k) h = (act.Go, refl, ap (option_map (λ (p : List ℕ × ℕ). command.Go p.0 p.1)) (place_again b k (both (Text (codes "go")) (place_words b k) h).1))
+command_again command.Seek h = (act.Seek, refl, refl)
+command_again command.Back h = (act.Back, refl, refl)
+command_again (command.Break br) h = (act.Break, refl, ap (option_map command.Break) (break_again br (both (Text (codes "break")) (break_words br) h).1))
+command_again (command.Clear br) h = (act.Clear, refl, ap (option_map command.Clear) (break_again br (both (Text (codes "clear")) (break_words br) h).1))
 
-  look_again : (q : Query) → IsOwn session (Look q) → AreSound (query_words q) → unguarded session (map spelled (query_words q)) ≡ Some (Look q)
-  look_again (State b k) own h = ap (option_map (λ (p : List ℕ × ℕ). Look (State p.0 p.1))) (place_again b k (both (Text (codes "state")) (place_words b k) h).1)
-  look_again (Process b k p) own h = ap (option_map (λ (p : List ℕ × ℕ × ℕ). Look (Process p.0 p.1 p.2))) (placed_again b k one_number (Number p ∷ []) p (one_again p) (both (Text (codes "process")) (Text b ∷ Number k ∷ Number p ∷ []) h).1)
-  look_again (Bits b k) own h = ap (option_map (λ (p : List ℕ × ℕ). Look (Bits p.0 p.1))) (place_again b k (both (Text (codes "bits")) (place_words b k) h).1)
-  look_again (Pending b k) own h = ap (option_map (λ (p : List ℕ × ℕ). Look (Pending p.0 p.1))) (place_again b k (both (Text (codes "pending")) (place_words b k) h).1)
-  look_again (History b k) own h = ap (option_map (λ (p : List ℕ × ℕ). Look (History p.0 p.1))) (place_again b k (both (Text (codes "history")) (place_words b k) h).1)
-  look_again (Verdict b k) own h = ap (option_map (λ (p : List ℕ × ℕ). Look (Verdict p.0 p.1))) (place_again b k (both (Text (codes "verdict")) (place_words b k) h).1)
-  look_again Branches own h = refl
-  look_again (Cursor who) own h = ap (λ (s : ℕ). Some (Look (Cursor s))) (sym own)
-  look_again (Steps b) own h = ap (option_map (λ (x : List ℕ). Look (Steps x))) (branch_of_again b (both (Text (codes "steps")) (Text b ∷ []) h).1)
+look_again : (session : ℕ) (q : Query) → IsOwn session (Look q) → AreSound (query_words q)
+    → (v : LookVerb) × (verb_of (next (map spelled (query_words q))) ≡ Some (verb.Look v)) × (look_of session v (after_next (map spelled (query_words q))) ≡ Some q)
+look_again session (State b k) own h = (look.State, refl, ap (option_map (λ (p : List ℕ × ℕ). State p.0 p.1)) (place_again b k (both (Text (codes "state")) (place_words b k) h).1))
+look_again session (Process b k p) own h = (look.Process, refl, ap (option_map (λ (p : List ℕ × ℕ × ℕ). Process p.0 p.1 p.2)) (placed_again b k one_number (Number p ∷ []) p (one_again p) (both (Text (codes "process")) (Text b ∷ Number k ∷ Number p ∷ []) h).1))
+look_again session (Bits b k) own h = (look.Bits, refl, ap (option_map (λ (p : List ℕ × ℕ). Bits p.0 p.1)) (place_again b k (both (Text (codes "bits")) (place_words b k) h).1))
+look_again session (Pending b k) own h = (look.Pending, refl, ap (option_map (λ (p : List ℕ × ℕ). Pending p.0 p.1)) (place_again b k (both (Text (codes "pending")) (place_words b k) h).1))
+look_again session (History b k) own h = (look.History, refl, ap (option_map (λ (p : List ℕ × ℕ). History p.0 p.1)) (place_again b k (both (Text (codes "history")) (place_words b k) h).1))
+look_again session (Verdict b k) own h = (look.Verdict, refl, ap (option_map (λ (p : List ℕ × ℕ). Verdict p.0 p.1)) (place_again b k (both (Text (codes "verdict")) (place_words b k) h).1))
+look_again session Branches own h = (look.Branches, refl, refl)
+look_again session (Cursor who) own h = (look.Cursor, refl, ap (λ (s : ℕ). Some (Cursor s)) (sym own))
+look_again session (Steps b) own h = (look.Steps, refl, ap (option_map Steps) (branch_of_again b (both (Text (codes "steps")) (Text b ∷ []) h).1))
 
-  first_again : (word : List ℕ) (ws : List (List ℕ)) (r : Request) (o : Option Verb) → option_and_then (λ (v : Verb). request_of session v ws) o ≡ Some r → request_by session word o ws ≡ Some r
-  first_again word ws r (Some v) h = h
-  first_again word ws r None h = absurd cc
-
-  unguarded_again : (ws : List (List ℕ)) (r : Request) → unguarded session ws ≡ Some r → request session ws ≡ Some r
-  unguarded_again ws r h = first_again (next ws) (after_next ws) r (verb_of (next ws)) h
-
-  request_again : (r : Request) → IsOwn session r → AreSound (request_words r) → request session (map spelled (request_words r)) ≡ Some r
-  request_again (Act None c) own h = unguarded_again (map spelled (command_words c)) (Act None c) (command_again c h)
-  request_again (Act (Some edits) c) own h =
-      let a = both (Guard edits) (command_words c) h in
-      let ws = map spelled (command_words c) in
-      ap (option_and_then (λ (n : ℕ). with_guard n (unguarded session ws))) (number_again edits a.0) ∙ ap (with_guard edits) (command_again c a.1)
-  request_again (Look q) own h = unguarded_again (map spelled (query_words q)) (Look q) (look_again q own h)
-  request_again (Fill b) own h = ap (option_map Fill) (branch_of_again b (both (Text (codes "fill")) (Text b ∷ []) h).1)
+request_again : (session : ℕ) (r : Request) → IsOwn session r → AreSound (request_words r)
+    → request_of session (next (map spelled (request_words r))) (after_next (map spelled (request_words r))) ≡ Some r
+request_again session (Act None c) own h =
+    let a = command_again c h in
+    let ws = map spelled (command_words c) in
+    ap (λ (o : Option Verb). request_by session (next ws) o (after_next ws)) a.1 ∙ ap (option_map (Act None)) a.2
+request_again session (Act (Some edits) c) own h =
+    let a = both (Guard edits) (command_words c) h in
+    let b = command_again c a.1 in
+    let ws = map spelled (command_words c) in
+    let guard : request_of session (64 ∷ decimal edits) ws ≡ guarded (64 ∷ decimal edits) ws = refl in
+    guard
+    ∙ ap (option_and_then (λ (n : ℕ). guarded_by n (verb_of (next ws)) (after_next ws))) (number_again edits a.0)
+    ∙ ap (λ (o : Option Verb). guarded_by edits o (after_next ws)) b.1
+    ∙ ap (option_map (Act (Some edits))) b.2
+request_again session (Look q) own h =
+    let a = look_again session q own h in
+    let ws = map spelled (query_words q) in
+    ap (λ (o : Option Verb). request_by session (next ws) o (after_next ws)) a.1 ∙ ap (option_map Look) a.2
+request_again session (Fill b) own h = ap (option_map Fill) (branch_of_again b (both (Text (codes "fill")) (Text b ∷ []) h).1)
 
 pub call_again : (c : Call) → IsOwn c.session c.request → list_all is_sound (call_words c) ≡ true → call_of (map spelled (call_words c)) ≡ Some c
 call_again c own h =
     let a = both (Number c.session) (request_words c.request) h in
     let ws = map spelled (request_words c.request) in
-    ap (option_and_then (λ (s : ℕ). option_and_then (λ (r : Request). Some (call_with s r)) (request s ws))) (number_again c.session a.0)
+    ap (option_and_then (λ (s : ℕ). option_and_then (λ (r : Request). Some (call_with s r)) (request_of s (next ws) (after_next ws)))) (number_again c.session a.0)
     ∙ ap (option_and_then (λ (r : Request). Some (call_with c.session r))) (request_again c.session c.request own a.1)
 
 -- ---- how many words there are

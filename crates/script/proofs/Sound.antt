@@ -10,18 +10,24 @@ use Rattle.frames.specs.declared.types.Step.{Step}
 use Rattle.frames.specs.declared.types.Step.TheVariants as step
 use Rattle.pages.specs.declared.breakpoint.Break.{Break}
 use Rattle.pages.specs.declared.breakpoint.Break.TheVariants as break
+use Rattle.pages.specs.declared.query.Query.{Query}
 use Rattle.pages.specs.declared.query.Query.TheVariants.{State, Process, Bits, Pending, History, Verdict, Branches, Cursor, Steps}
+use Rattle.sessions.specs.declared.command.Command.{Command}
 use Rattle.sessions.specs.declared.command.Command.TheVariants as command
 use Rattle.words.specs.Words.{next, after_next, is_end, number, one_number, two_numbers}
 use Rattle.words.specs.Steps.{step_of_words}
 use Rattle.words.proofs.Steps.{some_then}
 use Rattle.script.specs.declared.verb.Verb.{Verb}
 use Rattle.script.specs.declared.verb.Verb.TheVariants as verb
+use Rattle.script.specs.declared.verb.LookVerb.{LookVerb}
+use Rattle.script.specs.declared.verb.LookVerb.TheVariants as look
+use Rattle.script.specs.declared.verb.CommandVerb.{CommandVerb}
+use Rattle.script.specs.declared.verb.CommandVerb.TheVariants as act
 use Rattle.script.specs.declared.call.Request.{Request}
 use Rattle.script.specs.declared.call.Request.TheVariants.{Act, Look, Fill}
 use Rattle.script.specs.declared.call.Call.{Call}
-use Rattle.script.specs.Lines.{branch_word, only_branch, branch_and_place, place_in, placed, kind_of, break_of, if_no_more, verb_of, request_of, unguarded, with_guard, guarded, request_by, request, call_of}
-use Rattle.script.specs.Spelling.{Word, step_words, break_words, place_words, command_words, request_words, call_words, IsOwn}
+use Rattle.script.specs.Lines.{branch_word, only_branch, branch_and_place, place_in, placed, kind_of, break_of, verb_of, look_of, command_of, guarded_by, guarded, request_by, request_of, call_of}
+use Rattle.script.specs.Spelling.{Word, step_words, break_words, place_words, command_words, query_words, request_words, call_words, IsOwn}
 use Rattle.script.specs.Spelling.{Text, Number, Guard}
 use Rattle.script.proofs.Verbs.{text_of, named}
 use Rattle.script.proofs.Shapes.{call_with, is_small, Shows, one_more, begins, at_end, keyword, first_word, either, when_some, mapped_to, alone_to, some_to, number_shows, branch_shows, one_shows, two_shows}
@@ -88,87 +94,83 @@ break_of_shows ws br h =
     (λ b. mapped_to P (λ (n : ℕ × ℕ). break.Bit n.0 n.1) (two_numbers (after_next ws)) br (λ n e. keyword ws (codes "bit") (Number n.0 ∷ Number n.1 ∷ []) refl b (two_shows (after_next ws) n e)))
     (λ e. let a = when_some (is_end (after_next ws)) (kind_of (next ws)) br e in kind_of_shows ws br a.0 a.1)) h
 
--- ---- requests
+-- ---- the words after a first word
+
+module _ (ws : List (List ℕ)) where
+  abbrev left : List (List ℕ)
+  left = after_next ws
+
+  abbrev P : Command → Type 0
+  P c = Shows ws (command_words c)
+
+  command_shows : (v : CommandVerb) (c : Command) → bytes_eq (next ws) (text_of (verb.Command v)) ≡ true → command_of v left ≡ Some c → P c
+  command_shows act.Join c b h = alone_to P command.Join c left (λ e. keyword ws (codes "join") [] refl b (at_end left e)) h
+  command_shows act.Leave c b h = alone_to P command.Leave c left (λ e. keyword ws (codes "leave") [] refl b (at_end left e)) h
+  command_shows act.Seek c b h = alone_to P command.Seek c left (λ e. keyword ws (codes "seek") [] refl b (at_end left e)) h
+  command_shows act.Back c b h = alone_to P command.Back c left (λ e. keyword ws (codes "back") [] refl b (at_end left e)) h
+  command_shows act.Go c b h = mapped_to P (λ (p : List ℕ × ℕ). command.Go p.0 p.1) (branch_and_place left) c (λ a e. keyword ws (codes "go") (place_words a.0 a.1) refl b (place_of_shows left a e)) h
+  command_shows act.Break c b h = mapped_to P command.Break (break_of left) c (λ a e. keyword ws (codes "break") (break_words a) refl b (break_of_shows left a e)) h
+  command_shows act.Clear c b h = mapped_to P command.Clear (break_of left) c (λ a e. keyword ws (codes "clear") (break_words a) refl b (break_of_shows left a e)) h
+  command_shows act.Insert c b h = mapped_to P (λ (p : List ℕ × ℕ × Step). command.Insert p.0 p.1 p.2) (placed step_of_words left) c (λ a e. keyword ws (codes "insert") (Text a.0 ∷ Number a.1 ∷ step_words a.2) refl b (placed_shows step_of_words step_words step_of_shows left a e)) h
+  command_shows act.Remove c b h = mapped_to P (λ (p : List ℕ × ℕ). command.Remove p.0 p.1) (branch_and_place left) c (λ a e. keyword ws (codes "remove") (place_words a.0 a.1) refl b (place_of_shows left a e)) h
+  command_shows act.Replace c b h = mapped_to P (λ (p : List ℕ × ℕ × Step). command.Replace p.0 p.1 p.2) (placed step_of_words left) c (λ a e. keyword ws (codes "replace") (Text a.0 ∷ Number a.1 ∷ step_words a.2) refl b (placed_shows step_of_words step_words step_of_shows left a e)) h
+  command_shows act.Fork c b h = mapped_to P (λ (p : List ℕ × ℕ × List ℕ). command.Fork p.0 p.1 p.2) (placed only_branch left) c (λ a e. keyword ws (codes "fork") (Text a.0 ∷ Number a.1 ∷ Text a.2 ∷ []) refl b (placed_shows only_branch (λ name. Text name ∷ []) branch_of_shows left a e)) h
+  command_shows act.Detach c b h = mapped_to P command.Detach (only_branch left) c (λ a e. keyword ws (codes "detach") (Text a ∷ []) refl b (branch_of_shows left a e)) h
+  command_shows act.Drop c b h = mapped_to P command.Drop (only_branch left) c (λ a e. keyword ws (codes "drop") (Text a ∷ []) refl b (branch_of_shows left a e)) h
+
+  abbrev Q : ℕ → Query → Type 0
+  Q session q = Shows ws (query_words q) × IsOwn session (Look q)
+
+  look_shows : (session : ℕ) (v : LookVerb) (q : Query) → bytes_eq (next ws) (text_of (verb.Look v)) ≡ true → look_of session v left ≡ Some q → Q session q
+  look_shows session look.Branches q b h = alone_to (Q session) Branches q left (λ e. (keyword ws (codes "branches") [] refl b (at_end left e), tt)) h
+  look_shows session look.Cursor q b h = alone_to (Q session) (Cursor session) q left (λ e. (keyword ws (codes "cursor") [] refl b (at_end left e), refl)) h
+  look_shows session look.Steps q b h = mapped_to (Q session) Steps (only_branch left) q (λ a e. (keyword ws (codes "steps") (Text a ∷ []) refl b (branch_of_shows left a e), tt)) h
+  look_shows session look.Process q b h = mapped_to (Q session) (λ (p : List ℕ × ℕ × ℕ). Process p.0 p.1 p.2) (placed one_number left) q (λ a e. (keyword ws (codes "process") (Text a.0 ∷ Number a.1 ∷ Number a.2 ∷ []) refl b (placed_shows one_number (λ p. Number p ∷ []) one_shows left a e), tt)) h
+  look_shows session look.State q b h = mapped_to (Q session) (λ (p : List ℕ × ℕ). State p.0 p.1) (branch_and_place left) q (λ a e. (keyword ws (codes "state") (place_words a.0 a.1) refl b (place_of_shows left a e), tt)) h
+  look_shows session look.Pending q b h = mapped_to (Q session) (λ (p : List ℕ × ℕ). Pending p.0 p.1) (branch_and_place left) q (λ a e. (keyword ws (codes "pending") (place_words a.0 a.1) refl b (place_of_shows left a e), tt)) h
+  look_shows session look.Bits q b h = mapped_to (Q session) (λ (p : List ℕ × ℕ). Bits p.0 p.1) (branch_and_place left) q (λ a e. (keyword ws (codes "bits") (place_words a.0 a.1) refl b (place_of_shows left a e), tt)) h
+  look_shows session look.History q b h = mapped_to (Q session) (λ (p : List ℕ × ℕ). History p.0 p.1) (branch_and_place left) q (λ a e. (keyword ws (codes "history") (place_words a.0 a.1) refl b (place_of_shows left a e), tt)) h
+  look_shows session look.Verdict q b h = mapped_to (Q session) (λ (p : List ℕ × ℕ). Verdict p.0 p.1) (branch_and_place left) q (λ a e. (keyword ws (codes "verdict") (place_words a.0 a.1) refl b (place_of_shows left a e), tt)) h
+
+-- ---- calls
 
 abbrev IsShown : ℕ → List (List ℕ) → Request → Type 0
 IsShown session ws r = Shows ws (request_words r) × IsOwn session r
 
-module _ (session : ℕ) (ws : List (List ℕ)) (r : Request) where
-  -- words that begin with this text, and then have a shape
-  shaped : {A : Type 0} (read : List (List ℕ) → Option A) (shape : A → List Word) → ((left : List (List ℕ)) (x : A) → read left ≡ Some x → Shows left (shape x))
-      → (v : List ℕ) (make : A → Request) → is_small (Text v) ≡ true → ((x : A) → (request_words (make x) ≡ Text v ∷ shape x) × IsOwn session (make x))
-      → bytes_eq (next ws) v ≡ true → option_map make (read (after_next ws)) ≡ Some r → IsShown session ws r
-  shaped read shape reads v make small of b h =
-      mapped_to (IsShown session ws) make (read (after_next ws)) r
-      (λ x e. (subst (λ (xs : List Word). Shows ws xs) (sym (of x).0) (keyword ws v (shape x) small b (reads (after_next ws) x e)), (of x).1)) h
+guarded_by_shows : (session edits : ℕ) (guard : List ℕ) (ws : List (List ℕ)) (r : Request) (o : Option Verb) → guard ≡ decimal edits → is_small (Guard edits) ≡ true
+    → verb_of (next ws) ≡ o → guarded_by edits o (after_next ws) ≡ Some r → IsShown session ((64 ∷ guard) ∷ ws) r
+guarded_by_shows session edits guard ws r (Some (verb.Command v)) same small e h =
+    mapped_to (IsShown session ((64 ∷ guard) ∷ ws)) (Act (Some edits)) (command_of v (after_next ws)) r
+    (λ c f. (one_more (64 ∷ guard) ws (Guard edits) (command_words c) (ap (λ (d : List ℕ). 64 ∷ d) same) small (command_shows ws v c (named (next ws) (verb.Command v) e) f), tt)) h
+guarded_by_shows session edits guard ws r (Some (verb.Look v)) same small e h = absurd cc
+guarded_by_shows session edits guard ws r (Some verb.Fill) same small e h = absurd cc
+guarded_by_shows session edits guard ws r None same small e h = absurd cc
 
-  -- this text alone
-  alone : (v : List ℕ) (it : Request) → is_small (Text v) ≡ true → request_words it ≡ Text v ∷ [] → IsOwn session it → bytes_eq (next ws) v ≡ true → if_no_more it (after_next ws) ≡ Some r → IsShown session ws r
-  alone v it small of own b h =
-      alone_to (IsShown session ws) it r (after_next ws) (λ e. (subst (λ (xs : List Word). Shows ws xs) (sym of) (keyword ws v [] small b (at_end (after_next ws) e)), own)) h
-
-  verb_shows : (v : Verb) → bytes_eq (next ws) (text_of v) ≡ true → request_of session v (after_next ws) ≡ Some r → IsShown session ws r
-  verb_shows verb.Branches = alone (codes "branches") (Look Branches) refl refl tt
-  verb_shows verb.Cursor = alone (codes "cursor") (Look (Cursor session)) refl refl refl
-  verb_shows verb.Steps = shaped only_branch (λ b. Text b ∷ []) branch_of_shows (codes "steps") (λ b. Look (Steps b)) refl (λ b. (refl, tt))
-  verb_shows verb.Process = shaped (placed one_number) (λ p. Text p.0 ∷ Number p.1 ∷ Number p.2 ∷ []) (placed_shows one_number (λ p. Number p ∷ []) one_shows) (codes "process") (λ p. Look (Process p.0 p.1 p.2)) refl (λ p. (refl, tt))
-  verb_shows verb.State = shaped branch_and_place (λ p. place_words p.0 p.1) place_of_shows (codes "state") (λ p. Look (State p.0 p.1)) refl (λ p. (refl, tt))
-  verb_shows verb.Pending = shaped branch_and_place (λ p. place_words p.0 p.1) place_of_shows (codes "pending") (λ p. Look (Pending p.0 p.1)) refl (λ p. (refl, tt))
-  verb_shows verb.Bits = shaped branch_and_place (λ p. place_words p.0 p.1) place_of_shows (codes "bits") (λ p. Look (Bits p.0 p.1)) refl (λ p. (refl, tt))
-  verb_shows verb.History = shaped branch_and_place (λ p. place_words p.0 p.1) place_of_shows (codes "history") (λ p. Look (History p.0 p.1)) refl (λ p. (refl, tt))
-  verb_shows verb.Verdict = shaped branch_and_place (λ p. place_words p.0 p.1) place_of_shows (codes "verdict") (λ p. Look (Verdict p.0 p.1)) refl (λ p. (refl, tt))
-  verb_shows verb.Fill = shaped only_branch (λ b. Text b ∷ []) branch_of_shows (codes "fill") Fill refl (λ b. (refl, tt))
-  verb_shows verb.Join = alone (codes "join") (Act None command.Join) refl refl tt
-  verb_shows verb.Leave = alone (codes "leave") (Act None command.Leave) refl refl tt
-  verb_shows verb.Seek = alone (codes "seek") (Act None command.Seek) refl refl tt
-  verb_shows verb.Back = alone (codes "back") (Act None command.Back) refl refl tt
-  verb_shows verb.Go = shaped branch_and_place (λ p. place_words p.0 p.1) place_of_shows (codes "go") (λ p. Act None (command.Go p.0 p.1)) refl (λ p. (refl, tt))
-  verb_shows verb.Break = shaped break_of break_words break_of_shows (codes "break") (λ it. Act None (command.Break it)) refl (λ it. (refl, tt))
-  verb_shows verb.Clear = shaped break_of break_words break_of_shows (codes "clear") (λ it. Act None (command.Clear it)) refl (λ it. (refl, tt))
-  verb_shows verb.Insert = shaped (placed step_of_words) (λ p. Text p.0 ∷ Number p.1 ∷ step_words p.2) (placed_shows step_of_words step_words step_of_shows) (codes "insert") (λ p. Act None (command.Insert p.0 p.1 p.2)) refl (λ p. (refl, tt))
-  verb_shows verb.Remove = shaped branch_and_place (λ p. place_words p.0 p.1) place_of_shows (codes "remove") (λ p. Act None (command.Remove p.0 p.1)) refl (λ p. (refl, tt))
-  verb_shows verb.Replace = shaped (placed step_of_words) (λ p. Text p.0 ∷ Number p.1 ∷ step_words p.2) (placed_shows step_of_words step_words step_of_shows) (codes "replace") (λ p. Act None (command.Replace p.0 p.1 p.2)) refl (λ p. (refl, tt))
-  verb_shows verb.Fork = shaped (placed only_branch) (λ p. Text p.0 ∷ Number p.1 ∷ Text p.2 ∷ []) (placed_shows only_branch (λ name. Text name ∷ []) branch_of_shows) (codes "fork") (λ p. Act None (command.Fork p.0 p.1 p.2)) refl (λ p. (refl, tt))
-  verb_shows verb.Detach = shaped only_branch (λ b. Text b ∷ []) branch_of_shows (codes "detach") (λ b. Act None (command.Detach b)) refl (λ b. (refl, tt))
-  verb_shows verb.Drop = shaped only_branch (λ b. Text b ∷ []) branch_of_shows (codes "drop") (λ b. Act None (command.Drop b)) refl (λ b. (refl, tt))
-
-with_guard_shows : (session edits : ℕ) (guard : List ℕ) (ws : List (List ℕ)) (o : Option Request) (r : Request) → guard ≡ decimal edits → is_small (Guard edits) ≡ true
-    → ((q : Request) → o ≡ Some q → IsShown session ws q) → with_guard edits o ≡ Some r → IsShown session ((64 ∷ guard) ∷ ws) r
-with_guard_shows session edits guard ws (Some (Act None c)) r same small shown h =
-    some_to (IsShown session ((64 ∷ guard) ∷ ws)) (Act (Some edits) c) r
-    (one_more (64 ∷ guard) ws (Guard edits) (command_words c) (ap (λ (d : List ℕ). 64 ∷ d) same) small (shown (Act None c) refl).0, tt) h
-with_guard_shows session edits guard ws (Some (Act (Some n) c)) r same small shown h = absurd cc
-with_guard_shows session edits guard ws (Some (Look q)) r same small shown h = absurd cc
-with_guard_shows session edits guard ws (Some (Fill b)) r same small shown h = absurd cc
-with_guard_shows session edits guard ws None r same small shown h = absurd cc
-
-unguarded_shows : (session : ℕ) (ws : List (List ℕ)) (r : Request) → unguarded session ws ≡ Some r → IsShown session ws r
-unguarded_shows session ws r h =
-    let v = some_then (verb_of (next ws)) (λ v. request_of session v (after_next ws)) r h in
-    verb_shows session ws r v.0 (named (next ws) v.0 v.1) v.2
-
-guarded_shows : (session : ℕ) (ws : List (List ℕ)) (r : Request) → guarded session (next ws) (after_next ws) ≡ Some r → IsShown session ws r
+guarded_shows : (session : ℕ) (ws : List (List ℕ)) (r : Request) → guarded (next ws) (after_next ws) ≡ Some r → IsShown session ws r
 guarded_shows session [] r h = absurd cc
 guarded_shows session ([] ∷ ws) r h = absurd cc
 guarded_shows session ((b ∷ bs) ∷ ws) r h =
-    let by : ℕ → Option Request = λ edits. with_guard edits (unguarded session ws) in
+    let by : ℕ → Option Request = λ edits. guarded_by edits (verb_of (next ws)) (after_next ws) in
     let t = when_some (b == 64) (option_and_then by (number bs)) r h in
     let a = some_then (number bs) by r t.1 in
     let s = number_shows bs a.0 a.1 in
-    subst (λ (x : ℕ). IsShown session ((x ∷ bs) ∷ ws) r) (sym (eqb-true b 64 t.0)) (with_guard_shows session a.0 bs ws (unguarded session ws) r s.0 s.1 (unguarded_shows session ws) a.2)
+    subst (λ (x : ℕ). IsShown session ((x ∷ bs) ∷ ws) r) (sym (eqb-true b 64 t.0)) (guarded_by_shows session a.0 bs ws r (verb_of (next ws)) s.0 s.1 refl a.2)
 
-request_shows : (session : ℕ) (ws : List (List ℕ)) (r : Request) → request session ws ≡ Some r → IsShown session ws r
+request_shows : (session : ℕ) (ws : List (List ℕ)) (r : Request) → request_of session (next ws) (after_next ws) ≡ Some r → IsShown session ws r
 request_shows session ws r h = by (verb_of (next ws)) refl h
   where
     by : (o : Option Verb) → verb_of (next ws) ≡ o → request_by session (next ws) o (after_next ws) ≡ Some r → IsShown session ws r
     by None e k = guarded_shows session ws r k
-    by (Some v) e k = verb_shows session ws r v (named (next ws) v e) k
+    by (Some (verb.Look v)) e k = mapped_to (IsShown session ws) Look (look_of session v (after_next ws)) r (λ q f. look_shows ws session v q (named (next ws) (verb.Look v) e) f) k
+    by (Some verb.Fill) e k =
+        mapped_to (IsShown session ws) Fill (only_branch (after_next ws)) r (λ a f. (keyword ws (codes "fill") (Text a ∷ []) refl (named (next ws) verb.Fill e) (branch_of_shows (after_next ws) a f), tt)) k
+    by (Some (verb.Command v)) e k = mapped_to (IsShown session ws) (Act None) (command_of v (after_next ws)) r (λ c f. (command_shows ws v c (named (next ws) (verb.Command v) e) f, tt)) k
 
 pub call_shows : (ws : List (List ℕ)) (c : Call) → call_of ws ≡ Some c → Shows ws (call_words c) × IsOwn c.session c.request
 call_shows ws c h =
     let left = after_next ws in
-    let a = first_word number (λ s. option_and_then (λ r. Some (call_with s r)) (request s left)) ws c refl h in
-    let r = some_then (request a.1 left) (λ r. Some (call_with a.1 r)) c a.4 in
+    let a = first_word number (λ s. option_and_then (λ r. Some (call_with s r)) (request_of s (next left) (after_next left))) ws c refl h in
+    let r = some_then (request_of a.1 (next left) (after_next left)) (λ r. Some (call_with a.1 r)) c a.4 in
     let s = number_shows a.0 a.1 a.3 in
     let shows = request_shows a.1 left r.0 r.1 in
     subst (λ (x : Call). Shows ws (call_words x) × IsOwn x.session x.request) (same_Some (call_with a.1 r.0) c r.2)

@@ -9,6 +9,8 @@ use Rattle.std.proofs.lemmas.Slice.Eq.{HasBytesAt, text_from_reads}
 use Rattle.words.proofs.Steps.{is_word}
 use Rattle.script.specs.declared.verb.Verb.{Verb}
 use Rattle.script.specs.declared.verb.Verb.TheVariants as verb
+use Rattle.script.specs.declared.verb.LookVerb.TheVariants as look
+use Rattle.script.specs.declared.verb.CommandVerb.TheVariants as act
 use Rattle.script.specs.Lines.{verb_words, verb_in, verb_of}
 use Rattle.script.proofs.Shapes.{either}
 
@@ -18,29 +20,29 @@ verb_from_reads word first same bytes = ap verb_of (sym (text_from_reads word fi
 
 -- the word that selects a verb
 abbrev pub text_of : Verb → List ℕ
-text_of verb.Branches = codes "branches"
-text_of verb.Cursor = codes "cursor"
-text_of verb.Steps = codes "steps"
-text_of verb.Process = codes "process"
-text_of verb.State = codes "state"
-text_of verb.Pending = codes "pending"
-text_of verb.Bits = codes "bits"
-text_of verb.History = codes "history"
-text_of verb.Verdict = codes "verdict"
+text_of (verb.Look look.Branches) = codes "branches"
+text_of (verb.Look look.Cursor) = codes "cursor"
+text_of (verb.Look look.Steps) = codes "steps"
+text_of (verb.Look look.Process) = codes "process"
+text_of (verb.Look look.State) = codes "state"
+text_of (verb.Look look.Pending) = codes "pending"
+text_of (verb.Look look.Bits) = codes "bits"
+text_of (verb.Look look.History) = codes "history"
+text_of (verb.Look look.Verdict) = codes "verdict"
 text_of verb.Fill = codes "fill"
-text_of verb.Join = codes "join"
-text_of verb.Leave = codes "leave"
-text_of verb.Seek = codes "seek"
-text_of verb.Back = codes "back"
-text_of verb.Go = codes "go"
-text_of verb.Break = codes "break"
-text_of verb.Clear = codes "clear"
-text_of verb.Insert = codes "insert"
-text_of verb.Remove = codes "remove"
-text_of verb.Replace = codes "replace"
-text_of verb.Fork = codes "fork"
-text_of verb.Detach = codes "detach"
-text_of verb.Drop = codes "drop"
+text_of (verb.Command act.Join) = codes "join"
+text_of (verb.Command act.Leave) = codes "leave"
+text_of (verb.Command act.Seek) = codes "seek"
+text_of (verb.Command act.Back) = codes "back"
+text_of (verb.Command act.Go) = codes "go"
+text_of (verb.Command act.Break) = codes "break"
+text_of (verb.Command act.Clear) = codes "clear"
+text_of (verb.Command act.Insert) = codes "insert"
+text_of (verb.Command act.Remove) = codes "remove"
+text_of (verb.Command act.Replace) = codes "replace"
+text_of (verb.Command act.Fork) = codes "fork"
+text_of (verb.Command act.Detach) = codes "detach"
+text_of (verb.Command act.Drop) = codes "drop"
 
 -- whether a row has the word that selects its verb
 abbrev is_named : List ℕ × Verb → Bool

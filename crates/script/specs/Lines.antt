@@ -7,12 +7,18 @@ use Rattle.std.specs.Str.{bytes_eq}
 use Rattle.schedule_trie.specs.Names.{name_of_bytes}
 use Rattle.pages.specs.declared.breakpoint.Break.{Break}
 use Rattle.pages.specs.declared.breakpoint.Break.TheVariants as break
+use Rattle.pages.specs.declared.query.Query.{Query}
 use Rattle.pages.specs.declared.query.Query.TheVariants.{State, Process, Bits, Pending, History, Verdict, Branches, Cursor, Steps}
+use Rattle.sessions.specs.declared.command.Command.{Command}
 use Rattle.sessions.specs.declared.command.Command.TheVariants as command
 use Rattle.words.specs.Words.{◌>>=◌, words, next, after_next, is_end, number, one_number, two_numbers}
 use Rattle.words.specs.Steps.{step_of_words}
 use Rattle.script.specs.declared.verb.Verb.{Verb}
 use Rattle.script.specs.declared.verb.Verb.TheVariants as verb
+use Rattle.script.specs.declared.verb.LookVerb.{LookVerb}
+use Rattle.script.specs.declared.verb.LookVerb.TheVariants as look
+use Rattle.script.specs.declared.verb.CommandVerb.{CommandVerb}
+use Rattle.script.specs.declared.verb.CommandVerb.TheVariants as act
 use Rattle.script.specs.declared.call.Request.{Request}
 use Rattle.script.specs.declared.call.Request.TheVariants.{Act, Look, Fill}
 use Rattle.script.specs.declared.call.Call.{Call}
@@ -73,29 +79,29 @@ break_of ws =
 -- the first word of each request, and what it selects
 abbrev pub verb_words : List (List ℕ × Verb)
 verb_words =
-    (codes "branches", verb.Branches)
-    ∷ (codes "cursor", verb.Cursor)
-    ∷ (codes "steps", verb.Steps)
-    ∷ (codes "process", verb.Process)
-    ∷ (codes "state", verb.State)
-    ∷ (codes "pending", verb.Pending)
-    ∷ (codes "bits", verb.Bits)
-    ∷ (codes "history", verb.History)
-    ∷ (codes "verdict", verb.Verdict)
+    (codes "branches", verb.Look look.Branches)
+    ∷ (codes "cursor", verb.Look look.Cursor)
+    ∷ (codes "steps", verb.Look look.Steps)
+    ∷ (codes "process", verb.Look look.Process)
+    ∷ (codes "state", verb.Look look.State)
+    ∷ (codes "pending", verb.Look look.Pending)
+    ∷ (codes "bits", verb.Look look.Bits)
+    ∷ (codes "history", verb.Look look.History)
+    ∷ (codes "verdict", verb.Look look.Verdict)
     ∷ (codes "fill", verb.Fill)
-    ∷ (codes "join", verb.Join)
-    ∷ (codes "leave", verb.Leave)
-    ∷ (codes "seek", verb.Seek)
-    ∷ (codes "back", verb.Back)
-    ∷ (codes "go", verb.Go)
-    ∷ (codes "break", verb.Break)
-    ∷ (codes "clear", verb.Clear)
-    ∷ (codes "insert", verb.Insert)
-    ∷ (codes "remove", verb.Remove)
-    ∷ (codes "replace", verb.Replace)
-    ∷ (codes "fork", verb.Fork)
-    ∷ (codes "detach", verb.Detach)
-    ∷ (codes "drop", verb.Drop)
+    ∷ (codes "join", verb.Command act.Join)
+    ∷ (codes "leave", verb.Command act.Leave)
+    ∷ (codes "seek", verb.Command act.Seek)
+    ∷ (codes "back", verb.Command act.Back)
+    ∷ (codes "go", verb.Command act.Go)
+    ∷ (codes "break", verb.Command act.Break)
+    ∷ (codes "clear", verb.Command act.Clear)
+    ∷ (codes "insert", verb.Command act.Insert)
+    ∷ (codes "remove", verb.Command act.Remove)
+    ∷ (codes "replace", verb.Command act.Replace)
+    ∷ (codes "fork", verb.Command act.Fork)
+    ∷ (codes "detach", verb.Command act.Detach)
+    ∷ (codes "drop", verb.Command act.Drop)
     ∷ []
 
 -- what a word selects by a table; `None` if the table doesn't have the word
@@ -107,68 +113,78 @@ verb_in (row ∷ rows) word = if bytes_eq word row.0 then Some row.1 else verb_i
 abbrev pub verb_of : List ℕ → Option Verb
 verb_of word = verb_in verb_words word
 
--- reads the words of a session's request without a guard after its first word
-abbrev pub request_of : ℕ → Verb → List (List ℕ) → Option Request
-request_of session verb.Branches ws = if_no_more (Look Branches) ws
-request_of session verb.Cursor ws = if_no_more (Look (Cursor session)) ws
-request_of session verb.Steps ws = option_map (λ b. Look (Steps b)) (only_branch ws)
-request_of session verb.Process ws = option_map (λ p. Look (Process p.0 p.1 p.2)) (placed one_number ws)
-request_of session verb.State ws = option_map (λ p. Look (State p.0 p.1)) (branch_and_place ws)
-request_of session verb.Pending ws = option_map (λ p. Look (Pending p.0 p.1)) (branch_and_place ws)
-request_of session verb.Bits ws = option_map (λ p. Look (Bits p.0 p.1)) (branch_and_place ws)
-request_of session verb.History ws = option_map (λ p. Look (History p.0 p.1)) (branch_and_place ws)
-request_of session verb.Verdict ws = option_map (λ p. Look (Verdict p.0 p.1)) (branch_and_place ws)
-request_of session verb.Fill ws = option_map Fill (only_branch ws)
-request_of session verb.Join ws = if_no_more (Act None command.Join) ws
-request_of session verb.Leave ws = if_no_more (Act None command.Leave) ws
-request_of session verb.Seek ws = if_no_more (Act None command.Seek) ws
-request_of session verb.Back ws = if_no_more (Act None command.Back) ws
-request_of session verb.Go ws = option_map (λ p. Act None (command.Go p.0 p.1)) (branch_and_place ws)
-request_of session verb.Break ws = option_map (λ it. Act None (command.Break it)) (break_of ws)
-request_of session verb.Clear ws = option_map (λ it. Act None (command.Clear it)) (break_of ws)
-request_of session verb.Insert ws = option_map (λ p. Act None (command.Insert p.0 p.1 p.2)) (placed step_of_words ws)
-request_of session verb.Remove ws = option_map (λ p. Act None (command.Remove p.0 p.1)) (branch_and_place ws)
-request_of session verb.Replace ws = option_map (λ p. Act None (command.Replace p.0 p.1 p.2)) (placed step_of_words ws)
-request_of session verb.Fork ws = option_map (λ p. Act None (command.Fork p.0 p.1 p.2)) (placed only_branch ws)
-request_of session verb.Detach ws = option_map (λ b. Act None (command.Detach b)) (only_branch ws)
-request_of session verb.Drop ws = option_map (λ b. Act None (command.Drop b)) (only_branch ws)
+-- reads the words of a session's look after its first word
+abbrev pub look_of : ℕ → LookVerb → List (List ℕ) → Option Query
+look_of session look.Branches ws = if_no_more Branches ws
+look_of session look.Cursor ws = if_no_more (Cursor session) ws
+look_of session look.Steps ws = option_map Steps (only_branch ws)
+look_of session look.Process ws = option_map (λ p. Process p.0 p.1 p.2) (placed one_number ws)
+look_of session look.State ws = option_map (λ p. State p.0 p.1) (branch_and_place ws)
+look_of session look.Pending ws = option_map (λ p. Pending p.0 p.1) (branch_and_place ws)
+look_of session look.Bits ws = option_map (λ p. Bits p.0 p.1) (branch_and_place ws)
+look_of session look.History ws = option_map (λ p. History p.0 p.1) (branch_and_place ws)
+look_of session look.Verdict ws = option_map (λ p. Verdict p.0 p.1) (branch_and_place ws)
 
--- reads a session's request that has no guard
-abbrev pub unguarded : ℕ → List (List ℕ) → Option Request
-unguarded session ws = do
-  v ← verb_of (next ws)
-  request_of session v (after_next ws)
+-- reads the words of a command after its first word
+abbrev pub command_of : CommandVerb → List (List ℕ) → Option Command
+command_of act.Join ws = if_no_more command.Join ws
+command_of act.Leave ws = if_no_more command.Leave ws
+command_of act.Seek ws = if_no_more command.Seek ws
+command_of act.Back ws = if_no_more command.Back ws
+command_of act.Go ws = option_map (λ p. command.Go p.0 p.1) (branch_and_place ws)
+command_of act.Break ws = option_map command.Break (break_of ws)
+command_of act.Clear ws = option_map command.Clear (break_of ws)
+command_of act.Insert ws = option_map (λ p. command.Insert p.0 p.1 p.2) (placed step_of_words ws)
+command_of act.Remove ws = option_map (λ p. command.Remove p.0 p.1) (branch_and_place ws)
+command_of act.Replace ws = option_map (λ p. command.Replace p.0 p.1 p.2) (placed step_of_words ws)
+command_of act.Fork ws = option_map (λ p. command.Fork p.0 p.1 p.2) (placed only_branch ws)
+command_of act.Detach ws = option_map command.Detach (only_branch ws)
+command_of act.Drop ws = option_map command.Drop (only_branch ws)
 
--- the request with this guard, if it is a command that has none
-abbrev pub with_guard : ℕ → Option Request → Option Request
-with_guard edits (Some (Act None c)) = Some (Act (Some edits) c)
-with_guard edits other = None
+-- reads the words of a command after its first word; the guard, if it has one, is given
+abbrev pub act_of : Option ℕ → CommandVerb → List (List ℕ) → Option Request
+act_of guard v ws = option_map (Act guard) (command_of v ws)
 
--- reads a session's command with a guard. `word` is `@` and the guard, which must be a number; the
--- words after it are those of the command.
-abbrev pub guarded : ℕ → List ℕ → List (List ℕ) → Option Request
-guarded session [] ws = None
-guarded session (b ∷ bs) ws = if b == 64 then option_and_then (λ edits. with_guard edits (unguarded session ws)) (number bs) else None
+-- reads the words of a command with a guard after its first word, given what that word selects
+abbrev pub guarded_by : ℕ → Option Verb → List (List ℕ) → Option Request
+guarded_by edits (Some (verb.Command v)) ws = act_of (Some edits) v ws
+guarded_by edits other ws = None
 
--- reads a session's request after its first word `word`, given what that word selects
+-- reads a command with a guard. `word` is `@` and the guard, which must be a number; the words
+-- after it are those of the command.
+abbrev pub guarded : List ℕ → List (List ℕ) → Option Request
+guarded [] ws = None
+guarded (b ∷ bs) ws =
+    if b == 64 then option_and_then (λ edits. guarded_by edits (verb_of (next ws)) (after_next ws)) (number bs) else None
+
+-- reads the words of a request after its first word `word`, given what that word selects
 abbrev pub request_by : ℕ → List ℕ → Option Verb → List (List ℕ) → Option Request
-request_by session word (Some v) ws = request_of session v ws
-request_by session word None ws = guarded session word ws
+request_by session word (Some (verb.Look v)) ws = option_map Look (look_of session v ws)
+request_by session word (Some verb.Fill) ws = option_map Fill (only_branch ws)
+request_by session word (Some (verb.Command v)) ws = act_of None v ws
+request_by session word None ws = guarded word ws
 
--- reads a session's request, which is a look, a fill, or a command; only a command may have a guard
-abbrev pub request : ℕ → List (List ℕ) → Option Request
-request session ws = request_by session (next ws) (verb_of (next ws)) (after_next ws)
+-- reads a session's request, which is a look, a fill, or a command; only a command may have a
+-- guard. `word` is the request's first word.
+abbrev pub request_of : ℕ → List ℕ → List (List ℕ) → Option Request
+request_of session word ws = request_by session word (verb_of word) ws
 
 -- reads a call: the number of a session, and then that session's request
 abbrev pub call_of : List (List ℕ) → Option Call
 call_of ws = do
   s ← number (next ws)
-  r ← request s (after_next ws)
+  r ← request_of s (next (after_next ws)) (after_next (after_next ws))
   Some (record { session = s; request = r })
 
 -- whether a call may have this byte, one of 0x20 to 0x7E
 abbrev pub is_call_byte : ℕ → Bool
 is_call_byte b = nat_le 32 b && nat_le b 126
+
+-- what a line says, given its session and the request that was read from it; it is bad if none was
+-- read
+abbrev pub line_of : ℕ → Option Request → Line
+line_of session None = line.Bad
+line_of session (Some r) = line.Call (record { session = session; request = r })
 
 -- what a line says, given the call that was read from it; it is bad if none was read
 abbrev pub call_or_bad : Option Call → Line

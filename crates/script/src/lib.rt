@@ -4,8 +4,7 @@
 pub mod call;
 pub mod laws;
 pub mod line;
-mod place;
-mod request;
+pub mod look;
 pub mod text;
 mod verb;
 

@@ -6,6 +6,14 @@ ghost use Rattle.script.specs.Lines as spec;
 /// What the first word of a request selects: how the words after it are read.
 #[derive(Clone, Copy)]
 pub(crate) enum Verb {
+    Look(LookVerb),
+    Fill,
+    Command(CommandVerb),
+}
+
+/// The looks, by their first words.
+#[derive(Clone, Copy)]
+pub(crate) enum LookVerb {
     Branches,
     Cursor,
     Steps,
@@ -15,7 +23,11 @@ pub(crate) enum Verb {
     Bits,
     History,
     Verdict,
-    Fill,
+}
+
+/// The commands, by their first words.
+#[derive(Clone, Copy)]
+pub(crate) enum CommandVerb {
     Join,
     Leave,
     Seek,
@@ -37,29 +49,29 @@ pub(crate) fn verb_of(word: &[u8]) -> Option<Verb>
 {
     // This `match` compiles to a comparison of the length, and then of the bytes one by one.
     match word {
-        b"branches" => Some(Verb::Branches),
-        b"cursor" => Some(Verb::Cursor),
-        b"steps" => Some(Verb::Steps),
-        b"process" => Some(Verb::Process),
-        b"state" => Some(Verb::State),
-        b"pending" => Some(Verb::Pending),
-        b"bits" => Some(Verb::Bits),
-        b"history" => Some(Verb::History),
-        b"verdict" => Some(Verb::Verdict),
+        b"branches" => Some(Verb::Look(LookVerb::Branches)),
+        b"cursor" => Some(Verb::Look(LookVerb::Cursor)),
+        b"steps" => Some(Verb::Look(LookVerb::Steps)),
+        b"process" => Some(Verb::Look(LookVerb::Process)),
+        b"state" => Some(Verb::Look(LookVerb::State)),
+        b"pending" => Some(Verb::Look(LookVerb::Pending)),
+        b"bits" => Some(Verb::Look(LookVerb::Bits)),
+        b"history" => Some(Verb::Look(LookVerb::History)),
+        b"verdict" => Some(Verb::Look(LookVerb::Verdict)),
         b"fill" => Some(Verb::Fill),
-        b"join" => Some(Verb::Join),
-        b"leave" => Some(Verb::Leave),
-        b"seek" => Some(Verb::Seek),
-        b"back" => Some(Verb::Back),
-        b"go" => Some(Verb::Go),
-        b"break" => Some(Verb::Break),
-        b"clear" => Some(Verb::Clear),
-        b"insert" => Some(Verb::Insert),
-        b"remove" => Some(Verb::Remove),
-        b"replace" => Some(Verb::Replace),
-        b"fork" => Some(Verb::Fork),
-        b"detach" => Some(Verb::Detach),
-        b"drop" => Some(Verb::Drop),
+        b"join" => Some(Verb::Command(CommandVerb::Join)),
+        b"leave" => Some(Verb::Command(CommandVerb::Leave)),
+        b"seek" => Some(Verb::Command(CommandVerb::Seek)),
+        b"back" => Some(Verb::Command(CommandVerb::Back)),
+        b"go" => Some(Verb::Command(CommandVerb::Go)),
+        b"break" => Some(Verb::Command(CommandVerb::Break)),
+        b"clear" => Some(Verb::Command(CommandVerb::Clear)),
+        b"insert" => Some(Verb::Command(CommandVerb::Insert)),
+        b"remove" => Some(Verb::Command(CommandVerb::Remove)),
+        b"replace" => Some(Verb::Command(CommandVerb::Replace)),
+        b"fork" => Some(Verb::Command(CommandVerb::Fork)),
+        b"detach" => Some(Verb::Command(CommandVerb::Detach)),
+        b"drop" => Some(Verb::Command(CommandVerb::Drop)),
         _ => None,
     }
 }
