@@ -19,6 +19,13 @@ pub(crate) struct Known {
     pub(crate) fresh: Number,
 }
 
+impl Known {
+    /// Whether anything is known.
+    pub(crate) fn is_any(&self) -> bool {
+        self.mark.is_some() || self.fresh.is_some()
+    }
+}
+
 /// Whether stored runs are known to fit all segments from the first down to `key`, in which
 /// `stored` is stored.
 #[inline(always)]
@@ -29,6 +36,21 @@ pub(crate) fn is_down<R: Register>(known: &Known, key: SegKey, stored: Option<&S
         Some(stored) => is_marked(known.mark, key) || stored.checked().is_from(known.fresh),
         None => false,
     }
+}
+
+/// Whether a climb of runs that hang from one another can stop at the segment `key`, in which
+/// `stored` is stored. `is_any` says whether anything is known: it is the same in a whole climb, so
+/// that a climb after an edit, when nothing is known, passes each segment without a test of it.
+#[inline(always)]
+pub(crate) fn may_stop<R: Register>(
+    known: &Known,
+    is_any: bool,
+    key: SegKey,
+    stored: &Stored<R>,
+) -> bool
+    ensures { result ≡ true → IsDown known.now key (Some stored.now) }
+{
+    is_any && is_down(known, key, Some(stored))
 }
 
 /// Whether the segment `key` is the marked one; false if none is marked.

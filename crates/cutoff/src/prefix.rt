@@ -12,7 +12,7 @@ ghost use Rattle.cutoff.specs.Links.{AreLinked};
 ghost use Rattle.cutoff.specs.Prefixes.{AreKeysAfter, IsKnown, IsPlaceIn, IsHung, IsLeft, IsTop};
 ghost use Rattle.cutoff.specs.Known.{AreKnown};
 
-use crate::known::{Known, is_down};
+use crate::known::{Known, is_down, may_stop};
 use crate::stored::Stored;
 use frames::config::Config;
 use frames::register::Register;
@@ -95,12 +95,13 @@ fn hung_from<'a, R: Register>(trie: &'a Trie<Stored<R>>, known: &Known, key: Seg
     };
     // for the proof: by its contract, the run is a replay of its steps
     let _entry = stored.entry();
+    let is_any = known.is_any();
     let mut hung = key;
     let mut lower = stored;
     let mut at = above;
     // a branch has at most one segment for each cell ever made
     for _ in 0..trie.made() {
-        if is_down(known, hung, Some(lower)) {
+        if may_stop(known, is_any, hung, lower) {
             break;
         }
         let Some(key) = at else {

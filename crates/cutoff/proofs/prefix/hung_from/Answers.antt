@@ -7,7 +7,7 @@ use Rattle.cutoff.specs.Prefixes.{IsHung, IsTop}
 use Rattle.cutoff.proofs.Climbs.{path_once}
 use Rattle.cutoff.proofs.HungRuns.{hung_here, hung_more}
 use Rattle.cutoff.proofs.prefix.hung_from.Goals as goal
-use Rattle.cutoff.proofs.prefix.hung_from.Goals.{else-loop-test, then-loop-test+then-is_down, then-loop-test+else-is_down+in_default-at, then-loop-test+else-is_down+in-Some-at+in_default-note, then-loop-test+else-is_down+in-Some-at+in-Some-note+then-not-is_linked_from}
+use Rattle.cutoff.proofs.prefix.hung_from.Goals.{else-loop-test, then-loop-test+then-may_stop, then-loop-test+else-may_stop+in_default-at, then-loop-test+else-may_stop+in-Some-at+in_default-note, then-loop-test+else-may_stop+in-Some-at+in-Some-note+then-not-is_linked_from}
 
 pub returns-in_default-clause-top : goal.returns-in_default-clause-top
 returns-in_default-clause-top g c = record {
@@ -80,9 +80,9 @@ returns-clause-top g c =
     let same : c.loop-test.at ≡ c.loop.at =
     elim c.loop-test.branch [
       | else-loop-test w ↦ w.at-is
-      | then-loop-test+then-is_down w ↦ w.at-is
-      | then-loop-test+else-is_down+in_default-at w ↦ w.at-is
-      | then-loop-test+else-is_down+in-Some-at+in_default-note w ↦ w.at-is ∙ sym w.in-Some-at.is
-      | then-loop-test+else-is_down+in-Some-at+in-Some-note+then-not-is_linked_from w ↦ w.at-is ∙ sym w.in-Some-at.is
+      | then-loop-test+then-may_stop w ↦ w.at-is
+      | then-loop-test+else-may_stop+in_default-at w ↦ w.at-is
+      | then-loop-test+else-may_stop+in-Some-at+in_default-note w ↦ w.at-is ∙ sym w.in-Some-at.is
+      | then-loop-test+else-may_stop+in-Some-at+in-Some-note+then-not-is_linked_from w ↦ w.at-is ∙ sym w.in-Some-at.is
     ] in
     subst (IsTop c.args.trie.now c.loop.hung (Some c.loop.lower.now)) (sym same) c.loop.invariant.top
