@@ -235,7 +235,7 @@ fn job_at<R: Register>(
 ) -> Result<Job<R>, AllocError>
     requires { AllFit (R.behaviour (arc_value entry).register) (map step_of cells.now) }
     ensures { IfOk result
-        (λ j. j ≡ record { key = key; entry = arc_value entry; steps = map step_of cells.now }) }
+        (λ job. job ≡ record { key = key; entry = arc_value entry; steps = map step_of cells.now }) }
 {
     let steps = Steps::new(steps_in(alloc, cells)?);
     Ok(Job { key, entry, steps })
