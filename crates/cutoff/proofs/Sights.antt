@@ -77,8 +77,11 @@ module _ {R P : Type 0} (E : R → R → Bool) (b : Behaviour P) (trie : TrieOf 
 
 -- jobs with one more, of a key
 module _ {R P : Type 0} (trie : TrieOf (StoredRun R P)) (k : ℕ) (end : Configuration R P) where
-  abbrev job : Planned R P
+  abbrev pub job : Planned R P
   job = record { key = k; entry = end; steps = steps_at trie k }
+
+  pub job_is : (made : Planned R P) → Some made ≡ job_of trie (Some k) end → made ≡ job
+  job_is made same = cc
 
   job_again : (jobs : List (Planned R P)) → has k (map key_of jobs) ≡ true → jobs ≡ with_job jobs (job_of trie (Some k) end)
   job_again jobs there = sym (ap (λ t. cond t jobs (jobs ++ job ∷ [])) there)

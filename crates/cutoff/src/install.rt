@@ -3,7 +3,7 @@
 ghost use Rattle.std.specs.Prelude.{◌≡◌, ℕ, None, Some, IsSome, true, false, map};
 ghost use Rattle.std.specs.Bool.{Decides};
 ghost use Rattle.schedule_trie.specs.Forest.{step_of};
-ghost use Rattle.schedule_trie.specs.Trie.{has, keys_in, segment_at, slots_of, IsCut};
+ghost use Rattle.schedule_trie.specs.Trie.{has, keys_in, segment_at, IsCut};
 ghost use Rattle.checkpoints.specs.Segment.{IsRun};
 ghost use Rattle.cutoff.specs.Fitting.{steps_at};
 ghost use Rattle.cutoff.specs.Links.{AreLinked, IsLinked, IsLinkedAt, without_register};
@@ -12,6 +12,7 @@ ghost use Rattle.cutoff.specs.Prefixes.{RunGoesOn, AreFresh};
 
 use crate::climb::comes_down;
 use crate::number::Number;
+use crate::settle::segment_cells;
 use crate::stored::{Stored, entry_below, stored_at};
 use checkpoints::run::Run;
 use frames::config::Config;
@@ -75,16 +76,6 @@ pub(crate) fn has_segment<R: Register>(trie: &Trie<Stored<R>>, key: SegKey) -> b
     ensures no { result ≡ false → segment_at trie.now.segments key ≡ None }
 {
     trie.cells_of(key).is_some()
-}
-
-/// The cells of the segment `key`, in order; empty if there is no such segment.
-fn segment_cells<R: Register>(trie: &Trie<Stored<R>>, key: SegKey) -> &[Slot]
-    ensures { result.now ≡ slots_of (segment_at trie.now.segments key) }
-{
-    match trie.cells_of(key) {
-        Some(slots) => slots,
-        None => &[],
-    }
 }
 
 /// Whether the segment `key` has these steps.

@@ -13,7 +13,7 @@ ghost use Rattle.cutoff.specs.Links.{IsLinkedAt};
 ghost use Rattle.cutoff.specs.Prefixes.{AreFresh, IsLeft, exit_or, note_named};
 
 use crate::prefix::{Rest, keys_down_to};
-use crate::settle::{fitting, replay_segment, store_replayed};
+use crate::settle::{fitting, replay_segment};
 use crate::stored::{Stored, entry_below, shared_entry, stored_at};
 use checkpoints::run::Run;
 use frames::config::Config;
@@ -66,21 +66,17 @@ fn settle_below<R: Register>(
     ensures unchanged { OnErr result (trie.new ≡ trie.old) }
 {
     let (config, number) = entry_below(start, above);
-    let cells = match fitting(trie, key, config, number) {
-        Ok(stored) => {
-            if stored.is_as_found(number) {
-                return Ok((stored.copy()?, 0));
-            }
-            let again = stored.following(number)?;
-            let copy = again.copy()?;
-            trie.set_note(key, Some(again));
-            return Ok((copy, 0));
+    if let Some(stored) = fitting(trie, key, config, number) {
+        if stored.is_as_found(number) {
+            return Ok((stored.copy()?, 0));
         }
-        Err(cells) => cells,
-    };
+        let again = stored.following(number)?;
+        let copy = again.copy()?;
+        trie.set_note(key, Some(again));
+        return Ok((copy, 0));
+    }
     let config = shared_entry(alloc, start, above)?;
-    let run = replay_segment(alloc, config, cells)?;
-    let made = store_replayed(trie, next, key, run, number)?;
+    let made = replay_segment(alloc, trie, next, key, config, number)?;
     Ok(made)
 }
 

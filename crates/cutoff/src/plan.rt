@@ -14,7 +14,7 @@ ghost use Rattle.schedule_trie.specs.Trie.{keys_in, IsCut};
 ghost use Rattle.schedule_trie.specs.Forest.{step_of};
 
 use crate::known::{Known, is_down};
-use crate::settle::fitting;
+use crate::settle::{fitting, segment_cells};
 use crate::sight::{Sight, known, record_fit};
 use crate::stored::{Stored, entry_below, shared_entry, stored_at};
 use frames::config::Config;
@@ -216,28 +216,27 @@ fn look_below<R: Register>(
 {
     let above = stored_at(base.trie, above);
     let (config, number) = entry_below(base.start, above);
-    let cells = match fitting(base.trie, key, config, number) {
-        Ok(_) => return Ok(true),
-        Err(cells) => cells,
-    };
+    if let Some(_) = fitting(base.trie, key, config, number) {
+        return Ok(true);
+    }
     let entry = shared_entry(base.alloc, base.start, above)?;
-    let job = job_at(base.alloc, key, entry, cells)?;
+    let job = job_at(base.alloc, base.trie, key, entry)?;
     jobs.push(job)?;
     Ok(false)
 }
 
-/// The job of the segment `key`, which has these cells, and at whose start replay reaches `entry`.
+/// The job of the segment `key`, at whose start replay reaches `entry`.
 fn job_at<R: Register>(
     alloc: Global,
+    trie: &Trie<Stored<R>>,
     key: SegKey,
     entry: Arc<Config<R>>,
-    cells: &[Slot],
 ) -> Result<Job<R>, AllocError>
-    requires { AllFit (R.behaviour (arc_value entry).register) (map step_of cells.now) }
-    ensures { IfOk result
-        (λ job. job ≡ record { key = key; entry = arc_value entry; steps = map step_of cells.now }) }
+    requires { AllFit (R.behaviour (arc_value entry).register) (steps_at trie.now key) }
+    ensures { IfOk result (λ job. Some job ≡ job_of trie.now (Some key) (arc_value entry)) }
 {
-    let steps = Steps::new(steps_in(alloc, cells)?);
+    let steps = steps_in(alloc, segment_cells(trie, key))?;
+    let steps = Steps::new(steps);
     Ok(Job { key, entry, steps })
 }
 

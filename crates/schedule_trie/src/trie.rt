@@ -276,20 +276,6 @@ impl<T: Drop> Trie<T> {
         self.segments.item(key)?.note.as_ref()
     }
 
-    /// The note of the segment at `key`, `None` if it has none; and the segment's cells, in order.
-    /// `None` and no cells if no segment has `key`. Same as `note` and `cells_of`, but finds the
-    /// segment only once.
-    #[inline(always)]
-    pub fn noted_cells(&self, key: SegKey) -> (Option<&T>, &[Slot])
-        ensures note { option_copied result.0 ≡ note_of (segment_at self.now.segments key) }
-        ensures cells { result.1.now ≡ slots_of (segment_at self.now.segments key) }
-    {
-        match self.segments.item(key) {
-            Some(segment) => (segment.note.as_ref(), segment.slots.as_slice()),
-            None => (None, &[]),
-        }
-    }
-
     /// The note of the segment at `key`, `None` if it has none; and the key of the segment right
     /// above it, `None` if it is the first of its branches. Both are `None` if no segment has
     /// `key`. Same as `note` and `above`, but finds the segment only once.

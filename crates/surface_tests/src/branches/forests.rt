@@ -59,7 +59,7 @@ fn has_notes(alloc: Global, trie: &mut Trie<u32>, main: &Name) -> Result<bool, R
         return Ok(false);
     };
     trie.set_note(key, Some(5));
-    let kept = trie.note(key) == Some(&5) && trie.noted_cells(key).0 == Some(&5);
+    let kept = trie.note(key) == Some(&5);
     trie.set_note(key, None);
     let first = Slot {
         cell: 4,
