@@ -115,7 +115,7 @@ pub path_once : {T : Type 0} (trie : TrieOf T) → IsCut trie → (i : ℕ) → 
 path_once trie whole i = Once-from_linked whole.shares.above (keys_in trie.branches i) (whole.shares.linked i)
 
 -- at most as many keys as the branch has
-few_to : (keys : List ℕ) (last : Option ℕ) → HasClimbedTo keys last → length (keys_to keys last) ≤ length keys
+pub few_to : (keys : List ℕ) (last : Option ℕ) → HasClimbedTo keys last → length (keys_to keys last) ≤ length keys
 few_to keys None h = omega arith
 few_to keys (Some k) h =
     let p = parting keys k h in

@@ -125,7 +125,7 @@ pub(crate) fn settle_rest<R: Register>(
         return Ok((copy_at(trie, Some(key))?, replayed));
     }
     trie.lemma_invariant();
-    let (_, hanging) = keys_down_to(trie, Some(rest.hung), Some(key), Vec::new(alloc))?;
+    let (_, hanging) = keys_down_to(alloc, trie, Some(rest.hung), Some(key))?;
     for below in &hanging {
         let (lower, here) = settle_below(alloc, trie, next, start, above.as_ref(), *below)?;
         replayed += here;

@@ -3,9 +3,11 @@
 //! fit. A run hangs from the run right above it if the lower run's link is the upper run's number:
 //! the lower run then begins at the upper run's exit.
 
-ghost use Rattle.std.specs.Prelude.{◌≡◌, ℕ, None, Some, true, IfOk, reverse};
+ghost use Rattle.std.specs.Prelude.{◌≡◌, ◌<◌, ◌≤◌, ℕ, [], None, Some, true, IfOk, OnOk, MatchOption, length, reverse};
 ghost use Rattle.std.specs.Option.{option_copied};
+ghost use Rattle.checkpoints.specs.Segment.{IsRun};
 ghost use Rattle.frames.specs.Configuration.{Configuration};
+ghost use Rattle.frames.specs.Equality.{SameConfiguration};
 ghost use Rattle.schedule_trie.specs.Trie.{has, keys_in, IsCut};
 ghost use Rattle.schedule_trie.specs.Climbs.{keys_to, HasClimbedTo};
 ghost use Rattle.cutoff.specs.Links.{AreLinked};
@@ -40,36 +42,76 @@ struct Top<'a, R: Register> {
     above: Option<SegKey>,
 }
 
-/// The lowest segment, at `first` or above, down to which stored runs are known to fit. `None` if
-/// no run is known to fit. Uses what is known, the runs' numbers, and a comparison of the first
-/// run's entry with the start.
+/// Whether stored runs fit down to `top` since it is the first segment of its branches, and its run
+/// begins at the start.
+fn begins_at<R: Register>(start: &Config<R>, top: &Top<'_, R>) -> bool
+    ensures { result ≡ true → (top.now.above ≡ None)
+        × MatchOption (option_copied top.now.stored) ⊥ (λ s.
+        SameConfiguration R.PartialEq.eq s.run.entry start.now
+        × IsRun (R.behaviour s.run.entry.register) s.run) }
+{
+    match (top.above, top.stored) {
+        (None, Some(stored)) => *stored.entry() == *start,
+        _ => false,
+    }
+}
+
+/// Adds to `keys` those of the segments from `front` up to `top`, and returns the key of the segment
+/// right above `top`; `None` if `top` is the first segment of its branches.
+fn pass<R: Register>(
+    trie: &Trie<Stored<R>>,
+    front: SegKey,
+    top: &Top<'_, R>,
+    keys: &mut Vec<SegKey>,
+) -> Result<Option<SegKey>, AllocError>
+    requires cut { IsCut trie.now }
+    requires there { (i : ℕ) × (has front (keys_in trie.now.branches i) ≡ true) }
+    requires top { IsTop trie.now top.now.key (option_copied top.now.stored) top.now.above }
+    ensures following { IfOk result (λ above. AreKeysAfter trie.now (Some front)
+        (reverse keys.old.items) above above (reverse keys.new.items)) }
+    ensures more { OnOk result (length keys.old.items < length keys.new.items) }
+{
+    keys.push(front)?;
+    if top.key == front {
+        return Ok(top.above);
+    }
+    keys_up_to(trie, top.above, trie.above(front), keys)
+}
+
+/// The lowest segment, at `first` or above, down to which stored runs are known to fit, `None` if
+/// no run is known to fit; and the keys of the segments below it, down to `first`, each before the
+/// one right above it. Uses what is known, the runs' numbers, and a comparison of the first run's
+/// entry with the start.
 fn known_prefix<R: Register>(
+    alloc: Global,
     trie: &Trie<Stored<R>>,
     start: &Config<R>,
     known: &Known,
     first: Top<'_, R>,
-) -> Option<SegKey>
+) -> Result<(Option<SegKey>, Vec<SegKey>), AllocError>
     requires known { AreKnown R.PartialEq.eq R.behaviour trie.now start.now known.now }
     requires there { (i : ℕ) × (has first.key (keys_in trie.now.branches i) ≡ true) }
     requires top { IsTop trie.now first.key (option_copied first.stored) first.above }
-    ensures { IsKnown R.PartialEq.eq R.behaviour trie.now start.now first.entry.key result }
+    ensures known { IfOk result (λ r.
+        IsKnown R.PartialEq.eq R.behaviour trie.now start.now first.entry.key r.0) }
+    ensures following { IfOk result (λ r.
+        AreKeysAfter trie.now (Some first.entry.key) [] r.0 r.0 (reverse r.1.items)) }
 {
+    let mut keys = Vec::new(alloc);
     let mut front = first.key;
     let mut top = first;
     // a branch has at most one segment for each cell ever made
     for _ in 0..trie.made() {
-        if is_down(known, top.key, top.stored) {
-            return Some(front);
+        if is_down(known, top.key, top.stored) || begins_at(start, &top) {
+            return Ok((Some(front), keys));
         }
-        let Some(next) = top.above else {
-            let stored = top.stored?;
-            let begun = stored.entry();
-            return if *begun == *start { Some(front) } else { None };
+        let Some(next) = pass(trie, front, &top, &mut keys)? else {
+            return Ok((None, keys));
         };
         front = next;
         top = hung_from(trie, known, next);
     }
-    None
+    unreachable!()
 }
 
 /// Climbs from `key` as long as the run of the segment reached hangs from the run right above, and
@@ -143,39 +185,30 @@ pub(crate) fn rest_to<R: Register>(
         key count place i) }
 {
     let top = hung_from(trie, known, key);
-    let (hung, above) = (top.key, top.above);
-    let prefix = known_prefix(trie, start, known, top);
-    let mut keys = Vec::new(alloc);
-    if prefix == Some(hung) {
-        return Ok(Rest {
-            front: prefix,
-            keys,
-            hung,
-        });
-    }
-    keys.push(hung)?;
-    let (front, keys) = keys_down_to(trie, prefix, above, keys)?;
+    let hung = top.key;
+    let (front, mut keys) = known_prefix(alloc, trie, start, known, top)?;
+    keys.reverse();
     Ok(Rest { front, keys, hung })
 }
 
-/// Climbs from the segment `last` until it meets `front` or has passed the first segment. Returns
-/// `front` or `None`, and the keys of the segments passed, in order, followed by those of `below`,
-/// which are the keys below `last`, the lowest first.
-pub(crate) fn keys_down_to<T: Drop>(
+/// Climbs from the segment `last` until it meets `front` or has passed the first segment, and adds
+/// the keys of the segments passed to `keys`, each before the one right above it. Returns `front` or
+/// `None`.
+fn keys_up_to<T: Drop>(
     trie: &Trie<T>,
     front: Option<SegKey>,
     last: Option<SegKey>,
-    below: Vec<SegKey>,
-) -> Result<(Option<SegKey>, Vec<SegKey>), AllocError>
+    keys: &mut Vec<SegKey>,
+) -> Result<Option<SegKey>, AllocError>
     requires cut { IsCut trie.now }
     requires there { (i : ℕ) × HasClimbedTo (keys_in trie.now.branches i) last }
-    ensures following { IfOk result
-        (λ r. AreKeysAfter trie.now last (reverse below.items) front r.0 r.1.items) }
-    ensures stops { IfOk result (λ r. (i f : ℕ) → HasClimbedTo (keys_in trie.now.branches i) last
+    ensures following { IfOk result (λ up. AreKeysAfter trie.now last (reverse keys.old.items)
+        front up (reverse keys.new.items)) }
+    ensures stops { IfOk result (λ up. (i f : ℕ) → HasClimbedTo (keys_in trie.now.branches i) last
         → front ≡ Some f → has f (keys_to (keys_in trie.now.branches i) last) ≡ true
-        → r.0 ≡ front) }
+        → up ≡ front) }
+    ensures more { OnOk result (length keys.old.items ≤ length keys.new.items) }
 {
-    let mut keys = below;
     let mut at = last;
     for _ in 0..trie.made() {
         if at == front {
@@ -187,6 +220,27 @@ pub(crate) fn keys_down_to<T: Drop>(
         keys.push(key)?;
         at = trie.above(key);
     }
+    Ok(at)
+}
+
+/// Climbs from the segment `last` until it meets `front` or has passed the first segment. Returns
+/// `front` or `None`, and the keys of the segments passed, in order.
+pub(crate) fn keys_down_to<T: Drop>(
+    alloc: Global,
+    trie: &Trie<T>,
+    front: Option<SegKey>,
+    last: Option<SegKey>,
+) -> Result<(Option<SegKey>, Vec<SegKey>), AllocError>
+    requires cut { IsCut trie.now }
+    requires there { (i : ℕ) × HasClimbedTo (keys_in trie.now.branches i) last }
+    ensures following { IfOk result
+        (λ r. AreKeysAfter trie.now last [] front r.0 r.1.items) }
+    ensures stops { IfOk result (λ r. (i f : ℕ) → HasClimbedTo (keys_in trie.now.branches i) last
+        → front ≡ Some f → has f (keys_to (keys_in trie.now.branches i) last) ≡ true
+        → r.0 ≡ front) }
+{
+    let mut keys = Vec::new(alloc);
+    let at = keys_up_to(trie, front, last, &mut keys)?;
     keys.reverse();
     Ok((at, keys))
 }

@@ -1,5 +1,5 @@
-use Rattle.std.proofs.Common.{◌≡◌, ◌+◌, ◌++◌, [], Some, true, drop, reverse, get_or, refl, sym, ap, subst, ◌∙◌, arith, append-nil}
-use Rattle.cutoff.specs.Prefixes.{AreKeysAfter, Hangs, note_named, exit_or_start}
+use Rattle.std.proofs.Common.{◌≡◌, ◌+◌, ◌++◌, [], Some, true, drop, get_or, refl, sym, ap, subst, ◌∙◌, arith, append-nil}
+use Rattle.cutoff.specs.Prefixes.{Hangs, note_named, exit_or_start}
 use Rattle.schedule_trie.specs.Trie.{has, keys_in}
 use Rattle.cutoff.proofs.SameBranches.{cut_kept, keeps_still}
 use Rattle.cutoff.proofs.RestWalks.{IsGoing, going_starts, going_past, going_next, kept_next, noted_next, ends_at, going_settles, small_next, fits_next}
@@ -121,9 +121,7 @@ loop-below-init g c =
     let is = g.R.Behaves.behaviour in
     let trie = c.args.trie.now in
     let start = c.args.start.now in
-    let following =
-    subst (λ l. AreKeysAfter c.loop-segment.trie (Some c.args.key) (reverse l) (Some c.args.rest.now.hung) c.in_ok-hanging.field-0-0 c.in_ok-hanging.hanging.items) c.new.ensures.items
-    c.in_ok-hanging.ensures.following in (
+    let following = c.in_ok-hanging.ensures.following in (
       c.loop-segment.invariant.0,
       record {
         noted = c.loop-segment.invariant.1.noted;

@@ -1,6 +1,7 @@
-use Rattle.std.proofs.Common.{◌≡◌, ℕ, true}
+use Rattle.std.proofs.Common.{◌≡◌, ◌++◌, ◌≤◌, ℕ, true, length, reverse}
 use Rattle.std.specs.Option.{option_copied}
 use Rattle.schedule_trie.specs.Trie.{has, keys_in}
+use Rattle.schedule_trie.specs.Climbs.{keys_up_to}
 use Rattle.cutoff.specs.Prefixes.{IsHung, IsTop}
 use Rattle.cutoff.proofs.prefix.known_prefix.Given as goal
 
@@ -10,5 +11,7 @@ invariant-loop g l =
     record {
       there : (i : ℕ) → has l.fn.first.key (keys i) ≡ true → has l.front (keys i) ≡ true;
       hung : (i : ℕ) → has l.fn.first.key (keys i) ≡ true → IsHung g.R.PartialEq.eq g.R.Behaves.behaviour l.trie l.top.key l.front i;
+      path : (i : ℕ) → has l.fn.first.key (keys i) ≡ true → keys_up_to l.fn.first.key (keys i) ≡ keys_up_to l.front (keys i) ++ reverse l.keys.items;
+      short : l.counter ≤ length l.keys.items;
       top : IsTop l.trie l.top.key (option_copied l.top.stored) l.top.above;
     }
