@@ -13,13 +13,11 @@ use Rattle.schedule_trie.specs.Climbs.{keys_up_to, keys_to, HasClimbedTo}
 use Rattle.schedule_trie.proofs.climbs.Climbs.{IsStepUp, step_up, up_to-here}
 use Rattle.schedule_trie.proofs.lists.NoRepeats.{has_cases, has-append, has-head, has-tail, has-in, once_before}
 use Rattle.schedule_trie.proofs.limbs.OwnParts.{IsClimbing, last_reached}
-use Rattle.cutoff.specs.declared.sight.Sight.{Sight}
-use Rattle.cutoff.specs.declared.sight.Sight.TheVariants.{Unseen, Fit, Unfit}
 use Rattle.cutoff.specs.Charts.{StepsFit}
 use Rattle.cutoff.specs.Fitting.{StoredRun, Fits, steps_at}
 use Rattle.cutoff.specs.Plans.{FitsDownTo, Descends, Planned, job_of, key_of, with_job}
 use Rattle.cutoff.specs.Prefixes.{HasTrueRun, IsMarked, exit_or_start}
-use Rattle.cutoff.specs.Sights.{AreSeen, HasDescendedAbove, IsAbove, HasDescended, IsKnownAt, IsSight, IsUnseenPart, LooksBelow, sight_at, sight_of}
+use Rattle.cutoff.specs.Sights.{AreSeen, HasDescendedAbove, IsAbove, HasDescended, IsKnownAt, IsSight, IsUnseenPart, LooksBelow, sight_at}
 use Rattle.cutoff.proofs.Climbs.{path_once}
 use Rattle.cutoff.proofs.Edits.{all_left, all_right}
 use Rattle.cutoff.proofs.Fits.{fits_alike, same_symm}
@@ -28,22 +26,22 @@ use Rattle.cutoff.proofs.Prefixes.{down_same, runs_come, up_new}
 use Rattle.cutoff.proofs.Walks.{by_key}
 
 -- what was found stays the same when a place is added for another key
-pub unseen_more : (seen : List Sight) (k : ℕ) → sight_at (seen ++ Unseen ∷ []) k ≡ sight_at seen k
+pub unseen_more : (seen : List (Option Bool)) (k : ℕ) → sight_at (seen ++ None ∷ []) k ≡ sight_at seen k
 unseen_more [] zero = refl
 unseen_more [] (suc k) = refl
 unseen_more (s ∷ seen) zero = refl
 unseen_more (s ∷ seen) (suc k) = unseen_more seen k
 
 -- nothing was found at a key
-abbrev pub IsUnseen : List Sight → ℕ → Type 0
-IsUnseen seen k = sight_at seen k ≡ Unseen
+abbrev pub IsUnseen : List (Option Bool) → ℕ → Type 0
+IsUnseen seen k = sight_at seen k ≡ None
 
 -- what a plan knows of a key, by the answer that the key is one of the marked ones
-pub known_at : (Marked : ℕ → Type 0) (seen : List Sight) (k : ℕ) (is fits : Bool) → (is ≡ true → Marked k) → ((is ≡ true) × (fits ≡ true)) ⊎ (sight_at seen k ≡ sight_of fits) → IsKnownAt Marked seen (Some k) fits
+pub known_at : (Marked : ℕ → Type 0) (seen : List (Option Bool)) (k : ℕ) (is fits : Bool) → (is ≡ true → Marked k) → ((is ≡ true) × (fits ≡ true)) ⊎ (sight_at seen k ≡ Some fits) → IsKnownAt Marked seen (Some k) fits
 known_at Marked seen k is fits marked (inl known) = inl (marked known.0, known.1)
 known_at Marked seen k is fits marked (inr known) = inr known
 
-module _ (seen : List Sight) (keys : List ℕ) where
+module _ (seen : List (Option Bool)) (keys : List ℕ) where
   pub unseen_part : (Marked : ℕ → Type 0) (at : Option ℕ) (own all : List ℕ) (fits : Bool) → IsClimbing (IsUnseen seen) keys at own → IsKnownAt Marked seen at fits → all ≡ reverse own
       → IsUnseenPart Marked seen keys fits all
   unseen_part Marked at own all fits c known turned =
@@ -93,7 +91,7 @@ module _ {R P : Type 0} (trie : TrieOf (StoredRun R P)) (k : ℕ) (end : Configu
   keys_more jobs j = ap (has j) (map-append key_of jobs (job ∷ [])) ∙ has-append j (map key_of jobs) (k ∷ [])
 
 -- nothing has been visited yet
-pub none_seen : {R P : Type 0} (E : R → R → Bool) (is : R → Behaviour P) (trie : TrieOf (StoredRun R P)) (start : Configuration R P) (seen : List Sight) (jobs : List (Planned R P)) → seen ≡ [] → jobs ≡ []
+pub none_seen : {R P : Type 0} (E : R → R → Bool) (is : R → Behaviour P) (trie : TrieOf (StoredRun R P)) (start : Configuration R P) (seen : List (Option Bool)) (jobs : List (Planned R P)) → seen ≡ [] → jobs ≡ []
     → AreSeen E is trie start seen jobs
 none_seen E is trie start seen jobs no_sights no_jobs k =
     subst (λ l. IsSight E is trie start jobs k (sight_at l k)) (sym no_sights) (subst (λ l. has k (map key_of l) ≡ false) (sym no_jobs) refl)
@@ -161,27 +159,27 @@ module _ {R P : Type 0} (E : R → R → Bool) (per : IsPartialEquivalence E) (i
         )
 
   -- what was found stays so, and the key visited is now known
-  pub see_on : (seen after : List Sight) (jobs new : List (Planned R P)) (key : ℕ) (fits : Bool) → AreSeen E is trie start seen jobs → sight_at after key ≡ sight_of fits
+  pub see_on : (seen after : List (Option Bool)) (jobs new : List (Planned R P)) (key : ℕ) (fits : Bool) → AreSeen E is trie start seen jobs → sight_at after key ≡ Some fits
       → ((k : ℕ) → (k ≡ key → ⊥) → sight_at after k ≡ sight_at seen k) → HasDescended E is trie start new new (Some key) fits → Grows trie key jobs new → AreSeen E is trie start after new
   see_on seen after jobs new key fits were at others now grows = λ k. by_key k key (IsSight E is trie start new k (sight_at after k))
       (λ e. subst (λ j. IsSight E is trie start new j (sight_at after j)) (sym e) (subst (IsSight E is trie start new key) (sym at) (by fits now)))
       (λ ne. subst (IsSight E is trie start new k) (sym (others k ne)) (still k ne (sight_at seen k) (were k)))
     where
-      by : (f : Bool) → HasDescended E is trie start new new (Some key) f → IsSight E is trie start new key (sight_of f)
+      by : (f : Bool) → HasDescended E is trie start new new (Some key) f → IsSight E is trie start new key (Some f)
       by true h = h
       by false h = h
 
-      still : (k : ℕ) → (k ≡ key → ⊥) → (s : Sight) → IsSight E is trie start jobs k s → IsSight E is trie start new k s
-      still k ne Unseen h = grows_lacks trie key jobs new grows k ne h
-      still k ne Fit h = (h.0, refl)
-      still k ne Unfit h = λ i r. let p = h i r in let there = grows_has trie key jobs new grows p.0 p.3 in (p.0, p.1, p.2, there, job_again trie p.0 p.1 new there)
+      still : (k : ℕ) → (k ≡ key → ⊥) → (s : Option Bool) → IsSight E is trie start jobs k s → IsSight E is trie start new k s
+      still k ne None h = grows_lacks trie key jobs new grows k ne h
+      still k ne (Some true) h = (h.0, refl)
+      still k ne (Some false) h = λ i r. let p = h i r in let there = grows_has trie key jobs new grows p.0 p.3 in (p.0, p.1, p.2, there, job_again trie p.0 p.1 new there)
 
   -- a visit of a key, if runs don't fit down to the key above
   module _ (whole : IsCut trie) (key : ℕ) (above : Option ℕ) (each : IsAbove trie key above) (jobs : List (Planned R P)) where
     pub visit_unfit : (old : List (Planned R P)) → HasDescendedAbove E is trie start old jobs key false → HasDescended E is trie start old jobs (Some key) false
     visit_unfit old c = come_unfit whole key above each old jobs (c above each)
 
-    pub seen_unfit : (seen after : List Sight) → AreSeen E is trie start seen jobs → sight_at after key ≡ Unfit → ((k : ℕ) → (k ≡ key → ⊥) → sight_at after k ≡ sight_at seen k)
+    pub seen_unfit : (seen after : List (Option Bool)) → AreSeen E is trie start seen jobs → sight_at after key ≡ Some false → ((k : ℕ) → (k ≡ key → ⊥) → sight_at after k ≡ sight_at seen k)
         → (old : List (Planned R P)) × HasDescendedAbove E is trie start old jobs key false → AreSeen E is trie start after jobs
     seen_unfit seen after were at others c =
         see_on seen after jobs jobs key false were at others (come_seen c.0 jobs (Some key) false (visit_unfit c.0 c.1)) (inl refl)
@@ -201,37 +199,37 @@ module _ {R P : Type 0} (E : R → R → Bool) (per : IsPartialEquivalence E) (i
           by true l = inl l.1
           by false l = inr (exit_or_start trie start above, l.1)
 
-      pub seen_below : (seen after : List Sight) → AreSeen E is trie start seen jobs → sight_at after key ≡ sight_of fits → ((k : ℕ) → (k ≡ key → ⊥) → sight_at after k ≡ sight_at seen k)
+      pub seen_below : (seen after : List (Option Bool)) → AreSeen E is trie start seen jobs → sight_at after key ≡ Some fits → ((k : ℕ) → (k ≡ key → ⊥) → sight_at after k ≡ sight_at seen k)
           → (old : List (Planned R P)) × HasDescendedAbove E is trie start old jobs key true → AreSeen E is trie start after new
       seen_below seen after were at others c =
           see_on seen after jobs new key fits were at others (come_seen c.0 new (Some key) fits (visit_below c.0 c.1)) grows
 
   -- what is known of a key that was visited or is marked is true
-  known_come : (seen : List Sight) (jobs : List (Planned R P)) (last : Option ℕ) (fits : Bool) → IsEquivalence E
+  known_come : (seen : List (Option Bool)) (jobs : List (Planned R P)) (last : Option ℕ) (fits : Bool) → IsEquivalence E
       → AreSeen E is trie start seen jobs → IsKnownAt (λ k. IsMarked E is trie start (Some k)) seen last fits → HasDescended E is trie start jobs jobs last fits
   known_come seen jobs None fits equal seen_so known =
       subst (HasDescended E is trie start jobs jobs None) (sym known) ((λ i h. record { register = equal.refl start.register; memory = refl; running = refl; stopped = refl }), refl)
   known_come seen jobs (Some k) fits equal seen_so (inl known) = subst (HasDescended E is trie start jobs jobs (Some k)) (sym known.1) (known.0, refl)
   known_come seen jobs (Some k) fits equal seen_so (inr known) = by fits (subst (IsSight E is trie start jobs k) known (seen_so k))
     where
-      by : (f : Bool) → IsSight E is trie start jobs k (sight_of f) → HasDescended E is trie start jobs jobs (Some k) f
+      by : (f : Bool) → IsSight E is trie start jobs k (Some f) → HasDescended E is trie start jobs jobs (Some k) f
       by true h = h
       by false h = h
 
 -- a walk down a branch has passed a key, or is above the first; the keys `left` are still to go,
 -- and weren't visited
-pub record IsPlanning {R P : Type 0} (E : R → R → Bool) (is : R → Behaviour P) (trie : TrieOf (StoredRun R P)) (start : Configuration R P) (old jobs : List (Planned R P)) (seen : List Sight)
+pub record IsPlanning {R P : Type 0} (E : R → R → Bool) (is : R → Behaviour P) (trie : TrieOf (StoredRun R P)) (start : Configuration R P) (old jobs : List (Planned R P)) (seen : List (Option Bool))
     (i : ℕ) (left : List ℕ) (fits : Bool) : Type 0 where
   pub above : Option ℕ
   pub reached : HasClimbedTo (keys_in trie.branches i) above
   pub path : keys_in trie.branches i ≡ keys_to (keys_in trie.branches i) above ++ left
-  pub lacks : (k : ℕ) → has k left ≡ true → sight_at seen k ≡ Unseen
+  pub lacks : (k : ℕ) → has k left ≡ true → sight_at seen k ≡ None
   pub seen_so : AreSeen E is trie start seen jobs
   pub come : HasDescended E is trie start old jobs above fits
 
 module _ {R P : Type 0} (E : R → R → Bool) (per : IsPartialEquivalence E) (is : R → Behaviour P) (alike : (x y : R) → E x y ≡ true → is x ≡ is y)
     (trie : TrieOf (StoredRun R P)) (start : Configuration R P) (old : List (Planned R P)) (i : ℕ) where
-  pub planning_starts : (seen was : List Sight) (left given : List ℕ) (fits : Bool) → IsEquivalence E → AreSeen E is trie start seen old
+  pub planning_starts : (seen was : List (Option Bool)) (left given : List ℕ) (fits : Bool) → IsEquivalence E → AreSeen E is trie start seen old
       → was ≡ seen → given ≡ left → IsUnseenPart (λ k. IsMarked E is trie start (Some k)) was (keys_in trie.branches i) fits left → IsPlanning E is trie start old old seen i given fits
   planning_starts seen was left given fits equal seen_so found same unseen =
       let part = subst (λ l. IsUnseenPart (λ k. IsMarked E is trie start (Some k)) l (keys_in trie.branches i) fits left) found unseen in
@@ -244,7 +242,7 @@ module _ {R P : Type 0} (E : R → R → Bool) (per : IsPartialEquivalence E) (i
         come = known_come E per is alike trie start seen old part.above fits equal seen_so part.known;
       })
 
-  module _ (jobs : List (Planned R P)) (seen : List Sight) (key : ℕ) (rest : List ℕ) (fits : Bool) (p : IsPlanning E is trie start old jobs seen i (key ∷ rest) fits) where
+  module _ (jobs : List (Planned R P)) (seen : List (Option Bool)) (key : ℕ) (rest : List ℕ) (fits : Bool) (p : IsPlanning E is trie start old jobs seen i (key ∷ rest) fits) where
     abbrev keys : List ℕ
     keys = keys_in trie.branches i
 
@@ -256,7 +254,7 @@ module _ {R P : Type 0} (E : R → R → Bool) (per : IsPartialEquivalence E) (i
         let same : above ≡ p.above = each i (keys_to keys p.above) rest p.path ∙ last_reached keys p.above p.reached in
         subst (λ o. HasDescended E is trie start old jobs o fits) (sym same) p.come
 
-    planning_on : IsCut trie → (new : List (Planned R P)) (after : List Sight) (found : Bool) → AreSeen E is trie start after new
+    planning_on : IsCut trie → (new : List (Planned R P)) (after : List (Option Bool)) (found : Bool) → AreSeen E is trie start after new
         → ((k : ℕ) → (k ≡ key → ⊥) → sight_at after k ≡ sight_at seen k) → HasDescended E is trie start old new (Some key) found → IsPlanning E is trie start old new after i rest found
     planning_on whole new after found seen_so others come =
         let front = keys_to keys p.above in
@@ -276,7 +274,7 @@ module _ {R P : Type 0} (E : R → R → Bool) (per : IsPartialEquivalence E) (i
         lacks_rest (f ∷ front) once = lacks_rest front once.1
 
   -- the next key, by its index
-  module _ {jobs : List (Planned R P)} {seen : List Sight} (keys : List ℕ) (index : ℕ) (fits : Bool) (less : index < length keys) (p : IsPlanning E is trie start old jobs seen i (drop index keys) fits) where
+  module _ {jobs : List (Planned R P)} {seen : List (Option Bool)} (keys : List ℕ) (index : ℕ) (fits : Bool) (less : index < length keys) (p : IsPlanning E is trie start old jobs seen i (drop index keys) fits) where
     abbrev key : ℕ
     key = get_or keys index 0
 
@@ -289,17 +287,17 @@ module _ {R P : Type 0} (E : R → R → Bool) (per : IsPartialEquivalence E) (i
     at_fits fit =
         segment_fits (is start.register) trie (keys_in trie.branches i) key (next_there jobs seen key (drop (index + 1) keys) fits next) (fits_on (is start.register) trie fit i (keys_in trie.branches i) refl)
 
-    pub at_new : sight_at seen key ≡ Unseen
+    pub at_new : sight_at seen key ≡ None
     at_new = next.lacks key (has-head key (drop (index + 1) keys))
 
     pub at_comes : HasDescendedAbove E is trie start old jobs key fits
     at_comes = next_comes jobs seen key (drop (index + 1) keys) fits next
 
-    pub at_on : {new : List (Planned R P)} {after : List Sight} {found : Bool} → IsCut trie → AreSeen E is trie start after new → ((k : ℕ) → (k ≡ key → ⊥) → sight_at after k ≡ sight_at seen k)
+    pub at_on : {new : List (Planned R P)} {after : List (Option Bool)} {found : Bool} → IsCut trie → AreSeen E is trie start after new → ((k : ℕ) → (k ≡ key → ⊥) → sight_at after k ≡ sight_at seen k)
         → HasDescended E is trie start old new (Some key) found → IsPlanning E is trie start old new after i (drop (index + 1) keys) found
     at_on {new} {after} {found} whole = planning_on jobs seen key (drop (index + 1) keys) fits next whole new after found
 
-  pub planning_ends : (jobs : List (Planned R P)) (seen : List Sight) (left : List ℕ) (fits : Bool) → left ≡ [] → IsPlanning E is trie start old jobs seen i left fits
+  pub planning_ends : (jobs : List (Planned R P)) (seen : List (Option Bool)) (left : List ℕ) (fits : Bool) → left ≡ [] → IsPlanning E is trie start old jobs seen i left fits
       → (missed : Option ℕ) × (end : Configuration R P) × Descends E (is start.register) trie start (keys_in trie.branches i) missed end × (jobs ≡ with_job old (job_of trie missed end))
   planning_ends jobs seen left fits none p = by fits p.come
     where

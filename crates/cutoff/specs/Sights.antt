@@ -4,38 +4,29 @@ use Rattle.frames.specs.Behaviour.{Behaviour}
 use Rattle.frames.specs.Configuration.{Configuration}
 use Rattle.schedule_trie.specs.Trie.{TrieOf, keys_in, has}
 use Rattle.schedule_trie.specs.Climbs.{last_of, keys_to, HasClimbedTo}
-use Rattle.cutoff.specs.declared.sight.Sight.{Sight}
-use Rattle.cutoff.specs.declared.sight.Sight.TheVariants.{Unseen, Fit, Unfit}
 use Rattle.cutoff.specs.Fitting.{StoredRun, Fits, steps_at}
 use Rattle.cutoff.specs.Plans.{Planned, Descends, job_of, key_of, with_job}
 use Rattle.cutoff.specs.Prefixes.{HasTrueRun, RunsTo}
 
-abbrev pub unseen : Sight
-unseen = Unseen
-
--- what a plan has found at a key; `Unseen` if it hasn't visited the key
-abbrev pub sight_at : List Sight → ℕ → Sight
-sight_at seen k = slice_index_or seen k Unseen
-
--- what a visit of a segment records: `Fit` if stored runs fit down to it, else `Unfit`
-abbrev pub sight_of : Bool → Sight
-sight_of true = Fit
-sight_of false = Unfit
+-- what a plan has found at a key: whether stored runs fit down to it; `None` if it hasn't visited
+-- the key
+abbrev pub sight_at : List (Option Bool) → ℕ → Option Bool
+sight_at seen k = slice_index_or seen k None
 
 -- `fits` is a plan's answer to whether stored runs fit down to a key; if there is no key, `fits` is
 -- true; otherwise `fits` is true and the key is one of the marked ones, or `fits` is what a visit of
 -- the key found
-abbrev pub IsKnownAt : (ℕ → Type 0) → List Sight → Option ℕ → Bool → Type 0
+abbrev pub IsKnownAt : (ℕ → Type 0) → List (Option Bool) → Option ℕ → Bool → Type 0
 IsKnownAt Marked seen None fits = fits ≡ true
-IsKnownAt Marked seen (Some k) fits = (Marked k × (fits ≡ true)) ⊎ (sight_at seen k ≡ sight_of fits)
+IsKnownAt Marked seen (Some k) fits = (Marked k × (fits ≡ true)) ⊎ (sight_at seen k ≡ Some fits)
 
 -- `left` are the last keys of a branch, none of which the plan has visited; `fits` is the plan's
 -- answer to whether stored runs fit down to the key right above them (true if there is no such key)
-pub record IsUnseenPart (Marked : ℕ → Type 0) (seen : List Sight) (keys : List ℕ) (fits : Bool) (left : List ℕ) : Type 0 where
+pub record IsUnseenPart (Marked : ℕ → Type 0) (seen : List (Option Bool)) (keys : List ℕ) (fits : Bool) (left : List ℕ) : Type 0 where
   pub above : Option ℕ
   pub reached : HasClimbedTo keys above
   pub path : keys ≡ keys_to keys above ++ left
-  pub lacks : (k : ℕ) → has k left ≡ true → sight_at seen k ≡ Unseen
+  pub lacks : (k : ℕ) → has k left ≡ true → sight_at seen k ≡ None
   pub known : IsKnownAt Marked seen above fits
 
 -- on each branch with `key`, `above` is the key right above it, or `None` if `key` is the first
@@ -64,16 +55,16 @@ module _ {R P : Type 0} (E : R → R → Bool) (is : R → Behaviour P) (trie : 
     HasDescended old jobs last true = ((i : ℕ) → HasClimbedTo (keys_in trie.branches i) last → RunsTo E is trie start last (keys_in trie.branches i)) × (jobs ≡ old)
     HasDescended old jobs last false = (i : ℕ) → HasClimbedTo (keys_in trie.branches i) last → AddsMissed old jobs (keys_to (keys_in trie.branches i) last)
 
-    -- what a plan has found at the key k is right: if it is `Fit`, stored runs fit down to k; if it
-    -- is `Unfit`, they don't, and the first segment that no stored run fits has a job; if it is
-    -- `Unseen`, k has no job
-    abbrev pub IsSight : List (Planned R P) → ℕ → Sight → Type 0
-    IsSight jobs k Unseen = has k (map key_of jobs) ≡ false
-    IsSight jobs k Fit = HasDescended jobs jobs (Some k) true
-    IsSight jobs k Unfit = HasDescended jobs jobs (Some k) false
+    -- what a plan has found at the key k is right: if it is true, stored runs fit down to k; if it
+    -- is false, they don't, and the first segment that no stored run fits has a job; if it is
+    -- `None`, k has no job
+    abbrev pub IsSight : List (Planned R P) → ℕ → Option Bool → Type 0
+    IsSight jobs k None = has k (map key_of jobs) ≡ false
+    IsSight jobs k (Some true) = HasDescended jobs jobs (Some k) true
+    IsSight jobs k (Some false) = HasDescended jobs jobs (Some k) false
 
     -- what a plan has found at each key is right
-    abbrev pub AreSeen : List Sight → List (Planned R P) → Type 0
+    abbrev pub AreSeen : List (Option Bool) → List (Planned R P) → Type 0
     AreSeen seen jobs = (k : ℕ) → IsSight jobs k (sight_at seen k)
 
     -- A walk has reached the key right above `key` (`None` if there is none). If `fits` is true,

@@ -6,7 +6,7 @@ ghost use Rattle.frames.specs.Configuration.{Configuration};
 ghost use Rattle.frames.specs.Recorded.{AllFit};
 ghost use Rattle.cutoff.specs.Plans.{Descends, Planned, Plans, with_job, job_of, keys_of};
 ghost use Rattle.cutoff.specs.Prefixes.{IsMarked, exit_or_start};
-ghost use Rattle.cutoff.specs.Sights.{AreSeen, HasDescendedAbove, HasDescended, IsUnseenPart, LooksBelow, sight_at, unseen};
+ghost use Rattle.cutoff.specs.Sights.{AreSeen, HasDescendedAbove, HasDescended, IsUnseenPart, LooksBelow, sight_at};
 ghost use Rattle.cutoff.specs.Fitting.{steps_at};
 ghost use Rattle.cutoff.specs.Known.{AreKnown};
 ghost use Rattle.cutoff.specs.Links.{AreLinked};
@@ -15,7 +15,7 @@ ghost use Rattle.schedule_trie.specs.Forest.{step_of};
 
 use crate::known::{Known, is_down};
 use crate::settle::{fitting, segment_cells};
-use crate::sight::{Sight, known, record_fit};
+use crate::sight::{known, record_fit};
 use crate::stored::{Stored, entry_below, shared_entry, stored_at};
 use frames::config::Config;
 use frames::register::Register;
@@ -55,7 +55,7 @@ const MORE_SEGMENTS: usize = 64;
 #[derive(Drop)]
 struct Planning<R: Register> {
     jobs: Vec<Job<R>>,
-    seen: Vec<Sight>,
+    seen: Vec<Option<bool>>,
 }
 
 /// What a plan is made from: memory; the branches, with their stored runs; the configuration before
@@ -131,7 +131,7 @@ fn plan_branch<R: Register>(
 /// segment, returns true, and leaves all keys of the branch.
 fn unseen_keys<R: Register>(
     base: &Base<'_, R>,
-    seen: &[Sight],
+    seen: &[Option<bool>],
     index: usize,
     keys: &mut Vec<SegKey>,
 ) -> Result<bool, AllocError>
@@ -172,7 +172,7 @@ fn visit<R: Register>(
         key) }
     requires seen { AreSeen R.PartialEq.eq R.behaviour base.now.trie.now base.now.start.now
         planning.old.seen.items planning.old.jobs.items }
-    requires new { sight_at planning.old.seen.items key ≡ unseen }
+    requires new { sight_at planning.old.seen.items key ≡ None }
     requires arrives { (jobs : List (Planned R R.Pending))
         × HasDescendedAbove R.PartialEq.eq R.behaviour base.now.trie.now base.now.start.now jobs
         planning.old.jobs.items key

@@ -1,65 +1,45 @@
-//! What a plan has found at each segment. Stored runs fit down to a segment if they fit all
-//! segments of its branch from the first one to it.
+//! What a plan has found at each segment: whether stored runs fit down to it, which is so if they fit
+//! all segments of its branch from the first one to it. `None`: the plan hasn't visited the segment.
 
-ghost use Rattle.std.specs.Prelude.{◌≡◌, ◌⊎◌, ℕ, true, OnOk, MatchOption};
+ghost use Rattle.std.specs.Prelude.{◌≡◌, ◌⊎◌, ℕ, None, Some, true, OnOk, MatchOption};
 ghost use Rattle.cutoff.specs.Sights as spec;
 
 use schedule_trie::trie::SegKey;
 use std::alloc::AllocError;
 
-/// What a plan has found at a segment. `Unseen`: the plan hasn't visited it; `Fit`: stored runs fit
-/// down to it; `Unfit`: they don't.
-#[derive(Clone, Copy, Debug, PartialEq, Eq)]
-pub(crate) enum Sight {
-    Unseen,
-    Fit,
-    Unfit,
-}
-
-/// `Fit` if `fits`, else `Unfit`.
-fn sight_of(fits: bool) -> Sight
-    ensures { result ≡ spec.sight_of fits }
-{
-    if fits { Sight::Fit } else { Sight::Unfit }
-}
-
-/// What a plan has found at the segment with this key; `Unseen` if nothing is recorded there.
-fn sight_at(seen: &[Sight], key: SegKey) -> Sight
+/// What a plan has found at the segment with this key; `None` if nothing is recorded there.
+fn sight_at(seen: &[Option<bool>], key: SegKey) -> Option<bool>
     ensures { result ≡ spec.sight_at seen.now key }
 {
-    if key < seen.len() {
-        seen[key]
-    } else {
-        Sight::Unseen
-    }
+    if key < seen.len() { seen[key] } else { None }
 }
 
 /// Whether stored runs fit down to the segment `key`: true if `fits`, else what the plan has found
 /// there; `None` if the plan hasn't visited it either.
-pub(crate) fn known(fits: bool, seen: &[Sight], key: SegKey) -> Option<bool>
-    ensures { MatchOption result (spec.sight_at seen.now key ≡ spec.unseen)
-        (λ known. ((fits ≡ true) × (known ≡ true)) ⊎ (spec.sight_at seen.now key
-        ≡ spec.sight_of known)) }
+pub(crate) fn known(fits: bool, seen: &[Option<bool>], key: SegKey) -> Option<bool>
+    ensures { MatchOption result (spec.sight_at seen.now key ≡ None)
+        (λ known. ((fits ≡ true) × (known ≡ true)) ⊎ (spec.sight_at seen.now key ≡ Some known)) }
 {
     if fits {
-        return Some(true);
-    }
-    match sight_at(seen, key) {
-        Sight::Unseen => None,
-        Sight::Fit => Some(true),
-        Sight::Unfit => Some(false),
+        Some(true)
+    } else {
+        sight_at(seen, key)
     }
 }
 
 /// Records whether stored runs fit down to the segment `key`, and changes no other key's record.
-pub(crate) fn record_fit(seen: &mut Vec<Sight>, key: SegKey, fits: bool) -> Result<(), AllocError>
-    ensures here { OnOk result (spec.sight_at seen.new.items key ≡ spec.sight_of fits) }
+pub(crate) fn record_fit(
+    seen: &mut Vec<Option<bool>>,
+    key: SegKey,
+    fits: bool,
+) -> Result<(), AllocError>
+    ensures here { OnOk result (spec.sight_at seen.new.items key ≡ Some fits) }
     ensures others { OnOk result ((k : ℕ) → (k ≡ key → ⊥)
         → spec.sight_at seen.new.items k ≡ spec.sight_at seen.old.items k) }
 {
     while seen.len() <= key {
-        seen.push(Sight::Unseen)?;
+        seen.push(None)?;
     }
-    seen[key] = sight_of(fits);
+    seen[key] = Some(fits);
     Ok(())
 }
