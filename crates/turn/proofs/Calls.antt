@@ -36,7 +36,7 @@ module _ {T E : Type 0} (by : E → ℕ) (entries : T → List E) where
   pub owns_handed : (given : List Bool) (v : V) → ((share : ℕ) → has_share given share ≡ true → has_share v.shares share ≡ true) → OwnsItsCalls by v → OwnsItsCalls by (handed by given v)
   owns_handed given v inside owns share held = owns share (inside share held) ∙ sym (under_kept by (has_share given) share v.calls held)
 
-  -- the place of a chair with these marks
+  -- what a chair with these marks has at the table, between holdings
   abbrev pub IsChair : M → List Bool → Type 0
   IsChair m marks = (m.0.shares ≡ marks) × ((m.1 ≡ []) × (m.0.holds ≡ false)) × (0 < count marks) × OwnsItsCalls by m.0
 

@@ -21,11 +21,11 @@ share_1 = false ∷ true ∷ replicate 14 false
 abbrev having : List Bool → List ℕ → List ℕ → View ℕ
 having shares calls seen = record { shares = shares; calls = calls; seen = seen; reported = 0; holds = false; met = ([], []) }
 
--- one entry of chair 3
+-- chair 3 adds one entry of its own
 AtMostOne-holds : AtMostOne by 3 (3 ∷ [])
 AtMostOne-holds = inr (3, refl, refl)
 
--- one entry of chair 4
+-- chair 3 adds one entry, but under the number of chair 4
 AtMostOne-fails : AtMostOne by 3 (4 ∷ []) → ⊥
 AtMostOne-fails h =
     ⊎_elim

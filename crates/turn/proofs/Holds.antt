@@ -1,4 +1,5 @@
--- What one holding of the turn does. m0 to m5 are the place before it and after each step.
+-- What one holding of the turn does. m0 to m5 are what its chair has at the table
+-- before it and after each step.
 use Rattle.std.proofs.Common.{◌≡◌, ℕ, ◌≤◌, true, List, [], ◌∷◌, ◌++◌, length, drop, sym, ap, ◌∙◌, subst, Option, Some, None}
 use Rattle.std.proofs.Math.Seq.{drop-append_seam}
 use Rattle.atomic_table.specs.Table.{Me}

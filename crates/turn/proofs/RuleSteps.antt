@@ -57,25 +57,25 @@ module _ {T E : Type 0} (by : E → ℕ) (entries : T → List E) where
 
   -- what a view knows of an unchanged list, if it reads a greater length, or the turn and the
   -- shares' owners change
-  same_list : (list : List E) (f f' h h' : ℕ) (owner owner' : ℕ → ℕ) (seat : ℕ) (v : V) (reported_length : ℕ) (holds : Bool) → Knows by list f h owner seat v
-      → ((share : ℕ) → has_share v.shares share ≡ true → owner' share ≡ seat) → reported_length ≤ length list → (holds ≡ true → (f' ≡ 1) × (seat ≡ h') × (v.seen ≡ list) × HoldsSome v)
-      → Knows by list f' h' owner' seat (record v { reported = reported_length; holds = holds })
-  same_list list f f' h h' owner owner' seat v reported_length holds k owns within turn =
+  same_list : (list : List E) (f f' h h' : ℕ) (owner owner' : ℕ → ℕ) (chair : ℕ) (v : V) (reported_length : ℕ) (holds : Bool) → Knows by list f h owner chair v
+      → ((share : ℕ) → has_share v.shares share ≡ true → owner' share ≡ chair) → reported_length ≤ length list → (holds ≡ true → (f' ≡ 1) × (chair ≡ h') × (v.seen ≡ list) × HoldsSome v)
+      → Knows by list f' h' owner' chair (record v { reported = reported_length; holds = holds })
+  same_list list f f' h h' owner owner' chair v reported_length holds k owns within turn =
       record { below = k.below; seen = k.seen; owns = owns; calls = k.calls; saw = k.saw; others = k.others; reported = within; holding = turn; met = k.met }
 
-  -- another seat takes or frees the turn
-  others_know : (list : List E) (f f' h h' : ℕ) (owner : ℕ → ℕ) (seat : ℕ) (v : V) → (v.holds ≡ true → ⊥) → Knows by list f h owner seat v → Knows by list f' h' owner seat v
-  others_know list f f' h h' owner seat v idle k = same_list list f f' h h' owner owner seat v v.reported v.holds k k.owns k.reported (λ t. absurd (idle t))
+  -- another chair takes or frees the turn
+  others_know : (list : List E) (f f' h h' : ℕ) (owner : ℕ → ℕ) (chair : ℕ) (v : V) → (v.holds ≡ true → ⊥) → Knows by list f h owner chair v → Knows by list f' h' owner chair v
+  others_know list f f' h h' owner chair v idle k = same_list list f f' h h' owner owner chair v v.reported v.holds k k.owns k.reported (λ t. absurd (idle t))
 
-  -- shares have other owners, but not those of this seat
-  new_owners : (list : List E) (f h : ℕ) (owner owner' : ℕ → ℕ) (seat : ℕ) (v : V) → Knows by list f h owner seat v → ((share : ℕ) → has_share v.shares share ≡ true → owner' share ≡ seat)
-      → Knows by list f h owner' seat v
-  new_owners list f h owner owner' seat v k owns = same_list list f f h h owner owner' seat v v.reported v.holds k owns k.reported k.holding
+  -- shares have other owners, but not those of this chair
+  new_owners : (list : List E) (f h : ℕ) (owner owner' : ℕ → ℕ) (chair : ℕ) (v : V) → Knows by list f h owner chair v → ((share : ℕ) → has_share v.shares share ≡ true → owner' share ≡ chair)
+      → Knows by list f h owner' chair v
+  new_owners list f h owner owner' chair v k owns = same_list list f f h h owner owner' chair v v.reported v.holds k owns k.reported k.holding
 
-  owns_calls : (list : List E) (f h : ℕ) (owner : ℕ → ℕ) (seat : ℕ) (v : V) → Knows by list f h owner seat v → OwnsItsCalls by v
-  owns_calls list f h owner seat v k share held = k.saw share held ∙ sym (k.calls share held)
+  owns_calls : (list : List E) (f h : ℕ) (owner : ℕ → ℕ) (chair : ℕ) (v : V) → Knows by list f h owner chair v → OwnsItsCalls by v
+  owns_calls list f h owner chair v k share held = k.saw share held ∙ sym (k.calls share held)
 
-  -- the seat with the turn still has it if another view changes, or what else its own view knows
+  -- the chair with the turn still has it if another view changes, or what else its own view knows
   away_stays : (s : St) (r : Rule s) (id : ℕ) (v w : V) → get_elem? s.views id ≡ some v → w.holds ≡ v.holds → r.flag ≢ 0
       → (x : V) × (s.homes ≡ none ∷ []) × (get_elem? (set s.views id w) r.holder ≡ some x) × (x.holds ≡ true)
   away_stays s r id v w at same busy = let a = r.away busy in dite (ℕ_discrete r.holder id)
@@ -86,7 +86,7 @@ module _ {T E : Type 0} (by : E → ℕ) (entries : T → List E) where
   -- the list, the turn and the words stay, while views and the shares' owners are others
   other_views : (s : St) (r : Rule s) (views : List V) (owner : ℕ → ℕ)
       → (r.flag ≢ 0 → (x : V) × (s.homes ≡ none ∷ []) × (get_elem? views r.holder ≡ some x) × (x.holds ≡ true))
-      → ((seat : ℕ) (v : V) → get_elem? views seat ≡ some v → Knows by r.list r.flag r.holder owner seat v)
+      → ((chair : ℕ) (v : V) → get_elem? views chair ≡ some v → Knows by r.list r.flag r.holder owner chair v)
       → Rule record { words = s.words; homes = s.homes; views = views }
   other_views s r views owner away each = record {
     list = r.list;
@@ -271,7 +271,7 @@ module _ {T E : Type 0} (by : E → ℕ) (entries : T → List E) where
         ),
       )
 
-  -- a new seat is after the others
+  -- a new chair is after the others
   at_end : (l : List V) (a b : V) (j : ℕ) → get_elem? (l ++ a ∷ []) j ≡ some b → (get_elem? l j ≡ some b) ⊎ ((j ≡ length l) × (a ≡ b))
   at_end [] a b zero e = inr (refl, some-injective a b e)
   at_end [] a b (suc j) e = absurd (some-ne-none b (sym e))
@@ -323,7 +323,7 @@ module _ {T E : Type 0} (by : E → ℕ) (entries : T → List E) where
 
   pub joins : (id : ℕ) (v : V) (other : ℕ) (w : V) → v.holds ≡ false → w.holds ≡ false → HoldsSome v → HoldsSome w → Joins Rule id v other w (joined v w) spent_view
   joins id v other w idle idle' some_share some_share' s r at apart at' =
-      let k = r.each id v at in let b : V = joined v w in let seat : get_elem? s.views other ≡ some w = sym (set_else s.views id other b apart) ∙ at' in let k' = r.each other w seat in
+      let k = r.each id v at in let b : V = joined v w in let other_at : get_elem? s.views other ≡ some w = sym (set_else s.views id other b apart) ∙ at' in let k' = r.each other w other_at in
       let owner' : ℕ → ℕ = λ share. cond (has_share w.shares share) id (r.owner share) in let K = Knows by r.list r.flag r.holder owner' in
       let kept_owner : (share j : ℕ) → has_share w.shares share ≡ false → r.owner share ≡ j → owner' share ≡ j = λ share j gone e. ap (λ t. cond t id (r.owner share)) gone ∙ e in
       let not_both : (share : ℕ) → has_share v.shares share ≡ true → has_share w.shares share ≡ false = λ share held. both_cases (has_share w.shares share) (λ t. absurd (apart (sym (k'.owns share t) ∙ k.owns share held))) (λ f. f) in
@@ -365,9 +365,9 @@ module _ {T E : Type 0} (by : E → ℕ) (entries : T → List E) where
         met = ((r.list, refl), (r.list, refl));
       } in
       let third : (j : ℕ) (d : V) → j ≢ id → j ≢ other → get_elem? s.views j ≡ some d → K j d = λ j d not_id not_other at_j. let kj = r.each j d at_j in new_owners r.list r.flag r.holder r.owner owner' j d kj (λ share held. kept_owner share j (both_cases (has_share w.shares share) (λ t. absurd (not_other (sym (kj.owns share held) ∙ k'.owns share t))) (λ f. f)) (kj.owns share held)) in
-      let not_idle : (v' : V) (x : V) (place : ℕ) → v'.holds ≡ false → get_elem? s.views place ≡ some v' → get_elem? s.views r.holder ≡ some x → x.holds ≡ true → r.holder ≢ place
-      = λ v' x place still at_p at_h holds e. let same : x ≡ v' = some-injective x v' (sym at_h ∙ (ap (get_elem? s.views) e ∙ at_p)) in let t = ap (λ z. z.holds) same in absurd (cc) in other_views s r (set (set s.views id b) other spent_view) owner'
+      let not_idle : (v' : V) (x : V) (id' : ℕ) → v'.holds ≡ false → get_elem? s.views id' ≡ some v' → get_elem? s.views r.holder ≡ some x → x.holds ≡ true → r.holder ≢ id'
+      = λ v' x id' still at_p at_h holds e. let same : x ≡ v' = some-injective x v' (sym at_h ∙ (ap (get_elem? s.views) e ∙ at_p)) in let t = ap (λ z. z.holds) same in absurd (cc) in other_views s r (set (set s.views id b) other spent_view) owner'
       (λ busy. let a = r.away busy in
-      (a.0, a.1, set_else (set s.views id b) other r.holder spent_view (not_idle w a.0 other idle' seat a.2 a.3) ∙ (set_else s.views id r.holder b (not_idle v a.0 id idle at a.2 a.3) ∙ a.2), a.3))
+      (a.0, a.1, set_else (set s.views id b) other r.holder spent_view (not_idle w a.0 other idle' other_at a.2 a.3) ∙ (set_else s.views id r.holder b (not_idle v a.0 id idle at a.2 a.3) ∙ a.2), a.3))
       (views_stay K (set s.views id b) other spent_view spent
       (λ j d not_other e. views_stay (λ j d. j ≢ other → K j d) s.views id b (λ _. mine) (λ j d not_id at_j not_other'. third j d not_id not_other' at_j) j d e not_other))

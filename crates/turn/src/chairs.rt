@@ -3,7 +3,7 @@
 ghost use Rattle.std.specs.Prelude.{◌≡◌, ◌≢◌, ◌≤◌, ◌<◌, ℕ, All, IfOk, MatchResult, length};
 ghost use Rattle.turn.specs.Shares.{HasAll, count, next_least};
 ghost use Rattle.turn.specs.Histories.{Holding, IsJoined, OwnsItsCalls, first_view, with_news, kept, handed};
-ghost use Rattle.turn.specs.Rule.{IsTurn, IsSamePlace};
+ghost use Rattle.turn.specs.Rule.{IsTurn, IsSameAccess};
 ghost use Rattle.turn.specs.Chairs.{IsOf, view};
 
 use crate::chair::Chair;
@@ -34,11 +34,11 @@ impl<T: Counted + Drop> Turn<T> {
         let about = Snapshot::of(&value);
         let mut slots = Vec::new(alloc);
         slots.push(Some(value))?;
-        let Ok((table, place)) = Table::new(alloc, &[0, length], slots, &about) else {
+        let Ok((table, access)) = Table::new(alloc, &[0, length], slots, &about) else {
             return Err(AllocError);
         };
         let chair = Chair {
-            place,
+            access,
             shares: Shares::every(),
         };
         Ok((Turn { table }, chair))
@@ -59,7 +59,7 @@ impl<T: Counted + Drop> Turn<T> {
         ensures owns { OwnsItsCalls T.by (view chair.new) }
     {
         let number = chair.shares.number() as u32;
-        hold(rt, &self.table.shared, &mut chair.place, number, work)
+        hold(rt, &self.table.shared, &mut chair.access, number, work)
     }
 
     /// Reads how long the list is now, without waiting. `chair` has to be a chair of this turn. The
@@ -72,7 +72,7 @@ impl<T: Counted + Drop> Turn<T> {
         ensures seen { length (view chair.old).seen ≤ result }
         ensures grows { (view chair.old).reported ≤ result }
     {
-        news(&self.table.shared, &mut chair.place)
+        news(&self.table.shared, &mut chair.access)
     }
 
     /// Makes a new chair of this turn. `chair`, which has to be a chair of this turn, gives the new
@@ -130,11 +130,11 @@ impl<T: Counted + Drop> Chair<T> {
     }
 
     fn give(&mut self, board: &Board<T>, shares: u32) -> Chair<T>
-        requires turn { IsTurn board.now.table_id self.old.place }
+        requires turn { IsTurn board.now.table_id self.old.access }
         requires some { 0 < shares }
         requires fewer { shares < count (view self.old).shares }
-        ensures same { IsSamePlace self.old.place self.new.place }
-        ensures given_place { result.place.table_id ≡ self.old.place.table_id }
+        ensures same { IsSameAccess self.old.access self.new.access }
+        ensures given_access { result.access.table_id ≡ self.old.access.table_id }
         ensures kept { view self.new ≡ kept T.by (next_least shares (view self.old).shares)
             (view self.old) }
         ensures given { view result ≡ handed T.by (next_least shares (view self.old).shares)
@@ -143,24 +143,24 @@ impl<T: Counted + Drop> Chair<T> {
     {
         let given = self.shares.next_least(shares as usize);
         let left = self.shares.without(&given);
-        let place = split::<T, Brand>(board, &mut self.place, &given);
+        let access = split::<T, Brand>(board, &mut self.access, &given);
         self.shares = left;
         Chair {
-            place,
+            access,
             shares: given,
         }
     }
 
     fn take_in(&mut self, board: &Board<T>, other: Chair<T>)
-        requires turn { IsTurn board.now.table_id self.old.place
-            × IsTurn board.now.table_id other.place }
-        ensures same { IsSamePlace self.old.place self.new.place }
+        requires turn { IsTurn board.now.table_id self.old.access
+            × IsTurn board.now.table_id other.access }
+        ensures same { IsSameAccess self.old.access self.new.access }
         ensures joined { IsJoined (view self.old) (view other) (view self.new) }
         ensures owns { OwnsItsCalls T.by (view self.new) }
     {
         let together = self.shares.together(&other.shares);
-        join(board, &mut self.place, other.into_place());
-        news(board, &mut self.place);
+        join(board, &mut self.access, other.into_access());
+        news(board, &mut self.access);
         self.shares = together;
     }
 
@@ -168,7 +168,7 @@ impl<T: Counted + Drop> Chair<T> {
         requires { IsOf turn self × HasAll (view self).shares }
         ensures { T.entries result ≡ (view self).seen }
     {
-        let mut closed = turn.into_table().close_with(self.into_place());
+        let mut closed = turn.into_table().close_with(self.into_access());
         let value = closed.take(0);
         closed.free();
         match value {

@@ -25,9 +25,9 @@ impl<T: Counted> TableRule<Option<T>, View<T::Entry>, Snapshot<T>> for Rule<T> {
 /// A turn's table as its chairs share it: two atomic words, and a slot for the value.
 pub(crate) type Board<T> = Shared<Option<T>, View<<T as Counted>::Entry>, Snapshot<T>, Rule<T>>;
 
-/// A chair's seat at the turn's table: with it, the chair takes steps there. For contracts, it has
-/// the chair's view, which is what the chair knows.
-pub(crate) type Place<T> = Seat<Option<T>, View<<T as Counted>::Entry>>;
+/// A chair's access to the turn's table: with it, the chair takes steps there. For contracts, it
+/// has the chair's view, which is what the chair knows.
+pub(crate) type Access<T> = Seat<Option<T>, View<<T as Counted>::Entry>>;
 
 /// For contracts alone: the entries that one call of `publish` adds to the list. The call passes
 /// the type `Brand`, and its proof chooses the entries.
@@ -66,7 +66,7 @@ impl<T: Counted> Play<Option<T>, View<T::Entry>> for Grab<T> {
     ghost then = { grab_reports T.by T.entries };
 }
 
-/// A step of the seat that has the turn: it writes the list's new length.
+/// A step of the chair that has the turn: it writes the list's new length.
 pub(crate) struct Publish<T, N>(PhantomData<(T, N)>);
 
 impl<T: Counted, N: Added<T::Entry>> Play<Option<T>, View<T::Entry>> for Publish<T, N> {
@@ -75,7 +75,7 @@ impl<T: Counted, N: Added<T::Entry>> Play<Option<T>, View<T::Entry>> for Publish
     ghost then = { publish_reports T.by T.entries N.added };
 }
 
-/// A step of the seat that has the turn: it frees the turn.
+/// A step of the chair that has the turn: it frees the turn.
 pub(crate) struct Release<T>(PhantomData<T>);
 
 impl<T: Counted> Play<Option<T>, View<T::Entry>> for Release<T> {
@@ -93,7 +93,7 @@ impl<T: Counted> Play<Option<T>, View<T::Entry>> for News<T> {
     ghost then = { news_reports T.by T.entries };
 }
 
-/// A step by which a new seat gets some of a seat's shares, and the calls made under them.
+/// A step by which a new chair gets some of a chair's shares, and the calls made under them.
 pub(crate) struct SplitOff<T, G>(PhantomData<(T, G)>);
 
 impl<T: Counted, G: Given> Split<View<T::Entry>> for SplitOff<T, G> {
@@ -104,7 +104,7 @@ impl<T: Counted, G: Given> Split<View<T::Entry>> for SplitOff<T, G> {
     ghost right = { handed T.by G.given };
 }
 
-/// A step by which one seat takes over another seat's shares and calls.
+/// A step by which one chair takes over another chair's shares and calls.
 pub(crate) struct JoinIn<T>(PhantomData<T>);
 
 impl<T: Counted> Join<View<T::Entry>> for JoinIn<T> {

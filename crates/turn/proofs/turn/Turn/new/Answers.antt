@@ -15,7 +15,7 @@ new-requires g c =
 
 pub invariant_of-chair : goal.invariant_of-chair
 invariant_of-chair g c =
-    let is : c.in-Ok.place.me ≡ (first_view (g.T.Counted.entries c.of-about.result.value), []) = search rules in
+    let is : c.in-Ok.access.me ≡ (first_view (g.T.Counted.entries c.of-about.result.value), []) = search rules in
     let same : c.of-about.result.value ≡ c.args.value = search rules in record {
       marked = ap (λ (m : Me _ (View _)). m.0.shares) is ∙ sym c.every.ensures;
       idle = (ap (λ (m : Me _ (View _)). m.1) is, ap (λ (m : Me _ (View _)). m.0.holds) is);
