@@ -8,6 +8,6 @@ pub record NamedLengths : Type 0 where
   pub spare : ℕ
 
 -- the cached length in a branch's entry; None if there is no entry, or no length is cached
-abbrev pub kept_in : Option (List ℕ × Option ℕ) → Option ℕ
-kept_in None = None
-kept_in (Some entry) = entry.1
+abbrev pub cached_in : Option (List ℕ × Option ℕ) → Option ℕ
+cached_in None = None
+cached_in (Some entry) = entry.1

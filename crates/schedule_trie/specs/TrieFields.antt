@@ -7,7 +7,7 @@ use Rattle.schedule_trie.specs.declared.trie.Trie.TheInside.{Inside}
 use Rattle.branch_terms.specs.Forest.{Branch, slots_in}
 use Rattle.schedule_trie.specs.Trie.{TrieOf, SegmentOf, KeyedBranch, segment, keyed_branch, forest, IsWhole}
 use Rattle.branch_terms.specs.Limbs.{is_name}
-use Rattle.schedule_trie.specs.NamedLengths.{kept_in}
+use Rattle.schedule_trie.specs.NamedLengths.{cached_in}
 
 module _ {T : Type 0} where
   -- a stored segment as a segment of the trie; None if none is stored
@@ -28,7 +28,7 @@ keyed_branches (n ∷ ns) (p ∷ ps) = keyed_branch n p ∷ keyed_branches ns ps
 
 -- each cached length is the number of cells of the branch at the same index
 abbrev pub AreLengths : List (List ℕ × Option ℕ) → List Branch → Type 0
-AreLengths entries branches = (i : ℕ) → IfSome (kept_in (slice_get entries i)) (λ n. n ≡ length (slots_in branches i))
+AreLengths entries branches = (i : ℕ) → IfSome (cached_in (slice_get entries i)) (λ n. n ≡ length (slots_in branches i))
 
 -- each name is a lower-case letter, then at most 15 lower-case letters or digits
 abbrev pub AreNames : List (List ℕ) → Type 0

@@ -5,7 +5,7 @@ ghost use Rattle.std.specs.Cmp.Lexicographic.{pointwise};
 ghost use Rattle.std.specs.List.{remove, IsDistinct};
 ghost use Rattle.std.specs.Map.{keys_of};
 ghost use Rattle.indexmap.specs.IndexMap.{index_map_len, insert_entry, set_value_at};
-ghost use Rattle.schedule_trie.specs.NamedLengths.{kept_in};
+ghost use Rattle.schedule_trie.specs.NamedLengths.{cached_in};
 ghost use Rattle.schedule_trie.specs.Editions.{known_in, unknown, AreEarlier};
 
 use branch_terms::name::Name;
@@ -112,8 +112,8 @@ impl BranchList {
 
     /// The cached length of the branch at an index; `None` if there is no such branch, or if no
     /// length is cached for it.
-    pub(crate) fn kept_length(&self, index: usize) -> Option<u32>
-        ensures { result ≡ kept_in (slice_get self.now.entries index) }
+    pub(crate) fn cached_len(&self, index: usize) -> Option<u32>
+        ensures { result ≡ cached_in (slice_get self.now.entries index) }
     {
         let (_, cached) = self.entries.get_index(index)?;
         cached.known(self.edition)
@@ -146,7 +146,7 @@ impl BranchList {
 
     /// Sets the cached length of the branch at an index, or clears it if `len` is `None`. There has
     /// to be such a branch.
-    pub(crate) fn set_length(&mut self, index: usize, len: Option<u32>)
+    pub(crate) fn set_cached_len(&mut self, index: usize, len: Option<u32>)
         requires { index < length self.old.entries }
         ensures { self.new.entries ≡ set_value_at self.old.entries index len }
     {
@@ -157,7 +157,7 @@ impl BranchList {
     /// Clears the cached lengths of all branches.
     pub(crate) fn forget_lengths(&mut self)
         ensures names { keys_of self.new.entries ≡ keys_of self.old.entries }
-        ensures none { (i : ℕ) → kept_in (slice_get self.new.entries i) ≡ None }
+        ensures none { (i : ℕ) → cached_in (slice_get self.new.entries i) ≡ None }
     {
         self.edition = next_edition(&mut self.entries, self.edition);
     }

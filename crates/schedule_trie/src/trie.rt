@@ -46,7 +46,7 @@ pub struct Trie<T> {
     made: u32,
     limits: Limits,
     // the index of the branch whose length was cached last
-    learnt: usize,
+    last_cached: usize,
 }
 
 impl<T> Model for Trie<T> {
@@ -99,7 +99,7 @@ impl<T: Drop> Trie<T> {
     {
         let mut trie = Trie::alone(alloc, limits, name)?;
         trie.push_all(alloc, 0, steps)?;
-        trie.learn_len(0);
+        trie.cache_len(0);
         Ok(trie)
     }
 
@@ -122,7 +122,7 @@ impl<T: Drop> Trie<T> {
             branches,
             made: 0,
             limits,
-            learnt: 0,
+            last_cached: 0,
         })
     }
 
@@ -333,7 +333,7 @@ impl<T: Drop> Trie<T> {
         let Some(index) = self.index(branch) else {
             return Err(Refusal::NoBranch);
         };
-        self.learn_len(index);
+        self.cache_len(index);
         let Some((key, offset)) = self.find_cell(index, place) else {
             return Err(Refusal::NoPlace);
         };

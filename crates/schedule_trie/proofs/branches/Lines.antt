@@ -1,8 +1,8 @@
--- The lines of a trie.
+-- The cells at a list of keys (`line`), and a trie's forest in terms of its fields.
 use Rattle.schedule_steps.specs.declared.types.Step.{Step}
 use Rattle.std.proofs.Common.{append_assoc, append-nil, ◌≡◌, ℕ, zero, suc, ◌+◌, ◌<◌, ◌≤◌, nat_eq, Bool, true, false, ◌||◌, List, [], ◌∷◌, ◌++◌, length, map, drop, get_or, slice_get, Option, Some, None, refl, sym, ap, subst, ◌∙◌, true≢false, arith}
 use Rattle.std.specs.Option.{option_map, IfSome}
-use Rattle.std.proofs.lemmas.List.{map-append, length-map, length-append, drop_all}
+use Rattle.std.proofs.lemmas.List.{map-append, length-map, drop_all}
 use Rattle.std.proofs.Math.Seq.{drop-cons}
 use Rattle.std.specs.List.{position}
 use Rattle.schedule_trie.specs.declared.trie.Trie.TheInside.{Inside}
@@ -15,7 +15,6 @@ use Rattle.schedule_trie.specs.TrieFields.{names_of, trie_of, IsHeldTrie}
 use Rattle.schedule_trie.proofs.branches.KeyedBranches.{names_on, length-keyed_branches, keys_in-of}
 use Rattle.schedule_trie.proofs.lists.NoRepeats.{has-append, has-head, has-tail, Once-append, Once-bounded, has_not_from, Once-from_linked}
 use Rattle.branch_terms.specs.declared.limits.TheConstants.{MOST_CELLS_MADE}
-use Rattle.branch_terms.proofs.Lists.{slice_get_right}
 
 module _ {T : Type 0} (at : ℕ → Option (SegmentOf T)) where
   pub slots_in_on : (branches : List KeyedBranch) (i : ℕ) → slots_in (branches_on at branches) i ≡ line at (keys_in branches i)
@@ -103,30 +102,6 @@ module _ {T : Type 0} (t : Inside T) where
   keys_by_fields h i keys e =
       let same : keys_in (trie_of t).branches i ≡ keys = keys_are h i ∙ sym e in
       (sym same, subst (λ l. length (line (segment_at (trie_of t).segments) l) ≤ t.made) same (line_fits h i), omega (arith, h.whole.within.cells, h.whole.within.most_cells))
-
-module _ {T : Type 0} (at : ℕ → Option (SegmentOf T)) (keys : List ℕ) (place i rest : ℕ) (inside : i < length keys)
-    (same : slice_get (line at (drop i keys)) rest ≡ slice_get (line at keys) place)
-    (sum : length (line at (drop i keys)) + place ≡ length (line at keys) + rest) where
-  -- or after it
-  pub found_below : (next : ℕ) → length (slots_of (at (get_or keys i 0))) + next ≡ rest
-      → (slice_get (line at (drop (i + 1) keys)) next ≡ slice_get (line at keys) place)
-      × (length (line at (drop (i + 1) keys)) + place ≡ length (line at keys) + next)
-  found_below next e =
-      let step : i + 1 ≡ suc i = omega arith in
-      let parts : length (line at (drop i keys)) ≡ length (slots_of (at (get_or keys i 0))) + length (line at (drop (suc i) keys)) =
-      ap length (line-drop at keys i inside) ∙ length-append (slots_of (at (get_or keys i 0))) (line at (drop (suc i) keys)) in (
-        subst (λ n. slice_get (line at (drop n keys)) next ≡ slice_get (line at keys) place) (sym step)
-            (sym (slice_get_right (slots_of (at (get_or keys i 0))) (line at (drop (suc i) keys)) rest next e) ∙ sym (ap (λ l. slice_get l rest) (line-drop at keys i inside)) ∙ same),
-        subst (λ n. length (line at (drop n keys)) + place ≡ length (line at keys) + next) (sym step) (omega arith),
-      )
-
-pub none_found : {T : Type 0} (at : ℕ → Option (SegmentOf T)) (branches : List KeyedBranch) (index place i rest : ℕ) (keys : List ℕ) → length keys ≤ i
-    → length (line at (drop i keys)) + place ≡ length (line at keys) + rest → keys ≡ keys_in branches index
-    → length (slots_in (branches_on at branches) index) ≤ place
-none_found at branches index place i rest keys past sum same =
-    let none : length (line at (drop i keys)) ≡ 0 = ap (λ l. length (line at l)) (drop_all i keys past) in
-    let all : length (line at keys) ≡ length (slots_in (branches_on at branches) index) = ap (λ l. length (line at l)) same ∙ ap length (sym (slots_in_on at branches index)) in
-    omega arith
 
 -- the steps of the keys read so far
 module _ {T : Type 0} (at : ℕ → Option (SegmentOf T)) where

@@ -6,7 +6,7 @@ use Rattle.std.specs.Map.{keys_of}
 use Rattle.std.specs.Cmp.Lexicographic.{pointwise}
 use Rattle.indexmap.specs.IndexMap.{insert_entry, set_value_at}
 use Rattle.schedule_trie.specs.declared.branch_list.Cached.{Cached}
-use Rattle.schedule_trie.specs.NamedLengths.{kept_in}
+use Rattle.schedule_trie.specs.NamedLengths.{cached_in}
 use Rattle.schedule_trie.specs.Editions.{known_in, lengths_in, unknown, AreEarlier}
 
 pub names_known : (edition : ℕ) (es : List (List ℕ × Cached)) → keys_of (lengths_in edition es) ≡ keys_of es
@@ -26,10 +26,10 @@ abbrev pub known_at : ℕ → Option (List ℕ × Cached) → Option ℕ
 known_at edition None = None
 known_at edition (Some e) = known_in edition e.1
 
-pub kept_known : (edition : ℕ) (es : List (List ℕ × Cached)) (i : ℕ) → kept_in (slice_get (lengths_in edition es) i) ≡ known_at edition (slice_get es i)
-kept_known edition [] i = refl
-kept_known edition (e ∷ es) zero = refl
-kept_known edition (e ∷ es) (suc i) = kept_known edition es i
+pub cached_known : (edition : ℕ) (es : List (List ℕ × Cached)) (i : ℕ) → cached_in (slice_get (lengths_in edition es) i) ≡ known_at edition (slice_get es i)
+cached_known edition [] i = refl
+cached_known edition (e ∷ es) zero = refl
+cached_known edition (e ∷ es) (suc i) = cached_known edition es i
 
 pub set_known : (edition : ℕ) (es : List (List ℕ × Cached)) (index : ℕ) (v : Cached) → lengths_in edition (set_value_at es index v) ≡ set_value_at (lengths_in edition es) index (known_in edition v)
 set_known edition [] index v = refl
@@ -90,7 +90,7 @@ remove_earlier edition (e ∷ es) (suc index) h zero = h 0
 remove_earlier edition (e ∷ es) (suc index) h (suc i) = remove_earlier edition es index (λ j. h (suc j)) i
 
 -- in a new edition no length is known
-pub forgotten : (edition : ℕ) (es : List (List ℕ × Cached)) → AreEarlier edition es → (i : ℕ) → kept_in (slice_get (lengths_in edition es) i) ≡ None
+pub forgotten : (edition : ℕ) (es : List (List ℕ × Cached)) → AreEarlier edition es → (i : ℕ) → cached_in (slice_get (lengths_in edition es) i) ≡ None
 forgotten edition [] h i = refl
 forgotten edition (e ∷ es) h zero = not_known edition e.1 (h 0)
 forgotten edition (e ∷ es) h (suc i) = forgotten edition es (λ j. h (suc j)) i

@@ -15,8 +15,8 @@ use Rattle.schedule_trie.specs.changes.Copies.{IsDetached}
 use Rattle.schedule_trie.specs.changes.Forks.{IsBranchForked}
 use Rattle.schedule_trie.specs.changes.Releases.{IsDropped}
 use Rattle.schedule_trie.specs.TrieFields.{names_of, trie_of, AreLengths, AreNames, IsHeldTrie, IsKept}
-use Rattle.schedule_trie.specs.NamedLengths.{kept_in}
-use Rattle.schedule_trie.proofs.lengths.Lengths.{kept_is, relength_seen, relength_held, none_kept, same_lengths, length-everywhere, length-only_in, one_forgotten, lengths_left, lengths_more}
+use Rattle.schedule_trie.specs.NamedLengths.{cached_in}
+use Rattle.schedule_trie.proofs.lengths.Lengths.{cached_is, relength_seen, relength_held, none_cached, same_lengths, length-everywhere, length-only_in, one_forgotten, lengths_left, lengths_more}
 use Rattle.schedule_trie.proofs.branches.Lines.{index_is, keys_are, slots_in_on}
 use Rattle.schedule_trie.proofs.detaches.Renumbered.{length-renumbered}
 use Rattle.schedule_trie.proofs.branches.Shared.{same_path}
@@ -66,10 +66,10 @@ forked_lengths t new entries index place name right free is is_step =
 
 -- no length is cached any more
 module _ {T : Type 0} (t u : Inside T) (names : names_of u ≡ names_of t) (segments : u.segments ≡ t.segments) (made : u.made ≡ t.made) (limits : u.limits ≡ t.limits) where
-  pub none_held : IsHeldTrie t → AreNames (names_of t) → ((i : ℕ) → kept_in (slice_get u.branches.entries i) ≡ None) → IsKept u
+  pub none_held : IsHeldTrie t → AreNames (names_of t) → ((i : ℕ) → cached_in (slice_get u.branches.entries i) ≡ None) → IsKept u
   none_held held named none = record {
     held = relength_held t u names segments made limits held;
-    lengths = none_kept u.branches.entries (forest (trie_of u)).branches none;
+    lengths = none_cached u.branches.entries (forest (trie_of u)).branches none;
     names = subst AreNames (sym names) named;
   }
 
@@ -82,14 +82,14 @@ module _ {T : Type 0} (t u : Inside T) (names : names_of u ≡ names_of t) (segm
   }
 
 -- the cached length of one branch is also that of each branch with the same last key
-pub same_len : {T : Type 0} (t : Inside T) (twin index : ℕ) (len : Option ℕ) → IsHeldTrie t → AreLengths t.branches.entries (forest (trie_of t)).branches
-    → last_of (path_in t.segments twin) ≡ last_of (path_in t.segments index) → len ≡ kept_in (slice_get t.branches.entries twin)
+pub same_len : {T : Type 0} (t : Inside T) (other index : ℕ) (len : Option ℕ) → IsHeldTrie t → AreLengths t.branches.entries (forest (trie_of t)).branches
+    → last_of (path_in t.segments other) ≡ last_of (path_in t.segments index) → len ≡ cached_in (slice_get t.branches.entries other)
     → IfSome len (λ n. n ≡ length (slots_in (forest (trie_of t)).branches index))
-same_len t twin index None held right last kept = tt
-same_len t twin index (Some len) held right last kept =
+same_len t other index None held right last kept = tt
+same_len t other index (Some len) held right last kept =
     let c = trie_of t in
     let shares = held.whole.sound.shares in
-    let lasts : last_of (keys_in c.branches twin) ≡ last_of (keys_in c.branches index) = ap last_of (keys_are t held twin) ∙ last ∙ sym (ap last_of (keys_are t held index)) in
-    let same = same_path shares.above (keys_in c.branches twin) (keys_in c.branches index) (last_of (keys_in c.branches index)) (shares.linked twin) (shares.linked index) lasts refl in
-    kept_is t.branches.entries (forest c).branches twin len right kept
-    ∙ ap length (slots_in_on (segment_at c.segments) c.branches twin ∙ ap (line (segment_at c.segments)) same ∙ sym (slots_in_on (segment_at c.segments) c.branches index))
+    let lasts : last_of (keys_in c.branches other) ≡ last_of (keys_in c.branches index) = ap last_of (keys_are t held other) ∙ last ∙ sym (ap last_of (keys_are t held index)) in
+    let same = same_path shares.above (keys_in c.branches other) (keys_in c.branches index) (last_of (keys_in c.branches index)) (shares.linked other) (shares.linked index) lasts refl in
+    cached_is t.branches.entries (forest c).branches other len right kept
+    ∙ ap length (slots_in_on (segment_at c.segments) c.branches other ∙ ap (line (segment_at c.segments)) same ∙ sym (slots_in_on (segment_at c.segments) c.branches index))

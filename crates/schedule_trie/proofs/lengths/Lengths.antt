@@ -9,7 +9,7 @@ use Rattle.schedule_trie.specs.declared.trie.Trie.TheInside.{Inside}
 use Rattle.branch_terms.specs.Forest.{Branch, everywhere, only_in, slots_in}
 use Rattle.schedule_trie.specs.Trie.{IsWhole}
 use Rattle.schedule_trie.specs.TrieFields.{segments_of, keyed_branches, names_of, trie_of, AreLengths, IsHeldTrie}
-use Rattle.schedule_trie.specs.NamedLengths.{kept_in}
+use Rattle.schedule_trie.specs.NamedLengths.{cached_in}
 
 abbrev IsRight : Option ℕ → ℕ → Type 0
 IsRight kept len = IfSome kept (λ n. n ≡ len)
@@ -32,17 +32,17 @@ count_set [] index len = refl
 count_set (e ∷ es) zero len = refl
 count_set (e ∷ es) (suc index) len = ap suc (count_set es index len)
 
-pub kept_is : (entries : List (List ℕ × Option ℕ)) (branches : List Branch) (index len : ℕ) → AreLengths entries branches → Some len ≡ kept_in (slice_get entries index)
+pub cached_is : (entries : List (List ℕ × Option ℕ)) (branches : List Branch) (index len : ℕ) → AreLengths entries branches → Some len ≡ cached_in (slice_get entries index)
     → len ≡ length (slots_in branches index)
-kept_is entries branches index len h e = subst (λ o. IsRight o (length (slots_in branches index))) (sym e) (h index)
+cached_is entries branches index len h e = subst (λ o. IsRight o (length (slots_in branches index))) (sym e) (h index)
 
 -- `AreLengths` holds if no length is cached
-pub none_kept : (entries : List (List ℕ × Option ℕ)) (branches : List Branch) → ((i : ℕ) → kept_in (slice_get entries i) ≡ None) → AreLengths entries branches
-none_kept entries branches none i = subst (λ o. IsRight o (length (slots_in branches i))) (sym (none i)) tt
+pub none_cached : (entries : List (List ℕ × Option ℕ)) (branches : List Branch) → ((i : ℕ) → cached_in (slice_get entries i) ≡ None) → AreLengths entries branches
+none_cached entries branches none i = subst (λ o. IsRight o (length (slots_in branches i))) (sym (none i)) tt
 
 -- cached lengths stay right if no branch's length changes
 pub same_lengths : (entries : List (List ℕ × Option ℕ)) (old new : List Branch) → ((i : ℕ) → length (slots_in new i) ≡ length (slots_in old i)) → AreLengths entries old → AreLengths entries new
-same_lengths entries old new same h i = subst (λ n. IsRight (kept_in (slice_get entries i)) n) (sym (same i)) (h i)
+same_lengths entries old new same h i = subst (λ n. IsRight (cached_in (slice_get entries i)) n) (sym (same i)) (h i)
 
 pub length-everywhere : (g : List Slot → List Slot) → ((slots : List Slot) → length (g slots) ≡ length slots) → (branches : List Branch) (i : ℕ)
     → length (slots_in (everywhere g branches) i) ≡ length (slots_in branches i)
@@ -59,17 +59,17 @@ length-only_in g same (b ∷ bs) (suc index) zero = refl
 length-only_in g same (b ∷ bs) (suc index) (suc i) = length-only_in g same bs index i
 
 -- cached lengths stay right when the length of the branch at an index is cached
-pub one_kept : (entries : List (List ℕ × Option ℕ)) (branches : List Branch) (index len : ℕ) → len ≡ length (slots_in branches index) → AreLengths entries branches
+pub one_cached : (entries : List (List ℕ × Option ℕ)) (branches : List Branch) (index len : ℕ) → len ≡ length (slots_in branches index) → AreLengths entries branches
     → AreLengths (set_value_at entries index (Some len)) branches
-one_kept [] bs index len e h i = h i
-one_kept (x ∷ xs) [] zero len e h zero = e
-one_kept (x ∷ xs) [] zero len e h (suc i) = h (suc i)
-one_kept (x ∷ xs) [] (suc index) len e h zero = h 0
-one_kept (x ∷ xs) [] (suc index) len e h (suc i) = one_kept xs [] index len e (λ j. h (suc j)) i
-one_kept (x ∷ xs) (b ∷ bs) zero len e h zero = e
-one_kept (x ∷ xs) (b ∷ bs) zero len e h (suc i) = h (suc i)
-one_kept (x ∷ xs) (b ∷ bs) (suc index) len e h zero = h 0
-one_kept (x ∷ xs) (b ∷ bs) (suc index) len e h (suc i) = one_kept xs bs index len e (λ j. h (suc j)) i
+one_cached [] bs index len e h i = h i
+one_cached (x ∷ xs) [] zero len e h zero = e
+one_cached (x ∷ xs) [] zero len e h (suc i) = h (suc i)
+one_cached (x ∷ xs) [] (suc index) len e h zero = h 0
+one_cached (x ∷ xs) [] (suc index) len e h (suc i) = one_cached xs [] index len e (λ j. h (suc j)) i
+one_cached (x ∷ xs) (b ∷ bs) zero len e h zero = e
+one_cached (x ∷ xs) (b ∷ bs) zero len e h (suc i) = h (suc i)
+one_cached (x ∷ xs) (b ∷ bs) (suc index) len e h zero = h 0
+one_cached (x ∷ xs) (b ∷ bs) (suc index) len e h (suc i) = one_cached xs bs index len e (λ j. h (suc j)) i
 
 -- cached lengths stay right when the branch at an index gets other cells, and its length is cleared
 pub one_forgotten : (g : List Slot → List Slot) (entries : List (List ℕ × Option ℕ)) (branches : List Branch) (index : ℕ) → AreLengths entries branches
@@ -113,8 +113,8 @@ lengths_more (x ∷ xs) (c ∷ cs) name b e h (suc i) = lengths_more xs cs name 
 pub first_lengths : (eq : List ℕ → List ℕ → Bool) (es entries : List (List ℕ × Option ℕ)) (name : List ℕ) (branches : List Branch) → es ≡ [] → entries ≡ insert_entry eq es name None
     → AreLengths entries branches
 first_lengths eq es entries name branches empty is =
-    none_kept entries branches (λ i. ap (λ l. kept_in (slice_get l i)) (is ∙ ap (λ l. insert_entry eq l name None) empty) ∙ none i)
+    none_cached entries branches (λ i. ap (λ l. cached_in (slice_get l i)) (is ∙ ap (λ l. insert_entry eq l name None) empty) ∙ none i)
   where
-    none : (i : ℕ) → kept_in (slice_get ((name, None) ∷ []) i) ≡ None
+    none : (i : ℕ) → cached_in (slice_get ((name, None) ∷ []) i) ≡ None
     none zero = refl
     none (suc i) = refl

@@ -116,8 +116,8 @@ module _ {T : Type 0} (old new : TrieOf T) (index place : ℕ) (name : List ℕ)
       let more = ap length is_step.branches ∙ length_push (forest old).branches last in
       omega (arith, more, branch_count old, branch_count new)
 
-  pub fork_long : place ≤ length (slots_in (forest old).branches index) → place ≡ length (slots_in (forest new).branches (length old.branches))
-  fork_long fits =
+  pub fork_len : place ≤ length (slots_in (forest old).branches index) → place ≡ length (slots_in (forest new).branches (length old.branches))
+  fork_len fits =
       sym (ap (λ l. length (slots_in l (length old.branches))) is_step.branches
       ∙ ap (λ n. length (slots_in ((forest old).branches ++ last ∷ []) n)) (sym (branch_count old))
       ∙ ap length (slots_in-last (forest old).branches last)

@@ -19,26 +19,26 @@ position-short p (x ∷ xs) = by (p x) refl (position-short p xs)
     by true e less = rw e (omega arith)
     by false e less = rw e (omega arith)
 
-first-near : (earlier : List Branch) (slots : List Slot) (k most : ℕ) → length earlier < most → first_with earlier slots k < most
-first-near earlier slots zero most few = omega arith
-first-near earlier slots (suc k) most few = let less = position-short (holds (cell_in slots k)) earlier in omega arith
+first-within : (earlier : List Branch) (slots : List Slot) (k most : ℕ) → length earlier < most → first_with earlier slots k < most
+first-within earlier slots zero most few = omega arith
+first-within earlier slots (suc k) most few = let less = position-short (holds (cell_in slots k)) earlier in omega arith
 
-after-near : (limits : Limits) (earlier bs : List Branch) → length earlier + length bs ≤ limits.branches
+after-within : (limits : Limits) (earlier bs : List Branch) → length earlier + length bs ≤ limits.branches
     → ((i : ℕ) → length (slots_in bs i) ≤ limits.cells) → FitLimits limits (limbs_after earlier bs)
-after-near limits earlier [] few short = All-nil (λ l. (l.from < limits.branches) × (l.shared ≤ limits.cells))
-after-near limits earlier (b ∷ bs) few short =
+after-within limits earlier [] few short = All-nil (λ l. (l.from < limits.branches) × (l.shared ≤ limits.cells))
+after-within limits earlier (b ∷ bs) few short =
     let less = prefix_len-le-length (is_in_branches earlier) b.slots in
     let here = short 0 in
     let more = length-append earlier (b ∷ []) in
     All-cons (λ l. (l.from < limits.branches) × (l.shared ≤ limits.cells)) (limb_of earlier b) (limbs_after (earlier ++ b ∷ []) bs)
-    (first-near earlier b.slots (shared_with earlier b.slots) limits.branches (omega arith), omega arith)
-    (after-near limits (earlier ++ b ∷ []) bs (omega arith) (λ i. short (suc i)))
+    (first-within earlier b.slots (shared_with earlier b.slots) limits.branches (omega arith), omega arith)
+    (after-within limits (earlier ++ b ∷ []) bs (omega arith) (λ i. short (suc i)))
 
-pub limbs_near : {T : Type 0} (c : TrieOf T) → IsWhole c → FitLimits c.limits (limbs (forest c))
-limbs_near c whole =
+pub limbs_within : {T : Type 0} (c : TrieOf T) → IsWhole c → FitLimits c.limits (limbs (forest c))
+limbs_within c whole =
     let count = length-map c.branches (branch_on (segment_at c.segments)) in
     let fit = whole.within.branches_fit in
-    after-near c.limits [] (forest c).branches (omega arith) short
+    after-within c.limits [] (forest c).branches (omega arith) short
   where
     short : (i : ℕ) → length (slots_in (forest c).branches i) ≤ c.limits.cells
     short i =

@@ -51,8 +51,8 @@ module _ {T : Type 0} (a was b d : TrieOf T) (l : Limb) (steps : List Step) (ind
       let made : d.made ≡ a.made + length l.steps = pushed.made ∙ ap (λ n. n + length l.steps) forked.made in
       λ i. record { branches = here i; made = made i }
 
-  pub grown_long : l.shared + length steps ≡ length (slots_in (forest d).branches index)
-  grown_long =
+  pub grown_len : l.shared + length steps ≡ length (slots_in (forest d).branches index)
+  grown_len =
       ap (λ s. l.shared + length s) own
       ∙ sym (ap (λ f. length (slots_in f.branches index)) forest_grown
       ∙ ap (λ n. length (slots_in ((forest a).branches ++ branch l.name (slots_on (forest a) l) ∷ []) n)) last

@@ -20,7 +20,7 @@ impl<T: Drop> Trie<T> {
         ensures len { result ≡ length (slots_in (forest self.now).branches index) }
         ensures whole { IsWhole self.now }
     {
-        match self.branches.kept_length(index) {
+        match self.branches.cached_len(index) {
             Some(len) => len,
             None => self.counted_len(index),
         }
@@ -32,7 +32,7 @@ impl<T: Drop> Trie<T> {
     fn counted_len(&self, index: usize) -> u32
         ensures { result ≡ length (slots_in (forest self.now).branches index) }
     {
-        match self.twin_len(index) {
+        match self.len_by_same_end(index) {
             Some(len) => len,
             None => self.len_to(index, self.segments.tip(index)),
         }
@@ -40,11 +40,11 @@ impl<T: Drop> Trie<T> {
 
     /// The cached length of the branch whose length was cached last, if it's still cached and that
     /// branch ends with the same segment as the branch at an index.
-    fn twin_len(&self, index: usize) -> Option<u32>
+    fn len_by_same_end(&self, index: usize) -> Option<u32>
         ensures { IfSome result (λ len. len ≡ length (slots_in (forest self.now).branches index)) }
     {
-        if self.segments.last(self.learnt) == self.segments.last(index) {
-            self.branches.kept_length(self.learnt)
+        if self.segments.last(self.last_cached) == self.segments.last(index) {
+            self.branches.cached_len(self.last_cached)
         } else {
             None
         }

@@ -28,7 +28,7 @@ impl<T: Drop> Trie<T> {
         let Some(index) = self.index(branch) else {
             return Err(Refusal::NoBranch);
         };
-        if self.learn_len(index) > self.limits.cells - self.made {
+        if self.cache_len(index) > self.limits.cells - self.made {
             return Err(Refusal::Full);
         }
         self.detach_at(alloc, index)?;

@@ -47,7 +47,7 @@ impl<T: Drop> Trie<T> {
         if !name.is_well_formed() {
             return Err(Refusal::BadName);
         }
-        if self.learn_len(index) < place {
+        if self.cache_len(index) < place {
             return Err(Refusal::NoPlace);
         }
         let count = self.branches();
@@ -55,7 +55,7 @@ impl<T: Drop> Trie<T> {
             return Err(Refusal::TooManyBranches);
         }
         self.fork_at(alloc, index, place, name)?;
-        self.keep_len(count as usize, place);
+        self.set_cached_len(count as usize, place);
         Ok(())
     }
 

@@ -35,7 +35,7 @@ impl<T: Drop> Trie<T> {
         let Some(index) = self.index(branch) else {
             return Err(Refusal::NoBranch);
         };
-        let len = self.learn_len(index);
+        let len = self.cache_len(index);
         if len < place {
             return Err(Refusal::NoPlace);
         }
@@ -43,7 +43,7 @@ impl<T: Drop> Trie<T> {
             return Err(Refusal::Full);
         }
         self.insert_at(alloc, index, place, step)?;
-        self.keep_len(index, len + 1);
+        self.set_cached_len(index, len + 1);
         Ok(())
     }
 

@@ -32,7 +32,7 @@ impl<T: Drop> Trie<T> {
         ensures kept { IfOk result (λ r. IsRenumbered (forest self.now) (forest_of r.items)) }
         ensures lawful { IfOk result (λ r. AreLawfulLimbs r.items) }
         ensures some { IfOk result (λ r. 0 < length r.items) }
-        ensures near { IfOk result (λ r. FitLimits self.now.limits r.items) }
+        ensures within { IfOk result (λ r. FitLimits self.now.limits r.items) }
     {
         self.lemma_invariant();
         let mut limbs = Vec::new(alloc);

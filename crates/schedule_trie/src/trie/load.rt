@@ -79,12 +79,12 @@ impl<T: Drop> Trie<T> {
     {
         self.lemma_invariant();
         let from = limb.from as usize;
-        self.learn_len(from);
+        self.cache_len(from);
         let index = self.branches() as usize;
         self.fork_at(alloc, from, limb.shared, limb.name)?;
         let steps = limb.steps.as_slice();
         self.push_all(alloc, index, steps)?;
-        self.keep_len(index, limb.shared + steps.len() as u32);
+        self.set_cached_len(index, limb.shared + steps.len() as u32);
         Ok(())
     }
 }

@@ -60,7 +60,7 @@ impl<T: Drop> Trie<T> {
             cell: self.made,
             step,
         })?;
-        self.branches.set_length(index, None);
+        self.branches.set_cached_len(index, None);
         self.made += 1;
         Ok(())
     }
@@ -78,7 +78,7 @@ impl<T: Drop> Trie<T> {
         };
         let segment = Segment::new(alloc, slot)?;
         self.segments.push(index, segment)?;
-        self.branches.set_length(index, None);
+        self.branches.set_cached_len(index, None);
         self.made += 1;
         Ok(())
     }

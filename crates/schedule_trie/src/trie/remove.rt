@@ -25,12 +25,12 @@ impl<T: Drop> Trie<T> {
         let Some(index) = self.index(branch) else {
             return Err(Refusal::NoBranch);
         };
-        let len = self.learn_len(index);
+        let len = self.cache_len(index);
         let Some((key, offset)) = self.find_cell(index, place) else {
             return Err(Refusal::NoPlace);
         };
         self.remove_slot(key, offset);
-        self.keep_len(index, len - 1);
+        self.set_cached_len(index, len - 1);
         Ok(())
     }
 

@@ -2,7 +2,7 @@ use Rattle.std.proofs.Common.{◌+◌, ◌<◌, length, sym, ap, subst, ◌∙�
 use Rattle.indexmap.specs.IndexMap.{set_value_at}
 use Rattle.schedule_trie.specs.Editions.{lengths_in, AreEarlier}
 use Rattle.schedule_trie.proofs.lengths.Editions.{count_known, set_known, set_earlier}
-use Rattle.schedule_trie.proofs.branch_list.BranchList.set_length.Goals as goal
+use Rattle.schedule_trie.proofs.branch_list.BranchList.set_cached_len.Goals as goal
 
 pub set_cached-requires : goal.set_cached-requires
 set_cached-requires c = subst (λ n. c.args.index < n) (ap (λ z. length z.entries) (sym c.self.view_is) ∙ count_known c.self.inside.edition c.self.inside.entries.entries) c.requires

@@ -9,10 +9,10 @@ use Rattle.schedule_trie.proofs.trie.Trie.detach.Goals as goal
 pub returns-clause-ok : goal.returns-clause-ok
 returns-clause-ok g c =
     let now = c.args.self.now in
-    let view = c.self.view_is ∙ c.learn_len.ensures.same in
-    let change = subst (λ z. IsDetached z c.detach_at.new.self c.in-Some.index) c.learn_len.ensures.same c.in_ok-detach_at.ensures.ok in
+    let view = c.self.view_is ∙ c.cache_len.ensures.same in
+    let change = subst (λ z. IsDetached z c.detach_at.new.self c.in-Some.index) c.cache_len.ensures.same c.in_ok-detach_at.ensures.ok in
     let fits : now.made + length (slots_in (forest now).branches c.in-Some.index) ≤ now.limits.cells =
-    omega (arith, ap (λ z. z.limits.cells) view, ap (λ z. z.made) view, c.if-learn_len-self.false, c.learn_len.ensures.len, c.learn_len.ensures.whole.within.cells) in
+    omega (arith, ap (λ z. z.limits.cells) view, ap (λ z. z.made) view, c.if-cache_len-self.false, c.cache_len.ensures.len, c.cache_len.ensures.whole.within.cells) in
     record {
       forest = ap (λ o. on_found o (detach_at now.limits (forest now))) (sym c.in-Some.ensures.index)
           ∙ (λ i. cond (le-ltb now.limits.cells (now.made + length (slots_in (forest now).branches c.in-Some.index)) fits i) (Err Full)

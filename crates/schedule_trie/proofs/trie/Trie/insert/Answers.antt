@@ -7,32 +7,32 @@ use Rattle.schedule_trie.proofs.trie.Trie.insert.Goals as goal
 
 pub overflow_add-len : goal.overflow_add-len
 overflow_add-len g c =
-    let whole = c.learn_len-len.ensures.whole in
+    let whole = c.cache_len-len.ensures.whole in
     let few = cells_few c.args.self.now whole c.in-Some.index in
-    omega (arith, few, whole.within.cells, whole.within.most_cells, c.learn_len-len.ensures.len)
+    omega (arith, few, whole.within.cells, whole.within.most_cells, c.cache_len-len.ensures.len)
 
-pub keep_len-requires-clause-index : goal.keep_len-requires-clause-index
-keep_len-requires-clause-index g c =
-    let whole = c.learn_len-len.ensures.whole in
+pub set_cached_len-requires-clause-index : goal.set_cached_len-requires-clause-index
+set_cached_len-requires-clause-index g c =
+    let whole = c.cache_len-len.ensures.whole in
     still_inserted c.args.self.now c.insert_at.new.self whole c.in-Some.index c.in-Some.ensures.within c.args.place c.args.step
-    (subst (λ z. IsInserted z c.insert_at.new.self c.in-Some.index c.args.place c.args.step) c.learn_len-len.ensures.same c.in_ok-insert_at.ensures.ok)
+    (subst (λ z. IsInserted z c.insert_at.new.self c.in-Some.index c.args.place c.args.step) c.cache_len-len.ensures.same c.in_ok-insert_at.ensures.ok)
 
-pub keep_len-requires-clause-len : goal.keep_len-requires-clause-len
-keep_len-requires-clause-len g c =
-    let whole = c.learn_len-len.ensures.whole in
-    ap (λ n. n + 1) c.learn_len-len.ensures.len
+pub set_cached_len-requires-clause-len : goal.set_cached_len-requires-clause-len
+set_cached_len-requires-clause-len g c =
+    let whole = c.cache_len-len.ensures.whole in
+    ap (λ n. n + 1) c.cache_len-len.ensures.len
     ∙ longer c.args.self.now c.insert_at.new.self whole c.in-Some.index c.in-Some.ensures.within c.args.place c.args.step
-    (subst (λ z. IsInserted z c.insert_at.new.self c.in-Some.index c.args.place c.args.step) c.learn_len-len.ensures.same c.in_ok-insert_at.ensures.ok)
-    (omega (arith, c.learn_len-len.ensures.len, c.if-len-place.false))
+    (subst (λ z. IsInserted z c.insert_at.new.self c.in-Some.index c.args.place c.args.step) c.cache_len-len.ensures.same c.in_ok-insert_at.ensures.ok)
+    (omega (arith, c.cache_len-len.ensures.len, c.if-len-place.false))
 
 pub returns-clause-ok : goal.returns-clause-ok
 returns-clause-ok g c =
-    let view = c.self.view_is ∙ c.learn_len-len.ensures.same in
-    let change = subst (λ z. IsInserted z c.insert_at.new.self c.in-Some.index c.args.place c.args.step) c.learn_len-len.ensures.same c.in_ok-insert_at.ensures.ok in
-    subst (λ z. IsEdited c.args.self.now z (Insert c.args.branch.now c.args.place c.args.step)) (sym c.keep_len.ensures)
+    let view = c.self.view_is ∙ c.cache_len-len.ensures.same in
+    let change = subst (λ z. IsInserted z c.insert_at.new.self c.in-Some.index c.args.place c.args.step) c.cache_len-len.ensures.same c.in_ok-insert_at.ensures.ok in
+    subst (λ z. IsEdited c.args.self.now z (Insert c.args.branch.now c.args.place c.args.step)) (sym c.set_cached_len.ensures)
     (record {
       forest = is_inserted c.args.self.now.limits (forest c.args.self.now) _ c.args.branch.now c.args.place c.args.step c.in-Some.index (sym c.in-Some.ensures.index)
-          (omega (arith, c.learn_len-len.ensures.len, c.if-len-place.false)) (omega (arith, ap (λ z. z.limits.cells) view, ap (λ z. z.made) view, c.if-self.false))
+          (omega (arith, c.cache_len-len.ensures.len, c.if-len-place.false)) (omega (arith, ap (λ z. z.limits.cells) view, ap (λ z. z.made) view, c.if-self.false))
           change.forest_is;
       notes = (change.notes c.args.branch.now (sym c.in-Some.ensures.index), change.unchanged);
       cut = change.cut;

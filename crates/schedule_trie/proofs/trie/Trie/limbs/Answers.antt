@@ -6,7 +6,7 @@ use Rattle.branch_terms.specs.Limbs.{FitLimits, AreLawfulLimbs, forest_of, limbs
 use Rattle.branch_terms.specs.Renumbering.{IsRenumbered}
 use Rattle.branch_terms.proofs.LimbsKept.{limbs_kept}
 use Rattle.branch_terms.proofs.LimbsLawful.{limbs_lawful}
-use Rattle.schedule_trie.proofs.limbs.LimbLimits.{limbs_near}
+use Rattle.schedule_trie.proofs.limbs.LimbLimits.{limbs_within}
 use Rattle.schedule_trie.proofs.limbs.LimbsSaved.{length-limbs, taken_next}
 use Rattle.branch_terms.proofs.Lists.{slice_get_some, taken_whole}
 use Rattle.schedule_trie.proofs.trie.Trie.limbs.Goals as goal
@@ -54,7 +54,7 @@ returns-clause-some g c =
     let change = c.loop-index.invariant.reported ∙ taken_whole c.loop-index.index (limbs (forest c.args.self.now)) (past_all (forest c.args.self.now) c.branches-index-end.ensures.count c.loop-index-test.false) in
     subst (λ l. 0 < length l) (sym change) (omega (arith, length-limbs (forest c.args.self.now), c.branches-index-end.ensures.count, c.branches-index-end.ensures.some))
 
-pub returns-clause-near : goal.returns-clause-near
-returns-clause-near g c =
+pub returns-clause-within : goal.returns-clause-within
+returns-clause-within g c =
     let change = c.loop-index.invariant.reported ∙ taken_whole c.loop-index.index (limbs (forest c.args.self.now)) (past_all (forest c.args.self.now) c.branches-index-end.ensures.count c.loop-index-test.false) in
-    subst (FitLimits c.args.self.now.limits) (sym change) (limbs_near c.args.self.now c.lemma_invariant.ensures.whole)
+    subst (FitLimits c.args.self.now.limits) (sym change) (limbs_within c.args.self.now c.lemma_invariant.ensures.whole)

@@ -24,8 +24,8 @@ returns-in_err-push-clause-err g c =
     on_err c.from_residual.result _ (cut_kept c.self.inside c.args.index c.args.key c.self.invariant.held end c.item_mut.result.now c.push.new.self c.item_mut.ensures.value
     c.in_err-push.ensures.err_slots c.in_err-push.ensures.err_note ∙ c.self.view_is)
 
-pub set_length-requires : goal.set_length-requires
-set_length-requires g c = entry_within c.self.inside c.args.self.now c.args.index c.self.view_is c.requires.index
+pub set_cached_len-requires : goal.set_cached_len-requires
+set_cached_len-requires g c = entry_within c.self.inside c.args.self.now c.args.index c.self.view_is c.requires.index
 
 pub invariant_of-self-2 : goal.invariant_of-self-2
 invariant_of-self-2 g c =
@@ -34,23 +34,23 @@ invariant_of-self-2 g c =
     let index_in = subst (λ z. c.args.index < length z.branches) (sym c.self.view_is) c.requires.index in
     let room = subst (λ z. z.made < z.limits.cells) (sym c.self.view_is) c.requires.room in
     let p = record t { segments = with_item t.segments c.args.key c.push.new.self; made = t.made + 1 } in
-    let names = ap keys_of c.set_length.ensures ∙ names_set t.branches.entries c.args.index None in
-    one_held p (record p { branches = c.set_length.new.self }) names refl refl refl _
+    let names = ap keys_of c.set_cached_len.ensures ∙ names_set t.branches.entries c.args.index None in
+    one_held p (record p { branches = c.set_cached_len.new.self }) names refl refl refl _
     (in_held t c.args.index c.args.key c.self.invariant.held end c.item_mut.result.now c.push.new.self c.item_mut.ensures.value c.args.step index_in room
     c.in_ok-push.ensures.slots c.in_ok-push.ensures.note)
     c.self.invariant.names
     (pushed_lengths (trie_of t) (trie_of p) t.branches.entries c.self.invariant.lengths c.args.index c.args.step
     (in_pushed t c.args.index c.args.key c.self.invariant.held end c.item_mut.result.now c.push.new.self c.item_mut.ensures.value c.args.step index_in room
-    c.in_ok-push.ensures.slots c.in_ok-push.ensures.note)) c.set_length.ensures
+    c.in_ok-push.ensures.slots c.in_ok-push.ensures.note)) c.set_cached_len.ensures
 
 pub returns-clause-ok : goal.returns-clause-ok
 returns-clause-ok g c =
     let t = c.self.inside in
     let end = subst (λ z. IsOwnEnd z c.args.index c.args.key) (sym c.self.view_is) c.requires.end in
     let p = record t { segments = with_item t.segments c.args.key c.push.new.self; made = t.made + 1 } in
-    let names = ap keys_of c.set_length.ensures ∙ names_set t.branches.entries c.args.index None in
+    let names = ap keys_of c.set_cached_len.ensures ∙ names_set t.branches.entries c.args.index None in
     rw (← c.self.view_is)
-    (subst (λ z. IsPushed (trie_of t) z c.args.index c.args.step) (sym (relength_seen p (record p { branches = c.set_length.new.self }) names refl refl refl))
+    (subst (λ z. IsPushed (trie_of t) z c.args.index c.args.step) (sym (relength_seen p (record p { branches = c.set_cached_len.new.self }) names refl refl refl))
     (in_pushed t c.args.index c.args.key c.self.invariant.held end c.item_mut.result.now c.push.new.self c.item_mut.ensures.value c.args.step
     (subst (λ z. c.args.index < length z.branches) (sym c.self.view_is) c.requires.index)
     (subst (λ z. z.made < z.limits.cells) (sym c.self.view_is) c.requires.room)

@@ -12,8 +12,8 @@ pub push-requires : goal.push-requires
 push-requires g c =
     path_within c.self.inside c.self.invariant.held c.args.index (subst (λ z. c.args.index < length z.branches) (sym c.self.view_is) c.requires.index)
 
-pub set_length-requires : goal.set_length-requires
-set_length-requires g c = entry_within c.self.inside c.args.self.now c.args.index c.self.view_is c.requires.index
+pub set_cached_len-requires : goal.set_cached_len-requires
+set_cached_len-requires g c = entry_within c.self.inside c.args.self.now c.args.index c.self.view_is c.requires.index
 
 pub invariant_of-self-2 : goal.invariant_of-self-2
 invariant_of-self-2 g c =
@@ -21,14 +21,14 @@ invariant_of-self-2 g c =
     let index_in = subst (λ z. c.args.index < length z.branches) (sym c.self.view_is) c.requires.index in
     let room = subst (λ z. z.made < z.limits.cells) (sym c.self.view_is) c.requires.room in
     let p = record t { segments = c.push.new.self; made = t.made + 1 } in
-    let names = ap keys_of c.set_length.ensures ∙ names_set t.branches.entries c.args.index None in
-    one_held p (record p { branches = c.set_length.new.self }) names refl refl refl _
+    let names = ap keys_of c.set_cached_len.ensures ∙ names_set t.branches.entries c.args.index None in
+    one_held p (record p { branches = c.set_cached_len.new.self }) names refl refl refl _
     (segment_held t p c.args.index _ c.in_ok-segment.segment c.args.step c.self.invariant.held index_in room
     c.in_ok-push.ensures.item c.in_ok-push.ensures.paths refl refl refl c.in_ok-segment.ensures.slots c.in_ok-segment.ensures.note)
     c.self.invariant.names
     (pushed_lengths (trie_of t) (trie_of p) t.branches.entries c.self.invariant.lengths c.args.index c.args.step
     (segment_pushed t p c.args.index _ c.in_ok-segment.segment c.args.step c.self.invariant.held index_in room
-    c.in_ok-push.ensures.item c.in_ok-push.ensures.paths refl refl refl c.in_ok-segment.ensures.slots c.in_ok-segment.ensures.note)) c.set_length.ensures
+    c.in_ok-push.ensures.item c.in_ok-push.ensures.paths refl refl refl c.in_ok-segment.ensures.slots c.in_ok-segment.ensures.note)) c.set_cached_len.ensures
 
 pub returns-clause-ok : goal.returns-clause-ok
 returns-clause-ok g c =
@@ -36,8 +36,8 @@ returns-clause-ok g c =
     let index_in = subst (λ z. c.args.index < length z.branches) (sym c.self.view_is) c.requires.index in
     let room = subst (λ z. z.made < z.limits.cells) (sym c.self.view_is) c.requires.room in
     let p = record t { segments = c.push.new.self; made = t.made + 1 } in
-    let names = ap keys_of c.set_length.ensures ∙ names_set t.branches.entries c.args.index None in
+    let names = ap keys_of c.set_cached_len.ensures ∙ names_set t.branches.entries c.args.index None in
     rw (← c.self.view_is)
-    (subst (λ z. IsPushed (trie_of t) z c.args.index c.args.step) (sym (relength_seen p (record p { branches = c.set_length.new.self }) names refl refl refl))
+    (subst (λ z. IsPushed (trie_of t) z c.args.index c.args.step) (sym (relength_seen p (record p { branches = c.set_cached_len.new.self }) names refl refl refl))
     (segment_pushed t p c.args.index _ c.in_ok-segment.segment c.args.step c.self.invariant.held index_in room
     c.in_ok-push.ensures.item c.in_ok-push.ensures.paths refl refl refl c.in_ok-segment.ensures.slots c.in_ok-segment.ensures.note))

@@ -7,8 +7,8 @@ alone-requires-clause-limits g c = c.requires.limits
 
 pub returns-clause-cut : goal.returns-clause-cut
 returns-clause-cut g c =
-    subst IsCut (sym c.learn_len.ensures.same) (c.in_ok-push_all.ensures.cut c.in_ok-trie.ensures.cut)
+    subst IsCut (sym c.cache_len.ensures.same) (c.in_ok-push_all.ensures.cut c.in_ok-trie.ensures.cut)
 
 pub returns-clause-blank : goal.returns-clause-blank
 returns-clause-blank g c =
-    subst IsBlank (sym c.learn_len.ensures.same) (c.in_ok-push_all.ensures.blank c.in_ok-trie.ensures.blank)
+    subst IsBlank (sym c.cache_len.ensures.same) (c.in_ok-push_all.ensures.blank c.in_ok-trie.ensures.blank)
