@@ -61,7 +61,7 @@ impl<R: Register> Chart<R> {
                 replayed: 0,
             });
         }
-        let Some((key, offset)) = self.trie.find_cell(index, place - 1) else {
+        let Some((key, offset)) = self.trie.find_cell_of(index, len, place - 1) else {
             unreachable!()
         };
         let known = Known {

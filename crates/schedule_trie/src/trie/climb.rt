@@ -78,7 +78,19 @@ impl<T: Drop> Trie<T> {
             (keys_in self.now.branches index) place) }
         ensures none { IfNone result (length (slots_in (forest self.now).branches index) ≤ place) }
     {
-        let len = self.len_at(index);
+        self.find_cell_of(index, self.len_at(index), place)
+    }
+
+    /// Same as `find_cell`, for a branch of which it's known that it has `len` cells, so that these
+    /// aren't counted.
+    pub fn find_cell_of(&self, index: usize, len: u32, place: u32) -> Option<(SegKey, usize)>
+        requires { len ≡ length (slots_in (forest self.now).branches index) }
+        ensures found { IfSome result (SpotHasCellAt (segment_at self.now.segments)
+            (keys_in self.now.branches index) place) }
+        ensures lies { IfSome result (SpotIsAt (segment_at self.now.segments)
+            (keys_in self.now.branches index) place) }
+        ensures none { IfNone result (length (slots_in (forest self.now).branches index) ≤ place) }
+    {
         if len <= place {
             return None;
         }

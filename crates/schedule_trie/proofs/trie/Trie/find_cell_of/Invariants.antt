@@ -1,7 +1,7 @@
 use Rattle.std.proofs.Common.{◌≡◌, ◌+◌, length}
 use Rattle.schedule_trie.specs.Trie.{line, segment_at, keys_in}
 use Rattle.schedule_trie.specs.Climbs.{keys_to, HasClimbedTo}
-use Rattle.schedule_trie.proofs.trie.Trie.find_cell.Given as goal
+use Rattle.schedule_trie.proofs.trie.Trie.find_cell_of.Given as goal
 
 abbrev pub invariant-loop-up : goal.invariant-loop-up
 invariant-loop-up g l = record {

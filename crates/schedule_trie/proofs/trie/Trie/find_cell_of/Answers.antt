@@ -5,14 +5,14 @@ use Rattle.schedule_trie.specs.Climbs.{keys_to}
 use Rattle.schedule_trie.proofs.climbs.Climbs.{lies_here, spot_has_cell}
 use Rattle.schedule_trie.proofs.climbs.ClimbSteps.{path_last, turn}
 use Rattle.schedule_trie.proofs.branches.Lines.{slots_in_on}
-use Rattle.schedule_trie.proofs.trie.Trie.find_cell.Goals as goal
+use Rattle.schedule_trie.proofs.trie.Trie.find_cell_of.Goals as goal
 
 pub loop-up-init : goal.loop-up-init
 loop-up-init g c =
     let now = c.args.self.now in
     let l = path_last c.self.inside now c.self.view_is c.self.invariant.held c.args.index c.tip-at.result c.tip-at.ensures in
     let all = ap (λ ks. length (line (segment_at now.segments) ks)) l.all in
-    let len = c.len_at-len.ensures.len ∙ ap length (slots_in_on (segment_at now.segments) now.branches c.args.index) in
+    let len = c.requires ∙ ap length (slots_in_on (segment_at now.segments) now.branches c.args.index) in
     record { reached = l.reached; cells = omega (arith, all, len, c.if-len-place.false) }
 
 pub returns-then-is_here-clause-lies : goal.returns-then-is_here-clause-lies
