@@ -78,9 +78,9 @@ module _ {R P : Type 0} (E : R → R → Bool) (per : IsPartialEquivalence E) (i
 module _ {R P : Type 0} (E : R → R → Bool) (per : IsPartialEquivalence E) (b : Behaviour P) (s : StoredRun R P) (entry : Configuration R P) where
   pub link_same : (h : R) (exits : List (Configuration ⊤ P)) (segment : List Step) → IsStored E h exits segment s → (a : ℕ) → s.id ≡ Some a
       → slice_get exits a ≡ Some (without_register entry) → E entry.register h ≡ true → (without_register entry ≡ without_register s.run.exit) × (E entry.register s.run.entry.register ≡ true)
-  link_same h exits segment told a numbered there own =
-      let here : slice_get exits a ≡ Some (without_register s.run.exit) = subst (λ o. IsExitOf exits o (without_register s.run.exit)) numbered told.id in
-      let home : E h s.run.entry.register ≡ true = per.symm h s.run.entry.register ∙ told.own in
+  link_same h exits segment links a numbered there own =
+      let here : slice_get exits a ≡ Some (without_register s.run.exit) = subst (λ o. IsExitOf exits o (without_register s.run.exit)) numbered links.id in
+      let home : E h s.run.entry.register ≡ true = per.symm h s.run.entry.register ∙ links.own in
       (cc, per.trans entry.register h s.run.entry.register own home)
 
   pub ends_same : IsRun b s.run → (without_register entry ≡ without_register s.run.exit) → E entry.register s.run.entry.register ≡ true → SameConfiguration E entry s.run.exit
@@ -91,7 +91,7 @@ module _ {R P : Type 0} (E : R → R → Bool) (per : IsPartialEquivalence E) (b
 -- a stored run with the link a begins at the exit of the run with the number a
 pub link_came : {R P : Type 0} (E : R → R → Bool) (h : R) (exits : List (Configuration ⊤ P)) (segment : List Step) (s : StoredRun R P) → IsStored E h exits segment s
     → (a : ℕ) → s.link ≡ Some a → (slice_get exits a ≡ Some (without_register s.run.entry)) × (E s.run.entry.register h ≡ true)
-link_came E h exits segment s told a linked = (subst (λ o. IsExitOf exits o (without_register s.run.entry)) linked told.link, told.own)
+link_came E h exits segment s links a linked = (subst (λ o. IsExitOf exits o (without_register s.run.entry)) linked links.link, links.own)
 
 -- one step of the climb: a claim about the segments down to one becomes one about those above it
 module _ {R P : Type 0} (E : R → R → Bool) (per : IsPartialEquivalence E) (is : R → Behaviour P) (alike : (x y : R) → E x y ≡ true → is x ≡ is y)

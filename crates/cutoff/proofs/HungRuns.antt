@@ -33,13 +33,13 @@ module _ {R P : Type 0} (E : R → R → Bool) (is : R → Behaviour P) (trie : 
   pub hung_more : IsPartialEquivalence E → (hung k key i next a : ℕ) (start : Configuration R P) (at link : Option ℕ) (s : StoredRun R P) → IsLinked E start.register next None (without_register start) trie
       → HasLinked hung link → note_of (segment_at trie.segments k) ≡ Some s → IsRun (is s.run.entry.register) s.run → link ≡ Some a → s.id ≡ Some a → at ≡ Some k
       → IsStepUp (keys_in trie.branches i) hung at → IsHung E is trie hung key i → IsHung E is trie k key i
-  hung_more per hung k key i next a start at link s told was noted true_run linked numbered here step h =
+  hung_more per hung k key i next a start at link s links was noted true_run linked numbered here step h =
       let u = was.stored in
-      let told_u = stored_at E start.register told.exits trie hung u (told.each hung) was.noted in
-      let told_s = stored_at E start.register told.exits trie k s (told.each k) noted in
-      let came = link_came E start.register told.exits (steps_at trie hung) u told_u a (was.linked ∙ linked) in
-      let same = link_same E per (is s.run.entry.register) s u.run.entry start.register told.exits (steps_at trie k) told_s a numbered came.0 came.1 in
-      let fits : RunFits E s.run.exit (steps_at trie hung) u.run = record { steps = told_u.covers; entry = ends_same E per (is s.run.entry.register) s u.run.entry true_run same.0 same.1 } in
+      let links_u = stored_at E start.register links.exits trie hung u (links.each hung) was.noted in
+      let links_s = stored_at E start.register links.exits trie k s (links.each k) noted in
+      let came = link_came E start.register links.exits (steps_at trie hung) u links_u a (was.linked ∙ linked) in
+      let same = link_same E per (is s.run.entry.register) s u.run.entry start.register links.exits (steps_at trie k) links_s a numbered came.0 came.1 in
+      let fits : RunFits E s.run.exit (steps_at trie hung) u.run = record { steps = links_u.covers; entry = ends_same E per (is s.run.entry.register) s u.run.entry true_run same.0 same.1 } in
       let first : HasTrueRun E is trie s.run.exit hung = record { stored = u; noted = was.noted; true_run = was.true_run; fits = fits } in
       record {
         there = subst (HasClimbedTo (keys_in trie.branches i)) here step.reached;

@@ -26,28 +26,28 @@ last_of_parts [] p = refl
 last_of_parts (q ∷ []) p = refl
 last_of_parts (q ∷ r ∷ before) p = last_of_parts (r ∷ before) p
 
--- what is left of each branch with `key`, if runs hang from `hung` down to `key`
-module _ {R P : Type 0} (E : R → R → Bool) (equal : IsEquivalence E) (is : R → Behaviour P) (trie : TrieOf (StoredRun R P)) (start : Configuration R P) (hung key : ℕ) (known front : Option ℕ) (left : List ℕ)
-    (hangs : (i : ℕ) → has key (keys_in trie.branches i) ≡ true → IsHung E is trie hung key i) (down : IsKnown E is trie start hung known) (last : Option ℕ) (below : List ℕ) (to : (i : ℕ) → has hung (keys_in trie.branches i) ≡ true → HasClimbedTo (keys_in trie.branches i) last × (keys_up_to hung (keys_in trie.branches i) ≡ keys_to (keys_in trie.branches i) last ++ below))
-    (behind : AreKeysAfter trie last below known front left)
+-- what is left of each branch with `key`, if runs hang from `top` down to `key`
+module _ {R P : Type 0} (E : R → R → Bool) (equal : IsEquivalence E) (is : R → Behaviour P) (trie : TrieOf (StoredRun R P)) (start : Configuration R P) (top key : ℕ) (known front : Option ℕ) (left : List ℕ)
+    (hangs : (i : ℕ) → has key (keys_in trie.branches i) ≡ true → IsHung E is trie top key i) (down : IsKnown E is trie start top known) (last : Option ℕ) (below : List ℕ) (to : (i : ℕ) → has top (keys_in trie.branches i) ≡ true → HasClimbedTo (keys_in trie.branches i) last × (keys_up_to top (keys_in trie.branches i) ≡ keys_to (keys_in trie.branches i) last ++ below))
+    (following : AreKeysAfter trie last below known front left)
     (fits : StepsFit (is start.register) (forest trie)) where
-  pub left_in : (i count place : ℕ) → IsPlaceIn trie key count place i → IsLeft E is trie start front left hung key count place i
+  pub left_in : (i count place : ℕ) → IsPlaceIn trie key count place i → IsLeft E is trie start front left top key count place i
   left_in i count place lies =
       let on = hangs i lies.there in
       let up = to i on.there in
-      let path = behind.1 i up.0 in
+      let path = following.1 i up.0 in
       record {
         hanging = on;
         rest = record {
           lies = lies;
           reached = path.0;
-          down = by behind.0 on.there;
+          down = by following.0 on.there;
           path = on.path ∙ ap (λ l. l ++ on.below) (up.1 ∙ path.1) ∙ append_assoc (keys_to (keys_in trie.branches i) front) left on.below;
           fits = subst (λ l. AllFit (is start.register) (map step_of l)) (slots_in_on (segment_at trie.segments) trie.branches i) (fits i);
         };
       }
     where
-      by : (front ≡ known) ⊎ (front ≡ None) → has hung (keys_in trie.branches i) ≡ true → RunsTo E is trie start front (keys_in trie.branches i)
+      by : (front ≡ known) ⊎ (front ≡ None) → has top (keys_in trie.branches i) ≡ true → RunsTo E is trie start front (keys_in trie.branches i)
       by (inl e) there = subst (λ o. RunsTo E is trie start o (keys_in trie.branches i)) (sym e) (down i there).1
       by (inr e) there =
           subst (λ o. RunsTo E is trie start o (keys_in trie.branches i)) (sym e)

@@ -1,5 +1,5 @@
--- What is left to settle of a branch: the segments down to `hung`, then those whose runs hang from
--- the run at `hung`.
+-- What is left to settle of a branch: the segments down to `top`, then those whose runs hang from
+-- the run at `top`.
 use Rattle.std.proofs.Common.{◌≡◌, ℕ, suc, ◌+◌, ◌<◌, Bool, true, List, [], ◌∷◌, ◌++◌, length, drop, get_or, Option, Some, None, refl, sym, ap, subst, ◌∙◌, arith, append-nil, append_assoc}
 use Rattle.std.specs.Cmp.{IsPartialEquivalence, IsEquivalence}
 use Rattle.std.specs.Option.{option_map}
@@ -19,9 +19,9 @@ use Rattle.cutoff.proofs.Prefixes.{down_same, down_more}
 use Rattle.cutoff.proofs.RestWalks.{IsGoing, hanging_settles}
 
 -- the keys after the one that others hang from, listed again
-module _ {R P : Type 0} (E : R → R → Bool) (is : R → Behaviour P) (old trie : TrieOf (StoredRun R P)) (hung key i : ℕ) (last : Option ℕ) (keys : List ℕ) (same : trie.branches ≡ old.branches)
-    (h : IsHung E is old hung key i) (there : has key (keys_in old.branches i) ≡ true) (behind : AreKeysAfter trie (Some key) [] (Some hung) last keys)
-    (stops : (i f : ℕ) → has key (keys_in trie.branches i) ≡ true → Some hung ≡ Some f → has f (keys_up_to key (keys_in trie.branches i)) ≡ true → last ≡ Some hung) where
+module _ {R P : Type 0} (E : R → R → Bool) (is : R → Behaviour P) (old trie : TrieOf (StoredRun R P)) (top key i : ℕ) (last : Option ℕ) (keys : List ℕ) (same : trie.branches ≡ old.branches)
+    (h : IsHung E is old top key i) (there : has key (keys_in old.branches i) ≡ true) (following : AreKeysAfter trie (Some key) [] (Some top) last keys)
+    (stops : (i f : ℕ) → has key (keys_in trie.branches i) ≡ true → Some top ≡ Some f → has f (keys_up_to key (keys_in trie.branches i)) ≡ true → last ≡ Some top) where
   abbrev path : List ℕ
   path = keys_in old.branches i
 
@@ -31,16 +31,16 @@ module _ {R P : Type 0} (E : R → R → Bool) (is : R → Behaviour P) (old tri
   there_now : has key (keys_in trie.branches i) ≡ true
   there_now = subst (λ l. has key l ≡ true) (sym path_same) there
 
-  on_path : has hung (keys_up_to key path) ≡ true
+  on_path : has top (keys_up_to key path) ≡ true
   on_path =
-      let p = parting path hung h.there in
-      subst (λ l. has hung l ≡ true) (sym h.path) (has-left hung (keys_up_to hung path) h.below (subst (λ l. has hung l ≡ true) (sym p.to) (has-in hung p.front [])))
+      let p = parting path top h.there in
+      subst (λ l. has top l ≡ true) (sym h.path) (has-left top (keys_up_to top path) h.below (subst (λ l. has top l ≡ true) (sym p.to) (has-in top p.front [])))
 
   pub again_left : h.below ≡ keys
   again_left =
-      let ends : last ≡ Some hung = stops i hung there_now refl (subst (λ l. has hung (keys_up_to key l) ≡ true) (sym path_same) on_path) in
-      let now : keys_up_to key path ≡ keys_to path last ++ keys = subst (λ l. keys_up_to key l ≡ keys_to l last ++ keys) path_same (sym (append-nil (keys_up_to key (keys_in trie.branches i))) ∙ (behind.1 i there_now).1) in
-      append_cancel_left (keys_up_to hung path) h.below keys (sym h.path ∙ now ∙ ap (λ o. keys_to path o ++ keys) ends)
+      let ends : last ≡ Some top = stops i top there_now refl (subst (λ l. has top (keys_up_to key l) ≡ true) (sym path_same) on_path) in
+      let now : keys_up_to key path ≡ keys_to path last ++ keys = subst (λ l. keys_up_to key l ≡ keys_to l last ++ keys) path_same (sym (append-nil (keys_up_to key (keys_in trie.branches i))) ∙ (following.1 i there_now).1) in
+      append_cancel_left (keys_up_to top path) h.below keys (sym h.path ∙ now ∙ ap (λ o. keys_to path o ++ keys) ends)
 
 module _ {R P : Type 0} (E : R → R → Bool) (is : R → Behaviour P) (old : TrieOf (StoredRun R P)) where
   -- the next of the runs that hang, and those after it
@@ -53,12 +53,12 @@ module _ {R P : Type 0} (E : R → R → Bool) (is : R → Behaviour P) (old : T
 -- if the run that others hang from stays stored, they are settled
 module _ {R P : Type 0} (E : R → R → Bool) (equal : IsEquivalence E) (per : IsPartialEquivalence E) (is : R → Behaviour P) (alike : (x y : R) → E x y ≡ true → is x ≡ is y)
     (old trie : TrieOf (StoredRun R P)) (start : Configuration R P) (key count i place n : ℕ) (back : List ℕ) where
-  pub kept_settles : (hung : ℕ) (above : Option ℕ) (h : IsHung E is old hung key i) → IsGoing E is old trie start key count (keys_in old.branches i) h.below back place n above
+  pub kept_settles : (top : ℕ) (above : Option ℕ) (h : IsHung E is old top key i) → IsGoing E is old trie start key count (keys_in old.branches i) h.below back place n above
       → run_named trie above ≡ run_named old above → SettlesTo E is old trie start key count place i n
-  kept_settles hung above h g kept =
+  kept_settles top above h g kept =
       let keys = keys_in old.branches i in
-      let named : above ≡ Some hung = sym g.last ∙ ap (last_from None) (append_cancel_right g.done (keys_up_to hung keys) h.below (sym g.path ∙ h.path)) ∙ last_reached keys (Some hung) h.there in
-      let came : exit_or_start old start (Some hung) ≡ exit_or_start trie start above = ap (exit_or_start old start) (sym named) ∙ ap (exit_or start) (sym kept) in
+      let named : above ≡ Some top = sym g.last ∙ ap (last_from None) (append_cancel_right g.done (keys_up_to top keys) h.below (sym g.path ∙ h.path)) ∙ last_reached keys (Some top) h.there in
+      let came : exit_or_start old start (Some top) ≡ exit_or_start trie start above = ap (exit_or_start old start) (sym named) ∙ ap (exit_or start) (sym kept) in
       hanging_settles E equal per is alike old trie start key count i place n h.below back above g (subst (λ c. Hangs E is old c h.below) came (h.hangs start))
 
   pub early_settles : (k : ℕ) (c : Configuration R P) (left : List ℕ) (here : HasTrueRun E is old c k) → Hangs E is old here.stored.run.exit left

@@ -45,6 +45,6 @@ module _ {P : Type 0} (b : Behaviour P) where
       All-cons (λ l. AllFit b l.steps) (limb_of earlier c) (limbs_after (earlier ++ c ∷ []) bs)
       (fits_drop (shared_with earlier c.slots) c.slots (each 0)) (after_fit (earlier ++ c ∷ []) bs (λ i. each (suc i)))
 
-  pub limbs_fit : {A E : Type 0} (f : Forest) (items : A → List Limb) (told : Result A E) → StepsFit b f → IfOk told (λ r. items r ≡ limbs f) → IfOk told (λ r. LimbsFit b (items r))
+  pub limbs_fit : {A E : Type 0} (f : Forest) (items : A → List Limb) (answer : Result A E) → StepsFit b f → IfOk answer (λ r. items r ≡ limbs f) → IfOk answer (λ r. LimbsFit b (items r))
   limbs_fit f items (Ok r) each same = subst (LimbsFit b) (sym same) (after_fit [] f.branches each)
   limbs_fit f items (Err e) each same = tt

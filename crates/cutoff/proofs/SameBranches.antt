@@ -96,10 +96,10 @@ module _ {R P : Type 0} (b : Behaviour P) (trie : TrieOf (StoredRun R P)) (name 
   pub look_there : (place : ℕ) → place ≤ len → look (forest trie) name place ≡ Ok (forest trie)
   look_there place within =
       ap (λ o. on_found o (looked_at (forest trie) place)) at
-      ∙ ap (λ t. cond t (Err NoPlace) (Ok (forest trie))) (not_behind (length (slots_in (forest trie).branches index)) (sym long))
+      ∙ ap (λ t. cond t (Err NoPlace) (Ok (forest trie))) (not_short (length (slots_in (forest trie).branches index)) (sym long))
     where
-      not_behind : (n : ℕ) → n ≡ len → nat_lt n place ≡ false
-      not_behind n e = grind (arith, nat_tests)
+      not_short : (n : ℕ) → n ≡ len → nat_lt n place ≡ false
+      not_short n e = grind (arith, nat_tests)
 
 -- a branch that has a place to look at is there
 pub look_found : (f g : Forest) (name : List ℕ) (place : ℕ) → look f name place ≡ Ok g → ◌≡◌ {A = Option ℕ} None (index_of f.branches name) → ⊥

@@ -73,15 +73,15 @@ module _ {R P : Type 0} where
 -- numbers and links are also true for an equal register
 pub linked_home : {R P : Type 0} (E : R → R → Bool) → IsPartialEquivalence E → (h g : R) (next : ℕ) (above : Option ℕ) (c : Configuration ⊤ P) (trie : TrieOf (StoredRun R P))
     → E h g ≡ true → IsLinked E h next above c trie → IsLinked E g next above c trie
-linked_home {R} {P} E per h g next above c trie e l = record { exits = l.exits; as_many = l.as_many; each = λ k. told (segment_at trie.segments k) (l.each k); reached_exit = l.reached_exit }
+linked_home {R} {P} E per h g next above c trie e l = record { exits = l.exits; as_many = l.as_many; each = λ k. still (segment_at trie.segments k) (l.each k); reached_exit = l.reached_exit }
   where
     stored : (segment : List Step) (n : Option (StoredRun R P)) → MatchOption n ⊤ (IsStored E h l.exits segment) → MatchOption n ⊤ (IsStored E g l.exits segment)
     stored segment None t = tt
     stored segment (Some s) t = record { own = per.trans s.run.entry.register h g t.own e; covers = t.covers; id = t.id; link = t.link; checked = t.checked }
 
-    told : (o : Option (SegmentOf (StoredRun R P))) → IsTrueSegment E h l.exits o → IsTrueSegment E g l.exits o
-    told None t = tt
-    told (Some p) t = stored (map step_of p.slots) p.note t
+    still : (o : Option (SegmentOf (StoredRun R P))) → IsTrueSegment E h l.exits o → IsTrueSegment E g l.exits o
+    still None t = tt
+    still (Some p) t = stored (map step_of p.slots) p.note t
 
 -- a segment stays filled if its stored run stays
 filled_still : {R P : Type 0} (E : R → R → Bool) (b : Behaviour P) (old trie new : TrieOf (StoredRun R P)) (c : Configuration R P) (ks : List ℕ) (k : ℕ)

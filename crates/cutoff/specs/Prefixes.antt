@@ -120,17 +120,17 @@ pub record IsRest {R P : Type 0} (E : R → R → Bool) (is : R → Behaviour P)
   pub path : keys_up_to key (keys_in trie.branches i) ≡ keys_to (keys_in trie.branches i) front ++ left
   pub fits : AllFit (is start.register) (map step_of (line (segment_at trie.segments) (keys_in trie.branches i)))
 
--- true runs are stored at all keys of branch i below `hung` down to `key`, and each fits at the
--- exit of the run right above it; there are no such keys if `hung` is `key`
-pub record IsHung {R P : Type 0} (E : R → R → Bool) (is : R → Behaviour P) (trie : TrieOf (StoredRun R P)) (hung key i : ℕ) : Type 0 where
-  pub there : has hung (keys_in trie.branches i) ≡ true
+-- true runs are stored at all keys of branch i below `top` down to `key`, and each fits at the
+-- exit of the run right above it; there are no such keys if `top` is `key`
+pub record IsHung {R P : Type 0} (E : R → R → Bool) (is : R → Behaviour P) (trie : TrieOf (StoredRun R P)) (top key i : ℕ) : Type 0 where
+  pub there : has top (keys_in trie.branches i) ≡ true
   pub below : List ℕ
-  pub path : keys_up_to key (keys_in trie.branches i) ≡ keys_up_to hung (keys_in trie.branches i) ++ below
-  pub hangs : (start : Configuration R P) → Hangs E is trie (exit_or_start trie start (Some hung)) below
+  pub path : keys_up_to key (keys_in trie.branches i) ≡ keys_up_to top (keys_in trie.branches i) ++ below
+  pub hangs : (start : Configuration R P) → Hangs E is trie (exit_or_start trie start (Some top)) below
 
 -- what is left to settle of branch i below `front` down to `key`: the segments `left`, down to
--- `hung`, and then those below `hung`, each of which has a run that begins at the exit of the run
+-- `top`, and then those below `top`, each of which has a run that begins at the exit of the run
 -- right above it
-pub record IsLeft {R P : Type 0} (E : R → R → Bool) (is : R → Behaviour P) (trie : TrieOf (StoredRun R P)) (start : Configuration R P) (front : Option ℕ) (left : List ℕ) (hung key count place i : ℕ) : Type 0 where
-  pub hanging : IsHung E is trie hung key i
+pub record IsLeft {R P : Type 0} (E : R → R → Bool) (is : R → Behaviour P) (trie : TrieOf (StoredRun R P)) (start : Configuration R P) (front : Option ℕ) (left : List ℕ) (top key count place i : ℕ) : Type 0 where
+  pub hanging : IsHung E is trie top key i
   pub rest : IsRest E is trie start front (left ++ hanging.below) key count place i

@@ -80,8 +80,8 @@ fn settle_below<R: Register>(
     Ok(made)
 }
 
-/// Settles the segments `rest.keys`, and then those below `rest.hung` down to `key`. Stops once
-/// `rest.hung` or a segment below it needs no replay: the runs stored below that segment, down to
+/// Settles the segments `rest.keys`, and then those below `rest.top` down to `key`. Stops once
+/// `rest.top` or a segment below it needs no replay: the runs stored below that segment, down to
 /// `key`, then still fit. Returns what is now stored in the segment `key`, and how many steps were
 /// replayed.
 pub(crate) fn settle_rest<R: Register>(
@@ -95,16 +95,16 @@ pub(crate) fn settle_rest<R: Register>(
     requires linked { IsLinkedAt R.PartialEq.eq start.now next.old None trie.old }
     requires cut { IsCut trie.old }
     requires left { (i : ℕ) × (count : ℕ) × (place : ℕ) × IsLeft R.PartialEq.eq R.behaviour trie.old
-        start.now rest.now.front rest.now.keys.items rest.now.hung key count place i
+        start.now rest.now.front rest.now.keys.items rest.now.top key count place i
         × (length (line (segment_at trie.old.segments) (keys_in trie.old.branches i))
         ≤ 4294967295) }
     ensures stored { IfOk result (λ r. r.0 ≡ note_named trie.new (Some key)) }
     ensures settles { IfOk result
         (λ r. (i count place : ℕ) → IsLeft R.PartialEq.eq R.behaviour trie.old
-        start.now rest.now.front rest.now.keys.items rest.now.hung key count place i
+        start.now rest.now.front rest.now.keys.items rest.now.top key count place i
         → SettlesTo R.PartialEq.eq R.behaviour trie.old trie.new start.now key count place i r.1) }
     ensures keeps { (i count place : ℕ) → IsLeft R.PartialEq.eq R.behaviour trie.old start.now
-        rest.now.front rest.now.keys.items rest.now.hung key count place i
+        rest.now.front rest.now.keys.items rest.now.top key count place i
         → KeepsRuns trie.old trie.new (IsFilled R.PartialEq.eq (R.behaviour start.now.register)
         trie.old trie.new start.now (reached trie.old place (keys_in trie.old.branches i))) }
     ensures linked { IsLinkedAt R.PartialEq.eq start.now next.new None trie.new }
@@ -125,7 +125,7 @@ pub(crate) fn settle_rest<R: Register>(
         return Ok((copy_at(trie, Some(key))?, replayed));
     }
     trie.lemma_invariant();
-    let (_, hanging) = keys_down_to(alloc, trie, Some(rest.hung), Some(key))?;
+    let (_, hanging) = keys_down_to(alloc, trie, Some(rest.top), Some(key))?;
     for below in &hanging {
         let (lower, here) = settle_below(alloc, trie, next, start, above.as_ref(), *below)?;
         replayed += here;

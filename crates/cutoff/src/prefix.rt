@@ -23,14 +23,14 @@ use std::alloc::{AllocError, Global};
 
 /// What is left to settle of a branch down to one of its segments, the target. Stored runs are
 /// known to fit from the first segment down to `front`; if `front` is `None`, no run is known to
-/// fit. `keys` has the keys of the segments below `front`, down to `hung`, in order. If `front` is
-/// `None`, these begin with the branch's first segment. Each segment below `hung`, down to the
+/// fit. `keys` has the keys of the segments below `front`, down to `top`, in order. If `front` is
+/// `None`, these begin with the branch's first segment. Each segment below `top`, down to the
 /// target, has a run that hangs from the run right above: it begins at the upper run's exit.
 #[derive(Drop)]
 pub(crate) struct Rest {
     pub(crate) front: Option<SegKey>,
     pub(crate) keys: Vec<SegKey>,
-    pub(crate) hung: SegKey,
+    pub(crate) top: SegKey,
 }
 
 /// The segment at which a climb ended: its key, what is stored in it, and the key of the segment
@@ -138,12 +138,12 @@ fn hung_from<'a, R: Register>(trie: &'a Trie<Stored<R>>, known: &Known, key: Seg
     // for the proof: by its contract, the run is a replay of its steps
     let _entry = stored.entry();
     let is_any = known.is_any();
-    let mut hung = key;
+    let mut reached = key;
     let mut lower = stored;
     let mut at = above;
     // a branch has at most one segment for each cell ever made
     for _ in 0..trie.made() {
-        if may_stop(known, is_any, hung, lower) {
+        if may_stop(known, is_any, reached, lower) {
             break;
         }
         let Some(key) = at else {
@@ -158,12 +158,12 @@ fn hung_from<'a, R: Register>(trie: &'a Trie<Stored<R>>, known: &Known, key: Seg
         }
         // for the proof: by its contract, the run is a replay of its steps
         let _entry = stored.entry();
-        hung = key;
+        reached = key;
         lower = stored;
         at = above;
     }
     Top {
-        key: hung,
+        key: reached,
         stored: Some(lower),
         above: at,
     }
@@ -181,14 +181,14 @@ pub(crate) fn rest_to<R: Register>(
     requires known { AreKnown R.PartialEq.eq R.behaviour trie.now start.now known.now }
     requires there { (i : ℕ) × (has key (keys_in trie.now.branches i) ≡ true) }
     ensures { IfOk result (λ r. (i count place : ℕ) → IsPlaceIn trie.now key count place i
-        → IsLeft R.PartialEq.eq R.behaviour trie.now start.now r.front r.keys.items r.hung
+        → IsLeft R.PartialEq.eq R.behaviour trie.now start.now r.front r.keys.items r.top
         key count place i) }
 {
-    let top = hung_from(trie, known, key);
-    let hung = top.key;
-    let (front, mut keys) = known_prefix(alloc, trie, start, known, top)?;
+    let first = hung_from(trie, known, key);
+    let top = first.key;
+    let (front, mut keys) = known_prefix(alloc, trie, start, known, first)?;
     keys.reverse();
-    Ok(Rest { front, keys, hung })
+    Ok(Rest { front, keys, top })
 }
 
 /// Climbs from the segment `last` until it meets `front` or has passed the first segment, and adds

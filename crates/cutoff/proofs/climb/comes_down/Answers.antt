@@ -26,10 +26,10 @@ ends-requires g c = record {
   linked = λ a link id.
       let E = g.R.PartialEq.eq in
       let h = c.args.start.now.register in
-      let told = c.requires.linked in
-      let came = c.loop.invariant.reached_exit told.0 told.1 a link in
-      link_same E g.met.R.PartialEq.laws (g.R.Behaves.behaviour h) c.in-Some-note.stored.now c.loop.entry.now h told.1.exits (steps_at c.args.trie.now c.in-Some.key)
-      (stored_at E h told.1.exits c.args.trie.now c.in-Some.key c.in-Some-note.stored.now (told.1.each c.in-Some.key) (sym c.step_up-above.ensures.note ∙ ap option_copied c.in-Some-note.is)) a id came.0 came.1;
+      let links = c.requires.linked in
+      let came = c.loop.invariant.reached_exit links.0 links.1 a link in
+      link_same E g.met.R.PartialEq.laws (g.R.Behaves.behaviour h) c.in-Some-note.stored.now c.loop.entry.now h links.1.exits (steps_at c.args.trie.now c.in-Some.key)
+      (stored_at E h links.1.exits c.args.trie.now c.in-Some.key c.in-Some-note.stored.now (links.1.each c.in-Some.key) (sym c.step_up-above.ensures.note ∙ ap option_copied c.in-Some-note.is)) a id came.0 came.1;
 }
 
 pub returns-then-not-ends : goal.returns-then-not-ends
@@ -75,17 +75,17 @@ loop-preserved g c =
           c.step_up-above.result.1 (step i h) here);
       runs = λ i h d.
           let keys = keys_in trie.branches i in
-          let told = c.requires.linked.1 in
-          let covers = (stored_at E start.register told.exits trie c.in-Some.key s (told.each c.in-Some.key) noted).covers in
+          let links = c.requires.linked.1 in
+          let covers = (stored_at E start.register links.exits trie c.in-Some.key s (links.each c.in-Some.key) noted).covers in
           let to = up_new E g.met.R.PartialEq.laws g.R.Behaves.behaviour g.met.R.Register.alike trie c.in-Some.key s noted c.entry-begun.ensures.kept covers start keys
           c.step_up-above.result.1 (step i h) (subst (RunsDown E g.R.Behaves.behaviour trie b start (keys_to keys c.step_up-above.result.1)) begun d) in
           was.runs i h (subst (λ o. RunsDown E g.R.Behaves.behaviour trie b start (keys_to keys o) c.loop.entry.now) (sym c.in-Some.is)
           (up_same E g.met.R.PartialEq.laws g.R.Behaves.behaviour g.met.R.Register.alike trie c.in-Some.key s noted c.entry-begun.ensures.kept covers start keys
           c.step_up-above.result.1 (step i h) c.loop.entry.now (c.ends.ensures.0 c.if-not-ends.false) to));
-      reached_exit = λ next told a link.
-          subst (λ e. (slice_get told.exits a ≡ Some (without_register e)) × (E e.register start.register ≡ true)) (sym begun)
-          (link_came E start.register told.exits (steps_at trie c.in-Some.key) s
-          (stored_at E start.register told.exits trie c.in-Some.key s (told.each c.in-Some.key) noted) a (sym c.link-link.ensures ∙ link));
+      reached_exit = λ next links a link.
+          subst (λ e. (slice_get links.exits a ≡ Some (without_register e)) × (E e.register start.register ≡ true)) (sym begun)
+          (link_came E start.register links.exits (steps_at trie c.in-Some.key) s
+          (stored_at E start.register links.exits trie c.in-Some.key s (links.each c.in-Some.key) noted) a (sym c.link-link.ensures ∙ link));
     }
 
 -- down to a fresh run stored runs are known to fit
@@ -99,8 +99,8 @@ returns-then-is_from g c = λ i h. (
       let keys = keys_in trie.branches i in
       let s = c.in-Some-note.stored.now in
       let noted : note_of (segment_at trie.segments c.in-Some.key) ≡ Some s = sym c.step_up-above.ensures.note ∙ ap option_copied c.in-Some-note.is in
-      let told = c.requires.linked.1 in
-      let covers = (stored_at E start.register told.exits trie c.in-Some.key s (told.each c.in-Some.key) noted).covers in
+      let links = c.requires.linked.1 in
+      let covers = (stored_at E start.register links.exits trie c.in-Some.key s (links.each c.in-Some.key) noted).covers in
       let there = subst (HasClimbedTo keys) c.in-Some.is (c.loop.invariant.reached i h) in
       let step = step_up keys c.in-Some.key c.step_up-above.result.1 (path_once trie c.requires.cut i) there (λ front back e. c.step_up-above.ensures.each i front back e) in
       let late = c.is_from.ensures.0 c.if-is_from.true in

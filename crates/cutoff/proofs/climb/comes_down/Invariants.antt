@@ -18,6 +18,6 @@ invariant-loop g l =
           → FitsDownTo E b l.trie l.start (keys_to (keys i) l.at) l.entry;
       runs : (i : ℕ) → HasClimbedTo (keys i) l.fn.last → RunsDown E g.R.Behaves.behaviour l.trie b l.start (keys_to (keys i) l.at) l.entry
           → RunsDown E g.R.Behaves.behaviour l.trie b l.start (keys_to (keys i) l.fn.last) l.config;
-      reached_exit : (next : ℕ) (told : IsLinked E l.start.register next None (without_register l.start) l.trie) (a : ℕ) → l.link ≡ Some a
-          → (slice_get told.exits a ≡ Some (without_register l.entry)) × (E l.entry.register l.start.register ≡ true);
+      reached_exit : (next : ℕ) (links : IsLinked E l.start.register next None (without_register l.start) l.trie) (a : ℕ) → l.link ≡ Some a
+          → (slice_get links.exits a ≡ Some (without_register l.entry)) × (E l.entry.register l.start.register ≡ true);
     }

@@ -98,7 +98,7 @@ pub returns-then-last-eq0-clause-settles : goal.returns-then-last-eq0-clause-set
 returns-then-last-eq0-clause-settles g c = λ i count place left.
     let on = c.loop-segment.invariant.1.going i count place left in
     kept_settles g.R.PartialEq.eq g.met.R.Eq.laws g.met.R.PartialEq.laws g.R.Behaves.behaviour g.met.R.Register.alike c.args.trie.now c.loop-segment.trie c.args.start.now c.args.key
-    count i place c.loop-segment.replayed on.0 c.args.rest.now.hung c.loop-segment.invariant.0 left.hanging
+    count i place c.loop-segment.replayed on.0 c.args.rest.now.top c.loop-segment.invariant.0 left.hanging
     (going_past g.R.PartialEq.eq g.met.R.Eq.laws g.met.R.PartialEq.laws g.R.Behaves.behaviour g.met.R.Register.alike c.deref-segment-items.result.now c.loop-segment.segment-index left.hanging.below on.1
     c.loop-segment-test.false)
     (c.loop-segment.invariant.1.kept c.if-last-eq0.true)
@@ -129,7 +129,7 @@ loop-below-init g c =
             let on = c.loop-segment.invariant.1.going i count place left in
             let past = going_past E g.met.R.Eq.laws g.met.R.PartialEq.laws is g.met.R.Register.alike c.deref-segment-items.result.now c.loop-segment.segment-index left.hanging.below on.1
             c.loop-segment-test.false in
-            let same = again_left E is trie c.loop-segment.trie c.args.rest.now.hung c.args.key i c.in_ok-hanging.field-0-0 c.in_ok-hanging.hanging.items on.1.walk.keeps.branches left.hanging
+            let same = again_left E is trie c.loop-segment.trie c.args.rest.now.top c.args.key i c.in_ok-hanging.field-0-0 c.in_ok-hanging.hanging.items on.1.walk.keeps.branches left.hanging
             left.rest.lies.there following c.in_ok-hanging.ensures.stops in (
               on.0,
               subst (λ l. IsGoing E is trie c.loop-segment.trie start c.args.key count (keys_in trie.branches i) l on.0 place c.loop-segment.replayed c.loop-segment.invariant.0)
@@ -137,9 +137,9 @@ loop-below-init g c =
             );
         hangs = λ i count place left.
             let on = c.loop-segment.invariant.1.going i count place left in
-            let same = again_left E is trie c.loop-segment.trie c.args.rest.now.hung c.args.key i c.in_ok-hanging.field-0-0 c.in_ok-hanging.hanging.items on.1.walk.keeps.branches left.hanging
+            let same = again_left E is trie c.loop-segment.trie c.args.rest.now.top c.args.key i c.in_ok-hanging.field-0-0 c.in_ok-hanging.hanging.items on.1.walk.keeps.branches left.hanging
             left.rest.lies.there following c.in_ok-hanging.ensures.stops in
-            (exit_or_start trie start (Some c.args.rest.now.hung), subst (Hangs E is trie (exit_or_start trie start (Some c.args.rest.now.hung))) (same ∙ sym c.deref-below-items.ensures.value) (left.hanging.hangs start));
+            (exit_or_start trie start (Some c.args.rest.now.top), subst (Hangs E is trie (exit_or_start trie start (Some c.args.rest.now.top))) (same ∙ sym c.deref-below-items.ensures.value) (left.hanging.hangs start));
         linked = c.loop-segment.invariant.1.linked;
         fresh = c.loop-segment.invariant.1.fresh;
       },

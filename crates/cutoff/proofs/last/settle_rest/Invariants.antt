@@ -12,7 +12,7 @@ invariant-loop-segment g l =
     let is = g.R.Behaves.behaviour in
     (key : Option ℕ) × record {
       noted : note_named l.trie key ≡ l.above;
-      going : (i count place : ℕ) (left : IsLeft E is l.fn.trie l.start l.rest.front l.rest.keys.items l.rest.hung l.key count place i)
+      going : (i count place : ℕ) (left : IsLeft E is l.fn.trie l.start l.rest.front l.rest.keys.items l.rest.top l.key count place i)
           → (back : List ℕ) × IsGoing E is l.fn.trie l.trie l.start l.key count (keys_in l.fn.trie.branches i) (drop l.segment-index l.segment-items ++ left.hanging.below) back place l.replayed key;
       kept : l.last ≡ 0 → run_named l.trie key ≡ run_named l.fn.trie key;
       linked : IsLinkedAt E l.start l.next None l.trie;
@@ -25,9 +25,9 @@ invariant-loop-below g l =
     let is = g.R.Behaves.behaviour in
     (key : Option ℕ) × record {
       noted : note_named l.trie key ≡ l.above;
-      going : (i count place : ℕ) → IsLeft E is l.fn.trie l.start l.rest.front l.rest.keys.items l.rest.hung l.key count place i
+      going : (i count place : ℕ) → IsLeft E is l.fn.trie l.start l.rest.front l.rest.keys.items l.rest.top l.key count place i
           → (back : List ℕ) × IsGoing E is l.fn.trie l.trie l.start l.key count (keys_in l.fn.trie.branches i) (drop l.below-index l.below-items ++ []) back place l.replayed key;
-      hangs : (i count place : ℕ) → IsLeft E is l.fn.trie l.start l.rest.front l.rest.keys.items l.rest.hung l.key count place i
+      hangs : (i count place : ℕ) → IsLeft E is l.fn.trie l.start l.rest.front l.rest.keys.items l.rest.top l.key count place i
           → (c : Configuration _ _) × Hangs E is l.fn.trie c (drop l.below-index l.below-items);
       linked : IsLinkedAt E l.start l.next None l.trie;
       fresh : (first : Option ℕ) → AreFresh E is l.fn.trie l.start first → AreFresh E is l.trie l.start first;

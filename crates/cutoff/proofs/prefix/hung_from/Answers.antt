@@ -46,9 +46,9 @@ loop-preserved g c =
     let s = c.in-Some-note.stored.now in
     let noted : note_of (segment_at trie.segments c.in-Some-at.key) ≡ Some s = sym c.step_up_from-above-in-loop.ensures.note ∙ ap option_copied c.in-Some-note.is in
     let before = c.is_linked_from.ensures.0 c.if-not-is_linked_from.false in
-    let told = c.requires.linked in
+    let links = c.requires.linked in
     let hung : (i : ℕ) → has c.args.key (keys_in trie.branches i) ≡ true → IsHung E is trie c.in-Some-at.key c.args.key i =
-    λ i h. hung_more E is trie g.met.R.PartialEq.laws c.loop.hung c.in-Some-at.key c.args.key i told.1.0 before.0 told.0 c.loop.at c.loop.lower.now.link s told.1.1 was.stored noted c.entry-entry-in-loop.ensures.kept
+    λ i h. hung_more E is trie g.met.R.PartialEq.laws c.loop.reached c.in-Some-at.key c.args.key i links.1.0 before.0 links.0 c.loop.at c.loop.lower.now.link s links.1.1 was.stored noted c.entry-entry-in-loop.ensures.kept
     before.1 before.2 c.in-Some-at.is (was.up i h) (was.hung i h) in
     record {
       up = λ i h. step_up (keys_in trie.branches i) c.in-Some-at.key c.step_up_from-above-in-loop.result.1 (path_once trie c.requires.cut i) (hung i h).there
@@ -85,4 +85,4 @@ returns-clause-top g c =
       | then-loop-test+else-may_stop+in-Some-at+in_default-note w ↦ w.at-is ∙ sym w.in-Some-at.is
       | then-loop-test+else-may_stop+in-Some-at+in-Some-note+then-not-is_linked_from w ↦ w.at-is ∙ sym w.in-Some-at.is
     ] in
-    subst (IsTop c.args.trie.now c.loop.hung (Some c.loop.lower.now)) (sym same) c.loop.invariant.top
+    subst (IsTop c.args.trie.now c.loop.reached (Some c.loop.lower.now)) (sym same) c.loop.invariant.top

@@ -8,13 +8,13 @@ use Rattle.cutoff.proofs.prefix.rest_to.Goals as goal
 pub known_prefix-requires-clause-there : goal.known_prefix-requires-clause-there
 known_prefix-requires-clause-there g c =
     let there = c.requires.there in
-    (there.0, (c.hung_from-top.ensures.hung there.0 there.1).there)
+    (there.0, (c.hung_from-first.ensures.hung there.0 there.1).there)
 
 pub returns : goal.returns
 returns g c =
     let trie = c.args.trie.now in
-    let hung = c.hung_from-top.result.key in
+    let top = c.hung_from-first.result.key in
     let front = c.in_ok-front.front in
-    left_in g.R.PartialEq.eq g.met.R.Eq.laws g.R.Behaves.behaviour trie c.args.start.now hung c.args.key front front c.reverse.new.self.items
-    c.hung_from-top.ensures.hung c.in_ok-front.ensures.known (Some hung) [] (λ i h. (h, sym (append-nil (keys_up_to hung (keys_in trie.branches i)))))
-    (subst (AreKeysAfter trie (Some hung) [] front front) (sym c.reverse.ensures.items) c.in_ok-front.ensures.following) c.requires.known.fits
+    left_in g.R.PartialEq.eq g.met.R.Eq.laws g.R.Behaves.behaviour trie c.args.start.now top c.args.key front front c.reverse.new.self.items
+    c.hung_from-first.ensures.hung c.in_ok-front.ensures.known (Some top) [] (λ i h. (h, sym (append-nil (keys_up_to top (keys_in trie.branches i)))))
+    (subst (AreKeysAfter trie (Some top) [] front front) (sym c.reverse.ensures.items) c.in_ok-front.ensures.following) c.requires.known.fits

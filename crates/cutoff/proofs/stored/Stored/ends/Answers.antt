@@ -9,7 +9,7 @@ returns-then-is_same g c = (
       let p = c.is_same.ensures.0 e in
       let same = c.deref.ensures ∙ ap (λ v. v.run) c.self.view_is in
       let true_run = subst (λ r. IsRun (g.R.Behaves.behaviour r.entry.register) r) same c.exit-exit.ensures.kept in
-      let told = c.requires.linked p.0 p.1 (ap (λ v. v.id) (sym c.self.view_is) ∙ p.2) in
-      ends_same g.R.PartialEq.eq g.met.R.PartialEq.laws (g.R.Behaves.behaviour c.args.self.now.run.entry.register) c.args.self.now c.args.config.now true_run told.0 told.1),
+      let links = c.requires.linked p.0 p.1 (ap (λ v. v.id) (sym c.self.view_is) ∙ p.2) in
+      ends_same g.R.PartialEq.eq g.met.R.PartialEq.laws (g.R.Behaves.behaviour c.args.self.now.run.entry.register) c.args.self.now c.args.config.now true_run links.0 links.1),
   (λ same. c.if-is_same.true),
 )
