@@ -60,7 +60,7 @@ module _ {R P : Type 0} (is : R → Behaviour P) (b : Behaviour P) (q : Question
   at_answers steps x at = record { for_each = at.each; in_order = at.answered }
 
   -- a done state with a schedule's answers is found, no deeper than the schedule is long
-  pub record IsMet (keys : List (StateOf R P)) (marks : List Mark) (steps : List Step) : Type 0 where
+  pub record IsDiscovered (keys : List (StateOf R P)) (marks : List Mark) (steps : List Step) : Type 0 where
     pub index : ℕ
     pub key : StateOf R P
     pub stored : slice_get keys index ≡ Some key
@@ -75,10 +75,10 @@ module _ {R P : Type 0} (is : R → Behaviour P) (b : Behaviour P) (q : Question
         over_at : List Bool → List (Option (Running P)) → List (List Outcome) → Bool
         over_at stopped running answers = slice_index_or stopped p false || (is_none (slice_index_or running p None) && ended_counts answers p == length (operations_of q p))
 
-    pub met : (Holds : Memory → Type 0) (Reach : ℕ → Op → P → Type 0) → IsLawful b Holds Reach → (r : R) → is r ≡ b → (keys : List (StateOf R P)) (marks : List Mark)
+    pub discovered : (Holds : Memory → Type 0) (Reach : ℕ → Op → P → Type 0) → IsLawful b Holds Reach → (r : R) → is r ≡ b → (keys : List (StateOf R P)) (marks : List Mark)
         → IsAllReached (b.processes * 4) (λ x l. moved (is x.configuration.register) q x l) (state_eq E F) (first_state b q.value r) keys marks
-        → (steps : List Step) → IsScheduleOf b q steps → IsMet keys marks steps
-    met Holds Reach lawful r e keys marks all steps schedule =
+        → (steps : List Step) → IsScheduleOf b q steps → IsDiscovered keys marks steps
+    discovered Holds Reach lawful r e keys marks all steps schedule =
         let w = walk is b q.value q Holds Reach lawful (first_state b q.value r) steps [] (first_state b q.value r) 0 (at_first is b q.value r e) refl schedule.fit schedule.allowed in
         let f = all.complete w.moves w.state w.reached in
         let same : SameState E w.state f.key = (state_decides E F d w.state f.key).0 f.same in

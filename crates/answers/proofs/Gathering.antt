@@ -14,7 +14,7 @@ use Rattle.answers.specs.Answers.{HasItsSchedule, IsListed, AllAnswered}
 use Rattle.answers.specs.Gathered.{IsCovered, IsGathered}
 use Rattle.answers.specs.States.{StateOf, AreAllOver}
 use Rattle.answers.specs.laws.StateLaws.{answers_eq, answers_decide}
-use Rattle.answers.proofs.DoneStates.{IsMet}
+use Rattle.answers.proofs.DoneStates.{IsDiscovered}
 
 -- each item of a list with one more item is an earlier one, or the new one
 old_or_new : {X : Type 0} (xs : List X) (y : X) (i : ℕ) (x : X) → slice_get (xs ++ y ∷ []) i ≡ Some x → (slice_get xs i ≡ Some x) ⊎ ((i ≡ length xs) × (y ≡ x))
@@ -148,14 +148,14 @@ module _ {R P : Type 0} (b : Behaviour P) (q : Question) (keys : List (StateOf R
 
   -- once all states are gathered, all answers are listed
   pub gathered_all : (is : R → Behaviour P) (at : ℕ) (found : List Possible) → IsGathered b q keys marks at found → length keys ≤ at
-      → ((steps : List Step) → IsScheduleOf b q steps → IsMet is b q keys marks steps) → AllAnswered b q found
-  gathered_all is at found g all met = record {
+      → ((steps : List Step) → IsScheduleOf b q steps → IsDiscovered is b q keys marks steps) → AllAnswered b q found
+  gathered_all is at found g all discovered = record {
     sound = g.sound;
-    complete = λ steps schedule. listed steps (met steps schedule);
+    complete = λ steps schedule. listed steps (discovered steps schedule);
     once = g.once;
   }
     where
-      listed : (steps : List Step) → IsMet is b q keys marks steps → IsListed b q found steps
+      listed : (steps : List Step) → IsDiscovered is b q keys marks steps → IsListed b q found steps
       listed steps m =
           let lt = slice_get_within keys m.index m.key m.stored in
           let c = g.covers m.index m.key (omega (arith, lt, all)) m.stored m.done in

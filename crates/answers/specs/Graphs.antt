@@ -25,7 +25,7 @@ moves_of is q r = record {
   is_goal = λ x. all_over q x (is r).processes;
 }
 
--- what holds of each state that is met: it is one of register r, with outcomes for each process
+-- what holds of each discovered state: it is one of register r, with outcomes for each process
 pub record IsStateOf {R P : Type 0} (b : Behaviour P) (Holds : Memory → Type 0) (Reaches : ℕ → Op → P → Type 0) (r : R) (x : StateOf R P) : Type 0 where
   pub register : x.configuration.register ≡ r
   pub sound : IsConfiguration b Holds Reaches x.configuration

@@ -1,14 +1,14 @@
--- Worked examples of definitions that claim that something exists: a case, and a near miss.
+-- Definitions that claim that something exists: an example of each, and a near miss.
 use Rattle.std.proofs.Common.{◌≡◌, ℕ, zero, suc, ◌<◌, ◌≤◌, List, [], ◌∷◌, Option, Some, None, true, false, true≢false, nat_eq, length, map, slice_get, refl, sym, ap, ◌∙◌, arith}
 use Rattle.std.specs.List.{IsDistinct}
 use Rattle.std.proofs.lemmas.Bool.Decides.{Decides-eqb}
 use Rattle.std.proofs.lemmas.Cmp.{nat_eq_equiv}
 use Rattle.std.proofs.lemmas.Option.{none-some, same_Some}
 use Rattle.breadth_first.specs.declared.mark.Mark.{Mark}
-use Rattle.breadth_first.specs.Paths.{mark_of_start, depth_at, Moves, Reaches, IsMade, IsTrail, LeadsBy, IsFound, IsServing, AreTooMany}
+use Rattle.breadth_first.specs.Paths.{mark_of_start, depth_at, Moves, Reaches, IsMade, IsTrail, LeadsBy, IsFound, IsExpanding, AreTooMany}
 use Rattle.breadth_first.specs.Searches.{IsWholeSearch}
 use Rattle.breadth_first.specs.Shape.{Shape}
-use Rattle.breadth_first.proofs.Served.{all_reached, serving_first}
+use Rattle.breadth_first.proofs.Expanded.{all_reached, expanding_first}
 
 -- a graph whose one label leads from 0 to 1, and nowhere from any other node
 abbrev move : ℕ → ℕ → Option ℕ
@@ -115,15 +115,15 @@ alone = record { labels = 0; move = move; origin = 0; key = λ n. n; is_goal = �
 same_moves : (x y : ℕ) → nat_eq x y ≡ true → (l z : ℕ) → move x l ≡ Some z → (w : ℕ) × ((move y l ≡ Some w) × (nat_eq z w ≡ true))
 same_moves x y e l z m = (z, (ap (λ n. move n l) (sym ((Decides-eqb x y).0 e)) ∙ m, nat_eq_equiv.refl z))
 
-start_served : IsServing 0 move nat_eq (0 ∷ []) (mark_of_start ∷ []) 1
-start_served =
-    let s = serving_first 0 move nat_eq nat_eq_equiv same_moves 0 in
+start_expanded : IsExpanding 0 move nat_eq (0 ∷ []) (mark_of_start ∷ []) 1
+start_expanded =
+    let s = expanding_first 0 move nat_eq nat_eq_equiv same_moves 0 in
     record {
       trail = s.trail;
       distinct = s.distinct;
       sorted = s.sorted;
       near = λ j next lt. absurd (omega (arith, next));
-      served = λ i k lt h y mv. absurd (omega (arith, mv.1.0));
+      expanded = λ i k lt h y mv. absurd (omega (arith, mv.1.0));
     }
 
 -- its search finds the start alone
@@ -131,7 +131,7 @@ IsWholeSearch-holds : IsWholeSearch alone nat_eq (λ n. Unit {0}) (0 ∷ []) (fa
 IsWholeSearch-holds = record {
   nodes = 0 ∷ [];
   kept = record { by_key = refl; by_goal = refl; hold = λ i x h. tt };
-  all = all_reached 0 move nat_eq nat_eq_equiv same_moves 0 (0 ∷ []) (mark_of_start ∷ []) 1 start_served (omega arith) refl;
+  all = all_reached 0 move nat_eq nat_eq_equiv same_moves 0 (0 ∷ []) (mark_of_start ∷ []) 1 start_expanded (omega arith) refl;
 }
 
 none_starts : (nodes : List ℕ) → [] ≡ map (λ n. n) nodes → slice_get nodes 0 ≡ Some 0 → ⊥

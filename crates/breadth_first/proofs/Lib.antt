@@ -1,8 +1,8 @@
 pub mod Pushed
-pub mod Served
+pub mod Expanded
 pub mod Followed
 pub mod Started
 pub mod Searched
-pub mod Serving
+pub mod Expanding
 pub mod Traced
 mod Examples

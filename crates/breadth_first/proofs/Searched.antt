@@ -1,4 +1,4 @@
--- What a search keeps of its nodes, as it meets them and serves them.
+-- What a search keeps of its nodes, as it discovers them and expands them.
 use Rattle.std.proofs.Common.{◌≡◌, ℕ, zero, suc, ◌+◌, ◌-◌, ◌<◌, ◌≤◌, ◌⊎◌, inl, inr, List, [], ◌∷◌, ◌++◌, Some, length, map, drop, slice_get, Bool, true, false, ◌||◌, refl, sym, ap, subst, ◌∙◌, true≢false, add-one, arith}
 use Rattle.std.specs.List.{list_any}
 use Rattle.std.specs.Cmp.{IsEquivalence}
@@ -9,7 +9,7 @@ use Rattle.breadth_first.specs.Shape.{Shape}
 use Rattle.breadth_first.specs.Paths.{mark_of_start, depth_at, AreTooMany}
 use Rattle.breadth_first.specs.Searches.{IsOldNode, IsNewNode, AreKeysOf, IsSearching, IsSearch, IsSearchAt, IsStepped, IsWholeSearch}
 use Rattle.breadth_first.proofs.Pushed.{old_or_new}
-use Rattle.breadth_first.proofs.Served.{all_reached, followed_there, followed_new, too_many}
+use Rattle.breadth_first.proofs.Expanded.{all_reached, followed_there, followed_new, too_many}
 use Rattle.breadth_first.proofs.Started.{HasBegun, begun, no_more}
 
 -- the first of the items from index n on
@@ -45,7 +45,7 @@ module _ {N K : Type 0} (g : Shape N K) (eq : N → N → Bool) (eq_key : K → 
   pub as_many : (nodes : List N) (keys : List K) (goals : List Bool) → AreKeysOf g eq Holds nodes keys goals → length keys ≡ length nodes
   as_many nodes keys goals k = ap length k.by_key ∙ length-map nodes g.key
 
-  -- a search that has met the start alone
+  -- a search that has discovered the start alone
   pub search_begun : (same : (x y : N) → Holds x → Holds y → eq_key (g.key x) (g.key y) ≡ eq x y) (laws : IsEquivalence eq)
       (alike : (x y : N) → eq x y ≡ true → (l : ℕ) (z : N) → g.move x l ≡ Some z → (w : N) × ((g.move y l ≡ Some w) × (eq z w ≡ true)))
       (start : N) (most : ℕ) → start ≡ g.origin → Holds start
@@ -61,7 +61,7 @@ module _ {N K : Type 0} (g : Shape N K) (eq : N → N → Bool) (eq_key : K → 
       let none : length no_keys ≡ 0 = ap length nk in
       let one : length keys ≡ length no_keys + 1 = ap length t.keys_grow ∙ length_push no_keys (g.key start) in (
         record {
-          serving = b.serving;
+          expanding = b.expanding;
           first = ap Some e;
           kept = kept_more [] start [] keys [] goals kept_none h (t.keys_grow ∙ ap (λ (k : List K). k ++ g.key start ∷ []) nk) (t.goals_grow ∙ ap (λ (k : List Bool). k ++ g.is_goal start ∷ []) ng);
           waiting = t.queue_grows ∙ ap (λ (q : List N). q ++ start ∷ []) nq;
@@ -79,7 +79,7 @@ module _ {N K : Type 0} (g : Shape N K) (eq : N → N → Bool) (eq_key : K → 
         → IsStepped g eq Holds nodes marks new_keys new_goals new_marks new_queue at l
     stepped same laws alike x y l d most h here lab moves deep new_keys new_goals new_marks new_queue (inl t) =
         let there : list_any (eq y) nodes ≡ true = sym (any_key same y nodes h s.kept.hold) ∙ (ap (list_any (eq_key (g.key y))) (sym s.kept.by_key) ∙ t.old) in
-        let f = followed_there g.labels g.move eq laws alike nodes marks at l d x y s.serving here moves there in
+        let f = followed_there g.labels g.move eq laws alike nodes marks at l d x y s.expanding here moves there in
         let stay : IsStepped g eq Holds nodes marks keys goals marks queue at l = record { new_nodes = nodes; searching = s; followed = f } in
         subst (λ (k : List K). IsStepped g eq Holds nodes marks k new_goals new_marks new_queue at l) (sym t.keys_stay)
         (subst (λ (k : List Bool). IsStepped g eq Holds nodes marks keys k new_marks new_queue at l) (sym t.goals_stay)
@@ -88,12 +88,12 @@ module _ {N K : Type 0} (g : Shape N K) (eq : N → N → Bool) (eq_key : K → 
     stepped same laws alike x y l d most h here lab moves deep new_keys new_goals new_marks new_queue (inr t) =
         let new : list_any (eq y) nodes ≡ false = sym (any_key same y nodes h s.kept.hold) ∙ (ap (list_any (eq_key (g.key y))) (sym s.kept.by_key) ∙ t.new) in
         let m : Mark = record { parent = at; label = l; depth = d } in
-        let f = followed_new g.labels g.move eq laws alike nodes marks at l d x y s.serving here lab moves deep new in
+        let f = followed_new g.labels g.move eq laws alike nodes marks at l d x y s.expanding here lab moves deep new in
         let low = slice_get_within nodes at x here in
         subst (λ (k : List Mark). IsStepped g eq Holds nodes marks new_keys new_goals k new_queue at l) (sym t.marks_grow) (record {
           new_nodes = nodes ++ y ∷ [];
           searching = record {
-            serving = f.serving;
+            expanding = f.expanding;
             first = f.grown 0 g.origin s.first;
             kept = kept_more nodes y keys new_keys goals new_goals s.kept h t.keys_grow t.goals_grow;
             waiting = t.queue_grows ∙ (ap (λ (q : List N). q ++ y ∷ []) s.waiting ∙ sym (drop-append-le (at + 1) nodes (y ∷ []) (omega (arith, low))));
@@ -102,17 +102,17 @@ module _ {N K : Type 0} (g : Shape N K) (eq : N → N → Bool) (eq_key : K → 
         })
 
     -- one more node is too many
-    pub too_many_met : (same : (x y : N) → Holds x → Holds y → eq_key (g.key x) (g.key y) ≡ eq x y) (laws : IsEquivalence eq)
+    pub too_many_discovered : (same : (x y : N) → Holds x → Holds y → eq_key (g.key x) (g.key y) ≡ eq x y) (laws : IsEquivalence eq)
         (alike : (x y : N) → eq x y ≡ true → (l : ℕ) (z : N) → g.move x l ≡ Some z → (w : N) × ((g.move y l ≡ Some w) × (eq z w ≡ true)))
         (x y : N) (l most : ℕ) → Holds y → slice_get nodes at ≡ Some x → l < g.labels → g.move x l ≡ Some y
         → list_any (eq_key (g.key y)) keys ≡ false → most ≤ length keys → AreTooMany g.labels g.move eq g.origin most
-    too_many_met same laws alike x y l most h here lab moves new full =
+    too_many_discovered same laws alike x y l most h here lab moves new full =
         let fresh : list_any (eq y) nodes ≡ false = sym (any_key same y nodes h s.kept.hold) ∙ (ap (list_any (eq_key (g.key y))) (sym s.kept.by_key) ∙ new) in
         let many = as_many nodes keys goals s.kept in
-        too_many g.labels g.move eq laws alike g.origin nodes marks at l x y most s.serving s.first here lab moves fresh (omega (arith, full, many))
+        too_many g.labels g.move eq laws alike g.origin nodes marks at l x y most s.expanding s.first here lab moves fresh (omega (arith, full, many))
 
   module _ (keys : List K) (goals : List Bool) (marks : List Mark) (queue : List N) (at : ℕ) (s : IsSearch g eq Holds keys goals marks queue at at) where
-    -- the first node of the queue is served next
+    -- the first node of the queue is expanded next
     pub popped : (x : N) (rest : List N) → queue ≡ x ∷ rest → IsSearchAt g eq Holds x keys goals marks rest at
     popped x rest e =
         let f = front s.nodes at x rest (sym s.searching.waiting ∙ e) in
@@ -120,7 +120,7 @@ module _ {N K : Type 0} (g : Shape N K) (eq : N → N → Bool) (eq_key : K → 
           nodes = s.nodes;
           here = f.0;
           searching = record {
-            serving = s.searching.serving;
+            expanding = s.searching.expanding;
             first = s.searching.first;
             kept = s.searching.kept;
             waiting = f.1 ∙ ap (λ n. drop n s.nodes) (sym (add-one at));
@@ -133,7 +133,7 @@ module _ {N K : Type 0} (g : Shape N K) (eq : N → N → Bool) (eq_key : K → 
     searched_all laws alike all = record {
       nodes = s.nodes;
       kept = s.searching.kept;
-      all = all_reached g.labels g.move eq laws alike g.origin s.nodes marks at s.searching.serving all s.searching.first;
+      all = all_reached g.labels g.move eq laws alike g.origin s.nodes marks at s.searching.expanding all s.searching.first;
     }
 
     -- once the queue is empty, all is found
@@ -145,7 +145,7 @@ module _ {N K : Type 0} (g : Shape N K) (eq : N → N → Bool) (eq_key : K → 
         let left : length queue ≡ length s.nodes - at = ap length s.searching.waiting ∙ length-drop at s.nodes in
         searched_all laws alike (omega (arith, none, left))
 
-    -- and so it is once as many nodes are served as are allowed
+    -- and so it is once as many nodes are expanded as are allowed
     pub searched_full : (laws : IsEquivalence eq)
         (alike : (x y : N) → eq x y ≡ true → (l : ℕ) (z : N) → g.move x l ≡ Some z → (w : N) × ((g.move y l ≡ Some w) × (eq z w ≡ true)))
         → length keys ≤ at → IsWholeSearch g eq Holds keys goals marks

@@ -3,8 +3,8 @@ use Rattle.std.proofs.Common.{◌≡◌, ℕ, ◌<◌, ◌≤◌, ◌⊎◌, inl
 use Rattle.std.specs.List.{list_any}
 use Rattle.std.specs.Cmp.{IsEquivalence}
 use Rattle.breadth_first.specs.declared.mark.Mark.{Mark}
-use Rattle.breadth_first.specs.Paths.{mark_of_start, IsServing, IsAllReached, AreTooMany}
-use Rattle.breadth_first.proofs.Served.{serving_first}
+use Rattle.breadth_first.specs.Paths.{mark_of_start, IsExpanding, IsAllReached, AreTooMany}
+use Rattle.breadth_first.proofs.Expanded.{expanding_first}
 use Rattle.breadth_first.proofs.Pushed.{place_of}
 use Rattle.std.proofs.lemmas.Map.Keys.{any_passes_from_place}
 use Rattle.std.proofs.lemmas.Map.Made.{length-le_from_is_member}
@@ -13,7 +13,7 @@ module _ {N : Type 0} (labels : ℕ) (move : N → ℕ → Option N) (eq : N →
     (alike : (x y : N) → eq x y ≡ true → (l : ℕ) (z : N) → move x l ≡ Some z → (w : N) × ((move y l ≡ Some w) × (eq z w ≡ true))) where
   -- what a search keeps
   pub record HasBegun (start : N) (keys : List N) (marks : List Mark) (most : ℕ) : Type 0 where
-    pub serving : IsServing labels move eq keys marks 0
+    pub expanding : IsExpanding labels move eq keys marks 0
     pub first : slice_get keys 0 ≡ Some start
     pub fits : length keys ≤ most
 
@@ -26,7 +26,7 @@ module _ {N : Type 0} (labels : ℕ) (move : N → ℕ → Option N) (eq : N →
       let k : keys ≡ start ∷ [] = a.1.0 ∙ ap (λ (n : List N). n ++ start ∷ []) e in
       let m : marks ≡ mark_of_start ∷ [] = a.1.1.0 ∙ ap (λ (n : List Mark). n ++ mark_of_start ∷ []) f in
       record {
-        serving = subst (λ (ks : List N). IsServing labels move eq ks marks 0) (sym k) (subst (λ (ms : List Mark). IsServing labels move eq (start ∷ []) ms 0) (sym m) (serving_first labels move eq laws alike start));
+        expanding = subst (λ (ks : List N). IsExpanding labels move eq ks marks 0) (sym k) (subst (λ (ms : List Mark). IsExpanding labels move eq (start ∷ []) ms 0) (sym m) (expanding_first labels move eq laws alike start));
         first = ap (λ (ks : List N). slice_get ks 0) k;
         fits = omega (arith, ap length k, ap length e, a.1.1.1);
       }

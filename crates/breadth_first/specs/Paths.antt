@@ -56,21 +56,21 @@ module _ {N : Type 0} (labels : ℕ) (move : N → ℕ → Option N) where
       pub within : depth_at marks index ≤ d
 
     -- the moves from the nodes before index `at` are followed; those from the node there may be
-    pub record IsServing (keys : List N) (marks : List Mark) (at : ℕ) : Type 0 where
+    pub record IsExpanding (keys : List N) (marks : List Mark) (at : ℕ) : Type 0 where
       pub trail : IsTrail keys marks
       pub distinct : IsDistinct eq keys
       pub sorted : (i j : ℕ) → i ≤ j → j < length keys → depth_at marks i ≤ depth_at marks j
       pub near : (j : ℕ) → at < length keys → j < length keys → depth_at marks j ≤ depth_at marks at + 1
-      pub served : (i : ℕ) (k : N) → i < at → slice_get keys i ≡ Some k → (y : N) → Moves k y
+      pub expanded : (i : ℕ) (k : N) → i < at → slice_get keys i ≡ Some k → (y : N) → Moves k y
           → IsFound keys marks y (depth_at marks i + 1)
 
     -- one label's move from the node at `at` is followed
     pub record IsFollowed (keys : List N) (marks : List Mark) (new_keys : List N) (new_marks : List Mark) (at l : ℕ) : Type 0 where
-      pub serving : IsServing new_keys new_marks at
+      pub expanding : IsExpanding new_keys new_marks at
       pub grown : (i : ℕ) (x : N) → slice_get keys i ≡ Some x → slice_get new_keys i ≡ Some x
       pub kept : (y : N) (d : ℕ) → IsFound keys marks y d → IsFound new_keys new_marks y d
       pub depth : depth_at new_marks at ≡ depth_at marks at
-      pub met : (x y : N) → slice_get keys at ≡ Some x → move x l ≡ Some y → IsFound new_keys new_marks y (depth_at marks at + 1)
+      pub discovered : (x y : N) → slice_get keys at ≡ Some x → move x l ≡ Some y → IsFound new_keys new_marks y (depth_at marks at + 1)
 
     -- All is found: each node found is reached by as many moves as are noted, along its parents;
     -- and whatever is reached by n moves is found, with at most n.

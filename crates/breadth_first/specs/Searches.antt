@@ -1,8 +1,8 @@
--- What a search keeps of the nodes that it has met, of which only those in its queue are whole.
+-- What a search keeps: of each node a key, whether it is a goal, and a mark; in the queue the node.
 use Rattle.std.specs.Prelude.{◌≡◌, ℕ, ◌+◌, ◌<◌, Bool, true, false, List, [], ◌∷◌, ◌++◌, Some, length, map, drop, slice_get}
 use Rattle.std.specs.List.{list_any}
 use Rattle.breadth_first.specs.declared.mark.Mark.{Mark}
-use Rattle.breadth_first.specs.Paths.{IsServing, IsFollowed, IsAllReached}
+use Rattle.breadth_first.specs.Paths.{IsExpanding, IsFollowed, IsAllReached}
 use Rattle.breadth_first.specs.Shape.{Shape}
 
 module _ {N K : Type 0} (g : Shape N K) where
@@ -31,9 +31,9 @@ module _ {N K : Type 0} (g : Shape N K) where
       pub by_goal : goals ≡ map g.is_goal nodes
       pub hold : (i : ℕ) (x : N) → slice_get nodes i ≡ Some x → Holds x
 
-    -- the nodes before index `at` are served; those from index `from` on wait in the queue
+    -- the nodes before index `at` are expanded; those from index `from` on wait in the queue
     pub record IsSearching (nodes : List N) (keys : List K) (goals : List Bool) (marks : List Mark) (queue : List N) (from at : ℕ) : Type 0 where
-      pub serving : IsServing g.labels g.move eq nodes marks at
+      pub expanding : IsExpanding g.labels g.move eq nodes marks at
       pub first : slice_get nodes 0 ≡ Some g.origin
       pub kept : AreKeysOf nodes keys goals
       pub waiting : queue ≡ drop from nodes
@@ -43,7 +43,7 @@ module _ {N K : Type 0} (g : Shape N K) where
       pub nodes : List N
       pub searching : IsSearching nodes keys goals marks queue from at
 
-    -- and the node at index `at` is x
+    -- a search of some nodes, of which x, at index `at`, is being expanded, and isn't in the queue
     pub record IsSearchAt (x : N) (keys : List K) (goals : List Bool) (marks : List Mark) (queue : List N) (at : ℕ) : Type 0 where
       pub nodes : List N
       pub here : slice_get nodes at ≡ Some x
@@ -55,7 +55,7 @@ module _ {N K : Type 0} (g : Shape N K) where
       pub searching : IsSearching new_nodes new_keys new_goals new_marks new_queue (at + 1) at
       pub followed : IsFollowed g.labels g.move eq nodes marks new_nodes new_marks at l
 
-    -- all nodes that are reachable: their keys, which are goals, and how each was met
+    -- all nodes that are reachable: their keys, which are goals, and how each was discovered
     pub record IsWholeSearch (keys : List K) (goals : List Bool) (marks : List Mark) : Type 0 where
       pub nodes : List N
       pub kept : AreKeysOf nodes keys goals

@@ -25,7 +25,7 @@ pub trait Graph {
     // The labels, the moves, the node that a search begins at, the nodes' keys, and the goals.
     ghost shape: { Self → Shape Self.Node Self.Key };
 
-    // What holds of each node that a search meets.
+    // What holds of each node that a search discovers.
     ghost Holds: { Self → Self.Node → Type 0 };
 
     /// The number of labels. The labels are 0 to one less than this number.

@@ -1,7 +1,7 @@
 //! What a search notes of a node, and why it may have no answer.
 
-/// How a node was first met: the index of the node before it, the label of the move from there, and
-/// the number of moves from the start. The start's mark is all zeros.
+/// How a node was discovered: the index of the node before it, the label of the move from there,
+/// and the number of moves from the start. The start's mark is all zeros.
 #[derive(Clone, Copy)]
 pub struct Mark {
     pub parent: u32,

@@ -13,9 +13,9 @@ use std::alloc::Global;
 use std::collections::VecDeque;
 use std::hash::Hash;
 
-/// The nodes that are reached, in the order in which they were met: for each its key, whether it is
-/// a goal, and a mark, which says how it was met. Of two nodes the later one is no nearer to the
-/// start.
+/// The nodes that are reached, in the order in which they were discovered: for each its key,
+/// whether it is a goal, and a mark, which says how it was discovered. Of two nodes the later one
+/// is no nearer to the start.
 #[derive(Drop)]
 pub struct Reached<K: Eq + Hash + Drop> {
     pub keys: IndexSet<K>,
@@ -23,7 +23,7 @@ pub struct Reached<K: Eq + Hash + Drop> {
     pub marks: Vec<Mark>,
 }
 
-/// A search in progress. The queue has the nodes that are met but not served.
+/// A search in progress. The queue has the nodes that are discovered but not expanded.
 #[derive(Drop)]
 struct Search<N: Drop, K: Eq + Hash + Drop> {
     alloc: Global,
@@ -55,17 +55,13 @@ pub fn reach<G: Graph>(
         label: 0,
         depth: 0,
     };
-    if let Err(why) = meet(graph, &mut search, start, origin, most) {
-        return Err(why);
-    }
-    if let Err(why) = serve_all(graph, &mut search, most) {
-        return Err(why);
-    }
+    discover(graph, &mut search, start, origin, most)?;
+    expand_all(graph, &mut search, most)?;
     Ok(search.reached)
 }
 
-/// Serves the nodes in the queue, and those that this adds to it.
-fn serve_all<G: Graph>(
+/// Expands the nodes in the queue, and those that this adds to it.
+fn expand_all<G: Graph>(
     graph: &G,
     search: &mut Search<G::Node, G::Key>,
     most: u32,
@@ -85,14 +81,12 @@ fn serve_all<G: Graph>(
         let Some(node) = search.queue.pop_front() else {
             break;
         };
-        if let Err(why) = serve(graph, search, &node, at, most) {
-            return Err(why);
-        }
+        expand(graph, search, &node, at, most)?;
     }
     Ok(())
 }
 
-/// A search that has met no node.
+/// A search that has discovered no node.
 fn begin<G: Graph>(alloc: Global) -> Search<G::Node, G::Key>
     ensures keys { result.reached.keys.keys ≡ [] }
     ensures goals { result.reached.goals.items ≡ [] }
@@ -112,14 +106,14 @@ fn begin<G: Graph>(alloc: Global) -> Search<G::Node, G::Key>
 }
 
 /// Notes a node with its mark, unless an equal node is noted. `TooMany` if `most` others are.
-fn meet<G: Graph>(
+fn discover<G: Graph>(
     graph: &G,
     search: &mut Search<G::Node, G::Key>,
     node: G::Node,
     mark: Mark,
     most: u32,
 ) -> Result<(), Unreached>
-    ensures met { OnOk result (
+    ensures discovered { OnOk result (
         IsOldNode (G.shape graph.now) G.Key.eq node
         search.old.reached.keys.keys search.new.reached.keys.keys
         search.old.reached.goals.items search.new.reached.goals.items
@@ -220,14 +214,14 @@ fn follow<G: Graph>(
         label,
         depth,
     };
-    match meet(graph, search, next, mark, most) {
+    match discover(graph, search, next, mark, most) {
         Ok(()) => Ok(again),
         Err(why) => Err(why),
     }
 }
 
 /// Follows all moves from `node`, which is the one at index `at`.
-fn serve<G: Graph>(
+fn expand<G: Graph>(
     graph: &G,
     search: &mut Search<G::Node, G::Key>,
     node: &G::Node,
@@ -239,7 +233,7 @@ fn serve<G: Graph>(
         search.old.reached.marks.items search.old.queue.items at }
     requires room { at < most }
     requires fits { length search.old.reached.keys.keys ≤ most }
-    ensures served { OnOk result (IsSearch (G.shape graph.now) G.Node.eq (G.Holds graph.now)
+    ensures expanded { OnOk result (IsSearch (G.shape graph.now) G.Node.eq (G.Holds graph.now)
         search.new.reached.keys.keys search.new.reached.goals.items
         search.new.reached.marks.items search.new.queue.items (at + 1) (at + 1)) }
     ensures fits { OnOk result (length search.new.reached.keys.keys ≤ most) }

@@ -6,8 +6,8 @@ use Rattle.std.specs.Prelude.{IfSome}
 use Rattle.breadth_first.specs.declared.mark.Mark.{Mark}
 use Rattle.breadth_first.specs.declared.mark.Unreached.TheVariants.{TooMany}
 use Rattle.breadth_first.specs.Paths.{depth_at, mark_of_start}
-use Rattle.breadth_first.proofs.Served.{depth_low}
-use Rattle.breadth_first.proofs.Searched.{stepped, too_many_met}
+use Rattle.breadth_first.proofs.Expanded.{depth_low}
+use Rattle.breadth_first.proofs.Searched.{stepped, too_many_discovered}
 use Rattle.breadth_first.proofs.reach.follow.Goals as goal
 
 pub overflow_add-depth : goal.overflow_add-depth
@@ -15,7 +15,7 @@ overflow_add-depth g c =
     let shape = g.G.Graph.shape c.args.graph.now in
     let marks = c.args.search.now.reached.marks.items in
     let s = c.requires.searching in
-    let trail = s.searching.serving.trail in
+    let trail = s.searching.expanding.trail in
     let there : c.args.at < length marks = let within = slice_get_within s.nodes c.args.at c.args.node.now s.here in let marked = trail.marked in omega (arith, within, marked) in
     let low = depth_low shape.labels shape.move s.nodes marks trail (c.args.at + 1) c.args.at c.args.node.now (omega arith) s.here in
     let read : c.index.result.now.depth ≡ depth_at marks c.args.at = ap (λ (m : Mark). m.depth) (get_or_read marks c.args.at c.index.result.now there c.index.ensures mark_of_start) in
@@ -24,15 +24,15 @@ overflow_add-depth g c =
 pub index-requires : goal.index-requires
 index-requires g c =
     let s = c.requires.searching in
-    let within = slice_get_within s.nodes c.args.at c.args.node.now s.here in let marked = s.searching.serving.trail.marked in omega (arith, within, marked)
+    let within = slice_get_within s.nodes c.args.at c.args.node.now s.here in let marked = s.searching.expanding.trail.marked in omega (arith, within, marked)
 
-pub returns-in-Ok-meet-clause-followed : goal.returns-in-Ok-meet-clause-followed
-returns-in-Ok-meet-clause-followed g c nodes here searching =
+pub returns-in-Ok-discover-clause-followed : goal.returns-in-Ok-discover-clause-followed
+returns-in-Ok-discover-clause-followed g c nodes here searching =
     let shape = g.G.Graph.shape c.args.graph.now in
     let marks = c.args.search.now.reached.marks.items in
     let s = c.requires.searching in
     let there : c.args.at < length marks =
-    let within = slice_get_within s.nodes c.args.at c.args.node.now s.here in let marked = s.searching.serving.trail.marked in omega (arith, within, marked) in
+    let within = slice_get_within s.nodes c.args.at c.args.node.now s.here in let marked = s.searching.expanding.trail.marked in omega (arith, within, marked) in
     let read : c.index.result.now.depth ≡ depth_at marks c.args.at = ap (λ (m : Mark). m.depth) (get_or_read marks c.args.at c.index.result.now there c.index.ensures mark_of_start) in
     let moves : shape.move c.args.node.now c.args.label ≡ Some c.in-Some.arrival.node = sym c.in-Ok.ensures.node ∙ ap (option_map (λ a. a.node)) c.in-Some.is in
     stepped shape g.G.Node.PartialEq.eq g.G.Key.PartialEq.eq (g.G.Graph.Holds c.args.graph.now)
@@ -41,25 +41,25 @@ returns-in-Ok-meet-clause-followed g c nodes here searching =
     c.args.node.now c.in-Some.arrival.node c.args.label (c.index.result.now.depth + 1) c.args.most
     (g.met.G.Graph.holds_after c.args.graph.now c.args.node.now c.in-Some.arrival.node c.args.label (searching.kept.hold c.args.at c.args.node.now here) moves)
     here c.requires.labelled moves (ap (λ d. d + 1) read)
-    c.meet.new.search.reached.keys.keys c.meet.new.search.reached.goals.items c.meet.new.search.reached.marks.items c.meet.new.search.queue.items
-    c.in-Ok-meet.ensures.met
+    c.discover.new.search.reached.keys.keys c.discover.new.search.reached.goals.items c.discover.new.search.reached.marks.items c.discover.new.search.queue.items
+    c.in-Ok-discover.ensures.discovered
 
 pub returns-in-Err-clause-too_many : goal.returns-in-Err-clause-too_many
 returns-in-Err-clause-too_many g c e =
     let shape = g.G.Graph.shape c.args.graph.now in
     let s = c.requires.searching in
     let why : c.in-Err.why ≡ TooMany = cc in
-    let t = c.meet.ensures.too_many (c.in-Err.is ∙ ap Err why) in
+    let t = c.discover.ensures.too_many (c.in-Err.is ∙ ap Err why) in
     let moves : shape.move c.args.node.now c.args.label ≡ Some c.in-Some.arrival.node = sym c.in-Ok.ensures.node ∙ ap (option_map (λ a. a.node)) c.in-Some.is in
-    too_many_met shape g.G.Node.PartialEq.eq g.G.Key.PartialEq.eq (g.G.Graph.Holds c.args.graph.now)
+    too_many_discovered shape g.G.Node.PartialEq.eq g.G.Key.PartialEq.eq (g.G.Graph.Holds c.args.graph.now)
     s.nodes c.args.search.now.reached.keys.keys c.args.search.now.reached.goals.items c.args.search.now.reached.marks.items c.args.search.now.queue.items c.args.at s.searching
     (g.met.G.Graph.same_key c.args.graph.now) g.met.G.Node.Eq.laws (g.met.G.Graph.alike c.args.graph.now)
     c.args.node.now c.in-Some.arrival.node c.args.label c.args.most
     (g.met.G.Graph.holds_after c.args.graph.now c.args.node.now c.in-Some.arrival.node c.args.label (s.searching.kept.hold c.args.at c.args.node.now s.here) moves)
     s.here c.requires.labelled moves t.0 t.1
 
-pub returns-in-Ok-meet-clause-again : goal.returns-in-Ok-meet-clause-again
-returns-in-Ok-meet-clause-again g c e =
+pub returns-in-Ok-discover-clause-again : goal.returns-in-Ok-discover-clause-again
+returns-in-Ok-discover-clause-again g c e =
     let move = (g.G.Graph.shape c.args.graph.now).move c.args.node.now in
     subst (λ r. IfSome r (λ a. a.again ≡ true → move (c.args.label + 1) ≡ Some a.node)) c.in-Some.is c.in-Ok.ensures.again e
     ∙ sym (sym c.in-Ok.ensures.node ∙ ap (option_map (λ a. a.node)) c.in-Some.is)

@@ -4,52 +4,52 @@ use Rattle.std.proofs.lemmas.Bool.{cases_lt}
 use Rattle.std.proofs.lemmas.Option.{same_Some, slice_get_within}
 use Rattle.breadth_first.specs.declared.mark.Mark.{Mark}
 use Rattle.breadth_first.specs.Shape.{Shape}
-use Rattle.breadth_first.specs.Paths.{depth_at, Moves, IsFound, IsServing}
+use Rattle.breadth_first.specs.Paths.{depth_at, Moves, IsFound, IsExpanding}
 use Rattle.breadth_first.specs.Searches.{IsSearching, IsSearch, IsSearchAt, IsStepped}
-use Rattle.breadth_first.proofs.Followed.{met_more}
+use Rattle.breadth_first.proofs.Followed.{discovered_more}
 
 module _ {N K : Type 0} (g : Shape N K) (eq : N → N → Bool) (Holds : N → Type 0) (x : N) (at : ℕ) where
   -- the moves from x, which is at index `at`, are followed by the labels below l
-  pub record IsServingLabels (keys : List K) (goals : List Bool) (marks : List Mark) (queue : List N) (l : ℕ) : Type 0 where
+  pub record IsExpandingLabels (keys : List K) (goals : List Bool) (marks : List Mark) (queue : List N) (l : ℕ) : Type 0 where
     pub nodes : List N
     pub here : slice_get nodes at ≡ Some x
     pub searching : IsSearching g eq Holds nodes keys goals marks queue (at + 1) at
-    pub met : (y : N) (i : ℕ) → i < l → g.move x i ≡ Some y → IsFound g.labels g.move eq nodes marks y (depth_at marks at + 1)
+    pub discovered : (y : N) (i : ℕ) → i < l → g.move x i ≡ Some y → IsFound g.labels g.move eq nodes marks y (depth_at marks at + 1)
 
   module _ (keys : List K) (goals : List Bool) (marks : List Mark) (queue : List N) where
-    pub labels_none : IsSearchAt g eq Holds x keys goals marks queue at → IsServingLabels keys goals marks queue 0
-    labels_none s = record { nodes = s.nodes; here = s.here; searching = s.searching; met = λ y i lt. absurd (omega (arith, lt)) }
+    pub labels_none : IsSearchAt g eq Holds x keys goals marks queue at → IsExpandingLabels keys goals marks queue 0
+    labels_none s = record { nodes = s.nodes; here = s.here; searching = s.searching; discovered = λ y i lt. absurd (omega (arith, lt)) }
 
-    module _ (l : ℕ) (s : IsServingLabels keys goals marks queue l) where
+    module _ (l : ℕ) (s : IsExpandingLabels keys goals marks queue l) where
       pub labels_at : IsSearchAt g eq Holds x keys goals marks queue at
       labels_at = record { nodes = s.nodes; here = s.here; searching = s.searching }
 
       pub labels_more : (new_keys : List K) (new_goals : List Bool) (new_marks : List Mark) (new_queue : List N)
           → ((nodes : List N) → slice_get nodes at ≡ Some x → IsSearching g eq Holds nodes keys goals marks queue (at + 1) at
           → IsStepped g eq Holds nodes marks new_keys new_goals new_marks new_queue at l)
-          → IsServingLabels new_keys new_goals new_marks new_queue (l + 1)
+          → IsExpandingLabels new_keys new_goals new_marks new_queue (l + 1)
       labels_more new_keys new_goals new_marks new_queue step =
           let t = step s.nodes s.here s.searching in
           let f = t.followed in
           let old : (z y : N) (i : ℕ) → i < l → slice_get s.nodes at ≡ Some z → g.move z i ≡ Some y → IsFound g.labels g.move eq s.nodes marks y (depth_at marks at + 1)
-          = λ z y i lt h mv. s.met y i lt (ap (λ n. g.move n i) (same_Some x z (sym s.here ∙ h)) ∙ mv) in
+          = λ z y i lt h mv. s.discovered y i lt (ap (λ n. g.move n i) (same_Some x z (sym s.here ∙ h)) ∙ mv) in
           let there : slice_get t.new_nodes at ≡ Some x = f.grown at x s.here in
           record {
             nodes = t.new_nodes;
             here = there;
             searching = t.searching;
-            met = λ y i lt mv. met_more g.labels g.move eq s.nodes t.new_nodes marks new_marks at l f (slice_get_within s.nodes at x s.here) old x y i lt there mv;
+            discovered = λ y i lt mv. discovered_more g.labels g.move eq s.nodes t.new_nodes marks new_marks at l f (slice_get_within s.nodes at x s.here) old x y i lt there mv;
           }
 
       -- a label that leads from x as one before it does need not be followed
-      pub labels_again : (j : ℕ) → j < l → g.move x l ≡ g.move x j → IsServingLabels keys goals marks queue (l + 1)
+      pub labels_again : (j : ℕ) → j < l → g.move x l ≡ g.move x j → IsExpandingLabels keys goals marks queue (l + 1)
       labels_again j lt same = record {
         nodes = s.nodes;
         here = s.here;
         searching = s.searching;
-        met = λ y i low mv. elim (cases_lt i l) [
-          | inl below ↦ s.met y i below mv
-          | inr high ↦ let e : i ≡ l = omega (arith, low, high) in s.met y j lt (sym same ∙ (ap (g.move x) (sym e) ∙ mv))
+        discovered = λ y i low mv. elim (cases_lt i l) [
+          | inl below ↦ s.discovered y i below mv
+          | inr high ↦ let e : i ≡ l = omega (arith, low, high) in s.discovered y j lt (sym same ∙ (ap (g.move x) (sym e) ∙ mv))
         ];
       }
 
@@ -58,13 +58,13 @@ module _ {N K : Type 0} (g : Shape N K) (eq : N → N → Bool) (Holds : N → T
       labels_all all = record {
         nodes = s.nodes;
         searching = record {
-          serving = record {
+          expanding = record {
             trail = v.trail;
             distinct = v.distinct;
             sorted = v.sorted;
             near = λ j next lt. let deep = v.near j (omega (arith, next)) lt in let up = v.sorted at (at + 1) (omega arith) next in omega (arith, deep, up);
-            served = λ i k lt h y mv. elim (cases_lt i at) [
-              | inl low ↦ v.served i k low h y mv
+            expanded = λ i k lt h y mv. elim (cases_lt i at) [
+              | inl low ↦ v.expanded i k low h y mv
               | inr high ↦ last i k (omega (arith, lt, high)) h y mv
             ];
           };
@@ -74,11 +74,11 @@ module _ {N K : Type 0} (g : Shape N K) (eq : N → N → Bool) (Holds : N → T
         };
       }
         where
-          v : IsServing g.labels g.move eq s.nodes marks at
-          v = s.searching.serving
+          v : IsExpanding g.labels g.move eq s.nodes marks at
+          v = s.searching.expanding
 
           last : (i : ℕ) (k : N) → i ≡ at → slice_get s.nodes i ≡ Some k → (y : N) → Moves g.labels g.move k y → IsFound g.labels g.move eq s.nodes marks y (depth_at marks i + 1)
           last i k e h y mv =
               let same : k ≡ x = same_Some k x (sym h ∙ (ap (slice_get s.nodes) e ∙ s.here)) in
               subst (λ n. IsFound g.labels g.move eq s.nodes marks y (depth_at marks n + 1)) (sym e)
-              (s.met y mv.0 (omega (arith, mv.1.0, all)) (ap (λ n. g.move n mv.0) (sym same) ∙ mv.1.1))
+              (s.discovered y mv.0 (omega (arith, mv.1.0, all)) (ap (λ n. g.move n mv.0) (sym same) ∙ mv.1.1))

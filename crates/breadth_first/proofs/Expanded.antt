@@ -7,7 +7,7 @@ use Rattle.std.proofs.lemmas.Map.Keys.{IsDistinct-push}
 use Rattle.std.specs.List.{IsDistinct, list_any}
 use Rattle.std.specs.Cmp.{IsEquivalence}
 use Rattle.breadth_first.specs.declared.mark.Mark.{Mark}
-use Rattle.breadth_first.specs.Paths.{mark_of_start, noted_mark, depth_at, Moves, Reaches, IsMade, IsTrail, IsFound, IsServing, IsFollowed, IsAllReached, AreTooMany}
+use Rattle.breadth_first.specs.Paths.{mark_of_start, noted_mark, depth_at, Moves, Reaches, IsMade, IsTrail, IsFound, IsExpanding, IsFollowed, IsAllReached, AreTooMany}
 use Rattle.breadth_first.proofs.Pushed.{stays, added, old_or_new, place_of}
 
 pub mark_stays : (marks : List Mark) (m : Mark) (i : ℕ) → i < length marks → noted_mark (marks ++ m ∷ []) i ≡ noted_mark marks i
@@ -87,14 +87,14 @@ module _ {N : Type 0} (labels : ℕ) (move : N → ℕ → Option N) where
         record { index = length keys; key = y; stored = added keys y; same = laws.refl y; within = omega arith }
 
     -- a node that is there is found, no deeper than one more than the node whose moves are followed
-    pub found_there : (keys : List N) (marks : List Mark) (at : ℕ) (y : N) → IsServing labels move eq keys marks at → at < length keys
+    pub found_there : (keys : List N) (marks : List Mark) (at : ℕ) (y : N) → IsExpanding labels move eq keys marks at → at < length keys
         → list_any (eq y) keys ≡ true → IsFound labels move eq keys marks y (depth_at marks at + 1)
     found_there keys marks at y s lt h =
         let p = place_of (eq y) keys h in
         record { index = p.0; key = p.1.0; stored = p.1.1.0; same = p.1.1.1; within = s.near p.0 lt (slice_get_within keys p.0 p.1.0 p.1.1.0) }
 
     -- a node is added, made from the node at `at`
-    module _ (keys : List N) (marks : List Mark) (m : Mark) (y x : N) (s : IsServing labels move eq keys marks m.parent)
+    module _ (keys : List N) (marks : List Mark) (m : Mark) (y x : N) (s : IsExpanding labels move eq keys marks m.parent)
         (at : slice_get keys m.parent ≡ Some x) (deep : m.depth ≡ depth_at marks m.parent + 1) where
       -- an index is an old one, whose depth stays, or the new one, which is one deeper than `at`
       abbrev Place : ℕ → Type 0
@@ -120,18 +120,18 @@ module _ {N : Type 0} (labels : ℕ) (move : N → ℕ → Option N) where
       near_at j (inl a) here = let h = s.near j (slice_get_within keys m.parent x at) a.0 in omega (arith, a.1)
       near_at j (inr a) here = omega (arith, a.1)
 
-      served_at : (i : ℕ) (k z : N) → i < m.parent → slice_get (keys ++ y ∷ []) i ≡ Some k → Moves labels move k z
+      expanded_at : (i : ℕ) (k z : N) → i < m.parent → slice_get (keys ++ y ∷ []) i ≡ Some k → Moves labels move k z
           → IsFound labels move eq (keys ++ y ∷ []) (marks ++ m ∷ []) z (depth_at (marks ++ m ∷ []) i + 1)
-      served_at i k z lt h mv = elim (old_or_new keys y i k h) [
+      expanded_at i k z lt h mv = elim (old_or_new keys y i k h) [
         | inl p ↦ subst (IsFound labels move eq (keys ++ y ∷ []) (marks ++ m ∷ []) z)
             (ap (λ d. d + 1) (sym (depth_stays marks m i (omega (arith, s.trail.marked, slice_get_within keys i k p)))))
-            (found_stays keys marks m y z (depth_at marks i + 1) s.trail.marked (s.served i k lt p z mv))
+            (found_stays keys marks m y z (depth_at marks i + 1) s.trail.marked (s.expanded i k lt p z mv))
         | inr q ↦ absurd (omega (arith, lt, q.0, slice_get_within keys m.parent x at))
       ]
 
-      pub serving_added : IsEquivalence eq → m.label < labels → move x m.label ≡ Some y → list_any (eq y) keys ≡ false
-          → IsServing labels move eq (keys ++ y ∷ []) (marks ++ m ∷ []) m.parent
-      serving_added laws lab moves new =
+      pub expanding_added : IsEquivalence eq → m.label < labels → move x m.label ≡ Some y → list_any (eq y) keys ≡ false
+          → IsExpanding labels move eq (keys ++ y ∷ []) (marks ++ m ∷ []) m.parent
+      expanding_added laws lab moves new =
           let low : m.parent < length keys = slice_get_within keys m.parent x at in
           let here : depth_at (marks ++ m ∷ []) m.parent ≡ depth_at marks m.parent = depth_stays marks m m.parent (omega (arith, s.trail.marked)) in
           record {
@@ -139,7 +139,7 @@ module _ {N : Type 0} (labels : ℕ) (move : N → ℕ → Option N) where
             distinct = IsDistinct-push laws keys y s.distinct new;
             sorted = λ i j le lt. sorted_at i j le (place i (omega arith)) (place j lt);
             near = λ j _ lt. near_at j (place j lt) here;
-            served = λ i k lt h z mv. served_at i k z lt h mv;
+            expanded = λ i k lt h z mv. expanded_at i k z lt h mv;
           }
 
   -- a node is no deeper than its index
@@ -167,7 +167,7 @@ module _ {N : Type 0} (labels : ℕ) (move : N → ℕ → Option N) where
   module _ (eq : N → N → Bool) (laws : IsEquivalence eq)
       (alike : (x y : N) → eq x y ≡ true → (l : ℕ) (z : N) → move x l ≡ Some z → (w : N) × ((move y l ≡ Some w) × (eq z w ≡ true))) where
     -- whatever is reached is found, once all moves are followed
-    pub found_all : (start : N) (keys : List N) (marks : List Mark) (at : ℕ) → IsServing labels move eq keys marks at → length keys ≤ at
+    pub found_all : (start : N) (keys : List N) (marks : List Mark) (at : ℕ) → IsExpanding labels move eq keys marks at → length keys ≤ at
         → slice_get keys 0 ≡ Some start → (n : ℕ) (y : N) → Reaches labels move start n y → IsFound labels move eq keys marks y n
     found_all start keys marks at s all first zero y e =
         record { index = 0; key = start; stored = first; same = subst (λ z. eq z start ≡ true) (sym e) (laws.refl start); within = omega (arith, s.trail.first) }
@@ -175,11 +175,11 @@ module _ {N : Type 0} (labels : ℕ) (move : N → ℕ → Option N) where
         let f = found_all start keys marks at s all first n r.0 r.1.0 in
         let a = alike r.0 f.key f.same r.1.1.0 y r.1.1.1.1 in
         let mv : Moves labels move f.key a.0 = (r.1.1.0, (r.1.1.1.0, a.1.0)) in
-        let g = s.served f.index f.key (omega (arith, all, slice_get_within keys f.index f.key f.stored)) f.stored a.0 mv in
+        let g = s.expanded f.index f.key (omega (arith, all, slice_get_within keys f.index f.key f.stored)) f.stored a.0 mv in
         record { index = g.index; key = g.key; stored = g.stored; same = laws.congr y a.0 g.key a.1.1 ∙ g.same; within = omega (arith, g.within, f.within) }
 
     -- once all moves are followed, all is found
-    pub all_reached : (start : N) (keys : List N) (marks : List Mark) (at : ℕ) → IsServing labels move eq keys marks at → length keys ≤ at
+    pub all_reached : (start : N) (keys : List N) (marks : List Mark) (at : ℕ) → IsExpanding labels move eq keys marks at → length keys ≤ at
         → slice_get keys 0 ≡ Some start → IsAllReached labels move eq start keys marks
     all_reached start keys marks at s all first = record {
       starts = first;
@@ -191,7 +191,7 @@ module _ {N : Type 0} (labels : ℕ) (move : N → ℕ → Option N) where
     }
 
     -- one more node is too many
-    pub too_many : (start : N) (keys : List N) (marks : List Mark) (at l : ℕ) (x y : N) (most : ℕ) → IsServing labels move eq keys marks at
+    pub too_many : (start : N) (keys : List N) (marks : List Mark) (at l : ℕ) (x y : N) (most : ℕ) → IsExpanding labels move eq keys marks at
         → slice_get keys 0 ≡ Some start → slice_get keys at ≡ Some x → l < labels → move x l ≡ Some y → list_any (eq y) keys ≡ false → most ≤ length keys
         → AreTooMany labels move eq start most
     too_many start keys marks at l x y most s first here lt moves new full = record {
@@ -217,13 +217,13 @@ module _ {N : Type 0} (labels : ℕ) (move : N → ℕ → Option N) where
     }
 
     -- a search begins with the start alone
-    pub serving_first : (start : N) → IsServing labels move eq (start ∷ []) (mark_of_start ∷ []) 0
-    serving_first start = record {
+    pub expanding_first : (start : N) → IsExpanding labels move eq (start ∷ []) (mark_of_start ∷ []) 0
+    expanding_first start = record {
       trail = record { marked = refl; first = refl; made = λ i k pos h. absurd (omega (arith, slice_get_within (start ∷ []) i k h, pos)) };
       distinct = IsDistinct-push laws [] start (distinct_none eq) refl;
       sorted = λ i j le lt. ap_le i j (omega (arith, le, lt)) (omega (arith, lt));
       near = λ j _ lt. low j (omega (arith, lt));
-      served = λ i k lt. absurd (omega (arith, lt));
+      expanded = λ i k lt. absurd (omega (arith, lt));
     }
       where
         ap_le : (i j : ℕ) → i ≡ 0 → j ≡ 0 → depth_at (mark_of_start ∷ []) i ≤ depth_at (mark_of_start ∷ []) j
@@ -233,15 +233,15 @@ module _ {N : Type 0} (labels : ℕ) (move : N → ℕ → Option N) where
         low j e = let a : depth_at (mark_of_start ∷ []) j ≡ depth_at (mark_of_start ∷ []) 0 = ap (depth_at (mark_of_start ∷ [])) e in omega (arith, a)
 
     -- a node is noted, or an equal one was there
-    module _ (keys : List N) (marks : List Mark) (at l d : ℕ) (x y : N) (s : IsServing labels move eq keys marks at) where
+    module _ (keys : List N) (marks : List Mark) (at l d : ℕ) (x y : N) (s : IsExpanding labels move eq keys marks at) where
       pub followed_there : slice_get keys at ≡ Some x → move x l ≡ Some y → list_any (eq y) keys ≡ true
           → IsFollowed labels move eq keys marks keys marks at l
       followed_there here moves there = record {
-        serving = s;
+        expanding = s;
         grown = λ i z h. h;
         kept = λ z n f. f;
         depth = refl;
-        met = λ z w h mv. found_same z w h mv (found_there eq keys marks at y s (slice_get_within keys at x here) there);
+        discovered = λ z w h mv. found_same z w h mv (found_there eq keys marks at y s (slice_get_within keys at x here) there);
       }
         where
           found_same : (z w : N) → slice_get keys at ≡ Some z → move z l ≡ Some w → IsFound labels move eq keys marks y (depth_at marks at + 1)
@@ -256,11 +256,11 @@ module _ {N : Type 0} (labels : ℕ) (move : N → ℕ → Option N) where
       followed_new here lab moves deep new =
           let m : Mark = record { parent = at; label = l; depth = d } in
           record {
-            serving = serving_added eq keys marks m y x s here deep laws lab moves new;
+            expanding = expanding_added eq keys marks m y x s here deep laws lab moves new;
             grown = λ i z h. stays keys y i z h;
             kept = λ z n f. found_stays eq keys marks m y z n s.trail.marked f;
             depth = depth_stays marks m at (omega (arith, s.trail.marked, slice_get_within keys at x here));
-            met = λ z w h mv. found_same z w h mv (found_added eq laws keys marks m y s.trail.marked);
+            discovered = λ z w h mv. found_same z w h mv (found_added eq laws keys marks m y s.trail.marked);
           }
         where
           found_same : (z w : N) → slice_get keys at ≡ Some z → move z l ≡ Some w

@@ -1,6 +1,6 @@
 use Rattle.std.proofs.Common.{◌≤◌, length}
 use Rattle.breadth_first.specs.Searches.{IsSearch}
-use Rattle.breadth_first.proofs.reach.serve_all.Given as goal
+use Rattle.breadth_first.proofs.reach.expand_all.Given as goal
 
 abbrev pub invariant-loop-at : goal.invariant-loop-at
 invariant-loop-at g l = record {

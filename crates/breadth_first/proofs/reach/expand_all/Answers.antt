@@ -1,10 +1,10 @@
 use Rattle.std.proofs.Common.{ap, ◌++◌, ◌∙◌, arith}
 use Rattle.std.specs.Option.{option_to_list}
 use Rattle.breadth_first.proofs.Searched.{popped, searched_empty, searched_full}
-use Rattle.breadth_first.proofs.reach.serve_all.Goals as goal
+use Rattle.breadth_first.proofs.reach.expand_all.Goals as goal
 
-pub serve-requires-clause-searching : goal.serve-requires-clause-searching
-serve-requires-clause-searching g c =
+pub expand-requires-clause-searching : goal.expand-requires-clause-searching
+expand-requires-clause-searching g c =
     popped (g.G.Graph.shape c.args.graph.now) g.G.Node.PartialEq.eq g.G.Key.PartialEq.eq (g.G.Graph.Holds c.args.graph.now)
     c.loop-at.search.reached.keys.keys c.loop-at.search.reached.goals.items c.loop-at.search.reached.marks.items c.loop-at.search.queue.items c.loop-at.at c.loop-at.invariant.search
     c.in-Some.node c.pop_front.new.self.items c.in-Some.ensures.items
