@@ -1,4 +1,4 @@
--- Worked examples of what is allowed: a case of each kind, and near misses.
+-- Definitions that claim that something exists: an example of each, and a near miss.
 use Rattle.std.proofs.Common.{◌≡◌, ℕ, zero, suc, ◌+◌, ◌<◌, List, [], ◌∷◌, Option, None, Some, length, slice_get, refl, sym, ap, subst, ◌∙◌, true≢false, arith}
 use Rattle.std.specs.Prelude.{if◌then◌else◌, ◌==◌}
 use Rattle.std.specs.List.{list_all, list_any}

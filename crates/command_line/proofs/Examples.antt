@@ -1,4 +1,4 @@
--- Worked examples of definitions that state an existence: one that holds, and a near miss.
+-- Definitions that claim that something exists: an example of each, and a near miss.
 use Rattle.std.proofs.Common.{◌≡◌, [], ◌∷◌, codes, refl, inl, ⊎_elim}
 use Rattle.clap.specs.Faults.{walk_fault}
 use Rattle.clap.specs.declared.error.kind.ErrorKind.TheVariants.{DisplayHelp, UnknownArgument}

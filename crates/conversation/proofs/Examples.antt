@@ -1,5 +1,4 @@
--- Worked examples of definitions which state that something exists: for each, one that holds, and
--- one that nearly does.
+-- Definitions that claim that something exists: an example of each, and a near miss.
 use Rattle.std.proofs.Common.{ℕ, zero, suc, ◌≡◌, ◌+◌, false, List, [], ◌∷◌, ◌++◌, Some, length, drop, take, slice_index_or, ap, refl, sym, ◌∙◌, append-nil, arith}
 use Rattle.conversation.specs.declared.fault.StreamFault.TheVariants.{Read, Memory}
 use Rattle.conversation.specs.Moments.{streams}

@@ -1,4 +1,4 @@
--- Worked examples of definitions that state an existence: one that holds, and a near miss.
+-- Definitions that claim that something exists: an example of each, and a near miss.
 use Rattle.std.specs.Prelude.{⊤}
 use Rattle.std.proofs.Common.{ℕ, ◌≡◌, ◌++◌, List, [], ◌∷◌, None, Err, length, codes, replicate, ap, refl, sym, ◌∙◌, subst, inr, arith}
 use Rattle.frames.specs.declared.safe.SafePoint.{SafePoint}

@@ -1,4 +1,4 @@
--- Worked examples of definitions that claim that something exists: a case, and a near miss.
+-- Definitions that claim that something exists: an example of each, and a near miss.
 use Rattle.std.specs.Prelude.{⊤}
 use Rattle.safe_bit.specs.Memory.{Memory, no_cell}
 use Rattle.std.proofs.Common.{ℕ, zero, suc, ◌≡◌, ◌≤◌, ◌<◌, true, true≢false, List, [], ◌∷◌, Option, Some, None, is_some, unwrap_or, slice_index_or, get_or, ap, refl, sym, subst, ◌∙◌, inl, inr, max, arith}

@@ -1,4 +1,4 @@
--- Worked examples of clauses that claim that something exists: a case, and a near miss.
+-- Clauses that claim that something exists: an example of each, and a near miss.
 use Rattle.std.proofs.Common.{ℕ, ◌≡◌, ◌+◌, refl, arith}
 use Rattle.frames.specs.declared.types.Op.{Op}
 use Rattle.frames.specs.declared.types.Op.TheVariants.{Read}

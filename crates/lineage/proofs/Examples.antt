@@ -1,4 +1,4 @@
--- Worked examples of definitions that claim an existence: one that holds, and a near miss.
+-- Definitions that claim that something exists: an example of each, and a near miss.
 use Rattle.std.proofs.Common.{ℕ, zero, suc, ◌≡◌, ◌≢◌, true, false, true≢false, List, [], ◌∷◌, ◌++◌, Option, Some, None, IsSome, unwrap_or, slice_index_or, drop, ap, refl, sym, ◌∙◌, arith}
 use Rattle.lineage.specs.Family.{Family, item_at, path_in, has, last_of, IsForked, IsForkedAbove, IsExchanged, EndsAlone, IsFamily}
 use Rattle.lineage.proofs.KeyLists.{has_cases}

@@ -1,5 +1,4 @@
--- Worked examples of definitions which state that something exists: for each, one that holds, and
--- one that nearly does.
+-- Definitions that claim that something exists: an example of each, and a near miss.
 use Rattle.std.proofs.Common.{ℕ, zero, suc, ◌+◌, Option, Some, None, ◌≡◌, ◌++◌, ◌<◌, Bool, true, false, true≢false, List, [], ◌∷◌, inr, ⊎_elim, drop, slice_index_or, ap, refl, sym, ◌∙◌, subst, arith}
 use Rattle.std.proofs.Common.{nat_eq, nat_lt, ltb-true, if◌then◌else◌}
 use mathlib.Core.Bool.{◌&&◌}

@@ -1,4 +1,4 @@
--- Worked examples of definitions that state an existence: one that holds, and a near miss.
+-- Definitions that claim that something exists: an example of each, and a near miss.
 use Rattle.std.proofs.Common.{ℕ, ◌≡◌, List, [], ◌∷◌, ◌++◌, Some, None, Result, Ok, Err, length, codes, ap, refl, arith}
 use Rattle.std.specs.Fmt.{digits}
 use Rattle.frames.specs.declared.types.Step.{Step}

@@ -1,4 +1,4 @@
--- Worked examples of definitions that state an existence: one that holds, and a near miss.
+-- Definitions that claim that something exists: an example of each, and a near miss.
 use Rattle.std.proofs.Common.{ℕ, ◌≡◌, true, false, inl, inr, List, [], ◌∷◌, Option, Some, None, Ok, Err, slice_index_or, ap, refl, ◌∙◌, arith}
 use Rattle.std.specs.Fmt.{digits}
 use Rattle.clap.specs.Faults.{walk_fault, defaults_fault}

@@ -1,4 +1,4 @@
--- Worked examples of definitions that state an existence: one that holds, and a near miss.
+-- Definitions that claim that something exists: an example of each, and a near miss.
 use Rattle.std.proofs.Common.{ℕ, ◌≡◌, Bool, true, false, true≢false, List, [], ◌∷◌, ◌++◌, replicate, slice_index_or, ap, refl, sym, ◌∙◌, inr, ⊎_elim, arith}
 use Rattle.turn.specs.declared.view.View.{View}
 use Rattle.turn.specs.Entries.{AtMostOne}
