@@ -70,9 +70,9 @@ module _ {X : Type 0} (s t : List (Option (Node X))) (tips : List (Option ℕ)) 
           absurd (true≢false (sym (on_path t (remove tips path) now k o) ∙ none o.path))
 
 -- the first step of a release: the tip that was removed from the list is being released
-pub let_go_from : {X : Type 0} (s : List (Option (Node X))) (tips : List (Option ℕ)) (path : ℕ) (tip : Option ℕ) → IsSoundFamily s tips → path < length (map (path_to s) tips)
+pub freed_from : {X : Type 0} (s : List (Option (Node X))) (tips : List (Option ℕ)) (path : ℕ) (tip : Option ℕ) → IsSoundFamily s tips → path < length (map (path_to s) tips)
     → tip ≡ get_or tips path tip → IsReleasing s s (remove tips path) tip
-let_go_from s tips path tip sound paths value =
+freed_from s tips path tip sound paths value =
     let n = length-map tips (path_to s) in
     let within : path < length tips = omega (arith, n, paths) in
     subst (IsReleasing s s (remove tips path)) (sym (get_or_read tips path tip within value None)) (released_first s tips path sound within)

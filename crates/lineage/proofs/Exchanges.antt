@@ -188,8 +188,8 @@ module _ {X : Type 0} (s reserved t : List (Option (Node X))) (tips room now aft
       tip_was =
           sym (get_or_read now path tip within_now value None ∙ ap (λ xs. tip_at xs path) put_last.tips_are ∙ get_or_append_left tips (put_last.tip ∷ []) None path within_tips)
 
-      pub let_go_first : IsReleasing t t after tip
-      let_go_first =
+      pub freed_first : IsReleasing t t after tip
+      freed_first =
           subst (λ xs. IsReleasing t t xs tip) (sym set_tip)
           (subst (IsReleasing t t (set tips path put_last.tip)) tip_was (exchanged_first t tips put_last.tip path (subst (IsSoundFamily t) put_last.tips_are put_last.sound) within_tips))
 
