@@ -98,7 +98,7 @@ numbered_not_stray : (value n p v : ℕ) (k : Known) → IsKnown value k → IsN
 numbered_not_stray value n p v k h is = elim (cases_eq n (reading p k).since) as (λ _. NotStray k p v) [
   | inl e ↦ fresh (v == (reading p k).fresh) (eq-eqb v (reading p k).fresh (number_fresh value n p v k noted e is)) (overlaps (reading p k) v k)
   | inr ne ↦ let low : (reading p k).since ≤ n = is.low in
-      late (overlaps (reading p k) v k) (number_overlaps value n p v k noted (omega (arith, low, ne)) is) (v == (reading p k).fresh)
+      not_stray (overlaps (reading p k) v k) (number_overlaps value n p v k noted (omega (arith, low, ne)) is) (v == (reading p k).fresh)
 ]
   where
     noted : IsNoted value k.returned (reading p k)
@@ -108,10 +108,10 @@ numbered_not_stray value n p v k h is = elim (cases_eq n (reading p k).since) as
     fresh true e b s = cc
     fresh false e b s = cc
 
-    late : (b : Bool) → b ≡ true → (a : Bool) → (if a then Fresh else (if b then Overlap else Stray)) ≡ Stray → ⊥
-    late true e true s = cc
-    late true e false s = cc
-    late false e a s = cc
+    not_stray : (b : Bool) → b ≡ true → (a : Bool) → (if a then Fresh else (if b then Overlap else Stray)) ≡ Stray → ⊥
+    not_stray true e true s = cc
+    not_stray true e false s = cc
+    not_stray false e a s = cc
 
 on_return : (value n : ℕ) (k : Known) (e : Event) → IsKnown value k → OnReturn (λ k p v. IsNumber value k p v n) k e → OnReturn NotStray k e
 on_return value n k (Got p v) h is = numbered_not_stray value n p v k h is

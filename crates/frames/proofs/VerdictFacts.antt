@@ -16,13 +16,13 @@ is_fresh x e = ap (λ c. if c then Fresh else if among x.value x.overlaps then O
 pub fresh_value : (x : Returned) → verdict x ≡ Fresh → x.value ≡ x.fresh
 fresh_value x h = go (x.value == x.fresh) refl h
   where
-    late : (d : Bool) → (if d then Overlap else Stray) ≡ Fresh → ⊥
-    late true e = cc
-    late false e = cc
+    not_fresh : (d : Bool) → (if d then Overlap else Stray) ≡ Fresh → ⊥
+    not_fresh true e = cc
+    not_fresh false e = cc
 
     go : (c : Bool) → (x.value == x.fresh) ≡ c → (if c then Fresh else if among x.value x.overlaps then Overlap else Stray) ≡ Fresh → x.value ≡ x.fresh
     go true e k = eqb-true x.value x.fresh e
-    go false e k = absurd (late (among x.value x.overlaps) k)
+    go false e k = absurd (not_fresh (among x.value x.overlaps) k)
 
 -- a read that isn't stray gives the fresh value, or that of a write that it overlaps
 pub not_stray_is : (x : Returned) → IsNotStray x → (x.value ≡ x.fresh) ⊎ IsTrue (among x.value x.overlaps)
