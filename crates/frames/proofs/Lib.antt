@@ -11,6 +11,8 @@ pub mod Pending
 pub mod Accepted
 pub mod KnownAndSeen
 pub mod OneWriterPromises
+pub mod Counted
+pub mod Numbering
 pub mod SafeIsSafe
 pub mod SafeReports
 pub mod NeverStray

@@ -38,7 +38,7 @@ use Rattle.layers.specs.laws.Over.{over}
 use Rattle.layers.proofs.Law.{View, Watch, Runs, IsKept, IsUser}
 use Rattle.layers.proofs.LayerLaw.{layer_law}
 use Rattle.layers.proofs.Admitted.{IsAdmitted, AlwaysAdmits, OnInvoke, by_count, takes_if, refuses_if}
-use Rattle.layers.proofs.Counted.{Counted, uncounted}
+use Rattle.frames.proofs.Counted.{Counted, uncounted}
 use Rattle.stamped.proofs.Kept.{code_of, Since, Stamps, after_write, stamps_first, stamps_invoke, stamps_wrote, stamps_floor, stamps_read, read_since, greater, stamped_user}
 use Rattle.stamped.specs.declared.task.StampedTask.{StampedTask}
 use Rattle.stamped.specs.declared.task.StampedTask.TheVariants.{Writing, Reading}

@@ -26,10 +26,10 @@ use Rattle.frames.proofs.OneWriterPromises.{always_seen}
 use Rattle.frames.specs.correctness.Regularity.{IsAtomic}
 use Rattle.frames.proofs.VerdictFacts.{not_stray_is}
 use Rattle.frames.proofs.Pointwise.{put, put_same, put_other}
-use Rattle.layers.proofs.Numbering.{numbered_atomic}
+use Rattle.frames.proofs.Numbering.{numbered_atomic}
 use Rattle.layers.specs.Sound.{LayerHolds, LayerReaches}
 use Rattle.layers.specs.laws.Layered.{layer_lawful}
-use Rattle.layers.proofs.Counted.{Counted, uncounted, Counts, NumberedIf, NumberedStep}
+use Rattle.frames.proofs.Counted.{Counted, uncounted, Counts, NumberedIf, NumberedStep}
 use Rattle.layers.specs.Nested.{Ends, Asks, Sets, Table, layered}
 use Rattle.layers.specs.Sound.{IsNotSpent, IsSoundTable, FitsBelow}
 use Rattle.layers.specs.laws.Over.{over}

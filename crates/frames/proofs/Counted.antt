@@ -1,6 +1,6 @@
 -- A count of a history: its writes so far, and the numbers given to its returned reads.
 use Rattle.std.specs.Prelude.{◌≡◌, ⊤, ℕ, ◌+◌, ◌≤◌, Bool, true, false, Option, Some, None}
-use Rattle.frames.specs.declared.types.Op.TheVariants.{Read, Write}
+use Rattle.schedule_steps.specs.declared.types.Op.TheVariants.{Read, Write}
 use Rattle.frames.specs.declared.types.Event.{Event}
 use Rattle.frames.specs.declared.types.Event.TheVariants.{Invoke, Got, Wrote}
 use Rattle.frames.specs.declared.types.StepEvents.{StepEvents}
