@@ -262,15 +262,15 @@ proceed-fails h = by h.0 h.1.0 h.1.1
     by (Some running) r e = not_writing running.op running.point r e
 
 -- process 0 can begin to write 1
-lay-holds : (who : ℕ) × ((o : Op) × SafeReaches who o (at.WriteStart true))
-lay-holds = (0, (Write 1, (refl, omega arith, refl)))
+push_frames-holds : (who : ℕ) × ((o : Op) × SafeReaches who o (at.WriteStart true))
+push_frames-holds = (0, (Write 1, (refl, omega arith, refl)))
 
 abbrev Reads : ℕ → Op → SafePoint → Type 0
 Reads who o p = SafeReaches who o p × (who ≡ 1)
 
 -- if only process 1 takes part, no process can begin to write 1
-lay-fails : (who : ℕ) × ((o : Op) × Reads who o (at.WriteStart true)) → ⊥
-lay-fails h = by h.0 h.1.0 h.1.1
+push_frames-fails : (who : ℕ) × ((o : Op) × Reads who o (at.WriteStart true)) → ⊥
+push_frames-fails h = by h.0 h.1.0 h.1.1
   where
     by : (who : ℕ) (o : Op) → Reads who o (at.WriteStart true) → ⊥
     by who (Write v) r = omega (arith, r.0.0, r.1)

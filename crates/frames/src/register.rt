@@ -146,7 +146,7 @@ pub trait Register: Behaves + Copy + Eq {
     {
         match self.begin(store, at, who, op) {
             Next::Pending(point) => {
-                self.lay(store.allocator(), &point, stack);
+                self.push_frames(store.allocator(), &point, stack);
                 None
             }
             Next::Done(outcome) => Some(outcome),
@@ -195,7 +195,7 @@ pub trait Register: Behaves + Copy + Eq {
         stack.truncate(first);
         let end = match turned.next {
             Next::Pending(next) => {
-                self.lay(alloc, &next, stack);
+                self.push_frames(alloc, &next, stack);
                 None
             }
             Next::Done(outcome) => Some(outcome),
@@ -207,7 +207,7 @@ pub trait Register: Behaves + Copy + Eq {
     }
 
     /// Pushes the frames of a pending operation onto the stack.
-    fn lay(&self, alloc: Global, pending: &Self::Pending, stack: &mut FlatStack)
+    fn push_frames(&self, alloc: Global, pending: &Self::Pending, stack: &mut FlatStack)
         requires reached { (who : ℕ) × ((op : Op) × Reaches self.now who op pending.now) }
         requires room { length stack.old + (Self.behaviour self.now).depth ≤ STACK_FRAMES }
         ensures { stack.new ≡ stack.old ++ (Self.behaviour self.now).frames pending.now }

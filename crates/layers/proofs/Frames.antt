@@ -16,9 +16,9 @@ some_frames [] o e = cc
 some_frames (x ∷ xs) o e = omega arith
 
 -- the frames are pushed in this order: the layer's own, and then those of its part's point
-pub laid : (stack pushed all below : List Frame) (own frame : Frame) → pushed ≡ stack ++ own ∷ [] → all ≡ pushed ++ below → own ≡ frame → all ≡ stack ++ frame ∷ below
-laid stack pushed all below own frame push lay same =
-    lay ∙ ap (λ xs. xs ++ below) push ∙ append_assoc stack (own ∷ []) below ∙ ap (λ x. stack ++ x ∷ below) same
+pub pushed_frames : (stack pushed all below : List Frame) (own frame : Frame) → pushed ≡ stack ++ own ∷ [] → all ≡ pushed ++ below → own ≡ frame → all ≡ stack ++ frame ∷ below
+pushed_frames stack pushed all below own frame push rest same =
+    rest ∙ ap (λ xs. xs ++ below) push ∙ append_assoc stack (own ∷ []) below ∙ ap (λ x. stack ++ x ∷ below) same
 
 -- a layer's operation has its own frame and at least one of its part's
 pub too_few : {Task P : Type 0} (l : LayerOver Task P) (find : ℕ → List Frame → Option P) → FramesGivePoint l.below l.Reaches find → (who first : ℕ) (stack : List Frame)

@@ -65,7 +65,7 @@ fn task_at<L: Construction>(layer: &L, who: u32, frame: Frame) -> Option<L::Task
 }
 
 /// Pushes the frames of a pending operation onto the stack: the layer's own, then its part's.
-pub(crate) fn lay<L: Construction, S: Register>(
+pub(crate) fn push_frames<L: Construction, S: Register>(
     layer: &L,
     below: &S,
     alloc: Global,
@@ -81,7 +81,7 @@ pub(crate) fn lay<L: Construction, S: Register>(
         ≡ stack.old ++ (layered (L.table layer.now) (S.behaviour below.now)).frames pending.now }
 {
     stack.push(layer.frame(pending.task));
-    below.lay(alloc, &pending.below, stack);
+    below.push_frames(alloc, &pending.below, stack);
 }
 
 impl<L: Construction, S: Register> Layered<L, S> {

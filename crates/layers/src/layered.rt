@@ -134,7 +134,7 @@ impl<L: Construction, S: Register> Register for Layered<L, S> {
         choice: bool,
     ) -> Turned<Self::Pending> {
         let mut stack = FlatStack::new();
-        self.lay(store.allocator(), &pending, &mut stack);
+        self.push_frames(store.allocator(), &pending, &mut stack);
         let who = self.process(&stack, &pending);
         let progress = self.go_on(store, at, who, &mut stack, 0, choice);
         Turned {
@@ -145,7 +145,7 @@ impl<L: Construction, S: Register> Register for Layered<L, S> {
 
     fn stack(&self, alloc: Global, pending: &Self::Pending) -> Stack {
         let mut stack = FlatStack::new();
-        drive::lay(&self.layer, &self.below, alloc, pending, &mut stack);
+        drive::push_frames(&self.layer, &self.below, alloc, pending, &mut stack);
         stack.to_stack(alloc)
     }
 

@@ -9,7 +9,7 @@ go_on-progress-requires-clause-may_be_at g c =
     let r = c.args.self.now in
     let l = over (g.met.S.Register.lawful r.below) (g.met.L.Construction.sound r.layer) r.fit in
     let o = c.process-who.ensures in
-    (o.0, (c.args.pending, alone_on (layered l.table l.below).frames (LayerReaches l.table l.MayBeAt l.Reaches) c.process-who.result c.lay.new.stack c.new-stack.result o.0 c.args.pending o.1 c.new-stack.ensures c.lay.ensures))
+    (o.0, (c.args.pending, alone_on (layered l.table l.below).frames (LayerReaches l.table l.MayBeAt l.Reaches) c.process-who.result c.push_frames.new.stack c.new-stack.result o.0 c.args.pending o.1 c.new-stack.ensures c.push_frames.ensures))
 
 pub reached_next-requires : goal.reached_next-requires
 reached_next-requires g c =
@@ -17,7 +17,7 @@ reached_next-requires g c =
     let l = over (g.met.S.Register.lawful r.below) (g.met.L.Construction.sound r.layer) r.fit in
     let o = c.process-who.ensures in
     let went = went_at l c.args.at c.args.store.now c.requires.holds c.process-who.result o.0 c.go_on-progress.result.end c.go_on-progress.new.stack c.go_on-progress.new.store
-    c.new-stack.result c.new-stack.ensures c.args.pending c.args.choice c.lay.new.stack o.1 c.lay.ensures (c.go_on-progress.ensures.lands o.0 c.args.pending) in
+    c.new-stack.result c.new-stack.ensures c.args.pending c.args.choice c.push_frames.new.stack o.1 c.push_frames.ensures (c.go_on-progress.ensures.lands o.0 c.args.pending) in
     record { may_be_at = (o.0, (_, went)) }
 
 pub returns-clause-next : goal.returns-clause-next
@@ -26,4 +26,4 @@ returns-clause-next g c =
     let l = over (g.met.S.Register.lawful r.below) (g.met.L.Construction.sound r.layer) r.fit in
     let o = c.process-who.ensures in
     c.reached_next.ensures o.0 _ (went_at l c.args.at c.args.store.now c.requires.holds c.process-who.result o.0 c.go_on-progress.result.end c.go_on-progress.new.stack c.go_on-progress.new.store
-    c.new-stack.result c.new-stack.ensures c.args.pending c.args.choice c.lay.new.stack o.1 c.lay.ensures (c.go_on-progress.ensures.lands o.0 c.args.pending))
+    c.new-stack.result c.new-stack.ensures c.args.pending c.args.choice c.push_frames.new.stack o.1 c.push_frames.ensures (c.go_on-progress.ensures.lands o.0 c.args.pending))
