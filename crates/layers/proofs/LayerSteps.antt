@@ -47,8 +47,8 @@ pub record Joint {Task P U : Type 0} (l : LayerOver Task P) (user : ℕ → ℕ 
   pub tasks : (q : ℕ) → j.tasks q ≡ task_in_progress (running_at q c)
   pub links : (k : ℕ) → k < l.table.parts → Linked l user value (λ q. is_stopped q c) c.memory (λ q. running_at q c) k (j.parts k)
 
--- part k alone, after those of its first n processes for which p acts have stopped
-pub record Halting {Task P : Type 0} (l : LayerOver Task P) (user : ℕ → ℕ → ℕ) (value : ℕ → ℕ) (p : ℕ) (c : Alone (Nested Task P)) (k : ℕ) (s : Seen) (n : ℕ) : Type 0 where
+-- part k alone, once p's stop has stopped each process q < n of the part as which p acts
+pub record Stopping {Task P : Type 0} (l : LayerOver Task P) (user : ℕ → ℕ → ℕ) (value : ℕ → ℕ) (p : ℕ) (c : Alone (Nested Task P)) (k : ℕ) (s : Seen) (n : ℕ) : Type 0 where
   pub d : Alone P
   pub well : IsConfiguration l.below l.Holds l.Reaches d
   pub reached : Reached l.below (value k) d s
@@ -185,7 +185,7 @@ module _ {Task P U : Type 0} (l : LayerOver Task P) (user : ℕ → ℕ → ℕ)
 
   -- the part's processes below n for which p acts stop
   stops_upto : (p : ℕ) (c : Alone N) (k : ℕ) (s : Seen) → is_stopped p c ≡ false → (n : ℕ) → n ≤ l.below.processes → Linked l user value (λ q. is_stopped q c) c.memory (λ q. running_at q c) k s
-      → Halting l user value p c k s n
+      → Stopping l user value p c k s n
   stops_upto p c k s awake zero ln h = record {
     d = h.c;
     well = h.well;

@@ -42,15 +42,15 @@ return_done P p (Spent layer) = refl
 
 -- in the middle of p's turn the view agrees with the memory, with the processes other than p, and
 -- with the parts
-pub record Mid {Task P U : Type 0} (l : LayerOver Task P) (user : ℕ → ℕ → ℕ) (value : ℕ → ℕ) (halted : ℕ → Bool) (w : Watch Task U)
+pub record Mid {Task P U : Type 0} (l : LayerOver Task P) (user : ℕ → ℕ → ℕ) (value : ℕ → ℕ) (has_stopped : ℕ → Bool) (w : Watch Task U)
     (m : Memory) (at : ℕ → Option (Running (Nested Task P))) (p : ℕ) (j : View Task) : Type 0 where
   pub holds : LayerHolds l.table l.below l.Holds m
   pub words : (i : ℕ) → i < l.table.words → j.words i ≡ word_at (own_words l.table l.below.size + i) m
   pub tasks : (q : ℕ) → (q ≡ p → ⊥) → j.tasks q ≡ task_in_progress (at q)
-  pub links : (k : ℕ) → k < l.table.parts → Linked l user value halted m at k (j.parts k)
+  pub links : (k : ℕ) → k < l.table.parts → Linked l user value has_stopped m at k (j.parts k)
 
 -- what holds after p's turn has ended
-pub record Ran {Task P U : Type 0} (l : LayerOver Task P) (user : ℕ → ℕ → ℕ) (value : ℕ → ℕ) (halted : ℕ → Bool) (w : Watch Task U)
+pub record Ran {Task P U : Type 0} (l : LayerOver Task P) (user : ℕ → ℕ → ℕ) (value : ℕ → ℕ) (has_stopped : ℕ → Bool) (w : Watch Task U)
     (p : ℕ) (o : Op) (Out : Option Event → U → Type 0) (begun : Begun (Nested Task P)) (at : ℕ → Option (Running (Nested Task P))) : Type 0 where
   pub u : U
   pub out : Out (return_of p begun.next) u
@@ -61,7 +61,7 @@ pub record Ran {Task P U : Type 0} (l : LayerOver Task P) (user : ℕ → ℕ �
   pub mine : to p ≡ still_running o begun.next
   pub words : (i : ℕ) → i < l.table.words → j.words i ≡ word_at (own_words l.table l.below.size + i) begun.memory
   pub tasks : (q : ℕ) → j.tasks q ≡ task_in_progress (to q)
-  pub links : (k : ℕ) → k < l.table.parts → Linked l user value halted begun.memory to k (j.parts k)
+  pub links : (k : ℕ) → k < l.table.parts → Linked l user value has_stopped begun.memory to k (j.parts k)
 
 tasks_put : {Task P : Type 0} (p q : ℕ) (x : Option (Running (Nested Task P))) (f : ℕ → Option (TaskInProgress Task)) (at : ℕ → Option (Running (Nested Task P)))
     → ((q : ℕ) → (q ≡ p → ⊥) → f q ≡ task_in_progress (at q)) → put p (task_in_progress x) f q ≡ task_in_progress (put p x at q)
@@ -71,12 +71,12 @@ tasks_put p q x f at h =
       | inr ne ↦ put_other p q (task_in_progress x) f ne ∙ h q ne ∙ sym (ap task_in_progress (put_other p q x at ne))
     ]
 
-module _ {Task P U : Type 0} (l : LayerOver Task P) (user : ℕ → ℕ → ℕ) (value : ℕ → ℕ) (halted : ℕ → Bool) (w : Watch Task U) where
+module _ {Task P U : Type 0} (l : LayerOver Task P) (user : ℕ → ℕ → ℕ) (value : ℕ → ℕ) (has_stopped : ℕ → Bool) (w : Watch Task U) where
   abbrev PendingOps : Type 0
   PendingOps = ℕ → Option (Running (Nested Task P))
 
   abbrev RanTo : ℕ → Op → (Option Event → U → Type 0) → Begun (Nested Task P) → PendingOps → Type 0
-  RanTo p o Out begun at = Ran l user value halted w p o Out begun at
+  RanTo p o Out begun at = Ran l user value has_stopped w p o Out begun at
 
   -- what holds after p's turn doesn't depend on what p had pending before it
   ran_from : (p : ℕ) (o : Op) (Out : Option Event → U → Type 0) (begun : Begun (Nested Task P)) (at : PendingOps) → RanTo p o Out begun (put p None at) → RanTo p o Out begun at
@@ -98,7 +98,7 @@ module _ {Task P U : Type 0} (l : LayerOver Task P) (user : ℕ → ℕ → ℕ)
       → LayerHolds l.table l.below l.Holds m
       → ((i : ℕ) → i < l.table.words → j.words i ≡ word_at (own_words l.table l.below.size + i) m)
       → ((q : ℕ) → (q ≡ p → ⊥) → j.tasks q ≡ task_in_progress (at q))
-      → ((k : ℕ) → k < l.table.parts → Linked l user value halted m (put p (still_running o (nested task next)) at) k
+      → ((k : ℕ) → k < l.table.parts → Linked l user value has_stopped m (put p (still_running o (nested task next)) at) k
       (put (l.table.asks task).part (sees (return_of (l.table.asks task).who next) s) j.parts k))
       → refuses (return_of (l.table.asks task).who next) ≡ false
       → AllByRecursion w.Good (got (return_of (l.table.asks task).who next) s)
@@ -106,7 +106,7 @@ module _ {Task P U : Type 0} (l : LayerOver Task P) (user : ℕ → ℕ → ℕ)
       → ((u : U) × (Out None u × w.Inv u c))
       → ((i : ℕ) → c.words i ≡ j.words i) → ((q : ℕ) → c.tasks q ≡ put p (Some (record { op = o; task = task })) j.tasks q) → ((k : ℕ) → c.parts k ≡ put (l.table.asks task).part s j.parts k)
       → ((outcome : Outcome) → Answers l.table.inner_values (l.table.asks task).op outcome → IsNotSpent outcome → AllByRecursion w.Good (got (Some (ended (l.table.asks task).who outcome)) s)
-      → Mid l user value halted w m (put p None at) p (record j { parts = put (l.table.asks task).part (sees (Some (ended (l.table.asks task).who outcome)) s) j.parts })
+      → Mid l user value has_stopped w m (put p None at) p (record j { parts = put (l.table.asks task).part (sees (Some (ended (l.table.asks task).who outcome)) s) j.parts })
       → RanTo p o Out (go_on outcome m) (put p None at))
       → RanTo p o Out (after_part go_on task next m) at
   after_part_ran p o task m at j c s (Pending q) Out go_on lh words tasks links fine good ans inv cw ct cp more =
@@ -121,7 +121,7 @@ module _ {Task P U : Type 0} (l : LayerOver Task P) (user : ℕ → ℕ → ℕ)
         mine = put_same p x at;
         words = λ i lt. cw i ∙ words i lt;
         tasks = λ i. ct i ∙ tasks_put p i x j.tasks at tasks;
-        links = λ k lt. subst (Linked l user value halted m (put p x at) k) (sym (cp k)) (links k lt);
+        links = λ k lt. subst (Linked l user value has_stopped m (put p x at) k) (sym (cp k)) (links k lt);
       }
   after_part_ran p o task m at j c s (Done (Value v)) Out go_on lh words tasks links fine good ans inv cw ct cp more =
       ran_from p o Out (go_on (Value v) m) at (more (Value v) ans tt good (record { holds = lh; words = words; tasks = λ q ne. tasks q ne ∙ sym (ap task_in_progress (put_other p q None at ne)); links = links }))
@@ -140,7 +140,7 @@ module _ {Task P U : Type 0} (l : LayerOver Task P) (user : ℕ → ℕ → ℕ)
       → at p ≡ None → LayerHolds l.table l.below l.Holds m
       → ((i : ℕ) → i < l.table.words → j.words i ≡ word_at (own_words l.table l.below.size + i) m)
       → ((q : ℕ) → (q ≡ p → ⊥) → j.tasks q ≡ task_in_progress (at q))
-      → ((k : ℕ) → k < l.table.parts → Linked l user value halted m (put p (still_running o (nested task next)) at) k
+      → ((k : ℕ) → k < l.table.parts → Linked l user value has_stopped m (put p (still_running o (nested task next)) at) k
       (put (l.table.asks task).part (after_step (in_order (Some (Invoke (l.table.asks task).who (l.table.asks task).op)) (return_of (l.table.asks task).who next)) (j.parts (l.table.asks task).part)) j.parts k))
       → IsAdmitted w.Good rule (j.parts (l.table.asks task).part) (in_order (Some (Invoke (l.table.asks task).who (l.table.asks task).op)) (return_of (l.table.asks task).who next))
       → ReachedOrAnswered (l.Reaches (l.table.asks task).who (l.table.asks task).op) (Answers l.table.inner_values (l.table.asks task).op) next
@@ -151,7 +151,7 @@ module _ {Task P U : Type 0} (l : LayerOver Task P) (user : ℕ → ℕ → ℕ)
       → ((layer : Layer) → rule.Refuses (l.table.asks task).op (j.parts (l.table.asks task).part) → (u : U) × (Out (Some (Refused p layer)) u × w.Inv u (record j { tasks = put p None j.tasks })))
       → ((outcome : Outcome) → rule.Takes (l.table.asks task).op (j.parts (l.table.asks task).part) → Answers l.table.inner_values (l.table.asks task).op outcome → IsNotSpent outcome
       → AllByRecursion w.Good (got (Some (ended (l.table.asks task).who outcome)) (sees (Some (Invoke (l.table.asks task).who (l.table.asks task).op)) (j.parts (l.table.asks task).part)))
-      → Mid l user value halted w m (put p None at) p (record j { parts = put (l.table.asks task).part (sees (Some (ended (l.table.asks task).who outcome)) (sees (Some (Invoke (l.table.asks task).who (l.table.asks task).op)) (j.parts (l.table.asks task).part))) j.parts })
+      → Mid l user value has_stopped w m (put p None at) p (record j { parts = put (l.table.asks task).part (sees (Some (ended (l.table.asks task).who outcome)) (sees (Some (Invoke (l.table.asks task).who (l.table.asks task).op)) (j.parts (l.table.asks task).part))) j.parts })
       → RanTo p o Out (go_on outcome m) (put p None at))
       → RanTo p o Out (after_part go_on task next m) at
   asked_ends rule p o task m at j next Out go_on idle lh words tasks moved fine ans pending spent more = by_end (refuses (return_of (l.table.asks task).who next)) refl
@@ -166,7 +166,7 @@ module _ {Task P U : Type 0} (l : LayerOver Task P) (user : ℕ → ℕ → ℕ)
           let es : after_step (in_order (Some (Invoke who aop)) (return_of who next)) (j.parts a) ≡ sees (return_of who next) z = begun_seen who aop (return_of who next) (j.parts a) e in
           after_part_ran p o task m at j (record j { tasks = put p (Some (record { op = o; task = task })) j.tasks; parts = put a z j.parts }) z next Out go_on
           lh words tasks
-          (λ k lk. subst (λ y. Linked l user value halted m (put p (still_running o (nested task next)) at) k (put a y j.parts k)) es (moved k lk))
+          (λ k lk. subst (λ y. Linked l user value has_stopped m (put p (still_running o (nested task next)) at) k (put a y j.parts k)) es (moved k lk))
           e fine.reads ans (pending t)
           (λ i. refl) (λ q. refl) (λ k. refl)
           (λ outcome ans2 pass good mid2. more outcome t ans2 pass good mid2)
@@ -189,16 +189,16 @@ module _ {Task P U : Type 0} (l : LayerOver Task P) (user : ℕ → ℕ → ℕ)
             mine = put_same p None at;
             words = words;
             tasks = λ q. tasks_put p q None j.tasks at tasks;
-            links = λ k lt. subst (λ y. Linked l user value halted m (put p None at) k y) (sym (put_again a k j.parts))
-                (subst (λ y. Linked l user value halted m (put p None at) k (put a y j.parts k)) es (subst (λ x. Linked l user value halted m (put p (still_running o (nested task x)) at) k
+            links = λ k lt. subst (λ y. Linked l user value has_stopped m (put p None at) k y) (sym (put_again a k j.parts))
+                (subst (λ y. Linked l user value has_stopped m (put p None at) k (put a y j.parts k)) es (subst (λ x. Linked l user value has_stopped m (put p (still_running o (nested task x)) at) k
                 (put a (after_step (in_order (Some (Invoke who aop)) (return_of who next)) (j.parts a)) j.parts k)) s.1 (moved k lt)));
           })
 
   -- a turn of p that runs this program keeps the invariant and the links
   pub run_on : (rule : Admission) → IsUser l.table l.MayBeAt user → AlwaysAdmits w.Good rule l.below → ((k : ℕ) → k < l.table.parts → value k < l.below.values)
       → (p : ℕ) (o : Op) (Out : Option Event → U → Type 0) (prog : Program Task) (m : Memory) (at : PendingOps) (j : View Task)
-      → halted p ≡ false → at p ≡ None → IsSound l.table (l.MayBeAt p o) (Answers l.table.values o) prog
-      → Mid l user value halted w m at p j → RunsUnder rule l.table w p o Out prog j
+      → has_stopped p ≡ false → at p ≡ None → IsSound l.table (l.MayBeAt p o) (Answers l.table.values o) prog
+      → Mid l user value has_stopped w m at p j → RunsUnder rule l.table w p o Out prog j
       → RanTo p o Out (advance l.table l.below prog m) at
   run_on rule is_user all vals p o Out (Ends outcome) m at j awake idle sound mid r = record {
     u = r.0;
@@ -210,7 +210,7 @@ module _ {Task P U : Type 0} (l : LayerOver Task P) (user : ℕ → ℕ → ℕ)
     mine = put_same p None at;
     words = mid.words;
     tasks = λ q. tasks_put p q None j.tasks at mid.tasks;
-    links = λ k lt. link_same l user value halted m m at (put p None at) k (j.parts k) (j.parts k) (λ q. put_is p q None at idle) refl refl (mid.links k lt);
+    links = λ k lt. link_same l user value has_stopped m m at (put p None at) k (j.parts k) (j.parts k) (λ q. put_is p q None at idle) refl refl (mid.links k lt);
   }
   run_on rule is_user all vals p o Out (Reads i rest) m at j awake idle sound mid r =
       let x : ℕ = word_at (own_words l.table l.below.size + i) m in
@@ -230,7 +230,7 @@ module _ {Task P U : Type 0} (l : LayerOver Task P) (user : ℕ → ℕ → ℕ)
               ∙ sym (get_or-set_other m.words (own_words l.table l.below.size + i) (own_words l.table l.below.size + k) x 0 (λ e. ne (omega (arith, e))))
         ];
         tasks = mid.tasks;
-        links = λ k lk. link_same l user value halted m new at at k (j.parts k) (j.parts k) (λ q. refl) (sym (part-with_word l m i x k mid.holds lk)) refl (mid.links k lk);
+        links = λ k lk. link_same l user value has_stopped m new at at k (j.parts k) (j.parts k) (λ q. refl) (sym (part-with_word l m i x k mid.holds lk)) refl (mid.links k lk);
       }) r
   run_on rule is_user all vals p o Out (Asks task rest) m at j awake idle sound mid r =
       let a : ℕ = (l.table.asks task).part in
@@ -246,7 +246,7 @@ module _ {Task P U : Type 0} (l : LayerOver Task P) (user : ℕ → ℕ → ℕ)
       let begun : Begun P = l.below.begins who aop own in
       let new : Memory = with_part (part_place l.below.size a) begun.memory m in
       let to : StepsTo l.below link.c (step_of who aop) who aop (Some (Invoke who aop)) begun.next begun.memory =
-      step_begins l.below who aop link.c own free (link.stopped who lw ∙ ap halted u ∙ awake) link.memory in
+      step_begins l.below who aop link.c own free (link.stopped who lw ∙ ap has_stopped u ∙ awake) link.memory in
       let f : fits_step l.below (step_of who aop) ≡ true = fits_of l.below who aop fit.1 in
       let g = l.lawful.begins_well who aop own (mid.holds.parts a la) fit.1 in
       let hs : HasSize l.below.size begun.memory = l.lawful.size_holds begun.memory g.holds in
@@ -255,8 +255,8 @@ module _ {Task P U : Type 0} (l : LayerOver Task P) (user : ℕ → ℕ → ℕ)
       let z : Seen = sees (Some (Invoke who aop)) (j.parts a) in
       let lh : LayerHolds l.table l.below l.Holds new = holds_with_part l a begun.memory m la g.holds mid.holds in
       let words : (i : ℕ) → i < l.table.words → j.words i ≡ word_at (own_words l.table l.below.size + i) new = λ i lt. mid.words i lt ∙ sym (word_after_part l begun.memory m a i mid.holds la hs) in
-      let moved : (k : ℕ) → k < l.table.parts → Linked l user value halted new (put p (still_running o (nested task begun.next)) at) k (put a (after_step (in_order (Some (Invoke who aop)) (return_of who begun.next)) (j.parts a)) j.parts k) =
-      links_move l user value halted m at j.parts p o task (Some (Invoke who aop)) begun.next begun.memory (step_of who aop) mid.holds mid.links la lw u
+      let moved : (k : ℕ) → k < l.table.parts → Linked l user value has_stopped new (put p (still_running o (nested task begun.next)) at) k (put a (after_step (in_order (Some (Invoke who aop)) (return_of who begun.next)) (j.parts a)) j.parts k) =
+      links_move l user value has_stopped m at j.parts p o task (Some (Invoke who aop)) begun.next begun.memory (step_of who aop) mid.holds mid.links la lw u
       (λ k q ne. ap (below_of l.table k q) idle) link f to hs in
       asked_ends rule p o task new at j begun.next Out (λ outcome n. advance l.table l.below (rest outcome) n) idle lh words mid.tasks moved fine (suits_by_table task begun.next g.may_be_at) r.0 r.1.1
       (λ outcome takes ans pass good mid2.
