@@ -1,7 +1,7 @@
 -- No read of the last bit gives 0. The proof compares the number with a variant that refuses a scan
 -- that finds no 1. Up to the first such refusal both do the same, and the variant, which is
 -- regular, never refuses.
-use Rattle.std.proofs.Common.{◌≡◌, ◌≢◌, ℕ, zero, suc, ◌+◌, ◌-◌, ◌≤◌, ◌==◌, Bool, true, false, List, [], ◌∷◌, ◌++◌, Option, Some, None, refl, sym, ap, subst, arith, append_assoc}
+use Rattle.std.proofs.Common.{◌≡◌, ◌≢◌, ℕ, zero, suc, ◌+◌, ◌-◌, ◌≤◌, ◌==◌, Bool, true, false, true≢false, List, [], ◌∷◌, ◌++◌, Option, Some, None, refl, sym, ap, subst, arith, append_assoc}
 use Rattle.std.specs.Prelude.{⊤, ◌||◌, if◌then◌else◌, MatchOption}
 use Rattle.std.specs.List.{AllByRecursion, list_any}
 use Rattle.std.proofs.lemmas.Bool.{eqb-true, or_parts}
@@ -52,11 +52,8 @@ IsQuiet e = MatchOption e ⊤ (λ e. is_refusal e ≡ false)
 abbrev AreQuiet : StepEvents → Type 0
 AreQuiet e = IsQuiet e.first × IsQuiet e.second
 
-true_isnt : {A : Type 0} → true ≡ false → A
-true_isnt e = absurd (cc)
-
 end_goes : {N : Type 0} (who : ℕ) (next : Next N) → IsQuiet (return_of who next) → Goes next
-end_goes who (Done (Spent layer)) h = true_isnt h
+end_goes who (Done (Spent layer)) h = absurd (true≢false h)
 end_goes who _ h = tt
 
 step_goes : {N : Type 0} (who : ℕ) (event : Option Event) (next : Next N) → AreQuiet (in_order event (return_of who next)) → Goes next
@@ -176,9 +173,9 @@ module _ {P : Type 0} (b : Behaviour P) (values processes : ℕ) (layer : Layer)
 
     -- both do the same in a step
     abbrev AlikeIn : Bool → Step → Option (Running N) → Memory → Type 0
-    AlikeIn halted s running m = (acting_unless halted L s running m ≡ acting_unless halted R s running m) × AllFind (ended_unless t b halted s running m)
+    AlikeIn has_stopped s running m = (acting_unless has_stopped L s running m ≡ acting_unless has_stopped R s running m) × AllFind (ended_unless t b has_stopped s running m)
 
-    acts : (s : Step) (halted : Bool) (running : Option (Running N)) (m : Memory) → IsReachedBy (process_of s) running → AreQuiet (acting_unless halted R s running m).events → AlikeIn halted s running m
+    acts : (s : Step) (has_stopped : Bool) (running : Option (Running N)) (m : Memory) → IsReachedBy (process_of s) running → AreQuiet (acting_unless has_stopped R s running m).events → AlikeIn has_stopped s running m
     acts s true running m at_task quiet = (refl, tt)
     acts (step.Write p v) false None m at_task quiet =
         let o : Op = op.Write v in
