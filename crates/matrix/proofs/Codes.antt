@@ -10,8 +10,8 @@ use Rattle.frames.proofs.Pointwise.{put, put_same, put_other}
 -- last operation; `value` the value of its last write; `code` gives each of its writes, by number,
 -- the code that it has taken, if any; and `writing` says whether it is in a write. `held` is the
 -- code that it last wrote to its whole row, and `rows` how often it has written its whole row
--- (`limit` says after how many writes a part takes one more); `snap` is what `held` was, for every
--- process, when it invoked its last operation.
+-- (`limit` says after how many writes a part takes one more); `held_at_start` is what `held` was,
+-- for every process, when it invoked its last operation.
 pub record Coded : Type 0 where
   pub initial : ℕ
   pub top : ℕ
@@ -23,7 +23,7 @@ pub record Coded : Type 0 where
   pub limit : ℕ → Bool
   pub rows : ℕ → ℕ
   pub held : ℕ → ℕ
-  pub snap : ℕ → ℕ → ℕ
+  pub held_at_start : ℕ → ℕ → ℕ
 
 -- x is the initial value, or the code of a write
 abbrev pub Known : Coded → ℕ → Type 0

@@ -54,5 +54,5 @@ uncoded limit v = record {
   code = λ p k. None;
   writing = λ p. false;
   held = λ p. v;
-  snap = λ p q. v;
+  held_at_start = λ p q. v;
 }

@@ -8,7 +8,7 @@ use Rattle.frames.specs.declared.types.Op.TheVariants.{Read, Write}
 use Rattle.frames.proofs.Seen.{Seen}
 use Rattle.frames.proofs.Pointwise.{put, put_same, put_other, put_all}
 use Rattle.matrix.proofs.Codes.{Coded, Known, writer_of, made, writer_made, value_made}
-use Rattle.matrix.proofs.Phases.{Phase, Rests, Climbs, Looks, Holds, Puts, PartShows, InRow, Open, Took, Climbing, Looking, Rowing, Works, Invariant, Later, More, works_later}
+use Rattle.matrix.proofs.Phases.{Phase, Rests, WillRead, Looks, Holds, Puts, PartShows, InRow, Open, Took, KnowsColumn, Looking, WritesRow, Works, Invariant, Later, More, works_later}
 use Rattle.matrix.proofs.PhaseSteps.{in_place, all_held, same_codes, invariant_after}
 
 -- p has written x to its whole row, and its operation returns with code x
@@ -21,7 +21,7 @@ rises p x c le = put_all (λ a y. c.held a ≤ y) p x c.held le (λ a ne. omega 
 pub row_done : (n V p : ℕ) (c : Coded) (o : Op) (x : ℕ) (f : ℕ → Phase) (parts : ℕ → Seen) → p < n → f p ≡ Holds o n x → Invariant n V c f parts
     → Invariant n V (returned p x c) (put p Rests f) parts
 row_done n V p c o x f parts lp is h =
-    let w : Rowing c p o x = subst (Works n c p parts) is (h.works p lp) in
+    let w : WritesRow c p o x = subst (Works n c p parts) is (h.works p lp) in
     let le : c.held p ≤ x = w.held in
     let d : Coded = returned p x c in
     let mine : d.held p ≡ x = put_same p x c.held in
@@ -36,12 +36,12 @@ row_done n V p c o x f parts lp is h =
         | inr ge ↦ (p, (lp, omega (arith, ge, mine)))
       ];
       known = subst (Known c) (sym mine) w.known;
-      below = λ a la. (let r : c.held a ≤ d.held a = rises p x c le a in let u : c.snap p a ≤ c.held a = h.below p a la in omega (arith, r, u));
+      below = λ a la. (let r : c.held a ≤ d.held a = rises p x c le a in let u : c.held_at_start p a ≤ c.held a = h.below p a la in omega (arith, r, u));
       none = h.later p;
       others = λ q ne. record {
         held = λ a la. rises p x c le a;
         own = sym (put_other p q x c.held ne);
-        snap = λ a. refl;
+        held_at_start = λ a. refl;
         floor = refl;
         value = refl;
         count = refl;
@@ -67,30 +67,30 @@ values_of p Read c = c.value
 
 -- p invokes an operation
 abbrev pub invoked : ℕ → Op → Coded → Coded
-invoked p o c = record c { count = counts_of p o c; floor = put p c.top c.floor; value = values_of p o c; snap = put p c.held c.snap; writing = put p (is_write o) c.writing }
+invoked p o c = record c { count = counts_of p o c; floor = put p c.top c.floor; value = values_of p o c; held_at_start = put p c.held c.held_at_start; writing = put p (is_write o) c.writing }
 
 pub invokes : (n V p : ℕ) (c : Coded) (o : Op) (f : ℕ → Phase) (parts : ℕ → Seen) → p < n → f p ≡ Rests → Invariant n V c f parts
-    → Invariant n V (invoked p o c) (put p (Climbs o 0 0) f) parts
+    → Invariant n V (invoked p o c) (put p (WillRead o 0 0) f) parts
 invokes n V p c o f parts lp is h =
     let d : Coded = invoked p o c in
-    let at : (a : ℕ) → d.snap p a ≡ c.held a = λ a. ap (λ (g : ℕ → ℕ). g a) (put_same p c.held c.snap) in
-    invariant_after n V p c d Rests (Climbs o 0 0) f parts parts lp is h
-    (in_place n V p c d Rests (Climbs o 0 0) parts (λ b lb e. e) (λ t. t) (record {
+    let at : (a : ℕ) → d.held_at_start p a ≡ c.held a = λ a. ap (λ (g : ℕ → ℕ). g a) (put_same p c.held c.held_at_start) in
+    invariant_after n V p c d Rests (WillRead o 0 0) f parts parts lp is h
+    (in_place n V p c d Rests (WillRead o 0 0) parts (λ b lb e. e) (λ t. t) (record {
       own = at p;
-      witness = (let t = h.top in let u : c.top ≤ c.held t.0 = t.1.1 in let e : d.snap p t.0 ≡ c.held t.0 = at t.0 in let r : d.floor p ≡ c.top = put_same p c.top c.floor in (t.0, (t.1.0, omega (arith, u, e, r))));
-      climbed = λ a la. absurd (omega (arith, la));
+      witness = (let t = h.top in let u : c.top ≤ c.held t.0 = t.1.1 in let e : d.held_at_start p t.0 ≡ c.held t.0 = at t.0 in let r : d.floor p ≡ c.top = put_same p c.top c.floor in (t.0, (t.1.0, omega (arith, u, e, r))));
+      at_least = λ a la. absurd (omega (arith, la));
       heard = inl (refl, refl);
       free = free o;
     }))
     (record {
       top = h.top;
       known = h.known p lp;
-      below = λ a la. (let e : d.snap p a ≡ c.held a = at a in omega (arith, e));
+      below = λ a la. (let e : d.held_at_start p a ≡ c.held a = at a in omega (arith, e));
       none = λ k lt. h.later p k (let r : c.count p ≤ d.count p = no_fewer o in omega (arith, r, lt));
       others = λ q ne. (let same = others_same q o ne in record {
         held = λ a la. omega arith;
         own = refl;
-        snap = λ a. ap (λ (g : ℕ → ℕ). g a) (sym (put_other p q c.held c.snap ne));
+        held_at_start = λ a. ap (λ (g : ℕ → ℕ). g a) (sym (put_other p q c.held c.held_at_start ne));
         floor = sym (put_other p q c.top c.floor ne);
         value = same.1;
         count = same.0;
@@ -122,25 +122,25 @@ nothing_yet h x b = go (nat_lt b 0) refl
     go true e = absurd (let p = ltb-true b 0 e in omega (arith, p))
     go false e = refl
 
-not_yet : (n p g : ℕ) (c : Coded) (o : Op) (x b : ℕ) (s : Seen) → PartShows (c.held p) (c.rows p) (Climbs o n g) b s → PartShows (c.held p) (c.rows p) (Holds o 0 x) b s
+not_yet : (n p g : ℕ) (c : Coded) (o : Op) (x b : ℕ) (s : Seen) → PartShows (c.held p) (c.rows p) (WillRead o n g) b s → PartShows (c.held p) (c.rows p) (Holds o 0 x) b s
 not_yet n p g c o x b s e = (e.0 ∙ nothing_yet (c.held p) x b, (e.1.0, e.1.1 ∙ nothing_yet (c.rows p) (c.rows p + 1) b))
 
 found : (n j g : ℕ) (c : Coded) → 1 ≤ n → j ≡ n → ((j ≡ 0) × (g ≡ 0)) ⊎ Known c g → Known c g
 found n j g c some e h = elim h [ inl z ↦ absurd (let r : j ≡ 0 = z.0 in omega (arith, some, e, r)) | inr k ↦ k ]
 
 -- g, the greatest code in the column, is no lower than what had returned, and than what p held
-pub floor_found : (n p g : ℕ) (c : Coded) (o : Op) → Climbing n c p o n g → c.floor p ≤ g
-floor_found n p g c o w = let t = w.witness in let u : c.floor p ≤ c.snap p t.0 = t.1.1 in let v : c.snap p t.0 ≤ g = w.climbed t.0 t.1.0 in omega (arith, u, v)
+pub floor_found : (n p g : ℕ) (c : Coded) (o : Op) → KnowsColumn n c p o n g → c.floor p ≤ g
+floor_found n p g c o w = let t = w.witness in let u : c.floor p ≤ c.held_at_start p t.0 = t.1.1 in let v : c.held_at_start p t.0 ≤ g = w.at_least t.0 t.1.0 in omega (arith, u, v)
 
-pub held_found : (n p g : ℕ) (c : Coded) (o : Op) → p < n → Climbing n c p o n g → c.held p ≤ g
-held_found n p g c o lp w = let u : c.snap p p ≡ c.held p = w.own in let v : c.snap p p ≤ g = w.climbed p lp in omega (arith, u, v)
+pub held_found : (n p g : ℕ) (c : Coded) (o : Op) → p < n → KnowsColumn n c p o n g → c.held p ≤ g
+held_found n p g c o lp w = let u : c.held_at_start p p ≡ c.held p = w.own in let v : c.held_at_start p p ≤ g = w.at_least p lp in omega (arith, u, v)
 
 -- a read has read its whole column
-pub read_chosen : (n V p : ℕ) (c : Coded) (g : ℕ) (f : ℕ → Phase) (parts : ℕ → Seen) → p < n → f p ≡ Climbs Read n g → c.limit (c.rows p) ≡ true → Invariant n V c f parts → Invariant n V c (put p (Holds Read 0 g) f) parts
+pub read_chosen : (n V p : ℕ) (c : Coded) (g : ℕ) (f : ℕ → Phase) (parts : ℕ → Seen) → p < n → f p ≡ WillRead Read n g → c.limit (c.rows p) ≡ true → Invariant n V c f parts → Invariant n V c (put p (Holds Read 0 g) f) parts
 read_chosen n V p c g f parts lp is room h =
-    let w : Climbing n c p Read n g = subst (Works n c p parts) is (h.works p lp) in
-    invariant_after n V p c c (Climbs Read n g) (Holds Read 0 g) f parts parts lp is h
-    (in_place n V p c c (Climbs Read n g) (Holds Read 0 g) parts (λ b lb e. not_yet n p g c Read g b (parts (p * n + b)) e) (all_held n V p c Read n g (Holds Read 0 g))
+    let w : KnowsColumn n c p Read n g = subst (Works n c p parts) is (h.works p lp) in
+    invariant_after n V p c c (WillRead Read n g) (Holds Read 0 g) f parts parts lp is h
+    (in_place n V p c c (WillRead Read n g) (Holds Read 0 g) parts (λ b lb e. not_yet n p g c Read g b (parts (p * n + b)) e) (all_held n V p c Read n g (Holds Read 0 g))
     (record { held = held_found n p g c Read lp w; floor = floor_found n p g c Read w; known = found n n g c (omega (arith, lp)) refl w.heard; took = w.free; room = room }))
     (same_codes n V p c f parts lp h)
 
@@ -148,10 +148,10 @@ read_chosen n V p c g f parts lp is room h =
 abbrev pub closed : ℕ → Coded → Coded
 closed p c = record c { writing = put p false c.writing }
 
-pub refused : (n V p : ℕ) (c : Coded) (o : Op) (j g : ℕ) (f : ℕ → Phase) (parts : ℕ → Seen) → p < n → f p ≡ Climbs o j g → Invariant n V c f parts → Invariant n V (closed p c) (put p Rests f) parts
+pub refused : (n V p : ℕ) (c : Coded) (o : Op) (j g : ℕ) (f : ℕ → Phase) (parts : ℕ → Seen) → p < n → f p ≡ WillRead o j g → Invariant n V c f parts → Invariant n V (closed p c) (put p Rests f) parts
 refused n V p c o j g f parts lp is h =
-    invariant_after n V p c (closed p c) (Climbs o j g) Rests f parts parts lp is h (in_place n V p c (closed p c) (Climbs o j g) Rests parts (λ b lb e. e) (λ t. t) tt)
-    (record { top = h.top; known = h.known p lp; below = h.below p; none = h.later p; others = λ q ne. record { held = λ a la. omega arith; own = refl; snap = λ a. refl; floor = refl; value = refl; count = refl; code = λ k. refl; writing = sym (put_other p q false c.writing ne); limit = refl; rows = refl; known = λ y k. k } })
+    invariant_after n V p c (closed p c) (WillRead o j g) Rests f parts parts lp is h (in_place n V p c (closed p c) (WillRead o j g) Rests parts (λ b lb e. e) (λ t. t) tt)
+    (record { top = h.top; known = h.known p lp; below = h.below p; none = h.later p; others = λ q ne. record { held = λ a la. omega arith; own = refl; held_at_start = λ a. refl; floor = refl; value = refl; count = refl; code = λ k. refl; writing = sym (put_other p q false c.writing ne); limit = refl; rows = refl; known = λ y k. k } })
 
 -- p's write takes code z
 abbrev pub took_code : ℕ → ℕ → Coded → Coded
@@ -185,16 +185,16 @@ known_took p z c free y h = elim h [
 ]
 
 -- a write of v has read its whole column, and g isn't of the last tag
-pub write_chosen : (n V p : ℕ) (c : Coded) (v g z : ℕ) (f : ℕ → Phase) (parts : ℕ → Seen) → p < n → f p ≡ Climbs (Write v) n g → g < z → writer_of n V z ≡ p → c.limit (c.rows p) ≡ true → Invariant n V c f parts
+pub write_chosen : (n V p : ℕ) (c : Coded) (v g z : ℕ) (f : ℕ → Phase) (parts : ℕ → Seen) → p < n → f p ≡ WillRead (Write v) n g → g < z → writer_of n V z ≡ p → c.limit (c.rows p) ≡ true → Invariant n V c f parts
     → Invariant n V (took_code p z c) (put p (Holds (Write v) 0 z) f) parts
 write_chosen n V p c v g z f parts lp is above names room h =
-    let w : Climbing n c p (Write v) n g = subst (Works n c p parts) is (h.works p lp) in
+    let w : KnowsColumn n c p (Write v) n g = subst (Works n c p parts) is (h.works p lp) in
     let d : Coded = took_code p z c in
     let low : c.held p ≤ g = held_found n p g c (Write v) lp w in
     let base : c.floor p ≤ g = floor_found n p g c (Write v) w in
     let lift : (y : ℕ) → Known c y → Known d y = known_took p z c w.free.0 in
-    invariant_after n V p c d (Climbs (Write v) n g) (Holds (Write v) 0 z) f parts parts lp is h
-    (in_place n V p c d (Climbs (Write v) n g) (Holds (Write v) 0 z) parts (λ b lb e. not_yet n p g c (Write v) z b (parts (p * n + b)) e)
+    invariant_after n V p c d (WillRead (Write v) n g) (Holds (Write v) 0 z) f parts parts lp is h
+    (in_place n V p c d (WillRead (Write v) n g) (Holds (Write v) 0 z) parts (λ b lb e. not_yet n p g c (Write v) z b (parts (p * n + b)) e)
     (λ t k y e. elim (cases_eq k (c.count p)) [
       | inl i ↦
           (let same : z ≡ y = some_same z y (sym (took_at p z c) ∙ ap (d.code p) (sym i) ∙ e) in
@@ -207,17 +207,17 @@ write_chosen n V p c v g z f parts lp is above names room h =
       known = lift (c.held p) (h.known p lp);
       below = h.below p;
       none = λ k lt. took_else p z k c (λ e. omega (arith, e, lt)) ∙ h.later p k lt;
-      others = λ q ne. record { held = λ a la. omega arith; own = refl; snap = λ a. refl; floor = refl; value = refl; count = refl; code = λ k. sym (took_others p z q k c ne); writing = refl; limit = refl; rows = refl; known = lift };
+      others = λ q ne. record { held = λ a la. omega arith; own = refl; held_at_start = λ a. refl; floor = refl; value = refl; count = refl; code = λ k. sym (took_others p z q k c ne); writing = refl; limit = refl; rows = refl; known = lift };
     })
   where
     some_same : (x y : ℕ) → (let s : Option ℕ = Some x in s) ≡ Some y → x ≡ y
     some_same x y e = cc
 
 -- no other write has taken this code
-pub code_new : (n V p : ℕ) (c : Coded) (v g z : ℕ) (f : ℕ → Phase) (parts : ℕ → Seen) → p < n → f p ≡ Climbs (Write v) n g → g < z → writer_of n V z ≡ p → Invariant n V c f parts
+pub code_new : (n V p : ℕ) (c : Coded) (v g z : ℕ) (f : ℕ → Phase) (parts : ℕ → Seen) → p < n → f p ≡ WillRead (Write v) n g → g < z → writer_of n V z ≡ p → Invariant n V c f parts
     → (q k : ℕ) → c.code q k ≡ Some z → ⊥
 code_new n V p c v g z f parts lp is above names h q k e =
-    let w : Climbing n c p (Write v) n g = subst (Works n c p parts) is (h.works p lp) in
+    let w : KnowsColumn n c p (Write v) n g = subst (Works n c p parts) is (h.works p lp) in
     let low : c.held p ≤ g = held_found n p g c (Write v) lp w in
     let t = h.taken q k z e in
     let same : q ≡ p = sym t.1.0 ∙ names in

@@ -10,14 +10,14 @@ use Rattle.frames.proofs.Seen.{Seen, among, sees, now_last, IsNotStray}
 use Rattle.frames.proofs.VerdictFacts.{not_stray_is}
 use Rattle.frames.proofs.Pointwise.{put, put_same, put_other, put_all}
 use Rattle.matrix.proofs.Codes.{Coded, Known, greatest_so_far_known, writer_of, cells_apart}
-use Rattle.matrix.proofs.Phases.{Phase, Rests, Climbs, Looks, Holds, Puts, row_last, row_writing, row_count, PartShows, InRow, Open, Took, Climbing, Looking, Rowing, Works, Invariant, Later, later_same, More, more_same, works_later}
+use Rattle.matrix.proofs.Phases.{Phase, Rests, WillRead, Looks, Holds, Puts, row_last, row_writing, row_count, PartShows, InRow, Open, Took, KnowsColumn, Looking, WritesRow, Works, Invariant, Later, later_same, More, more_same, works_later}
 
 -- the codes that p's writes have taken name p, and p has written each to its row, or writes it
 abbrev pub TakenBy : ℕ → ℕ → Coded → ℕ → Phase → Type 0
 TakenBy n V c p x = (k y : ℕ) → c.code p k ≡ Some y → (writer_of n V y ≡ p) × ((y ≤ c.held p) ⊎ InRow x y)
 
--- a process that climbs writes no code to its row
-pub all_held : (n V p : ℕ) (c : Coded) (o : Op) (j g : ℕ) (x : Phase) → TakenBy n V c p (Climbs o j g) → TakenBy n V c p x
+-- a process that is to read its column writes no code to its row
+pub all_held : (n V p : ℕ) (c : Coded) (o : Op) (j g : ℕ) (x : Phase) → TakenBy n V c p (WillRead o j g) → TakenBy n V c p x
 all_held n V p c o j g x t k y e = let u = t k y e in (u.0, elim (u.1) [ inl r ↦ inl r | inr r ↦ absurd r ])
 
 -- a part shows the same of its writes
@@ -47,7 +47,7 @@ in_place n V p c d z x parts row taken works = record { row = row; apart = λ a 
 pub record Recodes (n p : ℕ) (c d : Coded) : Type 0 where
   pub top : (a : ℕ) × ((a < n) × (d.top ≤ d.held a))
   pub known : Known d (d.held p)
-  pub below : (a : ℕ) → a < n → d.snap p a ≤ d.held a
+  pub below : (a : ℕ) → a < n → d.held_at_start p a ≤ d.held a
   pub none : (k : ℕ) → d.count p < k → d.code p k ≡ None
   pub others : (q : ℕ) → (q ≡ p → ⊥) → Later n q c d
 
@@ -70,8 +70,8 @@ invariant_after n V p c d z x f parts to lp is h move m = record {
       (λ q ne e. let t = h.taken q k y ((m.others q ne).code k ∙ e) in
       (t.0, (t.1.0, subst (λ z. (y ≤ z) ⊎ InRow (f q) y) (m.others q ne).own t.1.1))) q;
   below = λ q a la. elim (cases_eq q p) [
-    | inl e ↦ subst (λ q. d.snap q a ≤ d.held a) (sym e) (m.below a la)
-    | inr ne ↦ (let l = m.others q ne in let u : c.snap q a ≡ d.snap q a = l.snap a in let v : c.held a ≤ d.held a = l.held a la in let w : c.snap q a ≤ c.held a = h.below q a la in omega (arith, u, v, w))
+    | inl e ↦ subst (λ q. d.held_at_start q a ≤ d.held a) (sym e) (m.below a la)
+    | inr ne ↦ (let l = m.others q ne in let u : c.held_at_start q a ≡ d.held_at_start q a = l.held_at_start a in let v : c.held a ≤ d.held a = l.held a la in let w : c.held_at_start q a ≤ c.held a = h.below q a la in omega (arith, u, v, w))
   ];
   later = λ q k lt. elim (cases_eq q p) [
     | inl e ↦ ap (λ q. d.code q k) e ∙ m.none k (let s = ap d.count e in omega (arith, s, lt))
@@ -82,22 +82,22 @@ invariant_after n V p c d z x f parts to lp is h move m = record {
 }
 
 -- process p invokes the read of part j of its column
-pub column_asked : (n V p : ℕ) (c : Coded) (o : Op) (j g : ℕ) (f : ℕ → Phase) (parts : ℕ → Seen) → p < n → j < n → f p ≡ Climbs o j g → Invariant n V c f parts
+pub column_asked : (n V p : ℕ) (c : Coded) (o : Op) (j g : ℕ) (f : ℕ → Phase) (parts : ℕ → Seen) → p < n → j < n → f p ≡ WillRead o j g → Invariant n V c f parts
     → Invariant n V c (put p (Looks o j g) f) (put (j * n + p) (sees (Some (Invoke 1 Read)) (parts (j * n + p))) parts)
 column_asked n V p c o j g f parts lp lj is h =
     let k : ℕ = j * n + p in
     let s : Seen = sees (Some (Invoke 1 Read)) (parts k) in
     let to : ℕ → Seen = put k s parts in
     let same : (i : ℕ) → Alike (parts i) (to i) = put_all (λ i t. Alike (parts i) t) k s parts (record { last = refl; writing = refl; count = refl }) (λ i ne. alike_same (parts i)) in
-    let climbing : Climbing n c p o j g = subst (Works n c p parts) is (h.works p lp) in
-    let low : c.snap p j ≤ c.held j = h.below p j lj in
-    invariant_after n V p c c (Climbs o j g) (Looks o j g) f parts to lp is h (record {
+    let knows : KnowsColumn n c p o j g = subst (Works n c p parts) is (h.works p lp) in
+    let low : c.held_at_start p j ≤ c.held j = h.below p j lj in
+    invariant_after n V p c c (WillRead o j g) (Looks o j g) f parts to lp is h (record {
       row = λ b lb e. (let t = same (p * n + b) in (t.last ∙ e.0, (t.writing ∙ e.1.0, t.count ∙ e.1.1)));
       apart = λ a b la lb ne. same (a * n + b);
       taken = λ t. t;
       more = λ q a lq la ne. subst (More c q a (parts (a * n + q))) (sym (put_other k (a * n + q) s parts (cells_apart n a q j p lq lp (λ e d. ne d)))) (more_same c q a (parts (a * n + q)));
       works = (
-        climbing,
+        knows,
         subst (Looking n c p j) (sym (put_same k s parts)) (record {
           part = lj;
           fresh = fresh_known (f j) low (h.row j p lj lp).0 refl;
@@ -107,43 +107,43 @@ column_asked n V p c o j g f parts lp lj is h =
     }) (same_codes n V p c f parts lp h)
   where
     -- what was last written to this part is no lower than what its writer held
-    fresh_known : (x : Phase) → c.snap p j ≤ c.held j → (parts (j * n + p)).last ≡ row_last (c.held j) (f j) p → f j ≡ x → (c.snap p j ≤ (parts (j * n + p)).last) × Known c ((parts (j * n + p)).last)
+    fresh_known : (x : Phase) → c.held_at_start p j ≤ c.held j → (parts (j * n + p)).last ≡ row_last (c.held j) (f j) p → f j ≡ x → (c.held_at_start p j ≤ (parts (j * n + p)).last) × Known c ((parts (j * n + p)).last)
     fresh_known x low e ex = go x (e ∙ ap (λ z. row_last (c.held j) z p) ex) (subst (Works n c j parts) ex (h.works j lj))
       where
-        as_held : (parts (j * n + p)).last ≡ c.held j → (c.snap p j ≤ (parts (j * n + p)).last) × Known c ((parts (j * n + p)).last)
+        as_held : (parts (j * n + p)).last ≡ c.held j → (c.held_at_start p j ≤ (parts (j * n + p)).last) × Known c ((parts (j * n + p)).last)
         as_held e = (omega (arith, low, e), subst (Known c) (sym e) (h.known j lj))
 
-        as_row : (i y : ℕ) (b : Bool) → c.held j ≤ y → Known c y → (parts (j * n + p)).last ≡ (if b then y else c.held j) → (c.snap p j ≤ (parts (j * n + p)).last) × Known c ((parts (j * n + p)).last)
+        as_row : (i y : ℕ) (b : Bool) → c.held j ≤ y → Known c y → (parts (j * n + p)).last ≡ (if b then y else c.held j) → (c.held_at_start p j ≤ (parts (j * n + p)).last) × Known c ((parts (j * n + p)).last)
         as_row i y true u r e = (omega (arith, low, u, e), subst (Known c) (sym e) r)
         as_row i y false u r e = as_held e
 
-        go : (x : Phase) → (parts (j * n + p)).last ≡ row_last (c.held j) x p → Works n c j parts x → (c.snap p j ≤ (parts (j * n + p)).last) × Known c ((parts (j * n + p)).last)
+        go : (x : Phase) → (parts (j * n + p)).last ≡ row_last (c.held j) x p → Works n c j parts x → (c.held_at_start p j ≤ (parts (j * n + p)).last) × Known c ((parts (j * n + p)).last)
         go Rests e w = as_held e
-        go (Climbs q i z) e w = as_held e
+        go (WillRead q i z) e w = as_held e
         go (Looks q i z) e w = as_held e
         go (Holds q i y) e w = as_row i y (nat_lt p i) w.held w.known e
         go (Puts q i y) e w = as_row i y (nat_lt p i) w.held w.known e
 
-    over_known : (x : Phase) (y : ℕ) → c.snap p j ≤ c.held j → (parts (j * n + p)).writing ≡ row_writing (f j) p → f j ≡ x → IsTrue (among y (in_progress (parts (j * n + p)).writing)) → (c.snap p j ≤ y) × Known c y
+    over_known : (x : Phase) (y : ℕ) → c.held_at_start p j ≤ c.held j → (parts (j * n + p)).writing ≡ row_writing (f j) p → f j ≡ x → IsTrue (among y (in_progress (parts (j * n + p)).writing)) → (c.held_at_start p j ≤ y) × Known c y
     over_known x y low e ex m = go x (e ∙ ap (λ z. row_writing z p) ex) (subst (Works n c j parts) ex (h.works j lj))
       where
-        nothing : (parts (j * n + p)).writing ≡ None → (c.snap p j ≤ y) × Known c y
+        nothing : (parts (j * n + p)).writing ≡ None → (c.held_at_start p j ≤ y) × Known c y
         nothing e = absurd (let u : IsTrue (among y (in_progress None)) = subst (λ w. IsTrue (among y (in_progress w))) e m in cc)
 
-        one : (z : ℕ) → c.held j ≤ z → Known c z → IsTrue (among y (in_progress (Some z))) → (c.snap p j ≤ y) × Known c y
+        one : (z : ℕ) → c.held j ≤ z → Known c z → IsTrue (among y (in_progress (Some z))) → (c.held_at_start p j ≤ y) × Known c y
         one z u k m = by (z == y) refl m
           where
-            by : (b : Bool) → (z == y) ≡ b → IsTrue (b || false) → (c.snap p j ≤ y) × Known c y
+            by : (b : Bool) → (z == y) ≡ b → IsTrue (b || false) → (c.held_at_start p j ≤ y) × Known c y
             by true e m = (let s : z ≡ y = eqb-true z y e in (omega (arith, low, u, s), subst (Known c) s k))
             by false e m = absurd (cc m)
 
-        some : (z : ℕ) (b : Bool) → c.held j ≤ z → Known c z → (parts (j * n + p)).writing ≡ (if b then Some z else None) → (c.snap p j ≤ y) × Known c y
+        some : (z : ℕ) (b : Bool) → c.held j ≤ z → Known c z → (parts (j * n + p)).writing ≡ (if b then Some z else None) → (c.held_at_start p j ≤ y) × Known c y
         some z true u k e = one z u k (subst (λ w. IsTrue (among y (in_progress w))) e m)
         some z false u k e = nothing e
 
-        go : (x : Phase) → (parts (j * n + p)).writing ≡ row_writing x p → Works n c j parts x → (c.snap p j ≤ y) × Known c y
+        go : (x : Phase) → (parts (j * n + p)).writing ≡ row_writing x p → Works n c j parts x → (c.held_at_start p j ≤ y) × Known c y
         go Rests e w = nothing e
-        go (Climbs q i z) e w = nothing e
+        go (WillRead q i z) e w = nothing e
         go (Looks q i z) e w = nothing e
         go (Holds q i z) e w = nothing e
         go (Puts q i z) e w = some z (p == i) w.held w.known e
@@ -151,26 +151,26 @@ column_asked n V p c o j g f parts lp lj is h =
 -- the read of part j gives x
 pub column_given : (n V p : ℕ) (c : Coded) (o : Op) (j g x : ℕ) (f : ℕ → Phase) (parts : ℕ → Seen) → p < n → f p ≡ Looks o j g → Invariant n V c f parts
     → IsNotStray (record { reader = 1; value = x; fresh = (parts (j * n + p)).fresh 1; overlaps = (parts (j * n + p)).overlaps 1 })
-    → Invariant n V c (put p (Climbs o (j + 1) (max g x)) f) parts
+    → Invariant n V c (put p (WillRead o (j + 1) (max g x)) f) parts
 column_given n V p c o j g x f parts lp is h good =
-    let w : Climbing n c p o j g × Looking n c p j (parts (j * n + p)) = subst (Works n c p parts) is (h.works p lp) in
-    let u : (c.snap p j ≤ x) × Known c x = given w.1 in
-    let seen : c.snap p j ≤ x = u.0 in
-    invariant_after n V p c c (Looks o j g) (Climbs o (j + 1) (max g x)) f parts parts lp is h
-    (in_place n V p c c (Looks o j g) (Climbs o (j + 1) (max g x)) parts (λ b lb e. e) (λ t. t) (record {
+    let w : KnowsColumn n c p o j g × Looking n c p j (parts (j * n + p)) = subst (Works n c p parts) is (h.works p lp) in
+    let u : (c.held_at_start p j ≤ x) × Known c x = given w.1 in
+    let seen : c.held_at_start p j ≤ x = u.0 in
+    invariant_after n V p c c (Looks o j g) (WillRead o (j + 1) (max g x)) f parts parts lp is h
+    (in_place n V p c c (Looks o j g) (WillRead o (j + 1) (max g x)) parts (λ b lb e. e) (λ t. t) (record {
       own = w.0.own;
       witness = w.0.witness;
-      climbed = λ a la. elim (cases_eq a j) [
-        | inl e ↦ (let s : c.snap p a ≡ c.snap p j = ap (c.snap p) e in omega (arith, s, seen))
-        | inr ne ↦ (let s : c.snap p a ≤ g = w.0.climbed a (omega (arith, la, ne)) in omega (arith, s))
+      at_least = λ a la. elim (cases_eq a j) [
+        | inl e ↦ (let s : c.held_at_start p a ≡ c.held_at_start p j = ap (c.held_at_start p) e in omega (arith, s, seen))
+        | inr ne ↦ (let s : c.held_at_start p a ≤ g = w.0.at_least a (omega (arith, la, ne)) in omega (arith, s))
       ];
       heard = inr (greatest_so_far_known c g x (elim (w.0.heard) [ inl z ↦ inl z.1 | inr k ↦ inr k ]) u.1);
       free = w.0.free;
     })) (same_codes n V p c f parts lp h)
   where
-    given : Looking n c p j (parts (j * n + p)) → (c.snap p j ≤ x) × Known c x
+    given : Looking n c p j (parts (j * n + p)) → (c.held_at_start p j ≤ x) × Known c x
     given l = elim (not_stray_is (record { reader = 1; value = x; fresh = (parts (j * n + p)).fresh 1; overlaps = (parts (j * n + p)).overlaps 1 }) good) [
-      | inl e ↦ (let r : c.snap p j ≤ (parts (j * n + p)).fresh 1 = l.fresh.0 in (omega (arith, e, r), subst (Known c) (sym e) l.fresh.1))
+      | inl e ↦ (let r : c.held_at_start p j ≤ (parts (j * n + p)).fresh 1 = l.fresh.0 in (omega (arith, e, r), subst (Known c) (sym e) l.fresh.1))
       | inr m ↦ l.overlaps x m
     ]
 
@@ -202,7 +202,7 @@ row_asked n V p c o j x f parts lp lj is h =
     let k : ℕ = p * n + j in
     let s : Seen = sees (Some (Invoke 0 (Write x))) (parts k) in
     let to : ℕ → Seen = put k s parts in
-    let w : Rowing c p o x = subst (Works n c p parts) is (h.works p lp) in
+    let w : WritesRow c p o x = subst (Works n c p parts) is (h.works p lp) in
     invariant_after n V p c c (Holds o j x) (Puts o j x) f parts to lp is h (record {
       row = λ b lb was. (
         put_all (λ i t. t.last ≡ (parts i).last) k s parts refl (λ i ne. refl) (p * n + b) ∙ was.0,
@@ -226,15 +226,15 @@ row_asked n V p c o j x f parts lp lj is h =
       works = w;
     }) (same_codes n V p c f parts lp h)
   where
-    over : (q a : ℕ) → q < n → a < n → p * n + j ≡ a * n + q → Rowing c p o x → More c q a (parts (p * n + j)) (sees (Some (Invoke 0 (Write x))) (parts (p * n + j)))
+    over : (q a : ℕ) → q < n → a < n → p * n + j ≡ a * n + q → WritesRow c p o x → More c q a (parts (p * n + j)) (sees (Some (Invoke 0 (Write x))) (parts (p * n + j)))
     over q a lq la e w = record { fresh = refl; overlaps = λ y m. by y (x == y) refl m }
       where
-        by : (y : ℕ) (b : Bool) → (x == y) ≡ b → IsTrue (b || among y ((parts (p * n + j)).overlaps 1)) → IsTrue (among y ((parts (p * n + j)).overlaps 1)) ⊎ ((c.snap q a ≤ y) × Known c y)
+        by : (y : ℕ) (b : Bool) → (x == y) ≡ b → IsTrue (b || among y ((parts (p * n + j)).overlaps 1)) → IsTrue (among y ((parts (p * n + j)).overlaps 1)) ⊎ ((c.held_at_start q a ≤ y) × Known c y)
         by y false i m = inl m
         by y true i m =
             let same : x ≡ y = eqb-true x y i in
             let row : a ≡ p = elim (cases_eq a p) [ inl r ↦ r | inr r ↦ absurd (cells_apart n a q p j lq lj (λ u v. r u) (sym e)) ] in
-            let low : c.snap q a ≤ c.held a = h.below q a la in
+            let low : c.held_at_start q a ≤ c.held a = h.below q a la in
             let u : c.held p ≤ x = w.held in
             let v : c.held a ≡ c.held p = ap c.held row in
             inr (omega (arith, low, u, v, same), subst (Known c) same w.known)
@@ -246,7 +246,7 @@ row_given n V p c o j x f parts lp lj is h =
     let k : ℕ = p * n + j in
     let s : Seen = sees (Some (Wrote 0)) (parts k) in
     let to : ℕ → Seen = put k s parts in
-    let w : Rowing c p o x = subst (Works n c p parts) is (h.works p lp) in
+    let w : WritesRow c p o x = subst (Works n c p parts) is (h.works p lp) in
     let now : (parts k).writing ≡ Some x = (h.row p j lp lj).1.0 ∙ ap (λ z. row_writing z j) is ∙ ap (λ z. if z then Some x else None) (eq-eqb j j refl) in
     let counted : (b : ℕ) → length ((to (p * n + b)).overlaps 0) ≡ length ((parts (p * n + b)).overlaps 0) = λ b. put_all (λ i t. length (t.overlaps 0) ≡ length ((parts i).overlaps 0)) k s parts refl (λ i ne. refl) (p * n + b) in
     invariant_after n V p c c (Puts o j x) (Holds o (j + 1) x) f parts to lp is h (record {

@@ -11,7 +11,7 @@ use Rattle.matrix.proofs.Codes.{Coded, Known, writer_of}
 -- the greatest code so far; or it is about to write x to part j of its row, or writes it.
 pub data Phase : Type 0 where
   Rests : Phase
-  Climbs : Op → ℕ → ℕ → Phase
+  WillRead : Op → ℕ → ℕ → Phase
   Looks : Op → ℕ → ℕ → Phase
   Holds : Op → ℕ → ℕ → Phase
   Puts : Op → ℕ → ℕ → Phase
@@ -22,14 +22,14 @@ abbrev pub row_last : ℕ → Phase → ℕ → ℕ
 row_last h (Holds o j x) b = if nat_lt b j then x else h
 row_last h (Puts o j x) b = if nat_lt b j then x else h
 row_last h Rests b = h
-row_last h (Climbs o j g) b = h
+row_last h (WillRead o j g) b = h
 row_last h (Looks o j g) b = h
 
 -- what is being written to part b of its row
 abbrev pub row_writing : Phase → ℕ → Option ℕ
 row_writing (Puts o j x) b = if b == j then Some x else None
 row_writing Rests b = None
-row_writing (Climbs o j g) b = None
+row_writing (WillRead o j g) b = None
 row_writing (Looks o j g) b = None
 row_writing (Holds o j x) b = None
 
@@ -38,7 +38,7 @@ abbrev pub row_count : ℕ → Phase → ℕ → ℕ
 row_count m (Holds o j x) b = if nat_lt b j then m + 1 else m
 row_count m (Puts o j x) b = if nat_lt b (j + 1) then m + 1 else m
 row_count m Rests b = m
-row_count m (Climbs o j g) b = m
+row_count m (WillRead o j g) b = m
 row_count m (Looks o j g) b = m
 
 -- what part b of its row shows
@@ -50,7 +50,7 @@ abbrev pub InRow : Phase → ℕ → Type 0
 InRow (Holds o j x) y = x ≡ y
 InRow (Puts o j x) y = x ≡ y
 InRow Rests y = ⊥
-InRow (Climbs o j g) y = ⊥
+InRow (WillRead o j g) y = ⊥
 InRow (Looks o j g) y = ⊥
 
 -- a write in progress has no code yet
@@ -64,10 +64,10 @@ Took c p (Write v) x = (c.code p (c.count p) ≡ Some x) × (c.writing p ≡ tru
 Took c p Read x = c.writing p ≡ false
 
 -- what process p knows from its column's first j parts, if g is their greatest code
-pub record Climbing (n : ℕ) (c : Coded) (p : ℕ) (o : Op) (j g : ℕ) : Type 0 where
-  pub own : c.snap p p ≡ c.held p
-  pub witness : (a : ℕ) × ((a < n) × (c.floor p ≤ c.snap p a))
-  pub climbed : (a : ℕ) → a < j → c.snap p a ≤ g
+pub record KnowsColumn (n : ℕ) (c : Coded) (p : ℕ) (o : Op) (j g : ℕ) : Type 0 where
+  pub own : c.held_at_start p p ≡ c.held p
+  pub witness : (a : ℕ) × ((a < n) × (c.floor p ≤ c.held_at_start p a))
+  pub at_least : (a : ℕ) → a < j → c.held_at_start p a ≤ g
   pub heard : ((j ≡ 0) × (g ≡ 0)) ⊎ Known c g
   pub free : Open c p o
 
@@ -75,11 +75,11 @@ pub record Climbing (n : ℕ) (c : Coded) (p : ℕ) (o : Op) (j g : ℕ) : Type 
 -- operation began
 pub record Looking (n : ℕ) (c : Coded) (p j : ℕ) (s : Seen) : Type 0 where
   pub part : j < n
-  pub fresh : (c.snap p j ≤ s.fresh 1) × Known c (s.fresh 1)
-  pub overlaps : (y : ℕ) → IsTrue (among y (s.overlaps 1)) → (c.snap p j ≤ y) × Known c y
+  pub fresh : (c.held_at_start p j ≤ s.fresh 1) × Known c (s.fresh 1)
+  pub overlaps : (y : ℕ) → IsTrue (among y (s.overlaps 1)) → (c.held_at_start p j ≤ y) × Known c y
 
 -- p writes x to its row
-pub record Rowing (c : Coded) (p : ℕ) (o : Op) (x : ℕ) : Type 0 where
+pub record WritesRow (c : Coded) (p : ℕ) (o : Op) (x : ℕ) : Type 0 where
   pub held : c.held p ≤ x
   pub floor : c.floor p ≤ x
   pub known : Known c x
@@ -88,10 +88,10 @@ pub record Rowing (c : Coded) (p : ℕ) (o : Op) (x : ℕ) : Type 0 where
 
 abbrev pub Works : ℕ → Coded → ℕ → (ℕ → Seen) → Phase → Type 0
 Works n c p parts Rests = ⊤
-Works n c p parts (Climbs o j g) = Climbing n c p o j g
-Works n c p parts (Looks o j g) = Climbing n c p o j g × Looking n c p j (parts (j * n + p))
-Works n c p parts (Holds o j x) = Rowing c p o x
-Works n c p parts (Puts o j x) = Rowing c p o x
+Works n c p parts (WillRead o j g) = KnowsColumn n c p o j g
+Works n c p parts (Looks o j g) = KnowsColumn n c p o j g × Looking n c p j (parts (j * n + p))
+Works n c p parts (Holds o j x) = WritesRow c p o x
+Works n c p parts (Puts o j x) = WritesRow c p o x
 
 -- the matrix's invariant
 pub record Invariant (n V : ℕ) (c : Coded) (f : ℕ → Phase) (parts : ℕ → Seen) : Type 0 where
@@ -99,7 +99,7 @@ pub record Invariant (n V : ℕ) (c : Coded) (f : ℕ → Phase) (parts : ℕ �
   pub top : (a : ℕ) × ((a < n) × (c.top ≤ c.held a))
   pub known : (a : ℕ) → a < n → Known c (c.held a)
   pub taken : (q k x : ℕ) → c.code q k ≡ Some x → (q < n) × ((writer_of n V x ≡ q) × ((x ≤ c.held q) ⊎ InRow (f q) x))
-  pub below : (q a : ℕ) → a < n → c.snap q a ≤ c.held a
+  pub below : (q a : ℕ) → a < n → c.held_at_start q a ≤ c.held a
   pub later : (q k : ℕ) → c.count q < k → c.code q k ≡ None
   pub works : (p : ℕ) → p < n → Works n c p parts (f p)
 
@@ -108,7 +108,7 @@ pub record Invariant (n V : ℕ) (c : Coded) (f : ℕ → Phase) (parts : ℕ �
 pub record Later (n q : ℕ) (c d : Coded) : Type 0 where
   pub held : (a : ℕ) → a < n → c.held a ≤ d.held a
   pub own : c.held q ≡ d.held q
-  pub snap : (a : ℕ) → c.snap q a ≡ d.snap q a
+  pub held_at_start : (a : ℕ) → c.held_at_start q a ≡ d.held_at_start q a
   pub floor : c.floor q ≡ d.floor q
   pub value : c.value q ≡ d.value q
   pub count : c.count q ≡ d.count q
@@ -119,7 +119,7 @@ pub record Later (n q : ℕ) (c d : Coded) : Type 0 where
   pub known : (x : ℕ) → Known c x → Known d x
 
 pub later_same : (n q : ℕ) (c : Coded) → Later n q c c
-later_same n q c = record { held = λ a la. omega arith; own = refl; snap = λ a. refl; floor = refl; value = refl; count = refl; code = λ k. refl; writing = refl; limit = refl; rows = refl; known = λ x k. k }
+later_same n q c = record { held = λ a la. omega arith; own = refl; held_at_start = λ a. refl; floor = refl; value = refl; count = refl; code = λ k. refl; writing = refl; limit = refl; rows = refl; known = λ x k. k }
 
 pub later_current : (n q : ℕ) (c d : Coded) → Later n q c d → c.code q (c.count q) ≡ d.code q (d.count q)
 later_current n q c d l = l.code (c.count q) ∙ ap (d.code q) l.count
@@ -127,18 +127,18 @@ later_current n q c d l = l.code (c.count q) ∙ ap (d.code q) l.count
 -- a part of q's column shows the same to q's read, and at most codes more that are no lower
 pub record More (c : Coded) (q a : ℕ) (s t : Seen) : Type 0 where
   pub fresh : s.fresh 1 ≡ t.fresh 1
-  pub overlaps : (y : ℕ) → IsTrue (among y (t.overlaps 1)) → IsTrue (among y (s.overlaps 1)) ⊎ ((c.snap q a ≤ y) × Known c y)
+  pub overlaps : (y : ℕ) → IsTrue (among y (t.overlaps 1)) → IsTrue (among y (s.overlaps 1)) ⊎ ((c.held_at_start q a ≤ y) × Known c y)
 
 pub more_same : (c : Coded) (q a : ℕ) (s : Seen) → More c q a s s
 more_same c q a s = record { fresh = refl; overlaps = λ y m. inl m }
 
-climbing_later : (n q : ℕ) (c d : Coded) (o : Op) (j g : ℕ) → q < n → Later n q c d → Climbing n c q o j g → Climbing n d q o j g
-climbing_later n q c d o j g lq l h = record {
-  own = sym (l.snap q) ∙ h.own ∙ l.own;
+column_known_later : (n q : ℕ) (c d : Coded) (o : Op) (j g : ℕ) → q < n → Later n q c d → KnowsColumn n c q o j g → KnowsColumn n d q o j g
+column_known_later n q c d o j g lq l h = record {
+  own = sym (l.held_at_start q) ∙ h.own ∙ l.own;
   witness =
-      (let w = h.witness in let e : c.snap q w.0 ≡ d.snap q w.0 = l.snap w.0 in let r : c.floor q ≤ c.snap q w.0 = w.1.1 in
+      (let w = h.witness in let e : c.held_at_start q w.0 ≡ d.held_at_start q w.0 = l.held_at_start w.0 in let r : c.floor q ≤ c.held_at_start q w.0 = w.1.1 in
       (w.0, (w.1.0, omega (arith, e, r, l.floor))));
-  climbed = λ a la. (let e : c.snap q a ≡ d.snap q a = l.snap a in let r : c.snap q a ≤ g = h.climbed a la in omega (arith, e, r));
+  at_least = λ a la. (let e : c.held_at_start q a ≡ d.held_at_start q a = l.held_at_start a in let r : c.held_at_start q a ≤ g = h.at_least a la in omega (arith, e, r));
   heard = elim (h.heard) [ inl e ↦ inl e | inr k ↦ inr (l.known g k) ];
   free = opens o h.free;
 }
@@ -150,16 +150,16 @@ climbing_later n q c d o j g lq l h = record {
 looking_later : (n q : ℕ) (c d : Coded) (j : ℕ) (s t : Seen) → Later n q c d → More d q j s t → Looking n c q j s → Looking n d q j t
 looking_later n q c d j s t l m h = record {
   part = h.part;
-  fresh = (let e : c.snap q j ≡ d.snap q j = l.snap j in let r : c.snap q j ≤ s.fresh 1 = h.fresh.0 in
+  fresh = (let e : c.held_at_start q j ≡ d.held_at_start q j = l.held_at_start j in let r : c.held_at_start q j ≤ s.fresh 1 = h.fresh.0 in
       (omega (arith, e, r, m.fresh), subst (Known d) m.fresh (l.known (s.fresh 1) h.fresh.1)));
   overlaps = λ y i. elim (m.overlaps y i) [
-    | inl o ↦ (let e : c.snap q j ≡ d.snap q j = l.snap j in let r : c.snap q j ≤ y = (h.overlaps y o).0 in (omega (arith, e, r), l.known y (h.overlaps y o).1))
+    | inl o ↦ (let e : c.held_at_start q j ≡ d.held_at_start q j = l.held_at_start j in let r : c.held_at_start q j ≤ y = (h.overlaps y o).0 in (omega (arith, e, r), l.known y (h.overlaps y o).1))
     | inr k ↦ k
   ];
 }
 
-rowing_later : (n q : ℕ) (c d : Coded) (o : Op) (x : ℕ) → Later n q c d → Rowing c q o x → Rowing d q o x
-rowing_later n q c d o x l h = record {
+writes_row_later : (n q : ℕ) (c d : Coded) (o : Op) (x : ℕ) → Later n q c d → WritesRow c q o x → WritesRow d q o x
+writes_row_later n q c d o x l h = record {
   held = (let r : c.held q ≤ x = h.held in omega (arith, r, l.own));
   floor = (let r : c.floor q ≤ x = h.floor in omega (arith, r, l.floor));
   known = l.known x h.known;
@@ -175,8 +175,8 @@ rowing_later n q c d o x l h = record {
 pub works_later : (n q : ℕ) (c d : Coded) (parts to : ℕ → Seen) → q < n → Later n q c d → ((a : ℕ) → a < n → More d q a (parts (a * n + q)) (to (a * n + q)))
     → (x : Phase) → Works n c q parts x → Works n d q to x
 works_later n q c d parts to lq l m Rests h = tt
-works_later n q c d parts to lq l m (Climbs o j g) h = climbing_later n q c d o j g lq l h
+works_later n q c d parts to lq l m (WillRead o j g) h = column_known_later n q c d o j g lq l h
 works_later n q c d parts to lq l m (Looks o j g) h =
-    (climbing_later n q c d o j g lq l h.0, looking_later n q c d j (parts (j * n + q)) (to (j * n + q)) l (m j h.1.part) h.1)
-works_later n q c d parts to lq l m (Holds o j x) h = rowing_later n q c d o x l h
-works_later n q c d parts to lq l m (Puts o j x) h = rowing_later n q c d o x l h
+    (column_known_later n q c d o j g lq l h.0, looking_later n q c d j (parts (j * n + q)) (to (j * n + q)) l (m j h.1.part) h.1)
+works_later n q c d parts to lq l m (Holds o j x) h = writes_row_later n q c d o x l h
+works_later n q c d parts to lq l m (Puts o j x) h = writes_row_later n q c d o x l h
