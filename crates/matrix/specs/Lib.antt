@@ -1,6 +1,5 @@
 pub mod Program
 pub mod Limits
-pub mod Bounds
-pub mod Sound
+pub mod laws
 pub mod Turns
 pub mod Rows

@@ -97,3 +97,10 @@ TwoBitsMayBeAt processes who (op.Write w) (WriteLow v) = (who ≡ 0) × (v ≡ w
 TwoBitsMayBeAt processes who op.Read (ReadHigh reader) = (reader ≡ who) × (1 ≤ who) × (who < processes)
 TwoBitsMayBeAt processes who op.Read (ReadLow reader high) = (reader ≡ who) × (1 ≤ who) × (who < processes) × (high < 2)
 TwoBitsMayBeAt processes who _ _ = ⊥
+
+-- how many tasks can follow a task
+abbrev pub two_bits_left : TwoBitsTask → ℕ
+two_bits_left (WriteHigh v) = 1
+two_bits_left (WriteLow v) = 0
+two_bits_left (ReadHigh who) = 1
+two_bits_left (ReadLow who high) = 0

@@ -3,8 +3,8 @@
 ghost use Rattle.std.specs.Prelude.{◌≡◌, ℕ, ◌<◌, ◌≤◌, ◌^◌, MatchResult, IfOk, Some, None};
 ghost use Rattle.layers.specs.Fit.{refusal_below};
 ghost use Rattle.layers.specs.Nested.{layered};
-ghost use Rattle.own_register.specs.Program.{high_of, low_of, two_bits_table, TwoBitsMayBeAt};
-ghost use Rattle.own_register.specs.Sound.{two_bits_left, two_bits_sound, two_bits_task_decides, two_bits_alike};
+ghost use Rattle.own_register.specs.Program.{high_of, low_of, two_bits_table, TwoBitsMayBeAt, two_bits_left};
+ghost use Rattle.own_register.specs.laws.Sound.{two_bits_sound, two_bits_task_decides, two_bits_alike};
 
 use crate::task::{NAME, TwoBitsTask};
 use layers::prelude::*;

@@ -87,3 +87,8 @@ CopiesMayBeAt readers values who op.Read (Writing v reader) = ⊥
 -- if they can
 abbrev pub copies_refusal : {P : Type 0} → ℕ → Behaviour P → Option LayerError
 copies_refusal readers b = if nat_le 1 readers && nat_le readers MOST_READERS then refusal_below (copies_table readers b.values) b else Some BadSize
+
+-- the number of copies that the task's operation still has to write after the task
+abbrev pub copies_left : ℕ → CopiesTask → ℕ
+copies_left readers (Writing v reader) = readers - reader
+copies_left readers (Reading reader) = 0

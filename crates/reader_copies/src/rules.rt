@@ -3,8 +3,8 @@
 ghost use Rattle.std.specs.Prelude.{◌≡◌, ℕ, ◌<◌, ◌≤◌, ◌^◌, MatchResult, IfOk, Some, None};
 ghost use Rattle.frames.specs.declared.limits.TheConstants.{MOST_READERS};
 ghost use Rattle.layers.specs.Nested.{layered};
-ghost use Rattle.reader_copies.specs.Program.{copies_table, copies_refusal, CopiesMayBeAt};
-ghost use Rattle.reader_copies.specs.Sound.{copies_left, copies_sound, copies_task_decides, layers_alike};
+ghost use Rattle.reader_copies.specs.Program.{copies_table, copies_refusal, CopiesMayBeAt, copies_left};
+ghost use Rattle.reader_copies.specs.laws.Sound.{copies_sound, copies_task_decides, layers_alike};
 
 use crate::task::CopiesTask;
 use layers::prelude::*;

@@ -4,7 +4,7 @@ ghost use Rattle.std.specs.Prelude.{◌≡◌, ℕ, ◌<◌, ◌≤◌, ◌^◌,
 ghost use Rattle.layers.specs.Fit.{refusal_below};
 ghost use Rattle.layers.specs.Nested.{layered};
 ghost use Rattle.regular_bit.specs.Program.{regular_table, RegularMayBeAt};
-ghost use Rattle.regular_bit.specs.Sound.{regular_sound, regular_task_decides, regular_table_alike};
+ghost use Rattle.regular_bit.specs.laws.Sound.{regular_sound, regular_task_decides, regular_table_alike};
 
 use crate::task::RegularTask;
 use layers::prelude::*;

@@ -1,3 +1,3 @@
 pub mod Program
 pub mod Limits
-pub mod Sound
+pub mod laws

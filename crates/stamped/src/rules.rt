@@ -4,7 +4,7 @@ ghost use Rattle.std.specs.Prelude.{◌≡◌, ℕ, ◌+◌, ◌*◌, ◌<◌, �
 ghost use Rattle.frames.specs.declared.limits.TheConstants.{LEAST_VALUES, MOST_VALUES};
 ghost use Rattle.layers.specs.Nested.{layered};
 ghost use Rattle.stamped.specs.Program.{stamped_table, StampedMayBeAt};
-ghost use Rattle.stamped.specs.Sound.{stamped_sound, stamped_task_decides, stamped_table_alike};
+ghost use Rattle.stamped.specs.laws.Sound.{stamped_sound, stamped_task_decides, stamped_table_alike};
 ghost use Rattle.stamped.specs.Limits.{stamped_refusal};
 
 use crate::task::StampedTask;

@@ -17,13 +17,13 @@ use Rattle.layers.specs.laws.Over.{LayerOver, over}
 use Rattle.frames.specs.declared.safe.SafePoint.{SafePoint}
 use Rattle.reader_copies.specs.declared.task.CopiesTask.{CopiesTask}
 use Rattle.reader_copies.specs.Program.{copies_table}
-use Rattle.reader_copies.specs.Sound as copies
+use Rattle.reader_copies.specs.laws.Sound as copies
 use Rattle.regular_bit.specs.declared.task.RegularTask.{RegularTask}
 use Rattle.regular_bit.specs.Program.{regular_table}
-use Rattle.regular_bit.specs.Sound as regular
+use Rattle.regular_bit.specs.laws.Sound as regular
 use Rattle.unary_number.specs.declared.task.UnaryTask.{UnaryTask}
 use Rattle.unary_number.specs.Program.{unary_table}
-use Rattle.unary_number.specs.Sound as unary
+use Rattle.unary_number.specs.laws.Sound as unary
 use Rattle.towers.specs.Towers.{CopiesPoint, RegularPoint, UnaryPoint}
 use Rattle.towers.specs.declared.unary_tower.UnaryTower.{UnaryTower}
 

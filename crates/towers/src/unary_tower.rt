@@ -35,10 +35,10 @@ impl Register for UnaryTower {
     ghost use Rattle.layers.specs.laws.Layered.{layer_lawful};
     ghost use Rattle.layers.specs.laws.Equality.{nested_decides};
     ghost use Rattle.reader_copies.specs.Program.{copies_table};
-    ghost use Rattle.reader_copies.specs.Sound as copies;
+    ghost use Rattle.reader_copies.specs.laws.Sound as copies;
     ghost use Rattle.regular_bit.specs.Program.{regular_table};
-    ghost use Rattle.regular_bit.specs.Sound as regular;
-    ghost use Rattle.unary_number.specs.Sound as unary;
+    ghost use Rattle.regular_bit.specs.laws.Sound as regular;
+    ghost use Rattle.unary_number.specs.laws.Sound as unary;
 
     ghost Holds = { λ r. ⟦<UnaryLayers as Register>⟧.Holds r.layers };
 

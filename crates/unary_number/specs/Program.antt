@@ -109,3 +109,9 @@ UnaryMayBeAt values processes who _ _ = ⊥
 -- `None` if it can
 abbrev pub unary_refusal : {P : Type 0} → ℕ → Behaviour P → Option LayerError
 unary_refusal values b = if nat_le LEAST_VALUES values && nat_le values MOST_VALUES then refusal_below (unary_table values b.processes) b else Some BadSize
+
+-- at least the number of bits that an operation still has to clear or read after a task
+abbrev pub unary_left : UnaryTask → ℕ
+unary_left (Setting x) = x
+unary_left (Clearing x i) = i
+unary_left (Looking who i left) = left

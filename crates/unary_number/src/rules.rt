@@ -6,8 +6,8 @@ ghost use Rattle.frames.specs.declared.types.Outcome.TheVariants.{Value};
 ghost use Rattle.frames.specs.declared.limits.TheConstants.{LEAST_VALUES, MOST_VALUES};
 ghost use Rattle.layers.specs.Nested.{layered};
 ghost use Rattle.layers.specs.Settled.{settled};
-ghost use Rattle.unary_number.specs.Program.{clears_below, looks_above, unary_table, unary_refusal, UnaryMayBeAt};
-ghost use Rattle.unary_number.specs.Sound.{unary_left, unary_sound, unary_task_decides, unary_table_alike};
+ghost use Rattle.unary_number.specs.Program.{clears_below, looks_above, unary_table, unary_refusal, UnaryMayBeAt, unary_left};
+ghost use Rattle.unary_number.specs.laws.Sound.{unary_sound, unary_task_decides, unary_table_alike};
 
 use crate::task::UnaryTask;
 use layers::prelude::*;

@@ -1,4 +1,5 @@
-use Rattle.own_register.specs.Sound.{two_bits_left, two_bits_sound}
+use Rattle.own_register.specs.Program.{two_bits_left}
+use Rattle.own_register.specs.laws.Sound.{two_bits_sound}
 use Rattle.own_register.proofs.Kept.{two_bits_over_safe}
 use Rattle.own_register.proofs.laws.safe.Goals as goal
 

@@ -1,4 +1,5 @@
-use Rattle.reader_copies.specs.Sound.{copies_left, copies_sound}
+use Rattle.reader_copies.specs.Program.{copies_left}
+use Rattle.reader_copies.specs.laws.Sound.{copies_sound}
 use Rattle.reader_copies.proofs.Kept.{copies_over_safe}
 use Rattle.reader_copies.proofs.laws.safe.Goals as goal
 

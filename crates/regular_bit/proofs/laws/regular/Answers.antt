@@ -1,4 +1,4 @@
-use Rattle.regular_bit.specs.Sound.{regular_sound}
+use Rattle.regular_bit.specs.laws.Sound.{regular_sound}
 use Rattle.regular_bit.proofs.Kept.{regular_over_safe}
 use Rattle.regular_bit.proofs.laws.regular.Goals as goal
 

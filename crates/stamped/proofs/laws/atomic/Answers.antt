@@ -1,4 +1,4 @@
-use Rattle.stamped.specs.Sound.{stamped_sound}
+use Rattle.stamped.specs.laws.Sound.{stamped_sound}
 use Rattle.stamped.proofs.Kept.{stamped_over_regular}
 use Rattle.stamped.proofs.laws.atomic.Goals as goal
 

@@ -1,5 +1,5 @@
-use Rattle.matrix.specs.Sound.{matrix_sound}
-use Rattle.stamped.specs.Sound.{stamped_sound}
+use Rattle.matrix.specs.laws.Sound.{matrix_sound}
+use Rattle.stamped.specs.laws.Sound.{stamped_sound}
 use Rattle.towers.proofs.Matrices.{over_stamped}
 use Rattle.towers.proofs.laws.matrix_over_stamped.Goals as goal
 

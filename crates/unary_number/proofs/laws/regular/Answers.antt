@@ -1,6 +1,7 @@
 use Rattle.frames.specs.declared.types.Layer.TheVariants.{Stamped}
 use Rattle.frames.specs.declared.types.Outcome.TheVariants.{Spent}
-use Rattle.unary_number.specs.Sound.{unary_left, unary_sound, table_sound}
+use Rattle.unary_number.specs.Program.{unary_left}
+use Rattle.unary_number.specs.laws.Sound.{unary_sound, table_sound}
 use Rattle.std.specs.Prelude.{◌-◌}
 use Rattle.frames.specs.declared.types.Outcome.TheVariants.{Value}
 use Rattle.unary_number.proofs.Kept.{unary_over_regular}

@@ -16,14 +16,7 @@ use Rattle.layers.specs.laws.OneWriter as writer
 use Rattle.own_register.specs.contracts.task.TwoBitsTaskPartialEq.TheImpl as tasks
 use Rattle.own_register.specs.declared.task.TwoBitsTask.{TwoBitsTask}
 use Rattle.own_register.specs.declared.task.TwoBitsTask.TheVariants.{WriteHigh, WriteLow, ReadHigh, ReadLow}
-use Rattle.own_register.specs.Program.{high_of, low_of, two_bits_program, two_bits_rest, two_bits_asks, two_bits_frame, two_bits_find, two_bits_table, TwoBitsMayBeAt}
-
--- how many tasks can follow a task
-abbrev pub two_bits_left : TwoBitsTask → ℕ
-two_bits_left (WriteHigh v) = 1
-two_bits_left (WriteLow v) = 0
-two_bits_left (ReadHigh who) = 1
-two_bits_left (ReadLow who high) = 0
+use Rattle.own_register.specs.Program.{high_of, low_of, two_bits_program, two_bits_rest, two_bits_asks, two_bits_frame, two_bits_find, two_bits_table, TwoBitsMayBeAt, two_bits_left}
 
 high_is_bit : (v : ℕ) → high_of v < 2
 high_is_bit v = by_test (nat_le 2 v)

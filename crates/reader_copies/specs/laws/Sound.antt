@@ -19,12 +19,7 @@ use Rattle.layers.specs.laws.OneWriter as writer
 use Rattle.reader_copies.specs.contracts.task.CopiesTaskPartialEq.TheImpl as tasks
 use Rattle.reader_copies.specs.declared.task.CopiesTask.{CopiesTask}
 use Rattle.reader_copies.specs.declared.task.CopiesTask.TheVariants.{Writing, Reading}
-use Rattle.reader_copies.specs.Program.{write_from, copies_program, copies_rest, copies_table, copies_asks, copies_frame, copies_find, CopiesMayBeAt}
-
--- the number of copies that the task's operation still has to write after the task
-abbrev pub copies_left : ℕ → CopiesTask → ℕ
-copies_left readers (Writing v reader) = readers - reader
-copies_left readers (Reading reader) = 0
+use Rattle.reader_copies.specs.Program.{write_from, copies_program, copies_rest, copies_table, copies_asks, copies_frame, copies_find, CopiesMayBeAt, copies_left}
 
 -- if a write has copies left to write, beginning with the copy of `reader`, the rest of the write
 -- next reaches the task of writing this copy, and changes no memory before that

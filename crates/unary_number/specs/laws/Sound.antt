@@ -18,13 +18,7 @@ use Rattle.layers.specs.laws.OneWriter as writer
 use Rattle.unary_number.specs.contracts.task.UnaryTaskPartialEq.TheImpl as tasks
 use Rattle.unary_number.specs.declared.task.UnaryTask.{UnaryTask}
 use Rattle.unary_number.specs.declared.task.UnaryTask.TheVariants.{Setting, Clearing, Looking}
-use Rattle.unary_number.specs.Program.{clears_below, after_look, looks_above, unary_program, unary_rest, unary_asks, unary_frame, unary_find, unary_table_with, unary_table, UnaryMayBeAt}
-
--- an upper bound on the number of bits that an operation still has to clear or read after a task
-abbrev pub unary_left : UnaryTask → ℕ
-unary_left (Setting x) = x
-unary_left (Clearing x i) = i
-unary_left (Looking who i left) = left
+use Rattle.unary_number.specs.Program.{clears_below, after_look, looks_above, unary_program, unary_rest, unary_asks, unary_frame, unary_find, unary_table_with, unary_table, UnaryMayBeAt, unary_left}
 
 module _ (not_found : Outcome) (values processes : ℕ) (two : LEAST_VALUES ≤ values) (some : 0 < processes)
     (answered : Answers values op.Read not_found) where
