@@ -1,7 +1,7 @@
 -- The faults with which the question of a file isn't answered.
 use Rattle.std.specs.Prelude.{◌≡◌, ◌≢◌, ℕ, List, ◌++◌, Err, IsOk, IfOk, codes}
 use Rattle.question_file.specs.Asked.{most_states}
-use Rattle.question_file.specs.Faults.{no_memory, question_fault_display}
+use Rattle.question_file.specs.Faults.{out_of_memory_kind, question_fault_display}
 use Rattle.question_file.specs.Reading.{question_reading}
 use Rattle.answer_lines.specs.declared.fault.AnswersFault.{AnswersFault}
 use Rattle.answer_lines.specs.declared.fault.AnswersFault.TheVariants.{File, Cycle, TooMany, Memory}
@@ -11,7 +11,7 @@ use Rattle.answer_lines.specs.Advice.{too_many, too_many_display}
 -- cycle and too many states are faults of bytes that spell a question; and of too many it says the
 -- most that the file allows, and what to leave out.
 abbrev pub IsFaultOf : List ℕ → AnswersFault → Type 0
-IsFaultOf bytes (File e) = e.kind ≢ no_memory → question_reading bytes ≡ Err e
+IsFaultOf bytes (File e) = e.kind ≢ out_of_memory_kind → question_reading bytes ≡ Err e
 IsFaultOf bytes Cycle = IsOk (question_reading bytes)
 IsFaultOf bytes (TooMany t) = IsOk (question_reading bytes) × IfOk (question_reading bytes) (λ a. t ≡ too_many (most_states a) a.operations)
 IsFaultOf bytes Memory = IsOk (question_reading bytes)

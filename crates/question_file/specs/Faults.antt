@@ -8,8 +8,8 @@ use Rattle.question_file.specs.declared.fault.QuestionFaultKind.TheVariants.{Bad
 use Rattle.question_file.specs.declared.fault.QuestionFault.{QuestionFault}
 
 -- the fault that memory ran out
-abbrev pub no_memory : QuestionFaultKind
-no_memory = Shared of_tower.Memory
+abbrev pub out_of_memory_kind : QuestionFaultKind
+out_of_memory_kind = Shared of_tower.Memory
 
 -- the fault of this kind on this line
 abbrev pub question_fault : QuestionFaultKind → ℕ → QuestionFault

@@ -14,7 +14,7 @@ use Rattle.tower_file.specs.Towers.{suits}
 use Rattle.words.specs.Words.{◌>>=◌, words, next, after_next, number, one_number, four_numbers}
 use Rattle.question_file.specs.declared.fault.QuestionFaultKind.{QuestionFaultKind}
 use Rattle.question_file.specs.declared.fault.QuestionFaultKind.TheVariants.{BadLine, Shared, BadProcess, BadAfter, BadStop, BadMost}
-use Rattle.question_file.specs.Faults.{no_memory}
+use Rattle.question_file.specs.Faults.{out_of_memory_kind}
 use Rattle.question_file.specs.Asked.{Asked}
 
 -- the operation at the front of these words: `r`, or `w` and a value; `None` if there is none
@@ -93,8 +93,8 @@ with_most a ws = do
 -- leaves `new`, or has the fault `bad` of a faulty line, or memory ran out.
 pub record Takes (bad : QuestionFaultKind) (read : Option Asked) (new : Asked) (result : Result ⊤ QuestionFaultKind) : Type 0 where
   pub taken : OnOk result (read ≡ Some new)
-  pub kind : IfErr result (λ k. k ≢ no_memory → k ≡ bad)
-  pub fault : IfErr result (λ k. k ≢ no_memory → read ≡ None)
+  pub kind : IfErr result (λ k. k ≢ out_of_memory_kind → k ≡ bad)
+  pub fault : IfErr result (λ k. k ≢ out_of_memory_kind → read ≡ None)
 
 -- what is asked with one more line, which isn't a tower's; or the line's fault
 abbrev pub with_entry : Asked → List (List ℕ) → Result Asked QuestionFaultKind

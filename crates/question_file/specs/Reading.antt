@@ -22,22 +22,22 @@ abbrev pub begun : Result TowerSpec QuestionFaultKind → Result (Option Asked) 
 begun (Ok t) = Ok (Some (asked_of t))
 begun (Err k) = Err k
 
--- what the lines so far say, with one more
+-- what lines say of which one gives a tower: what is asked, or a fault
 abbrev pub gone_on : Result Asked QuestionFaultKind → Result (Option Asked) QuestionFaultKind
 gone_on (Ok a) = Ok (Some a)
 gone_on (Err k) = Err k
 
 -- What the lines so far say, with one more that isn't a comment. At first no tower is given.
-abbrev pub with_saying : Option Asked → List ℕ → Result (Option Asked) QuestionFaultKind
-with_saying None line = begun (tower_in line)
-with_saying (Some a) line = gone_on (with_entry a (words line))
+abbrev pub with_content_line : Option Asked → List ℕ → Result (Option Asked) QuestionFaultKind
+with_content_line None line = begun (tower_in line)
+with_content_line (Some a) line = gone_on (with_entry a (words line))
 
 -- what the lines so far say, with one more; or that line's fault
 abbrev pub with_line : Option Asked → List ℕ → Result (Option Asked) QuestionFaultKind
 with_line read line =
     if not (list_all is_file_byte line) then Err (Shared NotAscii)
     else (if is_comment line then Ok read
-    else with_saying read line)
+    else with_content_line read line)
 
 -- what a file says whose lines have ended, line n being the text after its last line end; or the
 -- fault that no tower is given

@@ -65,7 +65,7 @@ impl fmt::Display for QuestionFault {
 pub(crate) const OUT_OF_MEMORY: QuestionFaultKind = QuestionFaultKind::Shared(FaultKind::Memory);
 
 impl From<AllocError> for QuestionFaultKind {
-    ghost from_gives = { λ _ e. e ≡ spec.no_memory };
+    ghost from_gives = { λ _ e. e ≡ spec.out_of_memory_kind };
 
     fn from(_e: AllocError) -> QuestionFaultKind {
         OUT_OF_MEMORY
@@ -73,7 +73,7 @@ impl From<AllocError> for QuestionFaultKind {
 }
 
 impl<T: Drop> From<AllocFailed<T>> for QuestionFaultKind {
-    ghost from_gives = { λ _ e. e ≡ spec.no_memory };
+    ghost from_gives = { λ _ e. e ≡ spec.out_of_memory_kind };
 
     fn from(_e: AllocFailed<T>) -> QuestionFaultKind {
         OUT_OF_MEMORY

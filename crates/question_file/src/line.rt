@@ -3,7 +3,7 @@
 ghost use Rattle.std.specs.Prelude.{◌≡◌, ◌≢◌, ◌==◌, ◌<◌, [], true, None, Some, Ok, Err, OnOk, OnErr, IfErr, IfOk, IfSome, OnSome, length, slice_get};
 ghost use Rattle.std.specs.List.{list_all, list_any};
 ghost use Rattle.question_file.specs.declared.fault.QuestionFaultKind.TheVariants.{BadProcess, BadAfter, BadStop, BadMost};
-ghost use Rattle.question_file.specs.Faults.{no_memory};
+ghost use Rattle.question_file.specs.Faults.{out_of_memory_kind};
 ghost use Rattle.question_file.specs.Asked.{lists_of};
 ghost use Rattle.question_file.specs.Said.{as_asked};
 ghost use Rattle.question_file.specs.Lines as spec;
@@ -39,7 +39,7 @@ fn tower_file_of(alloc: Global, line: &[u8]) -> Result<Vec<u8>, AllocError>
 pub(crate) fn tower_in(alloc: Global, line: &[u8]) -> Result<TowerSpec, QuestionFaultKind>
     ensures tower { IfOk result (λ tower. spec.tower_in line.now ≡ Ok tower) }
     ensures lawful { IfOk result (λ tower. is_lawful_tower tower ≡ true) }
-    ensures fault { IfErr result (λ k. k ≢ no_memory → spec.tower_in line.now ≡ Err k) }
+    ensures fault { IfErr result (λ k. k ≢ out_of_memory_kind → spec.tower_in line.now ≡ Err k) }
 {
     let Ok(text) = tower_file_of(alloc, line) else {
         return Err(OUT_OF_MEMORY);
@@ -216,7 +216,7 @@ impl QuestionFile {
     pub(crate) fn take_line(&mut self, alloc: Global, line: &[u8]) -> Result<(), QuestionFaultKind>
         ensures taken { OnOk result
             (spec.with_entry (as_asked self.old) (words line.now) ≡ Ok (as_asked self.new)) }
-        ensures fault { IfErr result (λ k. k ≢ no_memory
+        ensures fault { IfErr result (λ k. k ≢ out_of_memory_kind
             → spec.with_entry (as_asked self.old) (words line.now) ≡ Err k) }
     {
         let mut words = Parts::new(line, b' ');

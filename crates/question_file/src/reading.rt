@@ -5,7 +5,7 @@ ghost use Rattle.std.specs.List.{list_all};
 ghost use Rattle.std.specs.Option.{option_map};
 ghost use Rattle.tower_file.specs.Reading.{is_file_byte};
 ghost use Rattle.words.specs.Words.{lines, is_end};
-ghost use Rattle.question_file.specs.Faults.{no_memory};
+ghost use Rattle.question_file.specs.Faults.{out_of_memory_kind};
 ghost use Rattle.question_file.specs.Said.{as_asked};
 ghost use Rattle.question_file.specs.Reading as spec;
 
@@ -43,8 +43,9 @@ fn is_ascii(line: &[u8]) -> bool
 /// Begins a file with the line of its tower.
 fn begin(alloc: Global, line: &[u8]) -> Result<QuestionFile, QuestionFaultKind>
     ensures begun { IfOk result (λ file.
-        spec.with_saying None line.now ≡ Ok (Some (as_asked file))) }
-    ensures fault { IfErr result (λ k. k ≢ no_memory → spec.with_saying None line.now ≡ Err k) }
+        spec.with_content_line None line.now ≡ Ok (Some (as_asked file))) }
+    ensures fault { IfErr result (λ k. k ≢ out_of_memory_kind
+        → spec.with_content_line None line.now ≡ Err k) }
 {
     let tower = match tower_in(alloc, line) {
         Ok(tower) => tower,
@@ -57,15 +58,15 @@ fn begin(alloc: Global, line: &[u8]) -> Result<QuestionFile, QuestionFaultKind>
 }
 
 /// What the lines so far say, with one more that isn't a comment.
-fn with_saying(
+fn with_content_line(
     alloc: Global,
     file: Option<QuestionFile>,
     line: &[u8],
 ) -> Result<QuestionFile, QuestionFaultKind>
-    ensures said { IfOk result (λ new. spec.with_saying (option_map as_asked file) line.now
+    ensures said { IfOk result (λ new. spec.with_content_line (option_map as_asked file) line.now
         ≡ Ok (Some (as_asked new))) }
-    ensures fault { IfErr result (λ k. k ≢ no_memory
-        → spec.with_saying (option_map as_asked file) line.now ≡ Err k) }
+    ensures fault { IfErr result (λ k. k ≢ out_of_memory_kind
+        → spec.with_content_line (option_map as_asked file) line.now ≡ Err k) }
 {
     match file {
         None => begin(alloc, line),
@@ -87,7 +88,7 @@ fn with_line(
 ) -> Result<Option<QuestionFile>, QuestionFaultKind>
     ensures said { IfOk result (λ new. spec.with_line (option_map as_asked file) line.now
         ≡ Ok (option_map as_asked new)) }
-    ensures fault { IfErr result (λ k. k ≢ no_memory
+    ensures fault { IfErr result (λ k. k ≢ out_of_memory_kind
         → spec.with_line (option_map as_asked file) line.now ≡ Err k) }
 {
     if !is_ascii(line) {
@@ -96,7 +97,7 @@ fn with_line(
     if is_comment(line) {
         return Ok(file);
     }
-    match with_saying(alloc, file, line) {
+    match with_content_line(alloc, file, line) {
         Ok(file) => Ok(Some(file)),
         Err(kind) => Err(kind),
     }
@@ -117,7 +118,7 @@ fn lines_of(bytes: &[u8]) -> Lines<'_>
 #[tactic(auto, using(crate::proofs::ReadLines::line_said, crate::proofs::ReadLines::line_faulty, crate::proofs::ReadLines::at_end, crate::proofs::ReadLines::one_less))]
 pub fn parse_question(alloc: Global, bytes: &[u8]) -> Result<QuestionFile, QuestionFault>
     ensures read { IfOk result (λ file. spec.question_reading bytes.now ≡ Ok (as_asked file)) }
-    ensures fault { IfErr result (λ e. e.kind ≢ no_memory
+    ensures fault { IfErr result (λ e. e.kind ≢ out_of_memory_kind
         → spec.question_reading bytes.now ≡ Err e) }
 {
     let mut lines = lines_of(bytes);
