@@ -120,16 +120,9 @@ fn walk_to<'q, R: Register>(
     ensures long { IfOk result (λ w. length w.steps.items
         ≡ depth_at reached.now.marks.items index) }
 {
-    let Ok(path) = path_to(alloc, moves, &reached.marks, index) else {
-        return Err(AllocError);
-    };
-    let Ok(start) = State::initial(alloc, moves.register, moves.question.value) else {
-        return Err(AllocError);
-    };
-    let Ok(walk) = walk_along(alloc, moves, start, &path) else {
-        return Err(AllocError);
-    };
-    Ok(walk)
+    let path = path_to(alloc, moves, &reached.marks, index)?;
+    let start = State::initial(alloc, moves.register, moves.question.value)?;
+    walk_along(alloc, moves, start, &path)
 }
 
 /// Whether these answers are those of `possible`.

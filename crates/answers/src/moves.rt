@@ -60,7 +60,7 @@ impl<'q, R: Register> Graph for Moves<'q, R> {
         if !node.config.fits(step) || !is_enabled(&node.config, step) {
             return Ok(None);
         }
-        let Ok((state, events)) = node.made(alloc, step) else {
+        let Ok((state, events)) = node.advanced_with_events(alloc, step) else {
             return Err(AllocError);
         };
         // the next label is the same action with choice 1, which then has the same effect

@@ -3,6 +3,7 @@
 ghost use Rattle.std.specs.Prelude.{◌≡◌, ◌+◌, ◌*◌, ◌^◌, ◌<◌, ◌≤◌, ℕ, List, [], ◌∷◌, ◌++◌, length, map, slice_index_or, if◌then◌else◌, IfOk, OnOk, vec_len, vec_capacity};
 ghost use Rattle.frames.specs.Configuration.{is_stopped, running_at};
 ghost use Rattle.frames.specs.Flat.{stack_of};
+ghost use Rattle.frames.specs.declared.types.TheConstants.{STACK_FRAMES};
 ghost use Rattle.frames.specs.declared.types.Outcome.TheVariants.{Spent};
 ghost use Rattle.answers.specs.Packing as spec;
 
@@ -33,7 +34,7 @@ fn cell_code(cell: Cell) -> u64
 
 fn op_code(op: Op) -> u64
     ensures code { result ≡ spec.op_code op }
-    ensures low { result ≤ 4294967296 }
+    ensures low { result ≤ 2 ^ 32 }
 {
     match op {
         Op::Read => 0,
@@ -101,7 +102,7 @@ fn take_room(bytes: &mut Vec<u8>) -> Result<(), AllocError>
 
 /// Adds the four bytes of a number below 2^32, the lowest first.
 fn add_half(bytes: &mut Vec<u8>, number: u64) -> Result<(), AllocError>
-    requires { number < 4294967296 }
+    requires { number < 2 ^ 32 }
     ensures { OnOk result (bytes.new.items ≡ bytes.old.items ++ spec.half_bytes number) }
 {
     add_byte(bytes, (number % 256) as u8)?;
@@ -124,8 +125,8 @@ fn add_large(bytes: &mut Vec<u8>, number: u64) -> Result<(), AllocError>
         return Ok(());
     }
     add_byte(bytes, 255)?;
-    add_half(bytes, number % 4294967296)?;
-    add_half(bytes, number / 4294967296)
+    add_half(bytes, number % (1 << 32))?;
+    add_half(bytes, number / (1 << 32))
 }
 
 #[inline(always)]
@@ -227,7 +228,7 @@ fn add_frames(bytes: &mut Vec<u8>, frames: &[Frame]) -> Result<(), AllocError>
 }
 
 fn add_stack(bytes: &mut Vec<u8>, frames: &[Frame], stopped: bool) -> Result<(), AllocError>
-    requires { length frames.now ≤ 8 }
+    requires { length frames.now ≤ STACK_FRAMES }
     ensures { OnOk result (bytes.new.items
         ≡ bytes.old.items ++ spec.packed (spec.stack_numbers frames.now stopped)) }
 {

@@ -76,13 +76,13 @@ impl<R: Register> State<R> {
         ensures { IfOk result
             (λ s. s ≡ advanced (R.behaviour self.now.configuration.register) self.now step) }
     {
-        let (state, _) = self.made(alloc, step)?;
+        let (state, _) = self.advanced_with_events(alloc, step)?;
         Ok(state)
     }
 
     /// The state after a step that fits, and the step's events. `AllocError` if memory runs out.
     #[inline(always)]
-    pub(crate) fn made(
+    pub(crate) fn advanced_with_events(
         &self,
         alloc: Global,
         step: Step,

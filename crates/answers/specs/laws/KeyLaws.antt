@@ -1,14 +1,13 @@
 -- Keys of states are equal exactly if the states are; and what holds of each state is kept by moves.
-use Rattle.std.proofs.Common.{◌≡◌, ℕ, zero, suc, ◌+◌, ◌/◌, ◌%◌, ◌<◌, ◌≤◌, inl, inr, Bool, true, false, List, [], ◌++◌, length, map, Option, None, Some, refl, sym, ap, subst, ◌∙◌, append_assoc, nat_eq, if◌then◌else◌, arith}
-use Rattle.std.specs.Prelude.{◌&&◌, slice_index_or}
+use Rattle.std.proofs.Common.{◌≡◌, ℕ, zero, suc, ◌+◌, ◌/◌, ◌%◌, ◌<◌, ◌≤◌, inl, inr, Bool, true, false, List, [], ◌++◌, length, map, Option, None, Some, refl, sym, ap, subst, ◌∙◌, append_assoc, if◌then◌else◌, arith}
+use Rattle.std.specs.Prelude.{◌&&◌, slice_index_or, bytes_eq}
 use Rattle.std.specs.Bool.{Decides}
 use Rattle.std.specs.Cmp.{IsEquivalence}
-use Rattle.std.specs.Cmp.Lexicographic.{pointwise}
 use Rattle.std.proofs.lemmas.Bool.{cases_lt}
-use Rattle.std.proofs.lemmas.Bool.Decides.{Decides-eqb}
-use Rattle.std.proofs.lemmas.List.{get_or_default, length-map, length-set, same_lists}
+use Rattle.std.proofs.lemmas.Bool.Decides.{same_from_decides}
+use Rattle.std.proofs.lemmas.List.{ext_get_or, length-map, length-set}
 use Rattle.std.proofs.lemmas.Option.{none-some, same_Some}
-use Rattle.std.proofs.lemmas.Slice.Eq.{slice_eq-Decides}
+use Rattle.std.proofs.lemmas.Slice.Eq.{bytes_eq-Decides}
 use Rattle.safe_bit.specs.Memory.{Memory}
 use Rattle.frames.specs.declared.types.Op.{Op}
 use Rattle.frames.specs.declared.types.Frame.{Frame}
@@ -27,24 +26,6 @@ use Rattle.answers.specs.States.{StateOf, advanced, moved, moved_if, step_by}
 use Rattle.answers.specs.Graphs.{IsStateOf}
 use Rattle.answers.specs.laws.Packed.{same_cells, same_list, same_packed, same_process}
 use Rattle.answers.specs.laws.StateLaws.{SameState, state_decides, state_eq}
-
--- whether two keys are equal
-abbrev pub bytes_eq : List ℕ → List ℕ → Bool
-bytes_eq = pointwise nat_eq
-
-bytes_decide : (a b : List ℕ) → Decides (bytes_eq a b) (a ≡ b)
-bytes_decide a b = slice_eq-Decides Decides-eqb a b _ refl
-
-same_bool : (a b : Bool) → (a ≡ true → b ≡ true) → (b ≡ true → a ≡ true) → a ≡ b
-same_bool true b h k = sym (h refl)
-same_bool false true h k = k refl
-same_bool false false h k = refl
-
--- lists of n items that are equal at each place
-same_at : {X : Type 0} (xs ys : List X) (n : ℕ) (d : X) → length xs ≡ n → length ys ≡ n → ((k : ℕ) → k < n → slice_index_or xs k d ≡ slice_index_or ys k d) → xs ≡ ys
-same_at xs ys n d e f at =
-    same_lists xs ys (e ∙ sym f)
-    (λ k z lt. get_or_default xs k z d lt ∙ (at k (omega (arith, lt, e)) ∙ get_or_default ys k d z (omega (arith, lt, e, f))))
 
 module _ {P : Type 0} (b : Behaviour P) (running run : List (Option (Running P))) (stopped stop : List Bool) (answers given : List (List Outcome)) where
   -- process k has the same frames, stop mark and outcomes in both
@@ -89,14 +70,14 @@ module _ {R P : Type 0} (b : Behaviour P) (Holds : Memory → Type 0) (Reaches :
         let at : (k : ℕ) → k < b.processes → IsSameAt b x.configuration.running y.configuration.running x.configuration.stopped y.configuration.stopped x.answers y.answers k
         = λ k lt. same_processes b x.configuration.running y.configuration.running x.configuration.stopped y.configuration.stopped x.answers y.answers b.processes 0 [] [] same k (omega arith) (omega (arith, lt)) in
         record {
-          answers = same_at x.answers y.answers b.processes [] kx.each ky.each (λ k lt. (at k lt).outcomes);
+          answers = ext_get_or [] x.answers y.answers (kx.each ∙ sym ky.each) (λ k lt. (at k (omega (arith, lt, kx.each))).outcomes);
           configuration = record {
             register = (λ i. E (kx.register i) (ky.register i)) ∙ e.refl r;
             memory = let same_cell = same_cells cells cells' c.0 in λ i. record { cells = same_cell i; words = w.0 i };
-            running = same_at x.configuration.running y.configuration.running b.processes None kx.sound.each ky.sound.each
+            running = ext_get_or None x.configuration.running y.configuration.running (kx.sound.each ∙ sym ky.sound.each)
                 (λ k lt. sym (slot_by_frames b Reaches point reports k (slice_index_or x.configuration.running k None) (kx.sound.reached k))
-                ∙ (ap (running_of (point k)) (at k lt).stack ∙ slot_by_frames b Reaches point reports k (slice_index_or y.configuration.running k None) (ky.sound.reached k)));
-            stopped = same_at x.configuration.stopped y.configuration.stopped b.processes false kx.sound.each_mark ky.sound.each_mark (λ k lt. (at k lt).mark);
+                ∙ (ap (running_of (point k)) (at k (omega (arith, lt, kx.sound.each))).stack ∙ slot_by_frames b Reaches point reports k (slice_index_or y.configuration.running k None) (ky.sound.reached k)));
+            stopped = ext_get_or false x.configuration.stopped y.configuration.stopped (kx.sound.each_mark ∙ sym ky.sound.each_mark) (λ k lt. (at k (omega (arith, lt, kx.sound.each_mark))).mark);
           };
         }
 
@@ -108,9 +89,9 @@ module _ {R P : Type 0} (b : Behaviour P) (Holds : Memory → Type 0) (Reaches :
     module _ (F : P → P → Bool) (d : (p q : P) → Decides (F p q) (p ≡ q)) where
       same_bytes : (x y : StateOf R P) → IsStateOf b Holds Reaches r x → IsStateOf b Holds Reaches r y
           → bytes_eq (state_bytes b x) (state_bytes b y) ≡ state_eq E F x y
-      same_bytes x y kx ky = same_bool (bytes_eq (state_bytes b x) (state_bytes b y)) (state_eq E F x y)
-          (λ h. (state_decides E F d x y).1 (unpacked x y kx ky ((bytes_decide (state_bytes b x) (state_bytes b y)).0 h)))
-          (λ h. (bytes_decide (state_bytes b x) (state_bytes b y)).1 (bytes_alike x y ((state_decides E F d x y).0 h)))
+      same_bytes x y kx ky =
+          let bytes = bytes_eq-Decides (state_bytes b x) (state_bytes b y) in
+          same_from_decides _ _ ((λ h. unpacked x y kx ky (bytes.0 h)), (λ same. bytes.1 (bytes_alike x y same))) (state_decides E F d x y)
 
   by_test : (x y : StateOf R P) (s : Step) (t u : Bool) → IsStateOf b Holds Reaches r x → fits_step b s ≡ t → (if t && u then Some (advanced b x s) else None) ≡ Some y
       → IsStateOf b Holds Reaches r y

@@ -1,4 +1,5 @@
 use Rattle.std.proofs.Common.{[], List, refl, sym, subst, ap, ◌∙◌, length}
+use Rattle.std.proofs.lemmas.Result.{IfOk-weaker}
 use Rattle.breadth_first.specs.declared.mark.Mark.{Mark}
 use Rattle.breadth_first.specs.Paths.{IsTrail, depth_at}
 use Rattle.answers.specs.Gathered.{IsBuilding}
@@ -22,22 +23,25 @@ walk_along-requires g c =
     let s = c.requires.searched in
     let k = key_at s.nodes c.args.reached.now.marks.items c.args.index c.requires.there s.all.trail.marked in (
       k.0,
-      subst (λ (path : List Mark). IsBuilding is (is r) q k.0 c.in-Ok-initial.start [] path) (sym c.deref-2.ensures.value)
-          (building_first is (is r) q r c.in-Ok-initial.start k.0 s.nodes c.args.index c.in-Ok.path.items refl c.in-Ok-initial.ensures s.all.starts k.1
-          (c.in-Ok.ensures.leads s.nodes (subst (IsTrail moves.labels moves.move s.nodes) (sym c.deref.ensures.value) s.all.trail))),
+      subst (λ (path : List Mark). IsBuilding is (is r) q k.0 c.in_ok-start.start [] path) (sym c.deref-2.ensures.value)
+          (building_first is (is r) q r c.in_ok-start.start k.0 s.nodes c.args.index c.in_ok-path.path.items refl c.in_ok-start.ensures s.all.starts k.1
+          (c.in_ok-path.ensures.leads s.nodes (subst (IsTrail moves.labels moves.move s.nodes) (sym c.deref.ensures.value) s.all.trail))),
     )
 
 pub returns-clause-led : goal.returns-clause-led
-returns-clause-led g c s k stored =
+returns-clause-led g c =
     let r = c.args.moves.now.register in
     let is = g.R.Behaves.behaviour in
     let q = c.args.moves.now.question.now in
     let moves = moves_of is q r in
-    c.in-Ok-walk_along.ensures.led k (subst (λ (path : List Mark). IsBuilding is (is r) q k c.in-Ok-initial.start [] path) (sym c.deref-2.ensures.value)
-    (building_first is (is r) q r c.in-Ok-initial.start k s.nodes c.args.index c.in-Ok.path.items refl c.in-Ok-initial.ensures s.all.starts stored
-    (c.in-Ok.ensures.leads s.nodes (subst (IsTrail moves.labels moves.move s.nodes) (sym c.deref.ensures.value) s.all.trail))))
+    IfOk-weaker c.walk_along.result _ _
+    (λ w led s k stored. led k (subst (λ (path : List Mark). IsBuilding is (is r) q k c.in_ok-start.start [] path) (sym c.deref-2.ensures.value)
+    (building_first is (is r) q r c.in_ok-start.start k s.nodes c.args.index c.in_ok-path.path.items refl c.in_ok-start.ensures s.all.starts stored
+    (c.in_ok-path.ensures.leads s.nodes (subst (IsTrail moves.labels moves.move s.nodes) (sym c.deref.ensures.value) s.all.trail)))))
+    c.walk_along.ensures.led
 
 pub returns-clause-long : goal.returns-clause-long
 returns-clause-long g c =
-    c.in-Ok-walk_along.ensures.long
-    ∙ (ap length c.deref-2.ensures.value ∙ (c.in-Ok.ensures.long ∙ ap (λ (m : List Mark). depth_at m c.args.index) c.deref.ensures.value))
+    IfOk-weaker c.walk_along.result _ _
+    (λ w long. long ∙ (ap length c.deref-2.ensures.value ∙ (c.in_ok-path.ensures.long ∙ ap (λ (m : List Mark). depth_at m c.args.index) c.deref.ensures.value)))
+    c.walk_along.ensures.long
