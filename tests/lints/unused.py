@@ -19,7 +19,7 @@ sys.path.append(f"{TOP}/tools")
 import antt  # noqa: E402
 
 # The names of files of worked examples, and of what wrong bodies miss.
-EXAMPLES = ("Examples", "Rows", "WrongEdits", "VerdictRows", "LimbRows", "BenchRows")
+EXAMPLES = ("Examples", "Rows", "WrongEdits", "VerdictRows", "BenchRows")
 PROOFS = ".antt"
 READ = (
     "proofs/**/*.antt",

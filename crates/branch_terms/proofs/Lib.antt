@@ -4,3 +4,4 @@ pub mod LimbLaws
 pub mod LimbsLawful
 pub mod LimbsKept
 pub mod JudgedLimbs
+pub mod Examples

@@ -2,7 +2,7 @@
 use Rattle.std.proofs.Common.{◌≡◌, ℕ, true, List, [], ◌∷◌, length, Option, Some, None, inl, inr, refl, sym, ap, subst, ◌∙◌, true≢false, arith}
 use Rattle.schedule_steps.specs.declared.types.Step.{Step}
 use Rattle.schedule_steps.specs.declared.types.Step.TheVariants.{Write}
-use Rattle.branch_terms.specs.Rows.{main, a, read, go}
+use Rattle.branch_terms.proofs.Examples.{main, a, read, go}
 use Rattle.branch_terms.specs.declared.slot.Slot.{Slot}
 use Rattle.branch_terms.specs.Forest.{slot, slots_in}
 use Rattle.schedule_trie.specs.Trie.{TrieOf, SegmentOf, KeyedBranch, keyed_branch, segment, note_of, slots_of, has_cell, HoldsCellAt, IsInserted, IsOwnEnd}
