@@ -9,8 +9,8 @@ ghost use Rattle.schedule_trie.specs.Trie.{AreLimits};
 
 mod commands;
 mod cursors;
-mod late;
 mod refusals;
+mod refused_writes;
 mod rows;
 
 use self::commands::go;

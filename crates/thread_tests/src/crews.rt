@@ -189,7 +189,7 @@ fn run_by_two<W: Threads + Wait + Sync>(
 /// The keys of a plan's two jobs, each with its one step.
 fn expected_of(rt: &impl Abort, jobs: &[plan::Job<Safe>]) -> [Option<(SegKey, Step)>; 2] {
     let [read, write] = jobs else {
-        panic!(rt; "a job of each branch")
+        panic!(rt; "the plan has no job for each branch")
     };
     [Some((read.key, READ)), Some((write.key, WRITE))]
 }

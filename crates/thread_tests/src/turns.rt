@@ -1,5 +1,5 @@
-//! Tests of chairs at a turn: two in one thread, two in two threads, and news while the turn is
-//! held.
+//! Tests of chairs at a turn: two in one thread, two in two threads, and one that asks how many
+//! calls were made while the other holds the turn.
 
 ghost use Rattle.std.specs.Prelude.{◌≡◌, ◌<◌, IfOk};
 ghost use Rattle.turn.specs.Shares.{every_share};
@@ -195,7 +195,7 @@ fn are_in_turn(notes: &Notes) -> bool {
 #[test]
 fn two_chairs(rt: HostRuntime) -> Result<(), Fail> {
     let Some(notes) = written_in_turn(&rt, rt.alloc())? else {
-        panic!(rt; "a chair with every share")
+        panic!(rt; "a share is missing")
     };
     assert!(rt; are_in_turn(&notes));
     Ok(())
@@ -222,7 +222,7 @@ fn chairs_out(rt: HostRuntime) -> Result<(), Fail> {
     let (turn, first) = empty(rt.alloc())?;
     let (first, second) = parted(&turn, first, 1);
     let Some(refusal) = refused_and_closed(turn, first, second) else {
-        panic!(rt; "a share is out, and then none")
+        panic!(rt; "a close went wrong")
     };
     assert!(rt; refusal == ChairsOut && refusal.number() == 50);
     let text = format!(in rt.alloc(); "{refusal}")?;
@@ -272,7 +272,7 @@ fn written<R: Threads + Wait + Sync>(
 fn two_threads(rt: HostRuntime) -> Result<(), Fail> {
     for _ in 0..50 {
         let Some(notes) = written(&rt, rt.alloc(), 100)? else {
-            panic!(rt; "a chair with every share")
+            panic!(rt; "a share is missing")
         };
         assert_eq!(rt; notes.all.len(), 200);
         assert!(rt; has_counted(&notes, 0, 100) && has_counted(&notes, 1, 100));

@@ -65,7 +65,7 @@ fn replies(alloc: Global, book: &mut Book<Switch>, command: &Command, reply: &Re
 }
 
 /// Makes the calls of `calls`. Returns whether each reply was the expected one.
-fn called(rt: &impl Abort, alloc: Global, book: &mut Book<Switch>) -> bool {
+fn call_all(rt: &impl Abort, alloc: Global, book: &mut Book<Switch>) -> bool {
     let mut all = true;
     for (command, reply) in &calls(rt) {
         all &= replies(alloc, book, command, reply);
@@ -85,7 +85,7 @@ fn page(alloc: Global, book: &mut Book<Switch>, query: Query) -> Result<Page, Re
 }
 
 /// Runs and installs all jobs of `main`'s plan. Returns whether each run was installed.
-fn is_filled(rt: &impl Abort, alloc: Global, book: &mut Book<Switch>) -> Result<bool, Refusal> {
+fn fill_main(rt: &impl Abort, alloc: Global, book: &mut Book<Switch>) -> Result<bool, Refusal> {
     Ok(installed(alloc, book, &name(rt, b"main"))?.is_some())
 }
 
@@ -129,10 +129,10 @@ fn counts(book: &Book<Switch>) -> (u32, u64) {
 #[test]
 fn each_call_of_a_book(rt: HostRuntime) -> Result<(), Fail> {
     let mut book = opened(rt.alloc())?;
-    assert!(rt; called(&rt, rt.alloc(), &mut book) && counts(&book) == (13, 6));
+    assert!(rt; call_all(&rt, rt.alloc(), &mut book) && counts(&book) == (13, 6));
     let text = b"0: branches 1 edits 6 made 4\n  main 2\n".as_slice();
     assert!(rt; shows_branches(rt.alloc(), &mut book, text) == Ok(true));
-    assert!(rt; is_filled(&rt, rt.alloc(), &mut book) == Ok(true));
+    assert!(rt; fill_main(&rt, rt.alloc(), &mut book) == Ok(true));
     assert!(rt; calls_of_loaded(rt.alloc(), &book) == Ok(0));
     assert!(rt; begins_with_join(book));
     Ok(())

@@ -20,7 +20,7 @@ pub(crate) fn opened(alloc: Global) -> Result<Chart<Switch>, Refusal> {
 }
 
 /// Makes an edit, by the call for its kind, if its step fits.
-fn made(alloc: Global, chart: &mut Chart<Switch>, edit: &Edit<'_>) -> Result<(), Refusal> {
+fn make(alloc: Global, chart: &mut Chart<Switch>, edit: &Edit<'_>) -> Result<(), Refusal> {
     match *edit {
         Edit::Insert(branch, place, step) if chart.initial().fits(step) => {
             chart.insert(alloc, branch, place, step)
@@ -39,7 +39,7 @@ fn made(alloc: Global, chart: &mut Chart<Switch>, edit: &Edit<'_>) -> Result<(),
 /// Makes each edit.
 fn make_all(alloc: Global, chart: &mut Chart<Switch>, names: &[Name; 3]) -> Result<(), Refusal> {
     for edit in &edits(names) {
-        made(alloc, chart, edit)?;
+        make(alloc, chart, edit)?;
     }
     Ok(())
 }

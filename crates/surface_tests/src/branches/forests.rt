@@ -8,7 +8,7 @@ use std::process::Abort;
 use std::test::Fail;
 
 /// Makes an edit, by the call for its kind.
-fn made(alloc: Global, trie: &mut Trie<u32>, edit: &Edit<'_>) -> Result<(), Refusal> {
+fn make(alloc: Global, trie: &mut Trie<u32>, edit: &Edit<'_>) -> Result<(), Refusal> {
     match *edit {
         Edit::Insert(branch, place, step) => trie.insert(alloc, branch, place, step),
         Edit::Remove(branch, place) => trie.remove(branch, place),
@@ -22,7 +22,7 @@ fn made(alloc: Global, trie: &mut Trie<u32>, edit: &Edit<'_>) -> Result<(), Refu
 /// Makes each edit.
 fn make_all(alloc: Global, trie: &mut Trie<u32>, names: &[Name; 3]) -> Result<(), Refusal> {
     for edit in &edits(names) {
-        made(alloc, trie, edit)?;
+        make(alloc, trie, edit)?;
     }
     Ok(())
 }

@@ -38,13 +38,13 @@ fn writes_and_reads<R: Register>(
         return Ok(false);
     }
     let mut config = Config::initial(alloc, register, 0)?;
-    let begun = made(&mut config, WRITE, 1) && made(&mut config, GO_0, write);
-    let ended = made(&mut config, READ, 1) && made(&mut config, GO, read);
+    let begun = repeat(&mut config, WRITE, 1) && repeat(&mut config, GO_0, write);
+    let ended = repeat(&mut config, READ, 1) && repeat(&mut config, GO, read);
     Ok(begun && ended && config.op(0).is_none() && config.op(1).is_none())
 }
 
 /// Makes a step `count` times, and returns whether it always fitted.
-fn made<R: Register>(config: &mut Config<R>, step: Step, count: u32) -> bool {
+fn repeat<R: Register>(config: &mut Config<R>, step: Step, count: u32) -> bool {
     for _ in 0..count {
         if !config.fits(step) {
             return false;

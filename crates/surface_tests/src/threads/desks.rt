@@ -235,7 +235,7 @@ fn each_call_of_a_desk(rt: HostRuntime) -> Result<(), Fail> {
     let (desk, mut chair) = opened(rt.alloc())?;
     use_all(&Office::new(&rt, rt.alloc(), &desk), &mut chair);
     let Some(log) = closed(desk, chair) else {
-        panic!(rt; "a chair with every share")
+        panic!(rt; "a share is missing")
     };
     assert_eq!(rt; log.as_slice().len(), 2);
     Ok(())

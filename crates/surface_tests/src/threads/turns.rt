@@ -57,12 +57,12 @@ fn each_call_of_a_turn(rt: HostRuntime) -> Result<(), Fail> {
     assert_eq!(rt; turn.news(&mut first), 2);
     assert_eq!(rt; (first.shares(), second.shares()), (12, 4));
     let Err((out, turn, mut first)) = turn.close(first) else {
-        panic!(rt; "closed by 12 shares")
+        panic!(rt; "12 shares closed the turn")
     };
     assert_eq!(rt; out.number(), 50);
     turn.join(&mut first, second);
     let Ok(workers) = turn.close(first) else {
-        panic!(rt; "a chair with every share")
+        panic!(rt; "a share is missing")
     };
     assert_eq!(rt; workers.0.as_slice(), [0, 1].as_slice());
     Ok(())

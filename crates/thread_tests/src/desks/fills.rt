@@ -254,7 +254,7 @@ pub(super) fn is_replayed(
 {
     let mut book = book_of(alloc, steps)?;
     if !replies_to(alloc, &mut book, log) {
-        panic!(rt; "a legal log")
+        panic!(rt; "the log is illegal")
     }
     shows(alloc, &mut book, query, text)
 }
@@ -294,7 +294,7 @@ fn fill_and_edit<R: Abort + Threads + Wait + Sync>(
     let works = (Work::InsertsAndDrop(INSERTS), Work::Fills);
     let desk = thousand(alloc, 1024)?;
     let Some((log, text)) = log_and_text(rt, alloc, desk, &fork, works, query)? else {
-        panic!(rt; "reports, accepted edits and a log")
+        panic!(rt; "a report, an edit or the log is missing")
     };
     assert_eq!(rt; log.as_slice().len(), 2 + INSERTS as usize);
     assert!(rt; is_replayed_on_thousand(rt, alloc, &log, query, &text)?);

@@ -105,7 +105,7 @@ impl<R: Abort + Wait> Tester<'_, R> {
                 return receipt;
             }
         }
-        panic!(self.rt; "a command that isn't refused memory")
+        panic!(self.rt; "each try was refused memory")
     }
 
     /// The length of the history at a look, and the text of its page. The look is repeated until
@@ -120,7 +120,7 @@ impl<R: Abort + Wait> Tester<'_, R> {
                 Err(refusal) => assert!(self.rt; refusal == Refusal::Memory),
             }
         }
-        panic!(self.rt; "a page that isn't refused memory")
+        panic!(self.rt; "each try was refused memory")
     }
 }
 
@@ -182,7 +182,7 @@ impl<R: Abort + Threads + Wait + Sync> Tester<'_, R> {
                 }
             }
         }
-        panic!(self.rt; "a fill that has no job")
+        panic!(self.rt; "some job is left after each try")
     }
 }
 

@@ -96,7 +96,7 @@ fn guard_edits<R: Abort + Threads + Wait + Sync>(
     let works = (Work::GuardedInserts(0), Work::GuardedInserts(1));
     let desk = opened(alloc, 1024)?;
     let Some((log, text)) = log_and_text(rt, alloc, desk, &[], works, query)? else {
-        panic!(rt; "guarded edits that are made or newer, and a log")
+        panic!(rt; "an edit or the log is missing")
     };
     assert!(rt; edits_of(&log, 0) == 50 && edits_of(&log, 1) == 50);
     assert!(rt; is_replayed(rt, alloc, &[], &log, query, &text)?);

@@ -44,7 +44,7 @@ fn opened_wide(alloc: Global) -> Result<(Desk<Safe>, Chair<Safe>), Refusal>
 }
 
 /// Inserts a read at a place of `main`, and returns whether it was accepted.
-fn is_inserted(rt: &impl Abort, alloc: Global, book: &mut Book<Safe>, place: u32) -> bool {
+fn insert_is_accepted(rt: &impl Abort, alloc: Global, book: &mut Book<Safe>, place: u32) -> bool {
     let reply = book.act(alloc, 0, 0, None, &insert_at(rt, place));
     matches!(reply, Reply::Edited(_))
 }
@@ -54,7 +54,7 @@ fn is_inserted(rt: &impl Abort, alloc: Global, book: &mut Book<Safe>, place: u32
 fn insert_all_on(rt: &impl Abort, alloc: Global, book: &mut Book<Safe>) -> bool {
     let mut all = true;
     for place in 0..EDITS {
-        all &= is_inserted(rt, alloc, book, place);
+        all &= insert_is_accepted(rt, alloc, book, place);
     }
     all
 }

@@ -135,7 +135,7 @@ fn news_at_a_desk<R: Abort + Threads + Wait + Sync>(
 fn news_while_held(rt: HostRuntime) -> Result<(), Fail> {
     let (released, news, last) = news_at_a_desk(&rt, rt.alloc())?;
     let Some(news) = news else {
-        panic!(rt; "a seek")
+        panic!(rt; "no seek held the turn")
     };
     assert!(rt; released && 2 < news && news <= last);
     Ok(())

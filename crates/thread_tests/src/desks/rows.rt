@@ -151,7 +151,7 @@ fn fill_a_log<R: Abort + Wait>(rt: &R, alloc: Global) -> Result<(), Fail> {
 fn chairs_out(rt: HostRuntime) -> Result<(), Fail> {
     let (desk, first, second) = two_inserts(&rt, rt.alloc())?;
     let Some(log) = closed_by_both(&rt, desk, first, second) else {
-        panic!(rt; "a chair with every share")
+        panic!(rt; "a share is missing")
     };
     assert!(rt; is_by_both(&log));
     fill_a_log(&rt, rt.alloc())

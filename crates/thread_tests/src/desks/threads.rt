@@ -89,7 +89,7 @@ fn log_of_two<R: Abort + Threads + Wait + Sync>(
 /// Compares the log of two threads with their inserts.
 fn insert_by_two<R: Abort + Threads + Wait + Sync>(rt: &R, alloc: Global) -> Result<(), Refusal> {
     let Some(log) = log_of_two(rt, alloc)? else {
-        panic!(rt; "accepted inserts")
+        panic!(rt; "an insert or the log is missing")
     };
     assert_eq!(rt; log.as_slice().len(), 200);
     assert!(rt; has_inserts(&log, 0, 100) && has_inserts(&log, 1, 100));
@@ -108,10 +108,10 @@ fn two_threads(rt: HostRuntime) -> Result<(), Fail> {
 const ROUNDS: u32 = 40;
 
 /// Splits `shares` shares off a chair; `None` if `shares` is 0, or if no share would be left.
-fn part(desk: &Desk<Safe>, chair: &mut Chair<Safe>, shares: u32) -> Option<Chair<Safe>>
+fn split_off(desk: &Desk<Safe>, chair: &mut Chair<Safe>, shares: u32) -> Option<Chair<Safe>>
     requires { IsChairOf (λ _. safe_behaviour) desk.now chair.old }
     ensures chair { IsChairOf (λ _. safe_behaviour) desk.now chair.new }
-    ensures part { IfSome result (λ r. IsChairOf (λ _. safe_behaviour) desk.now r) }
+    ensures other { IfSome result (λ r. IsChairOf (λ _. safe_behaviour) desk.now r) }
 {
     if shares == 0 || chair.shares() <= shares {
         return None;
@@ -160,7 +160,7 @@ impl<R: Abort + Wait> Tester<'_, R> {
         requires { IsChairOf (λ _. safe_behaviour) self.now.desk.now chair.old }
         ensures { IsChairOf (λ _. safe_behaviour) self.now.desk.now chair.new }
     {
-        let Some(mut other) = part(self.desk, chair, 2) else {
+        let Some(mut other) = split_off(self.desk, chair, 2) else {
             return false;
         };
         let fine = self.round_of_two(chair, &mut other, lens, who);
@@ -247,7 +247,7 @@ fn halved(desk: &Desk<Safe>, mut chair: Chair<Safe>) -> Option<Two>
     ensures { IfSome result (AreChairsOf desk.now) }
 {
     let half = chair.shares() / 2;
-    let other = part(desk, &mut chair, half)?;
+    let other = split_off(desk, &mut chair, half)?;
     Some((chair, other))
 }
 
@@ -286,7 +286,7 @@ fn is_legal(alloc: Global, log: &Log) -> Result<bool, Refusal> {
 #[test]
 fn four_threads(rt: HostRuntime) -> Result<(), Fail> {
     let Some(log) = log_of_four(&rt, rt.alloc())? else {
-        panic!(rt; "rounds without fault")
+        panic!(rt; "a round or the log is wrong")
     };
     assert_eq!(rt; log.as_slice().len(), 4 * 2 * ROUNDS as usize);
     assert!(rt; is_legal(rt.alloc(), &log)?);

@@ -78,7 +78,7 @@ fn in_a_row(alloc: Global, runs: &[(Step, u32)]) -> Result<Vec<Step>, AllocError
 }
 
 /// Whether an insert is accepted.
-fn is_inserted<R: Register>(alloc: Global, book: &mut Book<R>, insert: &Command) -> bool {
+fn insert_is_accepted<R: Register>(alloc: Global, book: &mut Book<R>, insert: &Command) -> bool {
     matches!(answer(alloc, book, 0, None, insert), Reply::Edited(_))
 }
 
@@ -93,7 +93,7 @@ fn insert_all<R: Register>(
 ) -> u32 {
     let mut place: u32 = 0;
     for step in steps {
-        assert!(rt; is_inserted(alloc, book, &insert(&branch, place, *step)));
+        assert!(rt; insert_is_accepted(alloc, book, &insert(&branch, place, *step)));
         place = place.wrapping_add(1);
     }
     place
