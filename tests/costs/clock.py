@@ -11,7 +11,8 @@ from costs import pieces, runs
 
 LINE = "matrix 2 2 1 3"
 # Branches that share nothing, and the steps of each. A fill has at most 64 rounds, of 128 steps of
-# each branch.
+# each branch, and a round starts a thread for each 16,384 of its steps. So 16 branches start none,
+# however long they are: what workers seem to change there shows how little the clock can say.
 SIZES = ((16, 60_000), (128, 8_192), (256, 8_192), (1_000, 4_096))
 WORKERS = (0, 0, 1, 2, 3, 4)
 # Each fill is run at least 6 and at most 60 times, and after 300 seconds in all only 6 times.
@@ -30,9 +31,7 @@ def bench_file(branches, steps, room):
 
 def seconds(words):
     """Returns how long a fill takes, from its line to its answer."""
-    times = [
-        time.monotonic() for _ in pieces.answered([runs.PROGRAM, *words], ["0 fill main\n"])
-    ]
+    times = [time.monotonic() for _ in pieces.answered([runs.PROGRAM, *words], ["0 fill main\n"])]
     return times[1] - times[0]
 
 

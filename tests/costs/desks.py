@@ -100,7 +100,8 @@ def fills_along_main(room):
         with open(path, "w", encoding="ascii") as file:
             file.write(f"bench 1\nsafe 0\nbranch main 0 0\n{steps}")
             for at in range(branches):
-                shared = count * (at + 1) // (branches + 1) // 6 * 6
+                place = count * (at + 1) // (branches + 1)
+                shared = place - place % len(SHORT_WRITES)
                 file.write(f"branch b{at} 0 {shared}\n")
                 file.writelines(f"{SHORT_WRITES[it % len(SHORT_WRITES)]}\n" for it in range(own))
         words = [path, "--cells", "2000000", "--branches", "1024"]

@@ -1,18 +1,21 @@
 """What inserts cost, forks, and edits of what many branches share."""
 import os
+import random
 
 from costs.runs import PAD, SHORT_WRITES, heap_at_reads, instructions, tower
 
 WORDS = ["--cells", "2000000", "--branches", "1024"]
 LENGTHS = (50_000, 100_000, 200_000)
+SEED = 5
 
 
 def inserts(room):
+    chance = random.Random(SEED)
     places = {
         "start": lambda i: 0,
         "middle": lambda i: i // 2,
         "end": lambda i: i,
-        "spread": lambda i: i * 7919 % (i + 1),
+        "random": lambda i: chance.randrange(i + 1),
     }
     print("instructions of an insert, of 25,000, 50,000 and 100,000")
     for name, place in places.items():
@@ -89,8 +92,12 @@ def shared_by_forks(n, path, each):
         ],
     )
     many = {k: "".join(f"0 fork main {n} a{i}\n" for i in range(k)) for k in forks}
-    spread = "".join(f"0 insert main {i * 7919 % n} r 1\n" for i in range(50))
-    row("an insert at some place that all share", [each(path, many[k], spread, 50) for k in forks])
+    chance = random.Random(SEED)
+    spread = "".join(f"0 insert main {chance.randrange(n)} r 1\n" for _ in range(50))
+    row(
+        "an insert at a random place that all share",
+        [each(path, many[k], spread, 50) for k in forks],
+    )
     row(
         "an insert at 0 that all share",
         [each(path, many[k], "0 insert main 0 r 1\n" * 50, 50) for k in forks],

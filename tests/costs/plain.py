@@ -1,5 +1,6 @@
 """The costs against those of the same program in plain Rust."""
 import os
+import random
 
 from costs.runs import SHORT_WRITES, TOWERS, instructions, tower
 from costs.steps import OPERATIONS, whole_operations
@@ -15,6 +16,7 @@ PLAIN_STEPS = {
     "stamped 4 3": 97,
     "matrix 2 2 1 3": 119,
 }
+SEED = 5
 PLAIN_FIRST_LOOK = {"safe 0": 54, "stamped 4 3": 114, "matrix 2 2 1 3": 179}
 
 
@@ -109,10 +111,11 @@ def plain_edits(table):
         table.row(f"a replacement at the {where} of 10,000 steps", alone, edit)
         both = table.each([path], looked, "".join(it + looked for it in edits), 20)
         table.row("  the look at the end after it", both - alone, look)
+    chance = random.Random(SEED)
     for where, place, few, many in (
         ("0", lambda i: 0, 3_644, 6_187),
         ("the end", lambda i: i, 1_902, 1_901),
-        ("a random place", lambda i: i * 7919 % (i + 1), 3_153, 4_102),
+        ("a random place", lambda i: chance.randrange(i + 1), 3_153, 4_102),
     ):
         lines = [f"0 insert main {place(i)} r 1\n" for i in range(20_000)]
         table.row(
@@ -158,7 +161,8 @@ def plain_shared(table):
     last = table.each([path], "".join(own[:500]), "".join(own[500:]), 500)
     table.row("a fork at a place of its own, of the last 500 of 1,000", last, 11_400)
     many = "".join(at_end)
-    spread = "".join(f"0 insert main {i * 7919 % n} r 1\n" for i in range(50))
+    chance = random.Random(SEED)
+    spread = "".join(f"0 insert main {chance.randrange(n)} r 1\n" for _ in range(50))
     table.row(
         "an insert at a random place that 1,000 forks share",
         table.each([path], many, spread, 50),

@@ -92,7 +92,9 @@ def question_file(line, room):
 
 def questions(room):
     subprocess.run([f"{TOP}/tools/prove", "answers_program"], stdin=subprocess.DEVNULL, check=True)
-    print("states; instructions in thousands, of which the search; its ratio to plain Rust's; bytes a state")
+    print(
+        "states; instructions in thousands, of which the search; its ratio to plain Rust's; bytes a state"
+    )
     for line, peer in QUESTIONS:
         path = question_file(line, room)
         output, said = ran(path, room, (*CALLGRIND[:2], f"--callgrind-out-file={room}/calls"))

@@ -51,7 +51,7 @@ def operations(room):
             page, other = f"0 state main {first + 11}\n", 0 if first else 128
             # Between two looks the lens is filled with places of another run, no two of them neighbours
             fill = "".join(f"0 state main {other + place}\n" for place in range(2, 68, 2))
-            # Pages differ in length, their sums less
+            # Pages differ in length; the sum over 27 neighbouring places hardly does
             rounds = (
                 "".join(f"0 state main {first + place + ahead}\n{fill}" for place in range(1, 28))
                 for ahead in (0, 100)

@@ -63,7 +63,9 @@ def lesson_links(page):
     page.value("void (location.hash = '#lesson-6')")
     page.until(f"{current} === '06-two-readers'", "lesson 6 isn't open")
     page.until("location.hash === '#lesson-6'")
-    shown = "[...document.querySelectorAll('header [data-do], #save')].filter((it) => it.offsetParent)"
+    shown = (
+        "[...document.querySelectorAll('header [data-do], #save')].filter((it) => it.offsetParent)"
+    )
     named = f"{shown}.map((it) => it.dataset.do || it.id)"
     same(page.value(named), ["chooseTower", "study", "chooseOpen", "theme", "help"])
     again = page.value("location.href")
