@@ -23,22 +23,22 @@ export function registerRows(drawing, reading, bits, shared) {
   });
 }
 function bandOf(name, runs, codes) {
-  const words = (numbers, written) => (written === null ? numberLabels(codes, numbers[0])
+  const labels = (numbers, written) => (written === null ? numberLabels(codes, numbers[0])
     : writtenLabels(codes, numbers));
   return { name, kind: "band", runs: runs.map(([from, to, numbers, written]) => ({ from, to,
     isWritten: written !== null, isEither: numbers.length > 1,
-    words: words(numbers, written) })) };
+    words: labels(numbers, written) })) };
 }
 function memoryBands(facts, codes, register) {
-  const { reader, writer } = register, words = (runs, labels) =>
+  const { reader, writer } = register, labelled = (runs, labels) =>
     runs.map(([from, to, value]) => ({ from, to, words: value === null ? ["?"] : labels(value) }));
   const best = (code) => (codes.kind === "matrix"
     ? tagLabels(codes, codes.parts(code).inner) : numberLabels(codes, code));
   return [
     { name: `p${reader} remembers`, kind: "band memory",
-      runs: words(wordRuns(facts, register, "best"), best) },
+      runs: labelled(wordRuns(facts, register, "best"), best) },
     { name: `p${writer}'s stamp`, kind: "band",
-      runs: words(wordRuns(facts, register, "stamp"), (stamp) => [`${stamp}`]) }];
+      runs: labelled(wordRuns(facts, register, "stamp"), (stamp) => [`${stamp}`]) }];
 }
 function bandStrip(drawing, reading, bands, kind, shared) {
   const height = bands.length * ROW + 2;

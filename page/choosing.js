@@ -46,7 +46,7 @@ export async function chooseTower(begin) {
 function openButton(it, title, begin, isLesson) {
   const words = `${title}${it.tower ? "" : ", no steps"}`, script = isLesson ? "" : it.script;
   const open = () => begin(it.tower || EMPTY_TOWER, script, lessonOf(title, it.script, isLesson));
-  return element("button", { value: "", "data-open": it.name, onclick: open }, words);
+  return element("button", { "data-open": it.name, onclick: open }, words);
 }
 function partButtons({ folder, title, parts }, begin) {
   const titleOf = ({ name }) =>

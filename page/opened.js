@@ -31,7 +31,7 @@ function taken(found, it) {
   } catch (fault) { made.fault = fault.message; }
 }
 // The documents of many files. A script goes with the tower file of its name, with the tower that
-// it names itself, or with this page's; `isNamed`: not with the last one.
+// it names itself, or with this page's; `isNamed` is false if it goes with this page's tower.
 export function documentsOf(texts) {
   const found = new Map();
   for (const it of texts) taken(found, it);
@@ -54,9 +54,9 @@ export function documentOf(texts) {
 // the list of what was open before, with a way to forget it
 export function putKept(begin) {
   const kept = keptDocuments(), close = () => one("#open-dialog").close();
-  const row = (it) => element("button", { value: "", "data-recent": "",
-    onclick: () => begin(it.tower, it.script, null) },
-  `${it.title}, ${new Date(it.when).toLocaleString()}`);
+  const row = (it) => element("button",
+    { "data-recent": "", onclick: () => begin(it.tower, it.script, null) },
+    `${it.title}, ${new Date(it.when).toLocaleString()}`);
   one("#recent").replaceChildren(...kept.map(row));
   one("#recent-part").hidden = !kept.length;
   one("#forget").onclick = () => {

@@ -150,13 +150,13 @@ function branchButtons(branch) {
     .filter(([, words]) => words);
 }
 function headPart(branch) {
-  const doing = branchButtons(branch), about = aboutBranch(branch), { name } = branch;
+  const buttons = branchButtons(branch), about = aboutBranch(branch), { name } = branch;
   const button = ([what, words]) => element("button",
     { "data-do": what, "data-key": `${what} ${name}`, title: BRANCH_TITLES[what] }, words);
   const make = () => element("h2", {},
     element("span", { class: "select", "data-select": name }, name), " ",
-    element("small", {}, about), doing.map(button));
-  return { key: "head", held: JSON.stringify([name, about, doing]), make };
+    element("small", {}, about), buttons.map(button));
+  return { key: "head", held: JSON.stringify([name, about, buttons]), make };
 }
 function putPanel(section, branch, drawing, frame, { asked, groups, above, differing }) {
   const reading = now.readings.get(branch.name), { model, who } = now, parts = [headPart(branch)];

@@ -6,6 +6,7 @@ import { inWords } from "./goalwords.js";
 import { rightOptions, startScript } from "./judging.js";
 import { isPredicted, taskOf } from "./tasks.js";
 import { exerciseAfter, exerciseNamed, lessonAfter, markSolved } from "./exercises.js";
+import { counted } from "./labels.js";
 import { withWords } from "./words.js";
 import { element, one, putIfChanged } from "./elements.js";
 import { here, now } from "./state.js";
@@ -87,7 +88,7 @@ function buttons({ of, isDone }, does) {
 function parts(found, state, does) {
   const { met, of } = state, goals = isPredicted(found) ? found.goals : [];
   const left = found.left > 0 && element("p", { class: "wrong" },
-    `${found.left} more lines of goals, questions and options are left out: there are too many.`);
+    `Left out, as there are too many goals, questions or options: ${counted(found.left, "line")}.`);
   return [element("div", { class: "asked" }, asked(found, of),
     found.text.map((it) => element("p", {}, withCommands(it, does)))),
   element("div", {}, found.asks.map((it, at) => question(it, decided.right[at], found, does)),
