@@ -193,7 +193,8 @@ class Answers:
             elif came.startswith(own):
                 place += len(own)
             else:
-                return f"line {k + 1} isn't answered so without lines {sorted(left_out)}"
+                refused = f"the refused lines {[it + 1 for it in sorted(left_out)]}"
+                return f"line {k + 1} has another answer in a run without {refused}"
         else:
             if output[place:]:
                 return "there is more after the last answer"

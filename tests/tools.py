@@ -175,7 +175,7 @@ def faults_of_failures():
     same("what can't be read", shown_of(f"rt: chose\n{lost}\nstatements\n"), [lost])
     same("no such line", shown_of("killed\n" * 30), ["killed"] * 20)
     many = shown_of(f"{lost}\n" * 21)
-    same("more than are shown", many, [lost] * 20 + ["(and 1 more lines of faults)"])
+    same("more than are shown", many, [lost] * 20 + ["(and 1 more line of faults)"])
 
 
 def statements_at(top):

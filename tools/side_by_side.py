@@ -226,7 +226,7 @@ def said_of_failure(log, name):
     how = "in part:" if faults else "which ends:"
     said = f"{name} is not proved; all that its proof said is in {os.path.relpath(log)}, {how}"
     left = len(faults) - LINES_SHOWN
-    more = [f"(and {left} more lines of faults)"] if left > 0 else []
+    more = [f"(and {left} more line{'s' * (left > 1)} of faults)"] if left > 0 else []
     return [said, *(faults[:LINES_SHOWN] or lines[-LINES_SHOWN:]), *more]
 
 

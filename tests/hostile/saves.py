@@ -141,6 +141,7 @@ def limit(counts, room):
     for name, how, want in (
         ("with its signal", {"preexec_fn": limited}, by_signal),
         ("without its signal", {"preexec_fn": limited_and_ignoring}, FAILED),
+        # `./towerbench` ignores the signal
         ("by ./towerbench", {"preexec_fn": limited, "executable": f"{TOP}/towerbench"}, FAILED),
     ):
         path = put(words[-1], OLD)

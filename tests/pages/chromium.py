@@ -21,7 +21,10 @@ def found():
 
 
 class Browser:
-    """One Chromium with a fresh profile and one page; `complaints` are the lines of its console and its faults."""
+    """One Chromium with a fresh profile and one page.
+
+    `complaints` has what its console says and the exceptions that it throws.
+    """
 
     def __init__(self, program):
         self.room = tempfile.mkdtemp(prefix="towerbench-")

@@ -164,7 +164,7 @@ def lit_writes(page, reader, name):
     """Clicks on each read that returned, and compares the writes that light up and the first word of the sentence."""
     found, length = reader.branch(name)
     verdicts = {line.split()[0]: line.split()[-1] for line in found[f"verdict {name} {length}"]}
-    ends = {}
+    count = 0
     for begun, writes in overlapped(found[f"history {name} {length}"]).items():
         if not page.count(f'.panel.focus .operation.read[data-at="{begun}"]'):
             continue
@@ -184,15 +184,13 @@ def lit_writes(page, reader, name):
             sorted(it for it in writes if it in drawn),
             f"{name}, the read of step {begun}",
         )
-        ends[begun] = page.said()
-        holds("doesn't show why" not in ends[begun], ends[begun])
-        holds(
-            any(f"{it}:" in ends[begun].lower() for it in {*verdicts.values()})
-            or "no verdict" in ends[begun],
-            ends[begun],
-        )
+        said = page.said()
+        holds("doesn't show why" not in said, said)
+        is_named = any(f"{it}:" in said.lower() for it in {*verdicts.values()})
+        holds(is_named or "no verdict" in said, said)
         page.key("Escape")
-    return len(ends)
+        count += 1
+    return count
 
 
 def all_documents(names):
