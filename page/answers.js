@@ -4,6 +4,7 @@ import { found, hasSearch, stopSearch } from "./engine.js";
 import { panelRows, readRows } from "./answerrows.js";
 import { LIMITS, firstQuestion, isTooMany, keyOf, listsIn } from "./questions.js";
 import { operationsIn, questionIn, questionOf, sentenceOf, textOf } from "./questions.js";
+import { pickedRead } from "./whys.js";
 import { one, putIfChanged } from "./elements.js";
 import { now } from "./state.js";
 
@@ -75,10 +76,6 @@ export function putAnswers(gestures) {
   one("[data-tab=answers]").hidden = !hasSearch();
   if (panel.tower !== now.model.tower) other();
   put();
-}
-function pickedRead() {
-  const { picked } = now.view, run = picked && now.readings.get(picked.name)?.run;
-  return run?.operations.find((it) => it.kind === "read" && it.begun === picked.begun);
 }
 // asks which values the picked read could have given
 export async function askOfPicked() {

@@ -15,8 +15,8 @@ export function groupsOf({ tower, codes }, readings) {
     reading.cells.forEach((runs, number) => isUsed(runs) && used.add(number));
   for (const number of [...used].sort((a, b) => a - b)) {
     const register = side && Math.floor(number * side ** 2 / cells);
-    const one = codes?.registers[0]?.name || "";
-    const name = side ? `R[${Math.floor(register / side)}][${register % side}]` : one;
+    const single = codes?.registers[0]?.name || "";
+    const name = side ? `R[${Math.floor(register / side)}][${register % side}]` : single;
     groups.set(name, [...(groups.get(name) || []), number]);
   }
   return groups;

@@ -55,7 +55,7 @@ function cellsOf(it, columns, open) {
   if (it.fault) return [name, element("td", { class: "wrong", colspan: columns + 4 }, it.fault)];
   const met = it.met.filter(Boolean).length, { title } = it.judge;
   const of = title && element("small", {}, ` exercise ${title}`);
-  const said = (...words_) => element("td", {}, ...words_);
+  const said = (...parts) => element("td", {}, ...parts);
   const goal = (_, at) => element("td", { class: it.met[at] && "met", title: it.goals[at]?.text },
     at < it.goals.length ? (it.met[at] ? MET : UNMET) : "");
   return [name, said(`${met} of ${it.goals.length}`, of), ...Array.from({ length: columns }, goal),

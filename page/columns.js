@@ -40,8 +40,8 @@ function wideSteps(branches) {
   return wide;
 }
 function wideStepsOf(branch, page) {
-  const { length } = branch, isRun = (kind) => ["history", "verdict"].includes(kind);
-  const only = (kind) => (isRun(kind) ? page(kind, length) : null);
+  const { length } = branch, isOfAllSteps = (kind) => ["history", "verdict"].includes(kind);
+  const only = (kind) => (isOfAllSteps(kind) ? page(kind, length) : null);
   const { run } = new Reading(branch, length, length, only), layers = layersOf(now.model.shape);
   const all = { run, operations: run.operations, from: 0, to: length };
   const nested = new Layers(all, page).roots.flatMap((root) =>

@@ -86,7 +86,7 @@ function breakAdder(processes, does) {
   const bit = form({ hidden: "" }, set, "bit ", inputs[0], " is ", inputs[1], " ",
     element("button", {}, "set"));
   add.onchange = () => {
-    if (add.value === "bit") bit.hidden = !(add.hidden = true);
+    if (add.value === "bit") [add.hidden, bit.hidden] = [true, false];
     else does.edit(`break ${add.value}`);
   };
   return [add, bit];
@@ -113,7 +113,7 @@ function putSessions(does) {
   one("#leave").onclick = () => does.edit("leave");
 }
 // what the cursor's place asks for, or else what a picked read or the step before it did
-function sayWhatIs(hit, does) {
+function sayOfPlace(hit, does) {
   const { name, place, branch } = here(), run = runHere(), picked = pickedRead();
   const events = run.eventsAt(place - 1);
   const compared = comparison();
@@ -131,8 +131,8 @@ function sayWhatIs(hit, does) {
   const refused = picked?.refusal ? picked
     : !picked && run.operations.find((it) => it.refusal && it.ended === place - 1);
   if (refused) return say(refusalReason(now.model.shape, refused), "why");
-  const isWhole = picked && read.ended !== null && hasSearch();
-  const values = isWhole ? [" ", button("values", "Which values could it give?", null,
+  const isAskable = picked && read.ended !== null && hasSearch();
+  const values = isAskable ? [" ", button("values", "Which values could it give?", null,
     { "data-do": "values" })] : [];
   const story = read && storyOfRead(picked ? now.view.picked.name : name, read)?.words;
   const inside = story ? ` ${story}` : "";
@@ -156,7 +156,7 @@ export function putDeck(does) {
   one("#at").textContent = `${name}, place ${place} of ${branch.length}`;
   Object.assign(one("#place"), { max: branch.length, value: place });
   one("#next").textContent = nextWords();
-  if (!isSaying("message", "refusal", "awaits")) sayWhatIs(found.filter((it) => it.isHit), does);
+  if (!isSaying("message", "refusal", "awaits")) sayOfPlace(found.filter((it) => it.isHit), does);
   // numbers that are being typed stay
   const inputs = [...one("#processes").querySelectorAll("input")];
   const typed = inputs.map((it) => [it.dataset.key, it.value]);

@@ -102,7 +102,7 @@ export function redrawFigures() {
     if (it.target.isConnected) it.draw(it.place);
     else shown.delete(it);
 }
-// the tower without the number's inversions that can take a time line's operations
+// the stamped tower, which has no inversions, that can take the operations of a number's time line
 function secondOf({ tower }, { steps }) {
   const isStamped = (it) => it.startsWith("stamped ");
   return tower.startsWith("unary ") ? othersOf(tower, steps).find(isStamped) : undefined;

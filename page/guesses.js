@@ -6,7 +6,8 @@ import { between } from "./pages.js";
 const MOST_GUESSED = 2000;
 const EDIT = /^[0-9]+ (insert|remove|replace) (\S+) ([0-9]+)(?: |$)/;
 const GO = /^[0-9]+ go (\S+) ([0-9]+)$/;
-const IN_A_RUN = ["history", "verdict"];
+// pages from the first step on, of which a picture has one for each branch
+const OF_ALL_STEPS = ["history", "verdict"];
 // the edits that were added to a document, if they are of the steps of one branch
 function editsAdded(before, { lines }) {
   const old = before.lines.length, isAdded = before.lines.every((it, at) => it === lines[at]);
@@ -21,9 +22,9 @@ export function looksAfterEdits(before, document) {
   const count = (wanted) => edits.filter(({ how }) => how === wanted).length, { name } = branch;
   const first = Math.min(...edits.map(({ place }) => Number(place))), end = branch.length;
   const length = end + count("insert") - count("remove"), looks = new Set();
-  for (const [kind, of, place] of before.sought.filter(([, it]) => it === name)) {
+  for (const [kind, , place] of before.sought.filter(([, it]) => it === name)) {
     const last = place === end ? length : Math.min(place, length), isAtEnd = place === end;
-    if (IN_A_RUN.includes(kind)) looks.add(`${kind} ${name} ${last}`);
+    if (OF_ALL_STEPS.includes(kind)) looks.add(`${kind} ${name} ${last}`);
     else for (const it of between(Math.max(place, first + 1), (isAtEnd ? length : place) + 1))
       if (it <= length) looks.add(`${kind} ${name} ${it}`);
   }
@@ -33,7 +34,8 @@ export function looksAfterEdits(before, document) {
 export function looksAfterMove(before, { lines }) {
   const [, name, place] = GO.exec(lines.at(-1)) || [], branch = before.branch(name);
   if (!branch || Number(place) > branch.length) return [];
-  const kinds = new Set(before.sought.map(([kind]) => kind).filter((it) => !IN_A_RUN.includes(it)));
-  return [...kinds].filter((kind) => !before.page(kind, name, Number(place)))
+  const kinds = new Set(before.sought.map(([kind]) => kind));
+  const ofPlaces = [...kinds].filter((it) => !OF_ALL_STEPS.includes(it));
+  return ofPlaces.filter((kind) => !before.page(kind, name, Number(place)))
     .map((kind) => `${kind} ${name} ${place}`);
 }

@@ -47,8 +47,7 @@ addEventListener("click", ({ target, clientX }) => {
   else if (at(".operation.read")) clickRead(branch, at(".operation.read").dataset);
   else if (at("[data-select]")) focusOn(at("[data-select]").dataset.select);
   else if (at(".drawn"))
-    move(({ name }) => ({ name: branch || name,
-      place: placeAt(clientX) }));
+    move(({ name }) => ({ name: branch || name, place: placeAt(clientX) }));
 });
 for (const it of [one("#panels"), one("#tree-fold")])
   it.addEventListener("toggle", ({ target }) => {

@@ -20,7 +20,7 @@ export const spent = { pages: 0, runs: 0, lines: 0 };
 const countLines = (text) => text.split("\n").length - 1;
 // `isSaved` asks for the branches' next version too, which takes time if the document is large
 async function answered(ask, tower, script, isSaved = false) {
-  const isBig = tower.length > ROOM && tower.split("\n").length - 3 > ROOM;
+  const isBig = tower.length > ROOM && countLines(tower) - 2 > ROOM;
   const made = await ask(tower, script, { isSaved, ...(isBig ? { words: MORE_ROOM } : {}) });
   spent.runs++;
   spent.lines += countLines(made.output) + countLines(made.bench);

@@ -22,7 +22,7 @@ function insidePage({ name, text }) {
   return { name, tower: given.tower || "", script: given.script };
 }
 const stemOf = (name) => name.replace(/\.[a-z]+$/i, "");
-function taken(found, it) {
+function take(found, it) {
   const stem = stemOf(it.name), made = found.get(stem) || { name: stem };
   found.set(stem, made);
   if (!isPage(it)) made[isTower(it) ? "tower" : "script"] = it.text;
@@ -34,7 +34,7 @@ function taken(found, it) {
 // it names itself, or with this page's; `isNamed` is false if it goes with this page's tower.
 export function documentsOf(texts) {
   const found = new Map();
-  for (const it of texts) taken(found, it);
+  for (const it of texts) take(found, it);
   return [...found.values()].map(({ name, tower = "", script = "", fault }) => {
     const given = tower || towerIn(taskOf(Document.of("", script).lines));
     return { name, tower: given || now.document.tower, script, fault, isNamed: Boolean(given) };

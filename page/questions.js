@@ -87,12 +87,12 @@ export function listsIn(output) {
   for (const line of output.split("\n").slice(0, -1)) {
     const [kind, ...words] = line.split(" ");
     if (kind === "states") states = Number(words[0]);
-    else if (kind === "answers") lists.push({ answers: answersIn(words), steps: [] });
+    else if (kind === "answers") lists.push({ answers: answersByProcess(words), steps: [] });
     else if (kind !== "lists" && line) lists.at(-1).steps.push(line);
   }
   return { states, lists };
 }
-function answersIn(words) {
+function answersByProcess(words) {
   const found = new Map();
   let last = null;
   for (const word of words)

@@ -17,8 +17,8 @@ const isAsked = (it) => /^# (goal|ask|option)\b/.test(it);
 const rows = (text) => text.split("\n").map((it) => it.trim()).filter(Boolean);
 // the address of the page on the web, which is typed once
 function baseAddress() {
-  const here_ = location.protocol === "file:" ? "" : location.href.split("#")[0];
-  return remembered("base") || packedData().base || here_;
+  const own = location.protocol === "file:" ? "" : location.href.split("#")[0];
+  return remembered("base") || packedData().base || own;
 }
 // the page with a document inside, which opens by a double click
 export function pageWith(document, base) {

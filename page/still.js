@@ -76,7 +76,7 @@ function drawnIn({ name, length, parent, shared }, branches) {
 }
 const evenly = (most, perRow) => Math.ceil(most / Math.ceil(Math.max(1, most) / perRow)) || 1;
 // The branches of a model in rows of columns; each row is an element `svg` and its size. The pages
-// must be there. `many`: how many columns a row has, at most `perRow`
+// must be there. `count`: how many columns a row has; without it they are even, of at most `perRow`
 export function stillRows(model, branches, { most, column = 76, perRow = 24, count }) {
   if (!count) return stillRows(model, branches, { most, column, count: evenly(most, perRow) });
   const rows = [], width = count * column + MARGIN;
