@@ -157,9 +157,9 @@ def went(question, steps, lines):
     answers = {p: [] for p in question.operations}
     begun, stopped, voids, is_allowed, chosen = collections.Counter(), set(), 0, True, None
     for line in lines:
-        index, process, kind, *words = line.split() if line.strip() != "none" else ("", "", "")
-        if not kind:
+        if line.strip() == "none":
             continue
+        index, process, kind, *words = line.split()
         p = int(process[1:])
         if kind == "void":
             voids += 1
@@ -266,11 +266,9 @@ def fault_of_random(bench, question, listed, count):
     rng = random.Random(f"{SEED} {question.text}")
     # No operation in a listed schedule is longer
     most = max(
-        [
-            sum(s.startswith(f"g {p} ") for s in it.steps)
-            for it in listed
-            for p in question.operations
-        ]
+        sum(step.startswith(f"g {p} ") for step in it.steps)
+        for it in listed
+        for p in question.operations
     )
     for first in range(0, count, BRANCHES):
         some = [schedule(question, most, rng) for _ in range(min(BRANCHES, count - first))]

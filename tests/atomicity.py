@@ -324,11 +324,8 @@ def said_of(code):
 
 def ended(matrix, state, p, work):
     """Returns the state with p's operation moved on, and what is said if it has ended."""
-    is_over = work.written == matrix.processes
-    is_over = (
-        is_over or work.read == matrix.processes and work.value is None and not matrix.writes_back
-    )
-    if not is_over:
+    has_read = work.read == matrix.processes and work.value is None
+    if work.written < matrix.processes and (matrix.writes_back or not has_read):
         return state._replace(works=put(p, work, state.works)), ""
     kind, value = (WROTE, None) if work.value is not None else (GOT, work.code.value)
     ranks = ranks_after(state.ranks, Event(p, kind, value))

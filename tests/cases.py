@@ -4,7 +4,7 @@ NAME.script and NAME.expected, what standard output says, may come with
 - NAME.tower    the tower file, which is the first word of the command line
 - NAME.bench    the same, a bench file
 - NAME.saved    the saved file, whose path is then named by `--save`
-- NAME.words    further words, parted as a shell parts them
+- NAME.words    further words, split as a shell splits them
 - NAME.status   the exit status, if it isn't 0
 - NAME.errors   what standard error says, if it says anything
 Each may be made: NAME.KIND.make is a line of shell, run in the case's folder, that writes it.
@@ -39,8 +39,8 @@ Case = collections.namedtuple("Case", "script words output status errors saved s
 Ran = collections.namedtuple("Ran", "output status errors")
 
 
-class Spoilt(Exception):
-    """A case that can't be read as one."""
+class Failure(Exception):
+    """A test fails, or a case can't be read as one."""
 
 
 def run(program, words, script, environment=None):
@@ -77,12 +77,12 @@ def path_of(name, kind, scratch):
     if not os.path.exists(path + MADE):
         return path if os.path.exists(path) else None
     if os.path.exists(path):
-        raise Spoilt(f"there are both {path} and {path + MADE}")
+        raise Failure(f"there are both {path} and {path + MADE}")
     with open(target, "wb") as file, open(path + MADE, encoding="utf-8") as line:
         folder = os.path.dirname(path)
         made = subprocess.run(["sh", "-c", line.read()], cwd=folder, stdout=file, check=False)
     if made.returncode != 0:
-        raise Spoilt(f"{path + MADE} ended with status {made.returncode}")
+        raise Failure(f"{path + MADE} ended with status {made.returncode}")
     return target
 
 
@@ -96,11 +96,11 @@ def case_of(name, scratch):
     paths = {kind: path_of(name, kind, scratch) for kind in KINDS}
     for kind in ("script", "expected"):
         if paths[kind] is None:
-            raise Spoilt(f"there is no {name}.{kind}")
+            raise Failure(f"there is no {name}.{kind}")
     more = os.fsdecode(read(paths["words"])) if paths["words"] else ""
     status = read(paths["status"]).strip() if paths["status"] else b"0"
     if not status.isdigit():
-        raise Spoilt(f"{name}.status is no number")
+        raise Failure(f"{name}.status is no number")
     save = f"{scratch}/{name.replace('/', '-')}.save" if paths["saved"] else None
     return Case(
         script=paths["script"],
@@ -230,5 +230,5 @@ def row(name):
     """Returns the path of the row of a name."""
     found = [it for it in rows()[0] if own_name(it) == name]
     if not found:
-        raise Spoilt(f"no row is called {name}")
+        raise Failure(f"no row is called {name}")
     return found[0]

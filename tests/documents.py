@@ -161,7 +161,7 @@ def console_faults(lines, at, document):
     return faults
 
 
-def parted(lines):
+def text_and_blocks(lines):
     """Returns the lines of the text, each with its number, the blocks, and what is wrong with their
     fences, each with its number too."""
     text, blocks, wrong, block = [], [], [], None
@@ -201,7 +201,7 @@ def commands_with_programs():
     program's path."""
     found = collections.defaultdict(list)
     for document in documents():
-        for it in parted(cases.read(document).decode().split("\n"))[1]:
+        for it in text_and_blocks(cases.read(document).decode().split("\n"))[1]:
             if it.kind == CONSOLE and it.about:
                 found[f"crates/{it.about}/out/{it.about}"].append((document, it))
     return found
@@ -233,7 +233,7 @@ def faults_of(document):
     """Returns all faults of a document, each with its line."""
     with open(document, encoding="utf-8") as file:
         lines = file.read().split("\n")
-    text, blocks, found = parted(lines)
+    text, blocks, found = text_and_blocks(lines)
     for number, line in enumerate(lines, 1):
         is_wide = SCREENS.fullmatch(document) or line.lstrip().startswith("|")
         if len(line) > MOST_COLUMNS and not is_wide:

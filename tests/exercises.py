@@ -16,6 +16,7 @@ import tempfile
 import threading
 
 import quotes
+from pages import build
 from trials import Test
 
 TOP = os.path.dirname(os.path.dirname(os.path.realpath(__file__)))
@@ -79,11 +80,7 @@ def judged(program, names, tried):
             }
         )
     with tempfile.TemporaryDirectory() as temporary:
-        shutil.copytree(f"{TOP}/page", f"{temporary}/page")
-        shutil.copy(f"{TOP}/tests/pages/goals.mjs", temporary)
-        # Node then takes each file for a module
-        with open(f"{temporary}/package.json", "w", encoding="ascii") as file:
-            file.write('{ "type": "module" }')
+        build.put_modules(temporary, "goals.mjs")
         done = subprocess.run(
             ["node", f"{temporary}/goals.mjs", os.path.abspath(program), temporary],
             input=json.dumps(asked),

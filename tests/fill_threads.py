@@ -42,7 +42,7 @@ def started(program, counts, branches, workers, scratch):
     environment = {**os.environ, "LD_PRELOAD": counts, "THREADS_MARK": mark}
     ran = cases.run(program, words, b"0 fill main\n", environment)
     if (ran.status, ran.output) != (0, b"0: filled\n"):
-        raise cases.Spoilt(f"a fill of {branches} branches: {ran}")
+        raise cases.Failure(f"a fill of {branches} branches: {ran}")
     return os.path.getsize(mark) if os.path.exists(mark) else 0
 
 

@@ -6,7 +6,7 @@ script may be
 - the ample answers, but of lines that are answered the refusal of memory, no more of them than
   growths were refused: the answers of the other lines are then those of a run of the script without
   these lines, which is run too;
-- a front of such answers, and the fault `towerbench: memory` with status 1;
+- a prefix of such answers, and the fault `towerbench: memory` with status 1;
 - nothing at all, and the fault of the file or of the opening, `40 Memory`, with status 1;
 - if the branches are saved, the whole answers, and the fault `towerbench: memory` with status 1.
 Nothing else; and if a look or a fill has another refusal due, it isn't answered `40 Memory`. The
@@ -94,10 +94,6 @@ UNOPENED = re.compile(rb"^towerbench: (file line 0:|open refused) 40 Memory$", r
 Trial = collections.namedtuple("Trial", "name words in_a_row")
 
 
-class Odd(cases.Spoilt):
-    """Something came out that may not."""
-
-
 def compiled(scratch):
     """Returns the path of what refuses growths; None: there is no C compiler here."""
     if shutil.which("cc") is None:
@@ -141,7 +137,7 @@ def each_refused(refuse, mark, in_a_row, work):
     while past < RUNS_PAST_THE_LAST:
         number += 1
         if number > MOST_GROWTHS:
-            raise Odd("no end of the growths")
+            raise cases.Failure(f"there are more than {MOST_GROWTHS} growths")
         if os.path.exists(mark):
             os.remove(mark)
         given = {"LD_PRELOAD": refuse, "REFUSED_GROWTH": str(number), "REFUSED_MARK": mark}
@@ -150,7 +146,7 @@ def each_refused(refuse, mark, in_a_row, work):
         total += refused()
         past = past + 1 if is_ample and not refused() else 0
     if total == 0:
-        raise Odd("no growth was refused")
+        raise cases.Failure("no growth was refused")
     return total
 
 
@@ -159,22 +155,22 @@ class Answers:
 
     def __init__(self, run, script):
         """Run gives the output of a script."""
-        self.run, self.lines, self.fronts = run, script.splitlines(keepends=True), {}
+        self.run, self.lines, self.prefixes = run, script.splitlines(keepends=True), {}
 
-    def front(self, count, left_out):
+    def prefix(self, count, left_out):
         """Returns the answers to the first `count` lines."""
         key = count, frozenset(it for it in left_out if it < count)
-        if key not in self.fronts:
+        if key not in self.prefixes:
             kept = [b"\n" if k in key[1] else it for k, it in enumerate(self.lines[:count])]
-            self.fronts[key] = self.run(b"".join(kept))
-        return self.fronts[key]
+            self.prefixes[key] = self.run(b"".join(kept))
+        return self.prefixes[key]
 
     def rest(self, count, left_out):
         """Returns the answers to the lines after the first `count`."""
-        return self.front(len(self.lines), left_out)[len(self.front(count, left_out)) :]
+        return self.prefix(len(self.lines), left_out)[len(self.prefix(count, left_out)) :]
 
     def fault(self, output, is_whole, most_refused):
-        """Returns how an output, or the front of one, isn't as it may be; None: it is.
+        """Returns what is wrong with an output, or with a prefix of one; None: nothing.
 
         At most `most_refused` lines may be refused memory.
         """
@@ -203,27 +199,27 @@ class Answers:
 
 
 def fault_of_run(ran, answers, refused):
-    """Returns how a run in which `refused` growths were refused isn't as it may be, or None."""
+    """Returns what is wrong with a run in which `refused` growths were refused, or None."""
     if ran.status == 0:
         return answers.fault(ran.output, True, refused)
     if ran.status != 1 or refused == 0:
-        return "no such end"
+        return "it may not end so"
     if MEMORY.search(ran.errors):
         # The last growth in the count was refused after the last line
         return answers.fault(ran.output, False, refused - 1)
     if ran.output or not UNOPENED.search(ran.errors):
-        return "no such fault"
+        return "its fault isn't of memory"
     return None
 
 
 def fault_of_order(trial, ran):
-    """Returns how a refusal isn't the first that is due, or None."""
+    """Returns which refusal was due before that of memory, or None."""
     is_due = os.path.basename(trial.name) in REFUSED_OTHERWISE
     return "another refusal is due" if is_due and REFUSED in ran.output else None
 
 
 def fault_of_save(case, ran):
-    """Returns how what a run saved isn't as it may be, or None."""
+    """Returns what is wrong with what a run saved, or None."""
     if not case.save:
         return None
     if ran.status != 0:
@@ -251,7 +247,9 @@ def fault_of_script(trial, program, refuse, scratch):
         wrong = fault_of_run(ran, ample, refused())
         wrong = wrong or fault_of_order(trial, ran) or fault_of_save(case, ran)
         if wrong:
-            raise Odd(f"from growth {number} on, {refused()} refused: {wrong}: {said(ran)}")
+            raise cases.Failure(
+                f"from growth {number} on, {refused()} refused: {wrong}: {said(ran)}"
+            )
         return ran.status == 0 and ran.output == case.output
 
     total = each_refused(refuse, f"{temporary}/mark", trial.in_a_row, work)
@@ -278,7 +276,7 @@ def fault_of_test(path, test, in_a_row, refuse, scratch):
     def work(number, environment, _):
         ran = cases.run(path, [test], b"", environment)
         if ran.status != 0:
-            raise Odd(f"from growth {number} on: not allowed: {said(ran)}")
+            raise cases.Failure(f"from growth {number} on: not allowed: {said(ran)}")
         return True
 
     each_refused(refuse, f"{tempfile.mkdtemp(dir=scratch)}/mark", in_a_row, work)

@@ -4,10 +4,10 @@ The pages are those that tools/handout makes from the lessons, the guide and the
 """
 import functools
 import html.parser
-import importlib.machinery
-import importlib.util
 import os
 import re
+
+from tools import loaded
 
 VOID = ("meta", "br", "hr", "img")
 AS_IT_IS = ("pre", "code", "style")
@@ -21,14 +21,8 @@ class Reader(html.parser.HTMLParser):
 
     def __init__(self):
         super().__init__()
-        self.open, self.links, self.names, self.faults, self.text, self.code = (
-            [],
-            [],
-            set(),
-            [],
-            "",
-            "",
-        )
+        self.open, self.links, self.names, self.faults = [], [], set(), []
+        self.text = self.code = ""
 
     def handle_starttag(self, tag, attributes):
         found = dict(attributes)
@@ -58,10 +52,7 @@ def read(text):
 @functools.lru_cache(None)
 def tool():
     """Returns tools/handout as a module."""
-    loader = importlib.machinery.SourceFileLoader("handout", "tools/handout")
-    module = importlib.util.module_from_spec(importlib.util.spec_from_loader("handout", loader))
-    loader.exec_module(module)
-    return module
+    return loaded("tools/handout")
 
 
 def fault_of_link(link, path, readers, others):
@@ -72,11 +63,8 @@ def fault_of_link(link, path, readers, others):
         return None
     if there not in readers:
         return f"{link} leads nowhere"
-    return (
-        None
-        if not anchor or anchor in readers[there].names
-        else f"{link}: {there} has no such part"
-    )
+    is_there = not anchor or anchor in readers[there].names
+    return None if is_there else f"{link}: {there} has no such part"
 
 
 def fault():

@@ -56,7 +56,7 @@ def written_out(line):
     return [f"{head}{place} {step}" for place, step in enumerate(steps, int(first))]
 
 
-def parted(page):
+def text_and_blocks(page):
     """Returns a page's text without its blocks, and of each block its mark and its lines."""
     text, blocks, is_inside = [], [], False
     for line in page.read_text(encoding="ascii").splitlines():
@@ -103,7 +103,7 @@ def quotes_faults(page, name, lines):
 
 
 def page_faults(page):
-    text, blocks = parted(page)
+    text, blocks = text_and_blocks(page)
     transcripts = {it.stem: [] for it in page.parent.glob("*.script")}
     for mark, lines in blocks:
         kind, _, name = mark.partition(" ")

@@ -49,7 +49,7 @@ Operation = collections.namedtuple("Operation", "process what begun ended ending
 Column = collections.namedtuple("Column", "first last begin end")
 
 
-class Odd(Exception):
+class Unreadable(Exception):
     """A time line that can't be read as one."""
 
 
@@ -61,7 +61,7 @@ def columns_of(line):
         found.append(Column(int(first), int(last or first), word.start(), word.end()))
     steps = [step for it in found for step in range(it.first, it.last + 1)]
     if steps != list(range(len(steps))):
-        raise Odd("its steps aren't 0, 1, 2, ..")
+        raise Unreadable("its steps aren't 0, 1, 2, ..")
     return found
 
 
@@ -70,7 +70,7 @@ def texts_by_step(line, columns):
     found, begins = {}, {it.begin: it for it in columns}
     for word in list(re.finditer(r"\S+", line))[1:]:
         if word.start() not in begins:
-            raise Odd(f"{word.group()} is over no step: {line}")
+            raise Unreadable(f"{word.group()} is over no step: {line}")
         column = begins[word.start()]
         found.update(dict.fromkeys(range(column.first, column.last + 1), word.group()))
     return found
@@ -85,11 +85,11 @@ def bars(process, line, columns):
         what, mark, short, is_refused = bar.groups()
         ending = ENDINGS[mark] if mark else "refused" if is_refused else "returned"
         if begun is None or (ended is None and mark in ("|", "x")):
-            raise Odd(f"a bar begins or ends over no step: {line}")
+            raise Unreadable(f"a bar begins or ends over no step: {line}")
         ended = begun if short else None if ending == "pending" else ended
         found.append(Operation(process, what or short, begun, ended, ending))
     if rest:
-        raise Odd(f"what is no bar: {rest}")
+        raise Unreadable(f"what is no bar: {rest}")
     return found
 
 
@@ -97,7 +97,7 @@ def rows_of_page(lines):
     """Returns the operations of a block, and its other rows, each as texts by step."""
     rows = {line.split()[0]: line for line in lines}
     if len(rows) != len(lines) or not {"step", "does"} <= set(rows):
-        raise Odd("it lacks a row `step` or `does`, or has a row twice")
+        raise Unreadable("it lacks a row `step` or `does`, or has a row twice")
     columns = columns_of(rows.pop("step"))
     processes = [it for it in rows if re.fullmatch(r"p\d", it)]
     operations = [one for it in processes for one in bars(it, rows.pop(it), columns)]
@@ -118,7 +118,7 @@ def ask(program, path, looks):
     ran = cases.run(program, [tower], asked.encode())
     pages = re.findall(rf"^{LOOK}: (.*)\n((?:  .*\n)*)", ran.output.decode("ascii"), re.M)
     if ran.status != 0 or len(pages) != len(looks) or any("refused" in head for head, _ in pages):
-        raise Odd(f"{path}: the program doesn't answer: {pages[-1:]}")
+        raise Unreadable(f"{path}: the program doesn't answer: {pages[-1:]}")
     return [[line[2:] for line in lines.splitlines()] for _, lines in pages]
 
 
@@ -195,7 +195,7 @@ def fault_of_block(program, folder, words, lines):
 def fault_of(path, program):
     """Returns what is wrong with the time lines of a page, or nothing."""
     folder = os.path.dirname(path)
-    text, blocks = quotes.parted(quotes.TOP / path)
+    text, blocks = quotes.text_and_blocks(quotes.TOP / path)
     timelines = [
         (mark.split()[1:], lines) for mark, lines in blocks if mark.split()[:1] == ["timeline"]
     ]
@@ -205,8 +205,8 @@ def fault_of(path, program):
     for words, lines in timelines:
         try:
             faults.append(fault_of_block(program, folder, words, lines))
-        except Odd as odd:
-            faults.append(f"{' '.join(words)}: {odd}")
+        except Unreadable as fault:
+            faults.append(f"{' '.join(words)}: {fault}")
     return "; ".join(it for it in faults if it)
 
 
@@ -224,7 +224,7 @@ def inner_bars(line, columns):
             None,
         )
         if begun is None or (bar[2] == "|" and ended is None):
-            raise Odd(f"a bar begins or ends over no step: {line}")
+            raise Unreadable(f"a bar begins or ends over no step: {line}")
         found.append((begun, None if bar[2] == ">" else ended, bar[1]))
     return found
 

@@ -35,7 +35,7 @@ ENDED = "checked: all\nrun=ended status={} steps=1\n"
 
 def same(what, got, wanted):
     if got != wanted:
-        raise cases.Spoilt(f"{what}: {got!r}, and {wanted!r} is right")
+        raise cases.Failure(f"{what}: {got!r}, and {wanted!r} is right")
 
 
 def loaded(path):
@@ -290,9 +290,9 @@ def words_of_first_run():
     twice = ["--save", "s", "--save=t"]
     same("two saves", first.without_save(twice), twice)
     with tempfile.TemporaryDirectory() as temporary:
-        first.kept(io.BytesIO(b"abcdef"), f"{temporary}/kept", 3)
+        first.keep(io.BytesIO(b"abcdef"), f"{temporary}/kept", 3)
         same("kept of a long stream", cases.read(f"{temporary}/kept"), b"abcd")
-        same("a folder is kept", first.kept_file(temporary, f"{temporary}/none"), False)
+        same("a folder is kept", first.keep_file(temporary, f"{temporary}/none"), False)
 
 
 def first_run(early, program, words=(), has_rt=True):

@@ -14,7 +14,7 @@ def outcome(test):
     """Returns what is wrong with a test, or nothing."""
     try:
         return test.work()
-    except (cases.Spoilt, OSError, ValueError, subprocess.SubprocessError) as error:
+    except (cases.Failure, OSError, ValueError, subprocess.SubprocessError) as error:
         return str(error)
 
 

@@ -27,7 +27,7 @@ JOBS_OF_A_CHECK = 4
 LINES_LOADED_AS_ONE = 7
 # The last in the queue for a processor, as `nice` counts.
 NICEST = 19
-SECONDS_BETWEEN_NEWS = 60
+SECONDS_BETWEEN_REPORTS = 60
 # Builds in another order, each by one processor, to see that their bytes are the same (tools/twice).
 IS_BACKWARD = os.environ.get("TOWERBENCH_ORDER") == "backward"
 LINES_SHOWN = 20
@@ -274,9 +274,8 @@ def processors():
 def lanes():
     """Returns how many checks may run side by side: as many as memory holds, at most two for each processor, and at least one."""
     free = 1024 * (number_in("/proc/meminfo", r"MemAvailable:\s+(\d+)") or 0)
-    limit, held = number_in("/sys/fs/cgroup/memory.max", r"(\d+)"), number_in(
-        "/sys/fs/cgroup/memory.stat", r"anon (\d+)"
-    )
+    limit = number_in("/sys/fs/cgroup/memory.max", r"(\d+)")
+    held = number_in("/sys/fs/cgroup/memory.stat", r"anon (\d+)")
     if limit and held is not None:
         free = min(free, limit - held)
     # A check uses one processor for half of its time, so more checks than processors keep these busy
@@ -325,7 +324,7 @@ def run_side_by_side(tasks, show):
                     running[pool.submit(tasks[key].work, jobs, niceness)] = key, time.monotonic()
                 now = time.monotonic()
                 show(done, {key: now - since for key, since in running.values()})
-                for it in wait(running, SECONDS_BETWEEN_NEWS, FIRST_COMPLETED).done:
+                for it in wait(running, SECONDS_BETWEEN_REPORTS, FIRST_COMPLETED).done:
                     key, since = running.pop(it)
                     if it.result():
                         done[key] = time.monotonic() - since

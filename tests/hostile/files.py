@@ -96,7 +96,7 @@ def replacements(data):
 # What bytes are put in, and how many files are changed at more than one place.
 BYTES = b"0123456789 \nwrgxtowerbranch"
 MIXED = 300
-# Numbers at the limits of each tower's, and just past them.
+# Numbers at each tower's limits, and just past them.
 EDGES = {
     "safe": [(0, 1, 2)],
     "copies": [(0, 1, 4, 5), (0, 1, 2)],

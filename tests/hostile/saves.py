@@ -32,7 +32,7 @@ def put(path, data):
     return path
 
 
-def at(path):
+def bytes_at(path):
     """Returns the bytes of a file, or None."""
     if not os.path.exists(path):
         return None
@@ -46,7 +46,7 @@ def words_of(source, path):
 
 def same_file(counts, name, path, want, has_left=False):
     """Holds a file to these bytes, and its folder to what a save may leave there."""
-    got = at(path)
+    got = bytes_at(path)
     wrong = None if got == want else f"it has {'no file' if got is None else f'{len(got)} bytes'}"
     counts.count(name, wrong)
     is_left = os.path.exists(path + LEFT)
@@ -86,7 +86,7 @@ def kills(counts, room):
     for number in range(KILLS):
         put(path, OLD)
         killed_save(words, chance.uniform(0, span))
-        got = at(path)
+        got = bytes_at(path)
         olds += got == OLD
         lefts += os.path.exists(path + LEFT)
         counts.count(
@@ -182,7 +182,7 @@ def pipe(counts, room):
     """A named pipe, which is written in place."""
     counts.begin("saves: a named pipe")
     path, got = made_pipe(f"{room}/pipe"), []
-    reader = threading.Thread(target=lambda: got.append(at(path)), daemon=True)
+    reader = threading.Thread(target=lambda: got.append(bytes_at(path)), daemon=True)
     reader.start()
     counts.same("it", ended(words_of(f"{room}/little", path)), good(b""))
     reader.join(SECONDS)

@@ -9,8 +9,8 @@ import time
 from runs import SECONDS, Ended, ended, fault, good, program
 
 TOWER = b"tower 1\nsafe 0\nr 1\ng 1 0\ng 1 0\n"
-# A script, and what each of its lines is answered over that tower. No front of a line says anything
-# else, so a line that is cut is a bad one.
+# A script, and what each of its lines is answered over that tower. No prefix of a line is
+# another command, so a line that is cut is a bad one.
 TALK = (
     (b"0 fork main 3 a\n", b"0: edit 1\n"),
     (b"1 join\n", b"1: joined\n"),
@@ -39,7 +39,7 @@ def closing(*streams):
     return {"preexec_fn": lambda: [os.close(it) for it in streams]}
 
 
-def text_at(path, data):
+def put(path, data):
     with open(path, "wb") as file:
         file.write(data)
     return path
@@ -55,7 +55,7 @@ def kept(counts, path, data):
 def lost_output(counts, room):
     """Standard output that takes nothing."""
     counts.begin("streams: standard output")
-    path = text_at(f"{room}/tower", TOWER)
+    path = put(f"{room}/tower", TOWER)
     for name, words in (("answers", [path]), ("the help", ["--help"])):
         got = ended(words, SCRIPT, stdout=None, **closing(1))
         counts.same(f"{name} to a closed one", got, NO_WRITE)
@@ -111,9 +111,9 @@ def lost_errors(counts, room):
     """Standard error that takes nothing: the status is kept."""
     counts.begin("streams: standard error")
     paths = {
-        "tower": text_at(f"{room}/tower", TOWER),
+        "tower": put(f"{room}/tower", TOWER),
         "absent": f"{room}/absent",
-        "broken": text_at(f"{room}/broken", b"tower 3\n"),
+        "broken": put(f"{room}/broken", b"tower 3\n"),
     }
     for name, words, script, status in ENDINGS:
         words = [paths.get(it, it) for it in words or ["tower"]]
@@ -133,7 +133,7 @@ def lost_errors(counts, room):
 def lost_input(counts, room):
     """Standard input that gives nothing, or fails."""
     counts.begin("streams: standard input")
-    path = text_at(f"{room}/tower", TOWER)
+    path = put(f"{room}/tower", TOWER)
     for name, words in (("without a file", []), ("over a file", [path])):
         counts.same(f"closed, {name}", ended(words, None, stdin=None, **closing(0)), NO_READ)
     folder = os.open(room, os.O_RDONLY)
@@ -194,7 +194,7 @@ def cut_answers(count):
 
 def slow_scripts(counts, room):
     """A script by bytes and by two pieces, and one that ends in the middle of a line."""
-    path = text_at(f"{room}/tower", TOWER)
+    path = put(f"{room}/tower", TOWER)
     counts.begin("streams: a script by pieces")
     bytewise = [SCRIPT[i : i + 1] for i in range(len(SCRIPT))]
     counts.same("a byte a write", given_slowly([path], bytewise), good(ANSWERS))
@@ -212,7 +212,7 @@ def slow_scripts(counts, room):
 def long_scripts(counts, room):
     """Scripts at their limit of bytes, and without an end."""
     counts.begin("streams: long scripts")
-    path = text_at(f"{room}/tower", TOWER)
+    path = put(f"{room}/tower", TOWER)
     last, answer = TALK[-1]
     room_left = LIMIT - 1 - len(SCRIPT) - len(last)
     for name, padding in (
@@ -250,7 +250,7 @@ def unending(counts, path):
     counts.count("how much of it is taken", f"{taken} bytes" if is_much else None)
 
 
-def said(process, line):
+def give(process, line):
     """Gives a run a line, unless it reads no more."""
     try:
         process.stdin.write(line)
@@ -264,7 +264,7 @@ def read_until_gone(path, count):
     for line, answer in TALK:
         if left == 0 and not process.stdout.closed:
             process.stdout.close()
-        said(process, line)
+        give(process, line)
         wanted = min(left, len(answer))
         while wanted:
             taken = len(process.stdout.read(wanted))
@@ -278,7 +278,7 @@ def read_until_gone(path, count):
 
 def gone_readers(counts, room):
     """Answers of which a reader takes some bytes, or for which a file is that long at most."""
-    path = text_at(f"{room}/tower", TOWER)
+    path = put(f"{room}/tower", TOWER)
     counts.begin("streams: a reader that is gone after its k-th byte")
     unseen = len(ANSWERS) - len(TALK[-1][1])
     for count in range(len(ANSWERS) + 1):
@@ -313,7 +313,7 @@ def long_answers(counts, room):
     """One answer that is longer than a pipe, of which a reader takes some bytes."""
     counts.begin("streams: a reader that is gone within a long answer")
     steps = 20_000
-    path = text_at(f"{room}/long", b"tower 1\nsafe 0\n" + b"r 1\n" * steps)
+    path = put(f"{room}/long", b"tower 1\nsafe 0\n" + b"r 1\n" * steps)
     page = f"0: steps main {steps}\n".encode() + b"".join(b"  %d r 1\n" % i for i in range(steps))
     for count in (
         0,
@@ -327,7 +327,7 @@ def long_answers(counts, room):
         len(page) - PIPE_BYTES - 4096,
     ):
         process, taken = begun([path]), b""
-        said(process, b"0 steps main\n")
+        give(process, b"0 steps main\n")
         while len(taken) < count:
             piece = process.stdout.read(count - len(taken))
             if not piece:
@@ -336,7 +336,7 @@ def long_answers(counts, room):
         process.stdout.close()
         process.stdout = None
         counts.same(f"{count} bytes", outcome(process), NO_WRITE)
-        wrong = None if taken == page[:count] else "it is no front of the page"
+        wrong = None if taken == page[:count] else "it is no prefix of the page"
         counts.count(f"{count} bytes: what went out", wrong)
     counts.end()
 

@@ -58,7 +58,7 @@ def part_of(path):
 
 
 def words_of(path, text, habit):
-    """Returns what of a text is read for a habit, as words parted by spaces."""
+    """Returns what of a text is read for a habit, as words with one space between them."""
     if path.endswith(".md"):
         text = documents.SPAN.sub("", text)
     comment = COMMENT.get(path.rpartition(".")[2])

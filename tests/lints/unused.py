@@ -32,7 +32,7 @@ LEMMAS = re.compile(r"crates/[^/]+/(?:proofs/(?:[a-z]\w*/)?|specs/(?:\w+/)*)([A-
 # The names of files that answer goals, which a function right in lib.rt has in such a folder too.
 ANSWERS = ("Answers", "Invariants", "Proof")
 TOKEN = re.compile(r"[^\s(){}\[\],;:.⟦⟧@`\"]+")
-# Facts of specs/ that nothing names, but that nobody has seen proofs do without: a tactic may take them.
+# Facts of specs/ that nothing names, but that a tactic may use: whether proofs need them wasn't tried.
 UNSEEN = (
     "LiesIn-part",
     "asked_holds",

@@ -159,10 +159,11 @@ def too_many(page):
     page.click("[data-tab=answers]")
     for process in (1, 2, 2, 3, 3, 4, 4):
         page.click(f'#answers [data-more="p{process} r"]')
-    for wanted in ("The search was stopped.", "eave out "):
+    for wanted in ("the search was stopped.", "leave out "):
         page.click("[data-find]")
         page.until("document.querySelector('[data-find-stop]')")
-        if wanted.startswith("The"):
+        if wanted.startswith("the"):
             page.click("[data-find-stop]")
         page.until("document.querySelector('[data-find]')", turns=MOST_TURNS)
-        holds(wanted in page.text("#answers-said"), page.text("#answers-said"))
+        said = page.text("#answers-said")
+        holds(wanted in said.lower(), said)

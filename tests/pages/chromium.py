@@ -10,7 +10,8 @@ import time
 from pages.websocket import PATIENCE, Socket
 
 NAMES = ("chromium", "chromium-browser", "google-chrome")
-CONTROL, SHIFT = 2, 8
+# its bit among the modifiers of a key
+CONTROL = 2
 FEW_FUNCTIONS = 20
 COMPLAINTS = ("Runtime.consoleAPICalled", "Runtime.exceptionThrown", "Log.entryAdded")
 
@@ -71,7 +72,7 @@ class Browser:
                 return int(port), path
             except (OSError, ValueError):
                 time.sleep(0.1)
-        raise RuntimeError("Chromium doesn't begin")
+        raise ValueError("Chromium doesn't begin")
 
     def ask(self, method, **given):
         self.number += 1

@@ -6,7 +6,7 @@ import tempfile
 import cases
 from pages import build
 from pages.gestures import BEFORE_ITS_END, ONE_READ
-from pages.live import IDLE, holds, same
+from pages.live import holds, same
 from pages.reader import Reader
 
 # A module whose one function has this code, of WebAssembly's instructions; its memory is the host's.
@@ -125,9 +125,7 @@ def no_answer(page):
         page.value("document.querySelector('[data-key=\"p1 g 1 0\"]').click()")
         page.until("!document.querySelector('#busy').hidden")
         if is_stopped:
-            page.do("stop") if page.value(IDLE) else page.value(
-                "document.querySelector('[data-do=stop]').click()"
-            )
+            page.value("document.querySelector('[data-do=stop]').click()")
         page.wait()
         holds(re.fullmatch(sentence, page.said()), page.said())
         page.value("globalThis.isDeaf = false")
@@ -150,12 +148,7 @@ def damaged_files(page):
         )
         page.until("document.querySelector('#said').className === 'refusal'")
         holds(words in page.said() and page.said().endswith("."), page.said())
-        same(
-            page.document(),
-            [tower, "0 join"]
-            if page.value("document.querySelector('#file').value") == tower
-            else page.document(),
-        )
+        same(page.document(), [tower, "0 join"])
 
 
 def damaged_answers(page, program):

@@ -6,6 +6,7 @@ import tempfile
 import xml.dom.minidom
 
 import cases
+from pages.chromium import CONTROL
 from pages.live import holds, same
 from pages.reader import Reader, program_answers
 
@@ -14,7 +15,6 @@ ASKED = "A write overlaps p1's read of bit 0. Give 0 or 1?"
 ONE_READ = "tower 2\nsafe 0\nw 0 1\ng 0 0\nr 1\ng 1 0\n"
 BEFORE_ITS_END = "0 join\n0 go main 4\n"
 PAGES = re.compile(r"^0: (?:bits|history|verdict) .*\n(?:  .*\n)+", re.M)
-CONTROL = 2
 
 
 def first_screen(page):
@@ -218,20 +218,9 @@ def keyboard(page):
     page.until("!document.querySelector('#menu').hidden && document.activeElement.closest('#menu')")
     page.key("Escape")
     holds(page.value("document.querySelector('#menu').hidden"), "the menu stays open")
-    page.key("Delete", "z", modifiers=0)
+    page.key("Delete", "z")
     page.key("z", modifiers=CONTROL)
     same(page.branches(), ["main", "other", "other2"])
-
-
-def drop_files(page, *paths):
-    """Drops files on the page."""
-    given = [(pathlib.Path(it).name, pathlib.Path(it).read_text(encoding="ascii")) for it in paths]
-    page.value(
-        f"""(() => {{ const data = new DataTransfer();
-      for (const [name, text] of {json.dumps(given)}) data.items.add(new File([text], name));
-      document.body.dispatchEvent(new DragEvent("drop", {{ bubbles: true, cancelable: true, dataTransfer: data }})); }})()"""
-    )
-    page.wait()
 
 
 def files(page, program):
@@ -290,7 +279,8 @@ def open_files(page):
     page.until("document.querySelectorAll('.panel').length === 3")
     page.wait()
     same(page.branches(), ["main", "a", "b"])
-    drop_files(page, "examples/unary.tower", "examples/unary.script")
+    dropped = [pathlib.Path(f"examples/unary.{it}") for it in ("tower", "script")]
+    page.drop([(it.name, it.read_text(encoding="ascii")) for it in dropped])
     page.until("document.querySelector('#tower-line').textContent.startsWith('unary')")
     page.wait()
     holds(

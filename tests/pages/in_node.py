@@ -108,12 +108,8 @@ class Cases:
     """All cases in the module, which are run at once when the first is asked for."""
 
     def __init__(self, names, scratch):
-        self.names, self.scratch, self.found, self.turn = (
-            names,
-            f"{scratch}/module",
-            None,
-            threading.Lock(),
-        )
+        self.names, self.scratch = names, f"{scratch}/module"
+        self.found, self.turn = None, threading.Lock()
 
     def all_found(self):
         with self.turn:

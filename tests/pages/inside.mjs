@@ -32,8 +32,8 @@ function nestIn(it) {
   return { layer, process, from, to, kind, x, width, title: titleOf(it) };
 }
 function barIn(it) {
-  const isText = ({ attributes: { class: kind = "" } }) => /^op( |$)/.test(kind);
-  const [text] = found(childrenOf(it), isText);
+  const isOnBar = ({ attributes: { class: kind = "" } }) => /^op( |$)/.test(kind);
+  const [text] = found(childrenOf(it), isOnBar);
   return { begun: it.attributes["data-at"], process: it.attributes["data-process"],
     words: text ? text.children[0] : "" };
 }

@@ -17,18 +17,14 @@ FILLED = """(() => { const it = document.querySelector(%s); it.value = %s;
 TURN, TURNS = 0.02, 1500
 
 
-class Odd(cases.Spoilt):
-    """The page isn't as it has to be."""
-
-
 def same(found, wanted, label=""):
     if found != wanted:
-        raise Odd(f"{label}{': ' * bool(label)}wanted {wanted!r}, got {found!r}"[:500])
+        raise cases.Failure(f"{label}{': ' * bool(label)}wanted {wanted!r}, got {found!r}"[:500])
 
 
 def holds(is_so, message):
     if not is_so:
-        raise Odd(str(message)[:500])
+        raise cases.Failure(str(message)[:500])
 
 
 class Page:
@@ -52,7 +48,7 @@ class Page:
             if self.chrome.value(f"Boolean({expression})"):
                 return
             time.sleep(TURN)
-        raise Odd(message or f"this never holds: {expression}")
+        raise cases.Failure(message or f"this never holds: {expression}")
 
     def wait(self):
         self.until(IDLE, "the page stays busy")
@@ -94,6 +90,15 @@ class Page:
 
     def text(self, selector):
         return self.value(f"document.querySelector({json.dumps(selector)}).textContent")
+
+    def drop(self, files):
+        """Drops files on the page, of each its name and its text."""
+        self.value(
+            f"""(() => {{ const data = new DataTransfer();
+      for (const [name, text] of {json.dumps(files)}) data.items.add(new File([text], name));
+      document.body.dispatchEvent(new DragEvent("drop", {{ bubbles: true, cancelable: true, dataTransfer: data }})); }})()"""
+        )
+        self.wait()
 
     def texts(self, selector):
         return self.value(

@@ -4,7 +4,6 @@ import pathlib
 import tempfile
 import time
 
-import cases
 from pages.live import holds, same
 
 GOAL = 'goal: some: verdict has "p1 1 stray"'
@@ -13,7 +12,7 @@ SAFE = "tower 2\nsafe 0\nw 0 0\ng 0 0\nr 1\ng 1 0\n"
 STRAY = "0 insert main 4 g 1 1\n"
 BASE = "https://example.org/towerbench.html"
 MOST_LINK, MOST_PAGE = 400, 900_000
-FOLDED = """(() => { globalThis.copied = ""; const clipboard = { writeText: async (text) => { globalThis.copied = text; } };
+CLIPBOARD = """(() => { globalThis.copied = ""; const clipboard = { writeText: async (text) => { globalThis.copied = text; } };
   Object.defineProperty(navigator, "clipboard", { value: clipboard, configurable: true }); return 0; })()"""
 IN_SIGHT = """(({ left, right }) => left >= 0 && right <= innerWidth)(
   document.querySelector("#study-list [aria-current]").getBoundingClientRect())"""
@@ -36,7 +35,7 @@ def hash_of(page, base=BASE):
 def links(page):
     """A question with a goal is made by clicks and sent as a link, which opens with its question; a damaged link says so."""
     page.open(SAFE, f"0 join\n{STRAY}")
-    page.value(FOLDED)
+    page.value(CLIPBOARD)
     share(page)
     page.fill("#share-text", QUESTION)
     page.click("#share-ideas button")
@@ -60,16 +59,16 @@ def links(page):
     page.key("End")
     page.click('[data-action="g 1 1"]')
     page.until("document.querySelector('#task [role=status]')")
-    for spoilt in (
+    for damaged in (
         found[:-9],
         found[:40] + ("A" if found[40] != "A" else "B") + found[41:],
         found + "@",
         "#%5B1%2C2%5D",
         "#%",
     ):
-        page.chrome.open(page.address + spoilt)
+        page.chrome.open(page.address + damaged)
         page.wait()
-        holds(page.said().startswith("This link is damaged"), f"{spoilt[:30]}: {page.said()}")
+        holds(page.said().startswith("This link is damaged"), f"{damaged[:30]}: {page.said()}")
         same(page.branches(), ["main"])
 
 
@@ -115,17 +114,8 @@ def one_file(page):
         )
         (pathlib.Path(room) / "again.html").write_bytes(saved.read_bytes())
         page.open()
-        drop(page, [("again.html", saved.read_text(encoding="utf-8"))])
+        page.drop([("again.html", saved.read_text(encoding="utf-8"))])
         page.until(f"{TASK}.textContent.includes('Anna Example')")
-
-
-def drop(page, given):
-    page.value(
-        f"""(() => {{ const data = new DataTransfer();
-      for (const [name, text] of {json.dumps(given)}) data.items.add(new File([text], name));
-      document.body.dispatchEvent(new DragEvent("drop", {{ bubbles: true, cancelable: true, dataTransfer: data }})); }})()"""
-    )
-    page.wait()
 
 
 def nothing_lost(page):
@@ -167,10 +157,10 @@ def nothing_lost(page):
 def which_tower(page):
     """A saved script opens on the tower that it names; of one that names none the page says on which it runs."""
     page.open(SAFE, "0 join\n")
-    drop(page, [("a.script", "# tower: tower 2; copies 2 0; w 0 1\n0 join\n")])
+    page.drop([("a.script", "# tower: tower 2; copies 2 0; w 0 1\n0 join\n")])
     page.until("document.querySelector('#tower-line').textContent === 'copies 2 0'")
     same(page.document()[0], "tower 2\ncopies 2 0\nw 0 1\n")
-    drop(page, [("b.script", "0 join\n0 insert main 1 g 0 0\n")])
+    page.drop([("b.script", "0 join\n0 insert main 1 g 0 0\n")])
     page.until("document.querySelector('#said').textContent.includes('b.script')")
     same(page.said(), "b.script doesn't say on which tower it runs: here it is copies 2 0.")
 
@@ -192,7 +182,7 @@ def forty_files(page):
         )
     given.append(("bad.script", "# tower: tower 2; nothing 0\n0 join\n"))
     given.append(("none.html", "<p>no document</p>"))
-    drop(page, given)
+    page.drop(given)
     page.until("document.querySelector('#class-dialog').open")
     same(page.text("#class-count"), "40 files, 19 meet all goals")
     same(page.count("#class-table tbody tr"), 40)
@@ -201,7 +191,7 @@ def forty_files(page):
         page.texts("#class-table [data-class=s01], #class-table [data-class=s02]"),
         ["Student 1", "Student 2"],
     )
-    page.value(FOLDED)
+    page.value(CLIPBOARD)
     page.click("#class-copy")
     page.until("globalThis.copied")
     holds(page.value("globalThis.copied").count("\n") == 40, "the copied table has other rows")
@@ -222,7 +212,7 @@ def judged_by(page):
     longer = solved.replace("g 1 0", "g 1 0; g 1 1").replace(STRAY, "")
     given = [(f"{name}.script", text) for name, text in zip("abcd", (solved, easy, other, longer))]
     page.open(SAFE, f"# {QUESTION}\n# {GOAL}\n0 join\n")
-    drop(page, given)
+    page.drop(given)
     page.until("document.querySelector('#class-dialog').open")
     same(page.text("#class-count"), "4 files, 1 meet all goals")
     same(page.text("#class-judge"), "Judged by the exercise that is open here.")
@@ -231,17 +221,17 @@ def judged_by(page):
         [" not the exercise's safe 0", " not as the exercise begins"],
     )
     page.open(SAFE, "0 join\n")
-    drop(page, given)
+    page.drop(given)
     page.until("document.querySelector('#class-dialog').open")
     holds("their own goals" in page.text("#class-judge"), page.text("#class-judge"))
     named = "# exercise: 01-safe-bit 3 A schedule of your own\n"
-    drop(page, [(name, named + text) for name, text in given])
+    page.drop([(name, named + text) for name, text in given])
     page.until("document.querySelector('#class-judge').textContent.includes('lesson')")
     same(page.text("#class-count"), "4 files, 0 meet all goals")
     asked = f'# ask: Which?\n# option: 0 if main: verdict has "p1 0"\n# option: none if main: verdict has no "p1"\n'
     page.open(SAFE, f"{asked}0 join\n")
     answer = f'{tower}\n# ask: Which?\n# option: 0 if main: verdict has no "p1"\n# predicted: 0\n0 join\n'
-    drop(page, [("x.script", answer), ("y.script", answer.replace(": 0\n", ": none\n")), given[0]])
+    page.drop([("x.script", answer), ("y.script", answer.replace(": 0\n", ": none\n")), given[0]])
     page.until("document.querySelector('#class-dialog').open")
     same(page.texts("#class-table td:nth-child(3)")[:2], ["0 \u2717", "none \u2713"])
 
@@ -388,7 +378,7 @@ def hostile_documents(page):
     """200 hostile documents show a sentence or a whole picture, and nothing in them is taken for markup."""
     page.open()
     for number, (tower, script) in enumerate(hostile()):
-        drop(page, [("a.tower", tower), ("a.script", script)])
+        page.drop([("a.tower", tower), ("a.script", script)])
         page.wait()
         said = page.value("document.querySelector('#said').textContent.length")
         drawn = page.value("document.querySelectorAll('.panel .lanes').length")
@@ -397,4 +387,3 @@ def hostile_documents(page):
             "document.querySelectorAll('#top img, #top script, main img, aside img, dialog img').length"
         )
         same(odd, 0, f"document {number}")
-    same(cases.first_difference(b"", "".join(page.chrome.complaints).encode()), None)
