@@ -72,10 +72,11 @@ impl<T: Drop> Segment<T> {
         Ok(())
     }
 
-    /// Inserts a cell at an offset, and clears the note. If memory runs out, nothing changes.
+    /// Inserts a cell at an offset, and clears the note. If memory runs out, nothing changes. What
+    /// was in `copies` is lost: it gives memory for copies of cells.
     pub(crate) fn insert(
         &mut self,
-        alloc: Global,
+        copies: &mut Vec<Slot>,
         offset: usize,
         slot: Slot,
     ) -> Result<(), AllocError>
@@ -87,9 +88,9 @@ impl<T: Drop> Segment<T> {
         ensures err_note { OnErr result (self.new.note ≡ self.old.note) }
     {
         // (to copy many cells out and back is cheaper than to move each by one)
-        let following = cells_from(alloc, &self.slots, offset)?;
+        copy_from(copies, &self.slots, offset)?;
         self.slots.reserve(1)?;
-        end_with(&mut self.slots, offset, slot, &following);
+        end_with(&mut self.slots, offset, slot, copies);
         self.clear_note();
         Ok(())
     }
@@ -140,12 +141,13 @@ impl<T: Drop> Segment<T> {
     }
 }
 
-/// Copies of the cells from an offset on.
-fn cells_from(alloc: Global, slots: &[Slot], offset: usize) -> Result<Vec<Slot>, AllocError>
+/// Puts copies of the cells from an offset on in place of what is in `copies`.
+fn copy_from(copies: &mut Vec<Slot>, slots: &[Slot], offset: usize) -> Result<(), AllocError>
     requires { offset ≤ length slots.now }
-    ensures { IfOk result (λ v. v.items ≡ drop offset slots.now) }
+    ensures { OnOk result (copies.new.items ≡ drop offset slots.now) }
 {
-    Vec::from_slice(alloc, &slots[offset..])
+    copies.clear();
+    copies.extend_from_slice(&slots[offset..])
 }
 
 /// Puts a cell and these others in place of the cells from an offset on. There has to be memory

@@ -47,6 +47,8 @@ pub struct Trie<T> {
     limits: Limits,
     // the index of the branch whose length was cached last
     last_cached: usize,
+    // memory in which an insert copies cells; what is in it means nothing
+    copies: Vec<Slot>,
 }
 
 impl<T> Model for Trie<T> {
@@ -117,12 +119,14 @@ impl<T: Drop> Trie<T> {
         branches.insert(name)?;
         let mut segments = Lineage::new(alloc);
         segments.fork(None)?;
+        let copies = Vec::new(alloc);
         Ok(Trie {
             segments,
             branches,
             made: 0,
             limits,
             last_cached: 0,
+            copies,
         })
     }
 

@@ -82,7 +82,7 @@ impl<T: Drop> Trie<T> {
         ensures err { OnErr result (self.new ≡ self.old) }
     {
         if self.slots_at(key).len() < MOST_SLOTS {
-            return self.put_in(alloc, key, offset, step);
+            return self.put_in(key, offset, step);
         }
         let slot = Slot {
             cell: self.made,
@@ -101,13 +101,7 @@ impl<T: Drop> Trie<T> {
     }
 
     /// Inserts a new cell before the cell at an offset of a segment that isn't full.
-    fn put_in(
-        &mut self,
-        alloc: Global,
-        key: SegKey,
-        offset: usize,
-        step: Step,
-    ) -> Result<(), AllocError>
+    fn put_in(&mut self, key: SegKey, offset: usize, step: Step) -> Result<(), AllocError>
         requires offset { offset < length (slots_of (segment_at self.old.segments key)) }
         requires few { length (slots_of (segment_at self.old.segments key)) < 128 }
         requires room { self.old.made < self.old.limits.cells }
@@ -118,7 +112,8 @@ impl<T: Drop> Trie<T> {
             cell: self.made,
             step,
         };
-        self.segments.item_mut(key).insert(alloc, offset, slot)?;
+        let segment = self.segments.item_mut(key);
+        segment.insert(&mut self.copies, offset, slot)?;
         self.branches.forget_lengths();
         self.made += 1;
         Ok(())
