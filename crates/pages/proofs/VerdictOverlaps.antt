@@ -27,28 +27,28 @@ pub record ReturnsIn (v : ℕ) (earlier during : List (ℕ × Event)) : Type 0 w
 abbrev pub Crosses : ℕ → List (ℕ × Event) → List (ℕ × Event) → List (ℕ × Event) → Type 0
 Crosses v earlier during later = (InProgress 0 (op.Write v) (earlier ++ during) × (is_refused later ≡ false)) ⊎ ReturnsIn v earlier during
 
--- quiet events have no turn
+-- no quiet event begins or ends an operation of p
 quiet_at : (p : ℕ) (before later : List (ℕ × Event)) (i : ℕ) (e : Event) → IsQuiet p (before ++ (i, e) ∷ later) → begins_or_ends p e ≡ false
 quiet_at p [] later i e q = (or_parts (begins_or_ends p e) (list_any (λ x. begins_or_ends p x.1) later) q).0
 quiet_at p (x ∷ before) later i e q =
     quiet_at p before later i e (or_parts (begins_or_ends p x.1) (list_any (λ y. begins_or_ends p y.1) (before ++ (i, e) ∷ later)) q).1
 
--- the first turn of a process among events
-record FirstTurn (p : ℕ) (events : List (ℕ × Event)) : Type 0 where
+-- the first event that begins or ends an operation of p
+record FirstBoundary (p : ℕ) (events : List (ℕ × Event)) : Type 0 where
   before : List (ℕ × Event)
   step : ℕ
   event : Event
   since : List (ℕ × Event)
   split : events ≡ before ++ (step, event) ∷ since
   quiet : IsQuiet p before
-  turn : begins_or_ends p event ≡ true
+  bounds : begins_or_ends p event ≡ true
 
-first_turn : (p : ℕ) (events : List (ℕ × Event)) → IsQuiet p events ⊎ FirstTurn p events
-first_turn p [] = inl refl
-first_turn p (e ∷ es) = by (begins_or_ends p e.1) refl (first_turn p es)
+first_boundary : (p : ℕ) (events : List (ℕ × Event)) → IsQuiet p events ⊎ FirstBoundary p events
+first_boundary p [] = inl refl
+first_boundary p (e ∷ es) = by (begins_or_ends p e.1) refl (first_boundary p es)
   where
-    by : (b : Bool) → begins_or_ends p e.1 ≡ b → IsQuiet p es ⊎ FirstTurn p es → IsQuiet p (e ∷ es) ⊎ FirstTurn p (e ∷ es)
-    by true t rest = inr (record { before = []; step = e.0; event = e.1; since = es; split = refl; quiet = refl; turn = t })
+    by : (b : Bool) → begins_or_ends p e.1 ≡ b → IsQuiet p es ⊎ FirstBoundary p es → IsQuiet p (e ∷ es) ⊎ FirstBoundary p (e ∷ es)
+    by true t rest = inr (record { before = []; step = e.0; event = e.1; since = es; split = refl; quiet = refl; bounds = t })
     by false t (inl q) = inl (ap (λ b. b || list_any (λ x. begins_or_ends p x.1) es) t ∙ q)
     by false t (inr f) = inr (record {
       before = e ∷ f.before;
@@ -57,21 +57,21 @@ first_turn p (e ∷ es) = by (begins_or_ends p e.1) refl (first_turn p es)
       since = f.since;
       split = ap (λ xs. e ∷ xs) f.split;
       quiet = ap (λ b. b || list_any (λ x. begins_or_ends p x.1) f.before) t ∙ f.quiet;
-      turn = f.turn;
+      bounds = f.bounds;
     })
 
--- events have one first turn
-same_turn : (p : ℕ) (xs ys later rest : List (ℕ × Event)) (x y : ℕ × Event) → xs ++ x ∷ later ≡ ys ++ y ∷ rest → IsQuiet p xs → IsQuiet p ys → begins_or_ends p x.1 ≡ true → begins_or_ends p y.1 ≡ true → x ≡ y
-same_turn p [] [] later rest x y h a b s t = cc
-same_turn p [] (z ∷ ys) later rest x y h a b s t =
+-- events have one first boundary
+same_boundary : (p : ℕ) (xs ys later rest : List (ℕ × Event)) (x y : ℕ × Event) → xs ++ x ∷ later ≡ ys ++ y ∷ rest → IsQuiet p xs → IsQuiet p ys → begins_or_ends p x.1 ≡ true → begins_or_ends p y.1 ≡ true → x ≡ y
+same_boundary p [] [] later rest x y h a b s t = cc
+same_boundary p [] (z ∷ ys) later rest x y h a b s t =
     let same : x ≡ z = cc h in
     absurd (true≢false (sym s ∙ ap (λ (e : ℕ × Event). begins_or_ends p e.1) same ∙ (or_parts (begins_or_ends p z.1) (list_any (λ e. begins_or_ends p e.1) ys) b).0))
-same_turn p (z ∷ xs) [] later rest x y h a b s t =
+same_boundary p (z ∷ xs) [] later rest x y h a b s t =
     let same : z ≡ y = cc h in
     absurd (true≢false (sym t ∙ ap (λ (e : ℕ × Event). begins_or_ends p e.1) (sym same) ∙ (or_parts (begins_or_ends p z.1) (list_any (λ e. begins_or_ends p e.1) xs) a).0))
-same_turn p (z ∷ xs) (w ∷ ys) later rest x y h a b s t =
+same_boundary p (z ∷ xs) (w ∷ ys) later rest x y h a b s t =
     let tails : xs ++ x ∷ later ≡ ys ++ y ∷ rest = cc h in
-    same_turn p xs ys later rest x y tails
+    same_boundary p xs ys later rest x y tails
     (or_parts (begins_or_ends p z.1) (list_any (λ e. begins_or_ends p e.1) xs) a).1
     (or_parts (begins_or_ends p w.1) (list_any (λ e. begins_or_ends p e.1) ys) b).1
     s
@@ -95,15 +95,15 @@ parted_at (z ∷ xs) ys (w ∷ before) since x h =
       | inr s ↦ inr (s.0, λ j. same j ∷ s.1 j)
     ]
 
--- the turn that follows a write in progress, and isn't its refusal, is its return
-return_of_turn : (v : ℕ) (before : List (ℕ × Event)) (e : Event) → InProgress 0 (op.Write v) before → Follows before e → begins_or_ends 0 e ≡ true → has_role e ≡ true → ((layer : Layer) → ¬ (e ≡ Refused 0 layer)) → e ≡ Wrote 0
-return_of_turn v before (Invoke p o) w f t r n = absurd (f (op.Write v) (subst (λ q. InProgress q (op.Write v) before) (sym (eqb-true p 0 t)) w))
-return_of_turn v before (Got p u) w f t r n = absurd (true≢false (sym t ∙ not-true (p == 0) r))
-return_of_turn v before (Wrote p) w f t r n = ap Wrote (eqb-true p 0 t)
-return_of_turn v before (Refused p layer) w f t r n = absurd (n layer (ap (λ q. Refused q layer) (eqb-true p 0 t)))
-return_of_turn v before (Void p reason) w f t r n = absurd (true≢false (sym t))
-return_of_turn v before (Stop p) w f t r n = absurd (true≢false (sym t))
-return_of_turn v before (Chosen p bit u) w f t r n = absurd (true≢false (sym t))
+-- the boundary that follows a write in progress, and isn't its refusal, is its return
+return_of_boundary : (v : ℕ) (before : List (ℕ × Event)) (e : Event) → InProgress 0 (op.Write v) before → Follows before e → begins_or_ends 0 e ≡ true → has_role e ≡ true → ((layer : Layer) → ¬ (e ≡ Refused 0 layer)) → e ≡ Wrote 0
+return_of_boundary v before (Invoke p o) w f t r n = absurd (f (op.Write v) (subst (λ q. InProgress q (op.Write v) before) (sym (eqb-true p 0 t)) w))
+return_of_boundary v before (Got p u) w f t r n = absurd (true≢false (sym t ∙ not-true (p == 0) r))
+return_of_boundary v before (Wrote p) w f t r n = ap Wrote (eqb-true p 0 t)
+return_of_boundary v before (Refused p layer) w f t r n = absurd (n layer (ap (λ q. Refused q layer) (eqb-true p 0 t)))
+return_of_boundary v before (Void p reason) w f t r n = absurd (true≢false (sym t))
+return_of_boundary v before (Stop p) w f t r n = absurd (true≢false (sym t))
+return_of_boundary v before (Chosen p bit u) w f t r n = absurd (true≢false (sym t))
 
 -- a write in progress that is refused ends by its refusal
 RefusedIn : List (ℕ × Event) → Type 0
@@ -173,7 +173,7 @@ pub write_ends : (v : ℕ) (xs later before : List (ℕ × Event)) (step : ℕ) 
 write_ends v xs later before step since whole split unrefused =
     let h : IsOneWriterHistory xs = history-left xs later whole in
     let x : ℕ × Event = (step, Invoke 0 (op.Write v)) in
-    elim (first_turn 0 since) [
+    elim (first_boundary 0 since) [
       | inl quiet ↦ inl (quiet, not_refused since later quiet (roles-right xs later whole.roles) unrefused)
       | inr f ↦
           let upto = before ++ x ∷ f.before in
@@ -189,7 +189,7 @@ write_ends v xs later before step since whole split unrefused =
             split = ap (λ es. es ++ later) (f.split ∙ ap (λ y. f.before ++ (f.step, y) ∷ f.since) e) ∙ append_assoc f.before ((f.step, Refused 0 layer) ∷ f.since) later;
             quiet = f.quiet;
           }) in
-          let returns : f.event ≡ Wrote 0 = return_of_turn v upto f.event write (h.follows upto f.step f.event f.since cut) f.turn role.0 kept in
+          let returns : f.event ≡ Wrote 0 = return_of_boundary v upto f.event write (h.follows upto f.step f.event f.since cut) f.bounds role.0 kept in
           inr (record { before = f.before; step = f.step; later = f.since; split = f.split ∙ ap (λ y. f.before ++ (f.step, y) ∷ f.since) returns; quiet = f.quiet })
     ]
 
@@ -235,7 +235,7 @@ returned_unrefused since rest later step quiet = λ layer e.
     let split : since ++ (step, Wrote 0) ∷ (rest ++ later) ≡ e.before ++ (e.step, Refused 0 layer) ∷ e.later =
     sym (append_assoc since ((step, Wrote 0) ∷ rest) later) ∙ e.split in
     let same : Wrote 0 ≡ Refused 0 layer =
-    ap (λ (y : ℕ × Event). y.1) (same_turn 0 since e.before (rest ++ later) e.later (step, Wrote 0) (e.step, Refused 0 layer) split quiet e.quiet refl refl) in
+    ap (λ (y : ℕ × Event). y.1) (same_boundary 0 since e.before (rest ++ later) e.later (step, Wrote 0) (e.step, Refused 0 layer) split quiet e.quiet refl refl) in
     cc same
 
 -- if all events have their roles, so have those after an event x
