@@ -1,10 +1,10 @@
 -- The page that lists all branches.
 use Rattle.std.specs.Prelude.{ℕ, List, ◌++◌, codes, length, map}
 use Rattle.std.specs.Fmt.{decimal}
+use Rattle.std.specs.List.{flat_map}
 use Rattle.branch_terms.specs.Forest.{Forest, Branch}
 use Rattle.pages.specs.declared.page.branches.BranchLength.{BranchLength}
 use Rattle.pages.specs.declared.page.branches.BranchesPage.{BranchesPage}
-use Rattle.pages.specs.Numbered.{numbered_lines}
 use Rattle.pages.specs.page.Head.{line_end}
 
 -- the name and the length of a branch
@@ -28,4 +28,4 @@ branch_line b = codes "  " ++ b.name ++ codes " " ++ decimal b.len ++ line_end
 
 -- the text of a page that lists the branches, as the answer to the session with this number
 abbrev pub branches_text : ℕ → BranchesPage → List ℕ
-branches_text session page = counts_line session (length page.branches) page.edits page.made ++ numbered_lines (λ i branch. branch_line branch) 0 page.branches
+branches_text session page = counts_line session (length page.branches) page.edits page.made ++ flat_map branch_line page.branches

@@ -1,10 +1,10 @@
 -- The page that shows a session's cursor and its breaks.
 use Rattle.std.specs.Prelude.{ℕ, List, ◌++◌, codes, length}
 use Rattle.std.specs.Fmt.{decimal}
+use Rattle.std.specs.List.{flat_map}
 use Rattle.pages.specs.declared.breakpoint.Break.{Break}
 use Rattle.pages.specs.declared.breakpoint.Break.TheVariants.{Returns, Bit, Chosen, Void, Refused}
 use Rattle.pages.specs.declared.page.cursor.CursorPage.{CursorPage}
-use Rattle.pages.specs.Numbered.{numbered_lines}
 use Rattle.pages.specs.page.Head.{line_end, page_title}
 
 -- the text of a break: its kind, and its process or its bit and value, if it has them
@@ -21,7 +21,7 @@ break_line break = codes "  " ++ break_text break ++ line_end
 
 -- a line for each break
 abbrev pub break_lines : List Break → List ℕ
-break_lines breaks = numbered_lines (λ i break. break_line break) 0 breaks
+break_lines breaks = flat_map break_line breaks
 
 -- the first line of the page: the session's number, the branch and the place of the cursor, and how
 -- many breaks there are
