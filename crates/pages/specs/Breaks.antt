@@ -41,13 +41,13 @@ is_met_by Void e = is_void e
 is_met_by Refused e = is_refused_event e
 
 -- whether there is an event, and it meets a break
-abbrev pub is_in : Break → Option Event → Bool
-is_in break None = false
-is_in break (Some e) = is_met_by break e
+abbrev pub is_met_by_option : Break → Option Event → Bool
+is_met_by_option break None = false
+is_met_by_option break (Some e) = is_met_by break e
 
 -- whether one of the events that a step recorded meets a break
-abbrev pub is_recorded : Break → StepEvents → Bool
-is_recorded break events = is_in break events.first || is_in break events.second
+abbrev pub is_met_by_events : Break → StepEvents → Bool
+is_met_by_events break events = is_met_by_option break events.first || is_met_by_option break events.second
 
 -- the value of a bit, as 0 or 1
 abbrev pub bit_number : Bool → ℕ
@@ -55,15 +55,15 @@ bit_number v = if v then 1 else 0
 
 -- whether a memory meets a break: the break is on a bit that the memory has, and the bit's value is
 -- the break's
-abbrev pub is_shown : Break → Memory → Bool
-is_shown (Bit j v) m = nat_lt j (length m.cells) && (bit_number (cell_at j m).value == v)
-is_shown (Returns p) m = false
-is_shown Chosen m = false
-is_shown Void m = false
-is_shown Refused m = false
+abbrev pub is_met_by_memory : Break → Memory → Bool
+is_met_by_memory (Bit j v) m = nat_lt j (length m.cells) && (bit_number (cell_at j m).value == v)
+is_met_by_memory (Returns p) m = false
+is_met_by_memory Chosen m = false
+is_met_by_memory Void m = false
+is_met_by_memory Refused m = false
 
 -- whether one of the events that a step recorded, or the memory after the step, meets one of these
 -- breaks
 abbrev pub is_met : List Break → StepEvents → Memory → Bool
 is_met [] events m = false
-is_met (break ∷ breaks) events m = (is_recorded break events || is_shown break m) || is_met breaks events m
+is_met (break ∷ breaks) events m = (is_met_by_events break events || is_met_by_memory break m) || is_met breaks events m

@@ -29,15 +29,15 @@ pub enum Break {
 impl Break {
     /// Whether one of the events that a step recorded meets the break; always false for a break on
     /// a bit, which only the memory after the step can meet.
-    pub fn is_recorded(self, events: StepEvents) -> bool
-        ensures { result ≡ spec.is_recorded self events }
+    pub fn is_met_by_events(self, events: StepEvents) -> bool
+        ensures { result ≡ spec.is_met_by_events self events }
     {
-        self.is_in(events.first) || self.is_in(events.second)
+        self.is_met_by_option(events.first) || self.is_met_by_option(events.second)
     }
 
     /// Whether an event, if there is one, meets the break.
-    fn is_in(self, event: Option<Event>) -> bool
-        ensures { result ≡ spec.is_in self event }
+    fn is_met_by_option(self, event: Option<Event>) -> bool
+        ensures { result ≡ spec.is_met_by_option self event }
     {
         match event {
             None => false,
@@ -61,8 +61,8 @@ impl Break {
 
     /// Whether `store` meets the break: the break is on a bit that `store` has, and the bit's value
     /// is the break's. False for all other breaks.
-    pub fn is_shown(self, store: &Store) -> bool
-        ensures { result ≡ spec.is_shown self store.now }
+    pub fn is_met_by_memory(self, store: &Store) -> bool
+        ensures { result ≡ spec.is_met_by_memory self store.now }
     {
         match self {
             Break::Bit(j, v) => {

@@ -5,7 +5,7 @@ use Rattle.sessions.specs.declared.command.Command.{Command}
 use Rattle.sessions.specs.declared.reply.Reply.{Reply}
 use Rattle.sessions.specs.declared.reply.Reply.TheVariants.{No}
 use Rattle.sessions.specs.World.{World}
-use Rattle.sessions.specs.Acts.{command_result, answered, early_refusals, late_refusals, first_refusal, refused_if, refusals, refused, left, reply_to, is_full, lacks_session, is_missed, fits_command, with_one_logged}
+use Rattle.sessions.specs.Acts.{command_result, answered, early_refusals, late_refusals, first_refusal, refused_if, refusals, refused, accepted_world, reply_to, is_full, lacks_session, is_missed, fits_command, with_one_logged}
 use Rattle.schedule_trie.specs.declared.refusal.Refusal.TheVariants.{LogFull, Memory}
 use Rattle.sessions.specs.Logs.{is_logged}
 use Rattle.sessions.specs.Books.{IsLate}
@@ -73,7 +73,7 @@ module _ {P : Type 0} (who : ℕ) (guard : Option ℕ) (c : Command) (w : World 
         ∙ first_before (early_refusals who guard c w) (late_refusals who c w) r (sym e))
 
     -- a command that nothing refuses is carried out
-    pub done_so : (after : World P) (reply : Reply) → first_refusal (refusals who guard c w) ≡ None → left who c w ≡ after → reply_to who c w ≡ reply
+    pub done_so : (after : World P) (reply : Reply) → first_refusal (refusals who guard c w) ≡ None → accepted_world who c w ≡ after → reply_to who c w ≡ reply
         → command_result who guard c w ≡ record { world = after; reply = reply }
     done_so after reply none leaves replies = ap (λ o. answered o who c w) none ∙ λ i. record { world = leaves i; reply = replies i }
 

@@ -12,7 +12,7 @@ use Rattle.schedule_trie.specs.declared.refusal.Refusal.TheVariants.{Memory}
 use Rattle.sessions.specs.World.{opening}
 use Rattle.sessions.specs.Acts.{command_result, is_full, with_one_logged}
 use Rattle.sessions.specs.Logs.{IsLegal, is_logged, world_after, acted_by}
-use Rattle.sessions.specs.Books.{Held, IsBook, IsLawfulWorld, NoneDue, ActsOnBook, book_of, opening_of, opening_over, stored, world_of}
+use Rattle.sessions.specs.Books.{BookOf, IsBook, IsLawfulWorld, NoneDue, ActsOnBook, book_of, opening_of, opening_over, stored, world_of}
 use Rattle.sessions.specs.declared.workspace.Workspace.{Workspace}
 use Rattle.std.specs.Global.{Vec}
 use Rattle.cutoff.specs.Charts.{Charted}
@@ -26,9 +26,9 @@ below a b t e f = grind (arith, e, f)
 above : (a b : ℕ) → b < a → nat_le a b ≡ false
 above a b h = grind (arith, nat_tests)
 
--- if a book's world stays the same, so does its opening; and if its log stays the same as well, it still
--- has what its type guarantees
-module _ {R P : Type 0} (is : R → Behaviour P) (old new : Held R P) (is_first : new.first ≡ old.first) (is_world : world_of is new.now ≡ world_of is old.now) where
+-- if a book's world stays the same, so does its opening; and if its log stays the same as well, it
+-- still has what its type guarantees
+module _ {R P : Type 0} (is : R → Behaviour P) (old new : BookOf R P) (is_first : new.first ≡ old.first) (is_world : world_of is new.now ≡ world_of is old.now) where
   pub opens_same : opening_of is new ≡ opening_of is old
   opens_same = λ i. opening (is (is_first i).start.register) (is_first i).value (is_world i).limits (forest (is_first i).trie)
 
@@ -49,11 +49,15 @@ module _ {R P : Type 0} (is : R → Behaviour P) (old new : Held R P) (is_first 
         same_limit = most ∙ b.same_limit;
       }
 
--- a book whose log isn't full, before a command; `len` is the log's length, and `reserved` the log once
--- memory for one more entry is reserved
+-- a log's length, counted on a book of which the other is the model
+pub log_count : {R P : Type 0} {book model : BookOf R P} {n : ℕ} → book ≡ model → n ≡ length model.log → n ≡ length book.log
+log_count is count = count ∙ ap (λ b. length b.log) (sym is)
+
+-- a book whose log isn't full, before a command; `len` is the log's length, and `reserved` the log
+-- once memory for one more entry is reserved
 module _ {R P : Type 0} (is : R → Behaviour P) (first : Charted R P) (s t : Workspace R P) (log reserved : Vec Entry) (limit len : ℕ)
     (b : IsBook is limit (book_of first s log)) (count : len ≡ length log.items) (less : len < limit) (kept : reserved.items ≡ log.items) where
-  abbrev old : Held R P
+  abbrev old : BookOf R P
   old = book_of first s log
 
   pub room : is_full (world_of is old.now) ≡ false
@@ -73,7 +77,7 @@ module _ {R P : Type 0} (is : R → Behaviour P) (first : Charted R P) (s t : Wo
   -- the command is answered
   module _ (more : Vec Entry) (e made : Entry) (is_made : made ≡ e) (pushed : more.items ≡ reserved.items ++ made ∷ [])
       (has : (n : ℕ) → is_full (world_of is (stored s n)) ≡ false → command_result e.who e.if_at e.command (world_of is (stored s n)) ≡ record { world = with_one_logged (world_of is (stored t n)); reply = e.reply }) where
-    abbrev new : Held R P
+    abbrev new : BookOf R P
     new = book_of first t more
 
     added : more.items ≡ log.items ++ e ∷ []
@@ -118,5 +122,5 @@ module _ {R P : Type 0} (is : R → Behaviour P) (first : Charted R P) (s t : Wo
           same_limit = log_limit ∙ b.same_limit;
         }
 
-    pub unlacking : e.reply ≡ No Memory → ⊥
-    unlacking = never_memory e.who (world_of is old.now) e.if_at e.command _ e.reply room acts
+    pub never_out_of_memory : e.reply ≡ No Memory → ⊥
+    never_out_of_memory = never_memory e.who (world_of is old.now) e.if_at e.command _ e.reply room acts

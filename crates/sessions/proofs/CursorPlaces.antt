@@ -1,5 +1,5 @@
 -- Cursors are within their branches, also after an edit.
-use Rattle.std.proofs.Common.{◌≡◌, ℕ, zero, suc, ◌+◌, ◌<◌, ◌≤◌, Bool, true, false, not, ◌&&◌, ◌||◌, cond, nat_eq, nat_lt, nat_le, List, [], ◌∷◌, ◌++◌, length, map, take, slice_get, get_or, Option, Some, None, Result, Ok, Err, IfOk, is_some, refl, sym, ap, subst, ◌∙◌, true≢false, arith}
+use Rattle.std.proofs.Common.{◌≡◌, ℕ, zero, suc, ◌+◌, ◌<◌, ◌≤◌, Bool, true, false, not, ◌&&◌, ◌||◌, cond, nat_eq, nat_lt, nat_le, List, [], ◌∷◌, ◌++◌, length, map, take, slice_get, get_or, Option, Some, None, Ok, Err, IfOk, is_some, refl, sym, ap, subst, ◌∙◌, true≢false, arith}
 use Rattle.std.specs.Option.{option_map, IfSome}
 use Rattle.std.specs.List.{position, position_or_len, remove, list_any}
 use Rattle.std.specs.Cmp.Lexicographic.{pointwise, nat_list_eq_equiv}
@@ -19,7 +19,6 @@ use Rattle.schedule_trie.proofs.branches.NamesApart.{found_apart}
 use Rattle.frames.specs.declared.types.Step.{Step}
 use Rattle.schedule_trie.specs.declared.slot.Slot.{Slot}
 use Rattle.schedule_trie.specs.declared.limits.Limits.{Limits}
-use Rattle.schedule_trie.specs.declared.refusal.Refusal.{Refusal}
 use Rattle.schedule_trie.specs.declared.refusal.Refusal.TheVariants.{NoPlace, Full, NameTaken, BadName, TooManyBranches, LastBranch}
 use Rattle.schedule_trie.specs.Names.{is_well_formed}
 use Rattle.schedule_trie.specs.Edits.{Edit, Insert, Remove, Replace, Fork, Detach, Drop, edited}
@@ -35,12 +34,11 @@ use Rattle.sessions.specs.Edits.{moved_by, drops_occupied}
 use Rattle.sessions.specs.Bounds.{AreWithin}
 use Rattle.sessions.specs.Cursors.{AreAtPlaces, first_cursor, IsAtPlace, cursor_at, each_cursor, is_occupied, is_on_branch, cursor, acts_in, is_shifted_by, shifted, shifted_place}
 use Rattle.branch_terms.specs.declared.limits.TheConstants.{MOST_CELLS_MADE}
+use Rattle.sessions.proofs.General.{not_above, not_below}
+use Rattle.sessions.proofs.EditCases.{asked_ok, found_ok, from_ok}
 
 lt_false : (a b : ℕ) → b ≤ a → nat_lt a b ≡ false
 lt_false a b h = grind (arith, nat_tests)
-
-not_above : (a b : ℕ) → nat_lt a b ≡ false → b ≤ a
-not_above a b e = grind (arith, nat_tests)
 
 above : (a b : ℕ) → nat_lt a b ≡ true → a < b
 above a b e = grind (arith, nat_tests)
@@ -347,9 +345,6 @@ below a b h apart = by (nat_lt a b) refl
     by true e = above a b e
     by false e = let past : b ≤ a = not_above a b e in absurd (apart (omega arith))
 
-not_below : (a b : ℕ) → nat_le a b ≡ false → b < a
-not_below a b e = grind (arith, nat_tests)
-
 other_name : (xs ys : List ℕ) → pointwise nat_eq xs ys ≡ false → xs ≡ ys → ⊥
 other_name xs ys e same = true≢false (sym (nat_list_eq_equiv.refl xs) ∙ ap (pointwise nat_eq xs) same ∙ e)
 
@@ -367,19 +362,6 @@ not_there name cursors who c free at = by (pointwise nat_eq name c.branch) refl
     by : (b : Bool) → pointwise nat_eq name c.branch ≡ b → b ≡ false
     by true e = absurd (true≢false (sym (list_any_at (is_on_branch name) cursors who None (cursor_within cursors who c at) (ap (is_on_branch name) at ∙ e)) ∙ free))
     by false e = refl
-
--- what holds of an edit's result, once its branch is found and its tests have passed
-module _ (P : Forest → Type 0) where
-  found_ok : (o : Option ℕ) (command : ℕ → Result Forest Refusal) → ((i : ℕ) → o ≡ Some i → IfOk (command i) P) → IfOk (forests.on_found o command) P
-  found_ok None command h = tt
-  found_ok (Some i) command h = h i refl
-
-  asked_ok : (t : Bool) (r : Refusal) (x : Result Forest Refusal) → (t ≡ false → IfOk x P) → IfOk (cond t (Err r) x) P
-  asked_ok true r x h = tt
-  asked_ok false r x h = h refl
-
-from_ok : (P : Forest → Type 0) (x : Result Forest Refusal) (g : Forest) → x ≡ Ok g → IfOk x P → P g
-from_ok P x g e h = subst (λ y. IfOk y P) e h
 
 length_numbered : (n : ℕ) (steps : List Step) → length (forests.numbered n steps) ≡ length steps
 length_numbered n [] = refl
@@ -461,38 +443,6 @@ module _ (limits : Limits) (f : Forest) (held : IsForest f) (c : Cursor) (s : Is
       (λ i found. asked_ok goes (nat_le (length f.branches) 1) LastBranch _ (λ more.
       let named = named_at name f.branches i found in
       on_fewer f.branches i c s.index (λ same. other_name name c.branch h (named_one f.branches i s.index name c.branch same named s.named)) s.named s.within))
-
--- the cells that are ever made stay within the limits
-module _ (limits : Limits) (f : Forest) (few : f.made ≤ limits.cells) where
-  abbrev IsFew : Forest → Type 0
-  IsFew g = g.made ≤ limits.cells
-
-  few_after : (edit : Edit) → IfOk (edited limits f edit) IsFew
-  few_after (Insert name place step) =
-      found_ok IsFew (index_of f.branches name) (forests.insert_at limits f place step)
-      (λ i found. asked_ok IsFew (nat_lt (length (slots_in f.branches i)) place) NoPlace _
-      (λ fits. asked_ok IsFew (nat_le limits.cells f.made) Full (Ok (forests.inserted f i place step))
-      (λ room. let more : f.made < limits.cells = not_below limits.cells f.made room in omega arith)))
-  few_after (Remove name place) =
-      found_ok IsFew (index_of f.branches name) (forests.at_cell f place without) (λ i found. asked_ok IsFew (nat_le (length (slots_in f.branches i)) place) NoPlace _ (λ fits. few))
-  few_after (Replace name place step) =
-      found_ok IsFew (index_of f.branches name) (forests.at_cell f place (forests.replaced_by step))
-      (λ i found. asked_ok IsFew (nat_le (length (slots_in f.branches i)) place) NoPlace _ (λ fits. few))
-  few_after (Fork name place new) =
-      found_ok IsFew (index_of f.branches name) (forests.fork_at limits f place new)
-      (λ i found. asked_ok IsFew (list_any (pointwise nat_eq new) (map name_of f.branches)) NameTaken _
-      (λ other. asked_ok IsFew (not (is_well_formed new)) BadName _
-      (λ formed. asked_ok IsFew (nat_lt (length (slots_in f.branches i)) place) NoPlace _
-      (λ fits. asked_ok IsFew (nat_le limits.branches (length f.branches)) TooManyBranches _ (λ room. few)))))
-  few_after (Detach name) =
-      found_ok IsFew (index_of f.branches name) (forests.detach_at limits f)
-      (λ i found. asked_ok IsFew (nat_lt limits.cells (f.made + length (slots_in f.branches i))) Full _
-      (λ room. not_above limits.cells (f.made + length (slots_in f.branches i)) room))
-  few_after (Drop name) =
-      found_ok IsFew (index_of f.branches name) (forests.drop_at f) (λ i found. asked_ok IsFew (nat_le (length f.branches) 1) LastBranch _ (λ more. few))
-
-  pub made_within : (g : Forest) (edit : Edit) → edited limits f edit ≡ Ok g → g.made ≤ limits.cells
-  made_within g edit e = from_ok IsFew (edited limits f edit) g e (few_after edit)
 
 -- if each cursor is at a place that exists after a change, all are
 each_placed : (f g : Forest) (change : Cursor → Cursor) (cursors : List (Option Cursor)) → ((who : ℕ) (c : Cursor) → cursor_at cursors who ≡ Some c → IsAtPlace f c → IsAtPlace g (change c))

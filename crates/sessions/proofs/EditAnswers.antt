@@ -22,7 +22,7 @@ use Rattle.sessions.specs.declared.reply.Reply.TheVariants.{Edited}
 use Rattle.sessions.specs.World.{World}
 use Rattle.sessions.specs.Cursors.{is_occupied}
 use Rattle.sessions.specs.Edits.{edit_of, moved_by, drops_occupied, is_held_up}
-use Rattle.sessions.specs.Acts.{late_by, first_refusal, refusal_in, refused_if, left_by, reply_to, edited_world, kept_or, with_one_logged}
+use Rattle.sessions.specs.Acts.{late_by, first_refusal, refusal_in, refused_if, accepted_world_by, reply_to, edited_world, kept_or, with_one_logged}
 use Rattle.sessions.specs.Books.{Does, IsCarriedOut, IsLate, stored, world_of}
 use Rattle.sessions.specs.declared.workspace.Workspace.{Workspace}
 
@@ -151,7 +151,7 @@ module _ {R P : Type 0} (is : R → Behaviour P) (n : ℕ) (old : Workspace R P)
         } in
         record {
           fine = ap (λ o. first_refusal (late_by o who c w)) is_edit ∙ fine who c w edit (forest chart.trie) e.0.forest stays;
-          leaves = ap (λ o. left_by o who c w) is_edit ∙ leaves;
+          leaves = ap (λ o. accepted_world_by o who c w) is_edit ∙ leaves;
           replies = edit_reply who c w (subst IsSome (sym is_edit) refl);
         }
 

@@ -8,6 +8,9 @@ pub mod NextHits
 pub mod Looks
 pub mod Towers
 pub mod Rows
+pub mod General
+pub mod EditCases
+pub mod CellsMade
 pub mod CursorPlaces
 pub mod Sound
 pub mod UnmovedCursors

@@ -48,5 +48,5 @@ pub saved_so : {R P A E : Type 0} (is : R → Behaviour P) (s : Workspace R P) (
     → IfOk result (λ r. items r ≡ limbs (forest s.chart.trie)) → IfOk result (λ r. AreLawfulLimbs (items r)) → IfOk result (λ r. 0 < length (items r))
     → IfOk result (λ r. FitLimits s.chart.trie.limits (items r)) → IfOk result (λ r. LimbsFit (is s.chart.start.register) (items r))
     → IfOk result (λ r. IsSaved (world_of is (stored s n)) (items r))
-saved_so is s n items (Ok r) same lawful some near fit = record { same = same; lawful = lawful; some = some; fit = fit; near = near }
-saved_so is s n items (Err e) same lawful some near fit = tt
+saved_so is s n items (Ok r) same lawful some within fit = record { same = same; lawful = lawful; some = some; fit = fit; within = within }
+saved_so is s n items (Err e) same lawful some within fit = tt

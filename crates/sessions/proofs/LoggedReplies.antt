@@ -17,7 +17,7 @@ use Rattle.sessions.specs.declared.reply.Reply.{Reply}
 use Rattle.sessions.specs.declared.reply.Reply.TheVariants.{No}
 use Rattle.sessions.specs.declared.way.Way.TheVariants as way
 use Rattle.sessions.specs.World.{World}
-use Rattle.sessions.specs.Acts.{command_result, answered, refusals, first_refusal, refused_if, refusal_in, refused, reply_to, hit_reply, hit_of, is_full, lacks_session, is_missed, fits_command, lacks_break, looked_by, late_by, left_by}
+use Rattle.sessions.specs.Acts.{command_result, answered, refusals, first_refusal, refused_if, refusal_in, refused, reply_to, hit_reply, hit_of, is_full, lacks_session, is_missed, fits_command, lacks_break, looked_by, late_by, accepted_world_by}
 use Rattle.sessions.specs.Edits.{edit_of, drops_occupied}
 use Rattle.sessions.specs.Logs.{is_logged}
 
@@ -103,18 +103,18 @@ module _ {P : Type 0} (who : ℕ) (w : World P) where
   refused_counted LogFull h = cc
   refused_counted r h = refl
 
-  left_counted : (edit : Option Edit) (c : Command) → (left_by edit who c w).logged ≡ w.logged + 1
-  left_counted (Some edit) c = refl
-  left_counted None c = refl
+  accepted_counted : (edit : Option Edit) (c : Command) → (accepted_world_by edit who c w).logged ≡ w.logged + 1
+  accepted_counted (Some edit) c = refl
+  accepted_counted None c = refl
 
-  left_limits : (edit : Option Edit) (c : Command) → (left_by edit who c w).limits ≡ w.limits
-  left_limits (Some edit) c = refl
-  left_limits None c = refl
+  accepted_limits : (edit : Option Edit) (c : Command) → (accepted_world_by edit who c w).limits ≡ w.limits
+  accepted_limits (Some edit) c = refl
+  accepted_limits None c = refl
 
   -- an answer that is logged is counted
   by_first : (c : Command) (o : Option Refusal) → IsOrdinary o
       → (is_logged (answered o who c w).reply ≡ true) × ((answered o who c w).world.logged ≡ w.logged + 1) × ((answered o who c w).world.limits ≡ w.limits)
-  by_first c None h = (reply_logged c, left_counted (edit_of c) c, left_limits (edit_of c) c)
+  by_first c None h = (reply_logged c, accepted_counted (edit_of c) c, accepted_limits (edit_of c) c)
   by_first c (Some r) h = (h, refused_counted r h, refused_limits r)
 
   pub acted_logged : (guard : Option ℕ) (c : Command) → is_full w ≡ false

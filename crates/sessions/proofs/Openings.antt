@@ -9,9 +9,9 @@ use Rattle.sessions.specs.declared.command.Command.{Command}
 use Rattle.sessions.specs.declared.log.Entry.{Entry}
 use Rattle.sessions.specs.Edits.{edit_of}
 use Rattle.sessions.specs.World.{World}
-use Rattle.sessions.specs.Acts.{answered, first_refusal, left_by, refusals, refused}
+use Rattle.sessions.specs.Acts.{accepted_world_by, answered, first_refusal, refusals, refused}
 use Rattle.sessions.specs.Logs.{acted_by, world_after}
-use Rattle.sessions.specs.Books.{BeginsAtOpening, Held, IsHeld, opening_of}
+use Rattle.sessions.specs.Books.{BeginsAtOpening, BookOf, IsLegalBook, opening_of}
 
 module _ {P : Type 0} where
   abbrev SameTower : World P → World P → Type 0
@@ -21,12 +21,12 @@ module _ {P : Type 0} where
   refused_same LogFull w = (refl, refl)
   refused_same r w = (refl, refl)
 
-  left_same : (edit : Option Edit) (who : ℕ) (c : Command) (w : World P) → SameTower (left_by edit who c w) w
-  left_same (Some edit) who c w = (refl, refl)
-  left_same None who c w = (refl, refl)
+  accepted_same : (edit : Option Edit) (who : ℕ) (c : Command) (w : World P) → SameTower (accepted_world_by edit who c w) w
+  accepted_same (Some edit) who c w = (refl, refl)
+  accepted_same None who c w = (refl, refl)
 
   answered_same : (o : Option Refusal) (who : ℕ) (c : Command) (w : World P) → SameTower (answered o who c w).world w
-  answered_same None who c w = left_same (edit_of c) who c w
+  answered_same None who c w = accepted_same (edit_of c) who c w
   answered_same (Some r) who c w = refused_same r w
 
   after_same : (log : List Entry) (w : World P) → SameTower (world_after w log) w
@@ -37,7 +37,7 @@ module _ {P : Type 0} where
       (more.0 ∙ here.0, more.1 ∙ here.1)
 
 -- a book's chart that begins from an initial configuration begins from that of the opening
-pub begins_so : {R P : Type 0} (is : R → Behaviour P) (h : Held R P) → IsHeld is h
+pub begins_so : {R P : Type 0} (is : R → Behaviour P) (h : BookOf R P) → IsLegalBook is h
     → h.now.chart.start ≡ initial_configuration (is h.now.chart.start.register) h.now.chart.start.register h.now.chart.value → BeginsAtOpening is h
 begins_so is h held begins =
     let same = after_same h.log (opening_of is h) in

@@ -24,8 +24,8 @@ use Rattle.views.specs.Looks.{steps_in}
 use Rattle.views.proofs.Spots.{steps_named}
 use Rattle.views.proofs.BehaviourAlone.{replayed_alone, history_alone, replayed-append, history-append}
 use Rattle.sessions.specs.Seeks.{no_events, events_before, is_hit}
-use Rattle.sessions.specs.Walks.{ReportsPart, ReportsParts, is_on_bit, records_any}
-use Rattle.sessions.proofs.Searches.{met_by_records}
+use Rattle.sessions.specs.Walks.{ReportsPart, ReportsParts, is_on_bit, is_any_met_by_events}
+use Rattle.sessions.proofs.Searches.{met_by_events}
 
 module _ {R P : Type 0} (b : Behaviour P) where
   pub length-history : (c : Configuration R P) (steps : List Step) → length (history b c steps) ≡ length steps
@@ -173,14 +173,14 @@ module _ {R P : Type 0} (b : Behaviour P) where
 -- what a run says about its places
 module _ {R P : Type 0} (is : R → Behaviour P) (breaks : List Break) (test : ℕ → Bool) (place : ℕ) (run : SegmentRun R P) (count : ℕ) (reports : ReportsPart is breaks test place (record { run = run; count = count })) where
   pub events_report : IsRun (is run.entry.register) run → list_any is_on_bit breaks ≡ false → (i : ℕ) → i < length (take count run.events)
-      → test ((place + 1) + i) ≡ records_any breaks (slice_index_or (take count run.events) i no_events)
+      → test ((place + 1) + i) ≡ is_any_met_by_events breaks (slice_index_or (take count run.events) i no_events)
   events_report true_run none i h =
       let within : i < count = omega (arith, h, length-take count run.events) in
       let b = is run.entry.register in
       reports.each i within
-      ∙ met_by_records breaks (slice_index_or (history b run.entry run.steps) i no_events) (replayed b run.entry (take (i + 1) run.steps)).memory none
-      ∙ ap (λ events. records_any breaks (slice_index_or events i no_events)) (sym true_run.events)
-      ∙ ap (records_any breaks) (sym (get_or-take count run.events i no_events within))
+      ∙ met_by_events breaks (slice_index_or (history b run.entry run.steps) i no_events) (replayed b run.entry (take (i + 1) run.steps)).memory none
+      ∙ ap (λ events. is_any_met_by_events breaks (slice_index_or events i no_events)) (sym true_run.events)
+      ∙ ap (is_any_met_by_events breaks) (sym (get_or-take count run.events i no_events within))
 
   pub events_count : IsRun (is run.entry.register) run → length (take count run.events) ≡ count
   events_count true_run =

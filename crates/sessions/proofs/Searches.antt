@@ -1,5 +1,5 @@
 -- What a search has found after one more place.
-use Rattle.std.proofs.Common.{◌≡◌, ℕ, zero, suc, ◌+◌, Bool, true, false, ◌&&◌, ◌||◌, cond, nat_lt, List, [], ◌∷◌, ◌++◌, ◌<◌, length, get_or, drop, drop-cons, Option, Some, None, refl, sym, ap, ◌∙◌, arith, append-nil, reverse}
+use Rattle.std.proofs.Common.{◌≡◌, ℕ, suc, ◌+◌, Bool, true, false, ◌&&◌, ◌||◌, cond, nat_lt, List, [], ◌∷◌, ◌++◌, ◌<◌, length, get_or, drop, drop-cons, Option, Some, None, refl, sym, ap, ◌∙◌, arith, append-nil, reverse}
 use Rattle.std.specs.List.{find, filter, list_any, range_with_len}
 use Rattle.std.specs.Option.{option_or}
 use Rattle.std.proofs.lemmas.List.{reverse-append}
@@ -11,17 +11,12 @@ use Rattle.frames.specs.declared.types.StepEvents.{StepEvents}
 use Rattle.pages.specs.declared.breakpoint.Break.{Break}
 use Rattle.pages.specs.declared.breakpoint.Break.TheVariants.{Returns, Bit, Chosen, Void, Refused}
 use Rattle.frames.specs.declared.types.Event.{Event}
-use Rattle.pages.specs.Breaks.{is_met, is_in, is_recorded, is_shown}
+use Rattle.pages.specs.Breaks.{is_met, is_met_by_option, is_met_by_events, is_met_by_memory}
 use Rattle.sessions.specs.declared.way.Way.{Way}
 use Rattle.sessions.specs.declared.way.Way.TheVariants.{Forth, Back}
 use Rattle.sessions.specs.Seeks.{places_with, least_above, greatest_below, next_place}
-use Rattle.sessions.specs.Walks.{is_on_bit, records_any, ReportsEvents}
-
-range_more : (a n : ℕ) → range_with_len a (suc n) ≡ range_with_len a n ++ (a + n) ∷ []
-range_more a zero = let e : a ≡ a + 0 = omega arith in ap (λ m. m ∷ []) e
-range_more a (suc n) =
-    let e : (a + 1) + n ≡ a + suc n = omega arith in
-    ap (λ l. a ∷ l) (range_more (a + 1) n ∙ ap (λ m. range_with_len (a + 1) n ++ m ∷ []) e)
+use Rattle.sessions.specs.Walks.{is_on_bit, is_any_met_by_events, ReportsEvents}
+use Rattle.sessions.proofs.General.{or_apart, or_nothing, range_more}
 
 module _ (test : ℕ → Bool) where
   alone : (place : ℕ) → filter test (place ∷ []) ≡ cond (test place) (place ∷ []) []
@@ -72,46 +67,35 @@ module _ (test : ℕ → Bool) where
   none_more Back from place false found none tested before = back_more from place false found found tested before refl
 
 -- without an event no break is met
-pub none_in : (breaks : List Break) → false ≡ list_any (λ break. is_in break None) breaks
+pub none_in : (breaks : List Break) → false ≡ list_any (λ break. is_met_by_option break None) breaks
 none_in [] = refl
 none_in (b ∷ bs) = none_in bs
 
-or_apart : (x xs y ys : Bool) → ((x || xs) || (y || ys)) ≡ ((x || y) || (xs || ys))
-or_apart true xs y ys = refl
-or_apart false true true ys = refl
-or_apart false true false ys = refl
-or_apart false false true ys = refl
-or_apart false false false ys = refl
-
 -- a break is met by one of two events if it is met by the first or by the second
 pub either_in : (first second : Option Event) (breaks : List Break)
-    → (list_any (λ break. is_in break first) breaks || list_any (λ break. is_in break second) breaks) ≡ list_any (λ break. is_in break first || is_in break second) breaks
+    → (list_any (λ break. is_met_by_option break first) breaks || list_any (λ break. is_met_by_option break second) breaks) ≡ list_any (λ break. is_met_by_option break first || is_met_by_option break second) breaks
 either_in first second [] = refl
 either_in first second (b ∷ bs) =
-    or_apart (is_in b first) (list_any (λ break. is_in break first) bs) (is_in b second) (list_any (λ break. is_in break second) bs)
-    ∙ ap (λ rest. (is_in b first || is_in b second) || rest) (either_in first second bs)
+    or_apart (is_met_by_option b first) (list_any (λ break. is_met_by_option break first) bs) (is_met_by_option b second) (list_any (λ break. is_met_by_option break second) bs)
+    ∙ ap (λ rest. (is_met_by_option b first || is_met_by_option b second) || rest) (either_in first second bs)
 
-shown_false : (break : Break) (m : Memory) → is_on_bit break ≡ false → is_shown break m ≡ false
-shown_false (Returns p) m e = refl
-shown_false (Bit j v) m e = cc
-shown_false Chosen m e = refl
-shown_false Void m e = refl
-shown_false Refused m e = refl
+not_met_by_memory : (break : Break) (m : Memory) → is_on_bit break ≡ false → is_met_by_memory break m ≡ false
+not_met_by_memory (Returns p) m e = refl
+not_met_by_memory (Bit j v) m e = cc
+not_met_by_memory Chosen m e = refl
+not_met_by_memory Void m e = refl
+not_met_by_memory Refused m e = refl
 
-or_nothing : (a b : Bool) → b ≡ false → (a || b) ≡ a
-or_nothing true b e = refl
-or_nothing false b e = e
-
-pub met_by_records : (breaks : List Break) (events : StepEvents) (m : Memory) → list_any is_on_bit breaks ≡ false → is_met breaks events m ≡ records_any breaks events
-met_by_records [] events m e = refl
-met_by_records (break ∷ breaks) events m e =
+pub met_by_events : (breaks : List Break) (events : StepEvents) (m : Memory) → list_any is_on_bit breaks ≡ false → is_met breaks events m ≡ is_any_met_by_events breaks events
+met_by_events [] events m e = refl
+met_by_events (break ∷ breaks) events m e =
     let none = or_parts (is_on_bit break) (list_any is_on_bit breaks) e in
-    ap (λ b. b || is_met breaks events m) (or_nothing (is_recorded break events) (is_shown break m) (shown_false break m none.0))
-    ∙ ap (λ b. is_recorded break events || b) (met_by_records breaks events m none.1)
+    ap (λ b. b || is_met breaks events m) (or_nothing (is_met_by_events break events) (is_met_by_memory break m) (not_met_by_memory break m none.0))
+    ∙ ap (λ b. is_met_by_events break events || b) (met_by_events breaks events m none.1)
 
 -- if a test agrees with steps, it agrees with the first of them, and with those after it
 pub reports_first : (breaks : List Break) (test : ℕ → Bool) (place : ℕ) (events : StepEvents) (later : List StepEvents) → ReportsEvents breaks test place (events ∷ later)
-    → test (place + 1) ≡ records_any breaks events
+    → test (place + 1) ≡ is_any_met_by_events breaks events
 reports_first breaks test place events later reports =
     let here : place + 1 ≡ (place + 1) + 0 = omega arith in
     ap test here ∙ reports 0 (omega arith)
@@ -125,15 +109,15 @@ reports_after breaks test place events later reports i within =
 -- whether a break is met, or one of the breaks after it
 module _ (breaks : List Break) (events : StepEvents) (store m : Memory) (i : ℕ) (default : Break) (t : Bool)
     (within : i < length breaks) (same : store ≡ m)
-    (here : t ≡ (is_recorded (get_or breaks i default) events || is_shown (get_or breaks i default) store))
+    (here : t ≡ (is_met_by_events (get_or breaks i default) events || is_met_by_memory (get_or breaks i default) store))
     (so_far : is_met breaks events m ≡ is_met (drop i breaks) events m) where
   met_from : is_met breaks events m ≡ (t || is_met (drop (i + 1) breaks) events m)
   met_from =
       let one = get_or breaks i default in
       let next : suc i ≡ i + 1 = omega arith in
       so_far ∙ ap (λ l. is_met l events m) (drop-cons breaks i default within)
-      ∙ ap (λ k. (is_recorded one events || is_shown one m) || is_met (drop k breaks) events m) next
-      ∙ ap (λ b. b || is_met (drop (i + 1) breaks) events m) (sym (here ∙ ap (λ s. is_recorded one events || is_shown one s) same))
+      ∙ ap (λ k. (is_met_by_events one events || is_met_by_memory one m) || is_met (drop k breaks) events m) next
+      ∙ ap (λ b. b || is_met (drop (i + 1) breaks) events m) (sym (here ∙ ap (λ s. is_met_by_events one events || is_met_by_memory one s) same))
 
   pub met_here : t ≡ true → true ≡ is_met breaks events m
   met_here e = sym (met_from ∙ ap (λ b. b || is_met (drop (i + 1) breaks) events m) e)

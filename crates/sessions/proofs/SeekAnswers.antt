@@ -10,7 +10,7 @@ use Rattle.sessions.specs.declared.reply.Reply.{Reply}
 use Rattle.sessions.specs.declared.way.Way.{Way}
 use Rattle.sessions.specs.declared.way.Way.TheVariants.{Forth, Back}
 use Rattle.sessions.specs.World.{World}
-use Rattle.sessions.specs.Acts.{first_refusal, hit_of, hit_reply, late_refusals, left, put_cursor, reply_to, with_one_logged}
+use Rattle.sessions.specs.Acts.{accepted_world, first_refusal, hit_of, hit_reply, late_refusals, put_cursor, reply_to, with_one_logged}
 use Rattle.sessions.specs.Books.{Does, IsCarriedOut, StoredWorld, seek_command, world_of}
 
 -- what a seek does to a world
@@ -19,7 +19,7 @@ module _ {P : Type 0} (who : ℕ) (w : World P) where
   never_late Forth = refl
   never_late Back = refl
 
-  leaves_so : (way : Way) → left who (seek_command way) w ≡ record (with_one_logged w) { cursors = put_cursor who (hit_of way w who) w.cursors }
+  leaves_so : (way : Way) → accepted_world who (seek_command way) w ≡ record (with_one_logged w) { cursors = put_cursor who (hit_of way w who) w.cursors }
   leaves_so Forth = refl
   leaves_so Back = refl
 

@@ -21,11 +21,12 @@ use Rattle.sessions.specs.BreakLists.{breaks_at}
 use Rattle.sessions.specs.Cursors.{shifted, cursor, cursor_at, first_cursor, AreAtPlaces, IsAtPlace}
 use Rattle.sessions.specs.Edits.{edit_of, moved_by, drops_occupied}
 use Rattle.sessions.specs.Seeks.{hits, is_hit, next_place}
-use Rattle.sessions.specs.Acts.{answered, breaks_after, command_result, cursors_after, first_refusal, hit_from, hit_of, is_full, kept_or, late_by, left_by, other_refusals, put_cursor, refusals, early_refusals, late_refusals, refusal_in, refused, refused_if}
+use Rattle.sessions.specs.Acts.{answered, breaks_after, command_result, cursors_after, first_refusal, hit_from, hit_of, is_full, kept_or, late_by, accepted_world_by, other_refusals, put_cursor, refusals, early_refusals, late_refusals, refusal_in, refused, refused_if}
 use Rattle.sessions.specs.Books.{IsLawfulWorld}
 use Rattle.sessions.proofs.Answered.{early_none}
 use Rattle.sessions.proofs.NextHits.{next_is_hit}
-use Rattle.sessions.proofs.CursorPlaces.{edited_placed, first_placed, hit_exists, made_within, put_placed}
+use Rattle.sessions.proofs.CellsMade.{made_within}
+use Rattle.sessions.proofs.CursorPlaces.{edited_placed, first_placed, hit_exists, put_placed}
 
 none_in : (xs ys : List (Option Refusal)) → first_refusal (xs ++ ys) ≡ None → (first_refusal xs ≡ None) × (first_refusal ys ≡ None)
 none_in [] ys e = (refl, e)
@@ -102,8 +103,8 @@ module _ {P : Type 0} (who : ℕ) (w : World P) (sound : IsLawfulWorld w) (held 
     placed command.Back h = put_hit (hit_of way.Back w who) (hit_placed way.Back)
     placed c h = same
 
-    left_sound : (edit : Option Edit) (c : Command) → AreNamedApart (left_by edit who c w).forest.branches → first_refusal (late_by edit who c w) ≡ None → IsLawfulWorld (left_by edit who c w)
-    left_sound (Some edit) c apart h =
+    accepted_sound : (edit : Option Edit) (c : Command) → AreNamedApart (accepted_world_by edit who c w).forest.branches → first_refusal (late_by edit who c w) ≡ None → IsLawfulWorld (accepted_world_by edit who c w)
+    accepted_sound (Some edit) c apart h =
         let p = edit_placed edit (edited w.limits w.forest edit) refl (drops_occupied edit w.cursors) refl apart h in
         record {
           in_range = sound.in_range;
@@ -113,7 +114,7 @@ module _ {P : Type 0} (who : ℕ) (w : World P) (sound : IsLawfulWorld w) (held 
           breaks = sound.breaks;
           few_edits = omega (arith, sound.few_edits);
         }
-    left_sound None c apart h =
+    accepted_sound None c apart h =
         let p = placed c h in
         record {
           in_range = sound.in_range;
@@ -145,5 +146,5 @@ module _ {P : Type 0} (who : ℕ) (w : World P) (sound : IsLawfulWorld w) (held 
       by None e apart =
           let rest = (none_in (refused_if (is_full w) LogFull ∷ []) (early_refusals who guard c w ++ late_refusals who c w) e).1 in
           let none = none_in (early_refusals who guard c w) (late_refusals who c w) rest in
-          left_sound (early_none who guard c w none.0).0 (edit_of c) c apart none.1
+          accepted_sound (early_none who guard c w none.0).0 (edit_of c) c apart none.1
       by (Some r) e apart = refused_sound r

@@ -114,8 +114,8 @@ module _ {P : Type 0} where
   abbrev pub late_refusals : ℕ → Command → World P → List (Option Refusal)
   late_refusals who c w = late_by (edit_of c) who c w
 
-  -- all reasons to refuse a command, in the order they are tested, a full log first; `None` for each
-  -- that doesn't apply
+  -- all reasons to refuse a command, in the order they are tested, a full log first; `None` for
+  -- each that doesn't apply
   abbrev pub refusals : ℕ → Option ℕ → Command → World P → List (Option Refusal)
   refusals who guard c w = refused_if (is_full w) LogFull ∷ (early_refusals who guard c w ++ late_refusals who c w)
 
@@ -198,13 +198,13 @@ moved_world who c w =
 
 -- the world after the command c of session `who`, which isn't refused; the first argument is c's
 -- edit, or `None` if c isn't an edit
-abbrev pub left_by : {P : Type 0} → Option Edit → ℕ → Command → World P → World P
-left_by (Some edit) who c w = edited_world edit w
-left_by None who c w = moved_world who c w
+abbrev pub accepted_world_by : {P : Type 0} → Option Edit → ℕ → Command → World P → World P
+accepted_world_by (Some edit) who c w = edited_world edit w
+accepted_world_by None who c w = moved_world who c w
 
--- the world that a command of session `who` leaves if it isn't refused
-abbrev pub left : {P : Type 0} → ℕ → Command → World P → World P
-left who c w = left_by (edit_of c) who c w
+-- the world after a command of session `who` that isn't refused
+abbrev pub accepted_world : {P : Type 0} → ℕ → Command → World P → World P
+accepted_world who c w = accepted_world_by (edit_of c) who c w
 
 -- the world after a refused command, which counts as logged unless the refusal is LogFull, and
 -- changes nothing else
@@ -220,7 +220,7 @@ pub record CommandResult (P : Type 0) : Type 0 where
 -- the world and the reply after the command c of session `who`; the first argument is the first
 -- reason to refuse c, or `None` if there is none
 abbrev pub answered : {P : Type 0} → Option Refusal → ℕ → Command → World P → CommandResult P
-answered None who c w = record { world = left who c w; reply = reply_to who c w }
+answered None who c w = record { world = accepted_world who c w; reply = reply_to who c w }
 answered (Some r) who c w = record { world = refused r w; reply = No r }
 
 -- the world and the reply after the command c of session `who` in the world w; `guard` is `None` if

@@ -13,4 +13,4 @@ pub record IsSaved {P : Type 0} (w : World P) (saved : List Limb) : Type 0 where
   pub lawful : AreLawfulLimbs saved
   pub some : 0 < length saved
   pub fit : LimbsFit w.tower saved
-  pub near : FitLimits w.limits saved
+  pub within : FitLimits w.limits saved

@@ -9,7 +9,7 @@ use Rattle.frames.specs.Configuration.{Configuration, replayed, history}
 use Rattle.cutoff.specs.Fitting.{RunPart}
 use Rattle.pages.specs.declared.breakpoint.Break.{Break}
 use Rattle.pages.specs.declared.breakpoint.Break.TheVariants.{Bit}
-use Rattle.pages.specs.Breaks.{is_met, is_recorded}
+use Rattle.pages.specs.Breaks.{is_met, is_met_by_events}
 use Rattle.sessions.specs.declared.seek.Search.{Search}
 use Rattle.sessions.specs.Seeks.{next_place, no_events, places_with}
 
@@ -28,13 +28,13 @@ is_on_bit (Bit j v) = true
 is_on_bit break = false
 
 -- whether a step that records these events meets one of the breaks
-abbrev pub records_any : List Break → StepEvents → Bool
-records_any breaks events = list_any (λ break. is_recorded break events) breaks
+abbrev pub is_any_met_by_events : List Break → StepEvents → Bool
+is_any_met_by_events breaks events = list_any (λ break. is_met_by_events break events) breaks
 
 -- the test is right for successive steps from `place` on, which recorded these events: at the place
 -- after each step, it says whether the events of that step meet one of the breaks
 abbrev pub ReportsEvents : List Break → (ℕ → Bool) → ℕ → List StepEvents → Type 0
-ReportsEvents breaks test place events = (i : ℕ) → i < length events → test ((place + 1) + i) ≡ records_any breaks (slice_index_or events i no_events)
+ReportsEvents breaks test place events = (i : ℕ) → i < length events → test ((place + 1) + i) ≡ is_any_met_by_events breaks (slice_index_or events i no_events)
 
 -- the test is right for these steps, replayed from the configuration c at `place`: at the place
 -- after each step, it says whether one of the breaks is met

@@ -14,7 +14,7 @@ ghost use Rattle.pages.specs.Strays.{IsRegularOrAtomic, ShowsNoStray};
 ghost use Rattle.sessions.specs.Logs.{IsLegal, world_after};
 ghost use Rattle.sessions.specs.Logs as spec;
 ghost use Rattle.sessions.specs.Looks.{looked_in, shown_in};
-ghost use Rattle.sessions.specs.Books.{ActsOnBook, BeginsAtOpening, IsHeld, IsNewBook, KeepsWorld, RefusesMemoryLast, LacksMemory, opening_of, opening_over};
+ghost use Rattle.sessions.specs.Books.{ActsOnBook, BeginsAtOpening, IsLegalBook, IsNewBook, KeepsWorld, RefusesMemoryLast, LacksMemory, opening_of, opening_over};
 
 mod limbs;
 mod looks;
@@ -55,9 +55,9 @@ pub struct Book<R: Register> {
 }
 
 impl<R: Register> Model for Book<R> {
-    ghost use Rattle.sessions.specs.Books.{Held, IsBook, book_of};
+    ghost use Rattle.sessions.specs.Books.{BookOf, IsBook, book_of};
 
-    ghost Value = { Held R R.Pending };
+    ghost Value = { BookOf R R.Pending };
 
     ghost view = { λ b. book_of b.first.value b.workspace b.log };
 
@@ -215,7 +215,7 @@ impl<R: Register> Book<R> {
     /// present world, and the log's length is within its limit.
     pub fn len(&self) -> u32
         ensures count { result ≡ length self.now.log }
-        ensures kept { IsHeld R.behaviour self.now }
+        ensures kept { IsLegalBook R.behaviour self.now }
     {
         self.log.len() as u32
     }
@@ -226,7 +226,7 @@ impl<R: Register> Book<R> {
     /// and replay begins from the initial configuration of the register and value that the book
     /// opened with.
     pub fn lemma_invariant(&self)
-        ensures log { IsHeld R.behaviour self.now }
+        ensures log { IsLegalBook R.behaviour self.now }
         ensures cut { IsCut self.now.now.chart.trie }
         ensures begins { BeginsAtOpening R.behaviour self.now }
     {

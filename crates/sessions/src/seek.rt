@@ -94,16 +94,16 @@ fn any_on_bit(breaks: &[Break]) -> bool
 }
 
 /// Whether a step that records these events meets one of the breaks.
-fn records_any(breaks: &[Break], events: StepEvents) -> bool
-    ensures { result ≡ spec.records_any breaks.now events }
+fn is_any_met_by_events(breaks: &[Break], events: StepEvents) -> bool
+    ensures { result ≡ spec.is_any_met_by_events breaks.now events }
 {
-    is_in_any(breaks, events.first) || is_in_any(breaks, events.second)
+    is_any_met_by_option(breaks, events.first) || is_any_met_by_option(breaks, events.second)
 }
 
 /// Whether an event, if there is one, meets one of the breaks.
 #[inline(always)]
-fn is_in_any(breaks: &[Break], event: Option<Event>) -> bool
-    ensures { result ≡ list_any (λ break. breaks_spec.is_in break event) breaks.now }
+fn is_any_met_by_option(breaks: &[Break], event: Option<Event>) -> bool
+    ensures { result ≡ list_any (λ break. breaks_spec.is_met_by_option break event) breaks.now }
 {
     match event {
         None => false,
@@ -113,10 +113,10 @@ fn is_in_any(breaks: &[Break], event: Option<Event>) -> bool
 
 /// Whether a break is met by a step that records these events, or by the memory after the step.
 fn meets(one: &Break, events: StepEvents, store: &Store) -> bool
-    ensures { result
-        ≡ (breaks_spec.is_recorded one.now events || breaks_spec.is_shown one.now store.now) }
+    ensures { result ≡ (breaks_spec.is_met_by_events one.now events
+        || breaks_spec.is_met_by_memory one.now store.now) }
 {
-    one.is_recorded(events) || one.is_shown(store)
+    one.is_met_by_events(events) || one.is_met_by_memory(store)
 }
 
 /// Whether one of the breaks is met by a step that records these events, or by the configuration
@@ -153,7 +153,7 @@ fn along_events(
     let mut found = found;
     while let Some(reported) = left.next() {
         at += 1;
-        let hit = records_any(search.breaks, reported);
+        let hit = is_any_met_by_events(search.breaks, reported);
         found = search.with_place(found, at, hit);
     }
     found

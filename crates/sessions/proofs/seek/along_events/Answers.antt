@@ -15,6 +15,6 @@ loop-reported-preserved c =
       reports = λ test all. reports_after breaks test at reported later (subst (ReportsEvents breaks test at) front (c.loop-reported.invariant.reports test all));
       finds = λ test all start.
           c.with_place-found.ensures test
-          (reports_first breaks test at reported later (subst (ReportsEvents breaks test at) front (c.loop-reported.invariant.reports test all)) ∙ sym c.records_any-hit.ensures)
+          (reports_first breaks test at reported later (subst (ReportsEvents breaks test at) front (c.loop-reported.invariant.reports test all)) ∙ sym c.is_any_met_by_events-hit.ensures)
           (c.loop-reported.invariant.finds test all start);
     }

@@ -5,7 +5,7 @@ use Rattle.frames.specs.Configuration.{fits_step, history, replayed}
 use Rattle.frames.specs.Recorded.{AllFit}
 use Rattle.pages.specs.Breaks.{is_met}
 use Rattle.sessions.specs.Seeks.{next_place, no_events, places_with}
-use Rattle.sessions.specs.Walks.{records_any}
+use Rattle.sessions.specs.Walks.{is_any_met_by_events}
 use Rattle.sessions.proofs.Runs.{events_report, events_count, steps_report, steps_count}
 use Rattle.sessions.proofs.seek.along_run.Goals as goal
 
@@ -53,11 +53,11 @@ returns g c = λ test reports start.
     let place = c.args.progress.place in
     let events : c.front-events.result ≡ take c.args.count run.events = c.front-events.ensures ∙ ap (take c.args.count) c.events.ensures.events in
     let all : (test : ℕ → Bool)
-    → ((i : ℕ) → i < length (take c.args.count run.events) → test ((place + 1) + i) ≡ records_any breaks (slice_index_or (take c.args.count run.events) i no_events))
+    → ((i : ℕ) → i < length (take c.args.count run.events) → test ((place + 1) + i) ≡ is_any_met_by_events breaks (slice_index_or (take c.args.count run.events) i no_events))
     → c.args.progress.found ≡ next_place c.args.search.now.way c.args.search.now.from (places_with test (place + 1))
     → c.along_events.result ≡ next_place c.args.search.now.way c.args.search.now.from (places_with test ((place + length (take c.args.count run.events)) + 1)) =
     subst (λ es. (test : ℕ → Bool)
-    → ((i : ℕ) → i < length es → test ((place + 1) + i) ≡ records_any breaks (slice_index_or es i no_events))
+    → ((i : ℕ) → i < length es → test ((place + 1) + i) ≡ is_any_met_by_events breaks (slice_index_or es i no_events))
     → c.args.progress.found ≡ next_place c.args.search.now.way c.args.search.now.from (places_with test (place + 1))
     → c.along_events.result ≡ next_place c.args.search.now.way c.args.search.now.from (places_with test ((place + length es) + 1))) events c.along_events.ensures in
     subst (λ n. c.along_events.result ≡ next_place c.args.search.now.way c.args.search.now.from (places_with test ((place + n) + 1))) (events_count is breaks test place run c.args.count reports c.events.ensures.kept)

@@ -1,15 +1,15 @@
 use Rattle.std.proofs.Common.{◌∙◌, ◌||◌, sym, ap}
 use Rattle.std.specs.List.{list_any}
-use Rattle.pages.specs.Breaks.{is_in}
+use Rattle.pages.specs.Breaks.{is_met_by_option}
 use Rattle.sessions.proofs.Searches.{either_in}
-use Rattle.sessions.proofs.seek.records_any.Goals as goal
+use Rattle.sessions.proofs.seek.is_any_met_by_events.Goals as goal
 
-pub returns-then-is_in_any : goal.returns-then-is_in_any
-returns-then-is_in_any c =
-    let second = list_any (λ break. is_in break c.args.events.second) c.args.breaks.now in
-    c.if-is_in_any.true ∙ sym (ap (λ first. first || second) (sym c.is_in_any.ensures ∙ c.if-is_in_any.true)) ∙ either_in c.args.events.first c.args.events.second c.args.breaks.now
+pub returns-then-is_any_met_by_option : goal.returns-then-is_any_met_by_option
+returns-then-is_any_met_by_option c =
+    let second = list_any (λ break. is_met_by_option break c.args.events.second) c.args.breaks.now in
+    c.if-is_any_met_by_option.true ∙ sym (ap (λ first. first || second) (sym c.is_any_met_by_option.ensures ∙ c.if-is_any_met_by_option.true)) ∙ either_in c.args.events.first c.args.events.second c.args.breaks.now
 
-pub returns-else-is_in_any : goal.returns-else-is_in_any
-returns-else-is_in_any c =
-    let second = list_any (λ break. is_in break c.args.events.second) c.args.breaks.now in
-    c.is_in_any-else-is_in_any.ensures ∙ sym (ap (λ first. first || second) (sym c.is_in_any.ensures ∙ c.if-is_in_any.false)) ∙ either_in c.args.events.first c.args.events.second c.args.breaks.now
+pub returns-else-is_any_met_by_option : goal.returns-else-is_any_met_by_option
+returns-else-is_any_met_by_option c =
+    let second = list_any (λ break. is_met_by_option break c.args.events.second) c.args.breaks.now in
+    c.is_any_met_by_option-else-is_any_met_by_option.ensures ∙ sym (ap (λ first. first || second) (sym c.is_any_met_by_option.ensures ∙ c.if-is_any_met_by_option.false)) ∙ either_in c.args.events.first c.args.events.second c.args.breaks.now
