@@ -201,7 +201,7 @@ def own_name(name):
     return name.rpartition("/")[2]
 
 
-def rows():
+def rows_and_others():
     """Returns the paths of all rows without their kinds, in the order of their names, and what is
     wrong with the other files there, by their paths."""
     made_rows = set(sizes.files())
@@ -225,10 +225,15 @@ def rows():
     return names, strange
 
 
+def rows():
+    """Returns the paths of all rows without their kinds, in the order of their names."""
+    return rows_and_others()[0]
+
+
 @functools.lru_cache(None)
 def row(name):
     """Returns the path of the row of a name."""
-    found = [it for it in rows()[0] if own_name(it) == name]
+    found = [it for it in rows() if own_name(it) == name]
     if not found:
         raise Failure(f"no row is called {name}")
     return found[0]

@@ -45,7 +45,8 @@ def attempts():
     return found
 
 
-def file_of(name):
+def tower_text_of(name):
+    """Returns the text of a script's tower or bench file, or of no tower if it has neither."""
     kinds = [it for it in ("tower", "bench") if os.path.exists(f"{TOP}/{name}.{it}")]
     return text_of(f"{name}.{kinds[0]}") if kinds else NO_TOWER
 
@@ -74,7 +75,7 @@ def judged(program, names, tried):
         asked.append(
             {
                 "name": name,
-                "tower": file_of(name),
+                "tower": tower_text_of(name),
                 "script": text_of(f"{name}.script"),
                 "attempts": attempts,
             }

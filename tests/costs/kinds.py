@@ -14,8 +14,8 @@ KINDS = {
     "cycle": lambda count: [SHORT_WRITES[i % len(SHORT_WRITES)] for i in range(count)],
     "random": mixed_operations,
 }
-# Those of another program of the kind in plain Rust, which wrote the same bytes, taken once. It stores runs, has early cutoff and a
-# mark of what fits, has no threads and no log, and its forks share segments.
+# The costs of a comparable program in plain Rust, which wrote the same bytes; taken once. It stores runs, has early cutoff and a mark
+# of what fits, has no threads and no log, and its forks share segments.
 PLAIN = {
     ("cycle", "a step of a first look"): (59.5, 54.6, 54.6),
     ("cycle", "a look after an edit"): (13_579, 38_289, 284_404),

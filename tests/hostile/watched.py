@@ -1,5 +1,6 @@
 """A run of the program that is given its script by stages, and what memory it takes in each."""
 import collections
+import os
 import re
 import subprocess
 import threading
@@ -22,7 +23,7 @@ def difference(stream, pieces):
     for piece in pieces:
         got = stream.read(len(piece))
         if got != piece:
-            at = next((i for i, pair in enumerate(zip(got, piece)) if pair[0] != pair[1]), len(got))
+            at = len(os.path.commonprefix([got, piece]))
             near = slice(max(0, at - BYTES_SHOWN // 4), at + BYTES_SHOWN // 4)
             return f"at byte {place + at}: {got[near]!r}, wanted {piece[near]!r}"
         place += len(piece)

@@ -47,7 +47,7 @@ CLICKED = """(() => { const it = document.querySelector('[data-walk="%d"]');
 
 
 def compare_rows(page, found, name, first, last):
-    """Compares what each row of a bit shows at each place with the page of bits there."""
+    """Compares what each row of a bit shows at each place from `first` to `last` with the page of bits there."""
     column, rows = page.value(ROWS)
     for place in range(first, last + 1):
         lines = dict(line.split(" ", 1) for line in found[f"bits {name} {place}"])
@@ -69,7 +69,7 @@ def compare_rows(page, found, name, first, last):
 
 
 def compare_inside(page, tower, found, name, first, last):
-    """Compares the bars inside operations, and the rows of numbers, with a second reader's; operations that are cut are left out."""
+    """Compares what is inside the operations between places `first` and `last`, and the rows of numbers there, with a second reader's."""
     length = max(int(look.split()[2]) for look in found if look.startswith(f"state {name} "))
     pages = {
         kind: [found[f"{kind} {name} {place}"] for place in range(length + 1)]
@@ -102,6 +102,7 @@ def compare_inside(page, tower, found, name, first, last):
         register = tower.registers.index(row) if row in tower.registers else 0
         bands = inside.bands(register)["number" if row in tower.registers else "best"]
         for begin, end, *box in boxes:
+            # Nothing before `first` is drawn, so a box may lack what a part that began there has found or written
             is_cut = any(
                 part.begin < first and part.end >= begin
                 for it in inside.operations

@@ -167,7 +167,7 @@ def fault_of_random_inputs(names, program):
     odd = [index for index in range(COUNT) if wanted[index] != got[index]]
     statuses = collections.Counter(it.status for it in wanted)
     if not {0, 1} <= set(statuses):
-        return f"all of them end alike: {dict(statuses)}"
+        return f"not both statuses 0 and 1 occur: {dict(statuses)}"
     shown = [
         f"number {it}: {cases.first_difference(wanted[it].output, got[it].output) or (wanted[it], got[it])}"[
             :300
