@@ -42,10 +42,10 @@ module _ {R P : Type 0} (number : Option ℕ) where
   note_checked None s e = cc
   note_checked (Some p) s e = ap (option_map (λ s. record { run = s.run; id = s.id; link = s.link; checked = number })) e
 
-  told_checked : (E : R → R → Bool) (h : R) (exits : List (Configuration ⊤ P)) → IsGiven (length exits) number → (o : Option (SegmentOf (StoredRun R P)))
+  true_segment-checked : (E : R → R → Bool) (h : R) (exits : List (Configuration ⊤ P)) → IsGiven (length exits) number → (o : Option (SegmentOf (StoredRun R P)))
       → IsTrueSegment E h exits o → IsTrueSegment E h exits (option_map (checked_segment number) o)
-  told_checked E h exits given None t = tt
-  told_checked E h exits given (Some p) t = by p.note t
+  true_segment-checked E h exits given None t = tt
+  true_segment-checked E h exits given (Some p) t = by p.note t
     where
       by : (n : Option (StoredRun R P)) → MatchOption n ⊤ (IsStored E h exits (map step_of p.slots))
           → MatchOption (option_map (λ s. record { run = s.run; id = s.id; link = s.link; checked = number }) n) ⊤ (IsStored E h exits (map step_of p.slots))
@@ -87,7 +87,7 @@ module _ {R P : Type 0} (old new : TrieOf (StoredRun R P)) (number : Option ℕ)
       by : (k : ℕ) → (segment_at new.segments k ≡ segment_at old.segments k) ⊎ (IsOnWayTo old key k × (segment_at new.segments k ≡ option_map (checked_segment number) (segment_at old.segments k)))
           → IsTrueSegment E h l.exits (segment_at new.segments k)
       by k (inl e) = subst (IsTrueSegment E h l.exits) (sym e) (l.each k)
-      by k (inr e) = subst (IsTrueSegment E h l.exits) (sym e.1) (told_checked number E h l.exits given (segment_at old.segments k) (l.each k))
+      by k (inr e) = subst (IsTrueSegment E h l.exits) (sym e.1) (true_segment-checked number E h l.exits given (segment_at old.segments k) (l.each k))
 
   module _ (E : R → R → Bool) (is : R → Behaviour P) where
     true_same : (c : Configuration R P) (k : ℕ) → HasTrueRun E is old c k → HasTrueRun E is new c k

@@ -77,14 +77,14 @@ module _ {P : Type 0} (b : Behaviour P) where
 
 -- stored runs that are true
 module _ {R P : Type 0} (E : R → R → Bool) (h : R) (exits : List (Configuration ⊤ P)) where
-  pub unnoted_told : (o : Option (SegmentOf (StoredRun R P))) → note_of o ≡ None → IsTrueSegment E h exits o
-  unnoted_told None e = tt
-  unnoted_told (Some p) e = subst (λ n. MatchOption n ⊤ (IsStored E h exits (map step_of p.slots))) (sym e) tt
+  pub true_segment-unnoted : (o : Option (SegmentOf (StoredRun R P))) → note_of o ≡ None → IsTrueSegment E h exits o
+  true_segment-unnoted None e = tt
+  true_segment-unnoted (Some p) e = subst (λ n. MatchOption n ⊤ (IsStored E h exits (map step_of p.slots))) (sym e) tt
 
 pub linked_kept : {R P : Type 0} (E : R → R → Bool) (h : R) (next : ℕ) (above : Option ℕ) (c : Configuration ⊤ P) (old new : TrieOf (StoredRun R P)) → KeepsNotes old new
     → IsLinked E h next above c old → IsLinked E h next above c new
 linked_kept E h next above c old new notes l =
-    record { exits = l.exits; as_many = l.as_many; each = notes_kept (IsTrueSegment E h l.exits) (unnoted_told E h l.exits) old new notes l.each; reached_exit = l.reached_exit }
+    record { exits = l.exits; as_many = l.as_many; each = notes_kept (IsTrueSegment E h l.exits) (true_segment-unnoted E h l.exits) old new notes l.each; reached_exit = l.reached_exit }
 
 -- a new chart has the invariant
 pub started : {R P : Type 0} (E : R → R → Bool) (is : R → Behaviour P) (register : R) (value : ℕ) (trie : TrieOf (StoredRun R P)) (start : Configuration R P)
@@ -97,7 +97,7 @@ started {R} {P} E is register value trie start within fits whole blank e =
       begins = subst (λ x. start ≡ initial_configuration (is x) x value) r e;
       fits = subst (λ x. StepsFit (is x) (forest trie)) r fits;
       whole = whole;
-      linked = record { exits = []; as_many = refl; each = λ k. unnoted_told E start.register [] (segment_at trie.segments k) (blank k); reached_exit = tt };
+      linked = record { exits = []; as_many = refl; each = λ k. true_segment-unnoted E start.register [] (segment_at trie.segments k) (blank k); reached_exit = tt };
       marked = tt;
       fresh_marked = tt;
     }

@@ -13,55 +13,55 @@ use Rattle.cutoff.specs.Links.{without_register, IsExitOf, IsGiven, IsStored, Is
 use Rattle.branch_terms.proofs.Lists.{slice_get-last}
 
 -- one more exit
-slice_get_more : {X : Type 0} (xs ys : List X) (i : ℕ) (x : X) → slice_get xs i ≡ Some x → slice_get (xs ++ ys) i ≡ Some x
-slice_get_more [] ys i x e = cc
-slice_get_more (y ∷ xs) ys zero x e = e
-slice_get_more (y ∷ xs) ys (suc i) x e = slice_get_more xs ys i x e
+slice_get-more : {X : Type 0} (xs ys : List X) (i : ℕ) (x : X) → slice_get xs i ≡ Some x → slice_get (xs ++ ys) i ≡ Some x
+slice_get-more [] ys i x e = cc
+slice_get-more (y ∷ xs) ys zero x e = e
+slice_get-more (y ∷ xs) ys (suc i) x e = slice_get-more xs ys i x e
 
-pub came_more : {P : Type 0} (exits more : List (Configuration ⊤ P)) (number : Option ℕ) (c : Configuration ⊤ P) → IsExitOf exits number c → IsExitOf (exits ++ more) number c
-came_more exits more None c h = tt
-came_more exits more (Some a) c h = slice_get_more exits more a c h
+pub exit_of-more : {P : Type 0} (exits more : List (Configuration ⊤ P)) (number : Option ℕ) (c : Configuration ⊤ P) → IsExitOf exits number c → IsExitOf (exits ++ more) number c
+exit_of-more exits more None c h = tt
+exit_of-more exits more (Some a) c h = slice_get-more exits more a c h
 
-given_more : {P : Type 0} (exits more : List (Configuration ⊤ P)) (number : Option ℕ) → IsGiven (length exits) number → IsGiven (length (exits ++ more)) number
-given_more exits more None g = tt
-given_more exits more (Some a) g = let longer = length-append exits more in omega (arith, g, longer)
+given-more : {P : Type 0} (exits more : List (Configuration ⊤ P)) (number : Option ℕ) → IsGiven (length exits) number → IsGiven (length (exits ++ more)) number
+given-more exits more None g = tt
+given-more exits more (Some a) g = let longer = length-append exits more in omega (arith, g, longer)
 
-last_given : {X : Type 0} (xs : List X) (x : X) {next : ℕ} → length xs ≡ next → next < length (xs ++ x ∷ [])
-last_given xs x {next} many = let longer = length-append xs (x ∷ []) in omega (arith, many, longer)
+given-last : {X : Type 0} (xs : List X) (x : X) {next : ℕ} → length xs ≡ next → next < length (xs ++ x ∷ [])
+given-last xs x {next} many = let longer = length-append xs (x ∷ []) in omega (arith, many, longer)
 
 module _ {R P : Type 0} (E : R → R → Bool) (h : R) where
-  pub stored_more : (exits more : List (Configuration ⊤ P)) (segment : List Step) (s : StoredRun R P) → IsStored E h exits segment s → IsStored E h (exits ++ more) segment s
-  stored_more exits more segment s t =
+  pub stored-more : (exits more : List (Configuration ⊤ P)) (segment : List Step) (s : StoredRun R P) → IsStored E h exits segment s → IsStored E h (exits ++ more) segment s
+  stored-more exits more segment s t =
       record {
         own = t.own;
         covers = t.covers;
-        id = came_more exits more s.id (without_register s.run.exit) t.id;
-        link = came_more exits more s.link (without_register s.run.entry) t.link;
-        checked = given_more exits more s.checked t.checked;
+        id = exit_of-more exits more s.id (without_register s.run.exit) t.id;
+        link = exit_of-more exits more s.link (without_register s.run.entry) t.link;
+        checked = given-more exits more s.checked t.checked;
       }
 
-  pub told_more : (exits more : List (Configuration ⊤ P)) (o : Option (SegmentOf (StoredRun R P))) → IsTrueSegment E h exits o → IsTrueSegment E h (exits ++ more) o
-  told_more exits more None t = tt
-  told_more exits more (Some p) t = by p.note t
+  pub true_segment-more : (exits more : List (Configuration ⊤ P)) (o : Option (SegmentOf (StoredRun R P))) → IsTrueSegment E h exits o → IsTrueSegment E h (exits ++ more) o
+  true_segment-more exits more None t = tt
+  true_segment-more exits more (Some p) t = by p.note t
     where
       by : (n : Option (StoredRun R P)) → MatchOption n ⊤ (IsStored E h exits (map step_of p.slots)) → MatchOption n ⊤ (IsStored E h (exits ++ more) (map step_of p.slots))
       by None t = tt
-      by (Some s) t = stored_more exits more (map step_of p.slots) s t
+      by (Some s) t = stored-more exits more (map step_of p.slots) s t
 
-  told_here : (exits : List (Configuration ⊤ P)) (s : StoredRun R P) (o : Option (SegmentOf (StoredRun R P))) → IsStored E h exits (map step_of (slots_of o)) s
+  true_segment-with_note : (exits : List (Configuration ⊤ P)) (s : StoredRun R P) (o : Option (SegmentOf (StoredRun R P))) → IsStored E h exits (map step_of (slots_of o)) s
       → IsTrueSegment E h exits (option_map (with_note (Some s)) o)
-  told_here exits s None t = tt
-  told_here exits s (Some p) t = t
+  true_segment-with_note exits s None t = tt
+  true_segment-with_note exits s (Some p) t = t
 
   -- a true run is stored at a segment
-  pub noted_told : (exits : List (Configuration ⊤ P)) (old new : TrieOf (StoredRun R P)) (k : ℕ) (s : StoredRun R P) → ((j : ℕ) → IsTrueSegment E h exits (segment_at old.segments j))
+  pub true_segment-noted : (exits : List (Configuration ⊤ P)) (old new : TrieOf (StoredRun R P)) (k : ℕ) (s : StoredRun R P) → ((j : ℕ) → IsTrueSegment E h exits (segment_at old.segments j))
       → IsNoted old new k (Some s) → IsStored E h exits (steps_at old k) s → (j : ℕ) → IsTrueSegment E h exits (segment_at new.segments j)
-  noted_told exits old new k s each noted t j = by (nat_eq j k) refl
+  true_segment-noted exits old new k s each noted t j = by (nat_eq j k) refl
     where
       by : (b : Bool) → nat_eq j k ≡ b → IsTrueSegment E h exits (segment_at new.segments j)
       by true e =
           let same : j ≡ k = eqb-true j k e in
-          subst (λ i. IsTrueSegment E h exits (segment_at new.segments i)) (sym same) (subst (IsTrueSegment E h exits) (sym noted.here) (told_here exits s (segment_at old.segments k) t))
+          subst (λ i. IsTrueSegment E h exits (segment_at new.segments i)) (sym same) (subst (IsTrueSegment E h exits) (sym noted.here) (true_segment-with_note exits s (segment_at old.segments k) t))
       by false e =
           let other : j ≡ k → ⊥ = λ same. true≢false (sym (eq-eqb j k same) ∙ e) in
           subst (IsTrueSegment E h exits) (sym (noted.others j other)) (each j)
@@ -70,7 +70,7 @@ module _ {R P : Type 0} (E : R → R → Bool) (h : R) where
       (noted : IsNoted old new k (Some s)) where
     -- a stored run is stored again, linked to the run reached
     pub taken_linked : IsStored E h l.exits (steps_at old k) s → IsLinked E h next s.id (without_register s.run.exit) new
-    taken_linked t = record { exits = l.exits; as_many = l.as_many; each = noted_told l.exits old new k s l.each noted t; reached_exit = t.id }
+    taken_linked t = record { exits = l.exits; as_many = l.as_many; each = true_segment-noted l.exits old new k s l.each noted t; reached_exit = t.id }
 
     -- a new run is stored, with the next number or none
     pub new_linked : (after : ℕ) → s.checked ≡ s.id → E s.run.entry.register h ≡ true → s.run.steps ≡ steps_at old k → s.link ≡ above → s.run.entry ≡ c
@@ -80,7 +80,7 @@ module _ {R P : Type 0} (E : R → R → Bool) (h : R) where
         record {
           exits = l.exits;
           as_many = l.as_many ∙ sym none.1;
-          each = noted_told l.exits old new k s l.each noted (record { own = own; covers = covers; id = came; link = link_came linked entry; checked = subst (IsGiven (length l.exits)) (sym (checked ∙ none.0)) tt });
+          each = true_segment-noted l.exits old new k s l.each noted (record { own = own; covers = covers; id = came; link = link_came linked entry; checked = subst (IsGiven (length l.exits)) (sym (checked ∙ none.0)) tt });
           reached_exit = came;
         }
       where
@@ -95,13 +95,13 @@ module _ {R P : Type 0} (E : R → R → Bool) (h : R) where
           exits = l.exits ++ without_register s.run.exit ∷ [];
           as_many = length-append l.exits (without_register s.run.exit ∷ []) ∙ ap (λ n. n + 1) l.as_many ∙ sym given.1;
           each =
-              noted_told (l.exits ++ without_register s.run.exit ∷ []) old new k s (λ j. told_more l.exits (without_register s.run.exit ∷ []) (segment_at old.segments j) (l.each j)) noted
+              true_segment-noted (l.exits ++ without_register s.run.exit ∷ []) old new k s (λ j. true_segment-more l.exits (without_register s.run.exit ∷ []) (segment_at old.segments j) (l.each j)) noted
               (record {
                 own = own;
                 covers = covers;
                 id = came;
-                link = came_more l.exits (without_register s.run.exit ∷ []) s.link (without_register s.run.entry) was;
-                checked = subst (IsGiven (length (l.exits ++ without_register s.run.exit ∷ []))) (sym (checked ∙ given.0)) (last_given l.exits (without_register s.run.exit) l.as_many);
+                link = exit_of-more l.exits (without_register s.run.exit ∷ []) s.link (without_register s.run.entry) was;
+                checked = subst (IsGiven (length (l.exits ++ without_register s.run.exit ∷ []))) (sym (checked ∙ given.0)) (given-last l.exits (without_register s.run.exit) l.as_many);
               });
           reached_exit = came;
         }

@@ -210,6 +210,7 @@ fn keys_up_to<T: Drop>(
     ensures more { OnOk result (length keys.old.items ≤ length keys.new.items) }
 {
     let mut at = last;
+    // a branch has at most one segment for each cell ever made
     for _ in 0..trie.made() {
         if at == front {
             break;
