@@ -107,12 +107,12 @@ Follows-fails h = no_write h.0 h.1
 abbrev one_read : Events
 one_read = reads ∷ (3, Got 1 0) ∷ []
 
-abbrev returned : ReturnedRead one_read
-returned = record { process = 1; value = 0; earlier = []; invoked = 2; since = []; returned = 3; later = []; split = refl; quiet = refl }
+abbrev read_of_0 : ReturnedRead one_read
+read_of_0 = record { process = 1; value = 0; earlier = []; invoked = 2; since = []; returned = 3; later = []; split = refl; quiet = refl }
 
 -- a read that was invoked and returned
 ReturnedRead-holds : ReturnedRead one_read
-ReturnedRead-holds = returned
+ReturnedRead-holds = read_of_0
 
 -- a read that was only invoked
 ReturnedRead-fails : ReturnedRead (reads ∷ []) → ⊥
@@ -232,7 +232,7 @@ AreNumbered-fails h = ⊎_elim initial written (h.each returned).write
         by (x ∷ before) k since e = nothing before since _ (ap (drop 1) e)
 
 -- a read of the initial value, with no write, is fresh, and is the first that is judged
-IsJudged-holds : IsJudged 0 one_read returned
+IsJudged-holds : IsJudged 0 one_read read_of_0
 IsJudged-holds = record { verdict = Fresh; on_it = inr (refl, refl); before = []; following = []; split = refl; place = refl }
 
 -- process 1 writes 1, although only process 0 may write, and process 2 reads the 1

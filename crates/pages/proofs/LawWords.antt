@@ -1,4 +1,5 @@
--- A law about what `Known` holds when each read returns is equivalent to Lamport's law.
+-- A law about what `Known` holds when each read returns is equivalent to Lamport's law: lemmas
+-- `.._in_words` lead from it to Lamport's words, and lemmas `.._by_words` back.
 use Rattle.std.proofs.Common.{◌≡◌, ◌≢◌, ℕ, ◌<◌, Bool, true, false, ◌||◌, List, [], ◌∷◌, ◌++◌, length, drop, Option, Some, None, ◌⊎◌, inl, inr, refl, sym, ap, subst, ◌∙◌, true≢false, eq-eqb}
 use Rattle.std.specs.Prelude.{◌==◌, ◌↔◌, if◌then◌else◌}
 use Rattle.std.specs.List.{list_any}
@@ -56,12 +57,12 @@ module _ (Says : Known → ℕ → ℕ → Type 0) where
 
 -- a law of each return, and the same in words, if the two agree on each read
 module _ (initial : ℕ) (history : List (ℕ × Event)) (h : IsOneWriterHistory history) (Says : Known → ℕ → ℕ → Type 0) (Words : ReturnedRead history → Type 0) where
-  words_of_each : ((r : ReturnedRead history) → Says (then_known initial r) r.process r.value → Words r) → EachRead Says (initially initial) (accepted history) → (r : ReturnedRead history) → Words r
-  words_of_each f each r =
+  each_in_words : ((r : ReturnedRead history) → Says (then_known initial r) r.process r.value → Words r) → EachRead Says (initially initial) (accepted history) → (r : ReturnedRead history) → Words r
+  each_in_words f each r =
       f r (at_return Says (initially initial) (r.earlier ++ during r) r.returned r.process r.value r.later (subst (λ l. EachRead Says (initially initial) (accepted l)) r.split each))
 
-  each_of_words : ((r : ReturnedRead history) → Words r → Says (then_known initial r) r.process r.value) → ((r : ReturnedRead history) → Words r) → EachRead Says (initially initial) (accepted history)
-  each_of_words f words = at_each_return Says (initially initial) history (λ xs i p v ys s. at xs i p v ys s (h.follows xs i (Got p v) ys s))
+  each_by_words : ((r : ReturnedRead history) → Words r → Says (then_known initial r) r.process r.value) → ((r : ReturnedRead history) → Words r) → EachRead Says (initially initial) (accepted history)
+  each_by_words f words = at_each_return Says (initially initial) history (λ xs i p v ys s. at xs i p v ys s (h.follows xs i (Got p v) ys s))
     where
       at : (xs : List (ℕ × Event)) (i p v : ℕ) (ys : List (ℕ × Event)) → history ≡ xs ++ (i, Got p v) ∷ ys → InProgress p op.Read xs → Says (known (initially initial) xs ((i, Got p v) ∷ ys)) p v
       at xs i p v ys s w =
@@ -130,17 +131,17 @@ module _ (initial : ℕ) (history : List (ℕ × Event)) (h : IsOneWriterHistory
       subst (λ (x : Reading). drop x.since all.returned ++ in_progress all.writing ≡ []) (sym invoked)
       (none_if_none _ all.writing (λ v test. n v (words_of_crossing v r.earlier (during r) (afterwards r) full.roles (crossing_of_test initial v r.earlier (during r) (afterwards r) whole test))))
 
-  safe_words : FreshAlone all r.process r.value → FreshIfAlone initial r
-  safe_words says alone = fresh_if_so (judged all r.process r.value) _ _ (verdict_words initial history h r) (says (alone_by_words alone))
+  safe_in_words : FreshAlone all r.process r.value → FreshIfAlone initial r
+  safe_in_words says alone = fresh_if_so (judged all r.process r.value) _ _ (verdict_words initial history h r) (says (alone_by_words alone))
 
-  words_safe : FreshIfAlone initial r → FreshAlone all r.process r.value
-  words_safe says alone = so_if_fresh (judged all r.process r.value) _ _ (verdict_words initial history h r) (says (alone_in_words alone))
+  safe_by_words : FreshIfAlone initial r → FreshAlone all r.process r.value
+  safe_by_words says alone = so_if_fresh (judged all r.process r.value) _ _ (verdict_words initial history h r) (says (alone_in_words alone))
 
-  regular_words : NotStray all r.process r.value → FreshOrOverlapping initial r
-  regular_words says = seen_unless_stray (judged all r.process r.value) _ _ (verdict_words initial history h r) says
+  regular_in_words : NotStray all r.process r.value → FreshOrOverlapping initial r
+  regular_in_words says = seen_unless_stray (judged all r.process r.value) _ _ (verdict_words initial history h r) says
 
-  words_regular : FreshOrOverlapping initial r → NotStray all r.process r.value
-  words_regular says = not_stray_if_seen (judged all r.process r.value) _ _ (verdict_words initial history h r) says
+  regular_by_words : FreshOrOverlapping initial r → NotStray all r.process r.value
+  regular_by_words says = not_stray_if_seen (judged all r.process r.value) _ _ (verdict_words initial history h r) says
 
 -- what is said of each read that returns, and in words
 module _ {P : Type 0} (b : Behaviour P) (records : HasOneWriter b → RecordsHistories b) where
@@ -152,7 +153,7 @@ module _ {P : Type 0} (b : Behaviour P) (records : HasOneWriter b → RecordsHis
         each : (value : ℕ) (steps : List Step) → value < b.values → AllFit b steps → (r : ReturnedRead (recorded b value steps)) → Words (recorded b value steps) value r
         each value steps within fit =
             let history = records h.one_writer value steps within fit in
-            words_of_each value (recorded b value steps) history Says (Words (recorded b value steps) value) (to value (recorded b value steps) history) (h.each_read value steps within fit)
+            each_in_words value (recorded b value steps) history Says (Words (recorded b value steps) value) (to value (recorded b value steps) history) (h.each_read value steps within fit)
 
     always_by_words : ((initial : ℕ) (history : List (ℕ × Event)) → IsOneWriterHistory history → (r : ReturnedRead history) → Words history initial r → Says (then_known initial r) r.process r.value)
         → AlwaysInWords b Words → AlwaysReads b Says
@@ -161,14 +162,14 @@ module _ {P : Type 0} (b : Behaviour P) (records : HasOneWriter b → RecordsHis
         each : (value : ℕ) (steps : List Step) → value < b.values → AllFit b steps → EachRead Says (initially value) (accepted (recorded b value steps))
         each value steps within fit =
             let history = records h.one_writer value steps within fit in
-            each_of_words value (recorded b value steps) history Says (Words (recorded b value steps) value) (from value (recorded b value steps) history) (h.each_read value steps within fit)
+            each_by_words value (recorded b value steps) history Says (Words (recorded b value steps) value) (from value (recorded b value steps) history) (h.each_read value steps within fit)
 
   pub safe_words_alike : IsSafe b ↔ IsSafeInWords b
   safe_words_alike =
       let words = λ (history : List (ℕ × Event)) (initial : ℕ) (r : ReturnedRead history). FreshIfAlone initial r in
-      (always_in_words FreshAlone words safe_words, always_by_words FreshAlone words words_safe)
+      (always_in_words FreshAlone words safe_in_words, always_by_words FreshAlone words safe_by_words)
 
   pub regular_words_alike : IsRegular b ↔ IsRegularInWords b
   regular_words_alike =
       let words = λ (history : List (ℕ × Event)) (initial : ℕ) (r : ReturnedRead history). FreshOrOverlapping initial r in
-      (always_in_words NotStray words regular_words, always_by_words NotStray words words_regular)
+      (always_in_words NotStray words regular_in_words, always_by_words NotStray words regular_by_words)

@@ -65,16 +65,15 @@ pub record NumbersRead {history : List (ℕ × Event)} (initial n : ℕ) (r : Re
   pub write : ((n ≡ 0) × (r.value ≡ initial)) ⊎ IsWrite n r.value (r.earlier ++ during r) (afterwards r)
 
 -- each returned read can be assigned a write whose value it gives, as `NumbersRead` states, so
--- that, of two reads, the first to return is never assigned the later write
+-- that, of two reads, the first to return is never assigned the later write; `number k` is the
+-- number of the write assigned to the read before whose return k reads return
 pub record AreNumbered (initial : ℕ) (history : List (ℕ × Event)) : Type 0 where
   pub number : ℕ → ℕ
   pub rises : (i j : ℕ) → i ≤ j → number i ≤ number j
   pub each : (r : ReturnedRead history) → NumbersRead initial (number (returned_reads (r.earlier ++ during r))) r
 
 -- Lamport's atomic register with one writer and one reader: on every list of fitting steps, from
--- every initial value, each returned read can be assigned a write whose value it gives, as
--- `NumbersRead` states, so that, of two reads, the first to return is never assigned the later
--- write
+-- every initial value, the returned reads can be assigned writes in order (`AreNumbered`)
 pub record IsAtomicInWords {P : Type 0} (b : Behaviour P) : Type 0 where
   pub one_writer : HasOneWriter b
   pub one_reader : b.processes ≡ 2

@@ -21,12 +21,12 @@ kind_name ReadStart = codes "rs"
 kind_name ReadEnd = codes "re"
 
 -- a character of a construction's name; only letters and digits are shown
-abbrev pub name_letter : ℕ → List ℕ
-name_letter byte = if is_ascii_alphanumeric byte then byte ∷ [] else []
+abbrev pub name_character : ℕ → List ℕ
+name_character byte = if is_ascii_alphanumeric byte then byte ∷ [] else []
 
 -- the name that a construction gives itself
 abbrev pub name_text : LayerName → List ℕ
-name_text n = name_letter n.0 ++ name_letter n.1 ++ name_letter n.2
+name_text n = name_character n.0 ++ name_character n.1 ++ name_character n.2
 
 -- the name of a frame's layer; a frame of a matrix has the same name in both phases of an operation
 abbrev pub frame_name : FrameLayer → List ℕ

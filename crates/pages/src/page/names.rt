@@ -39,14 +39,14 @@ pub(super) fn push_frame_name(out: &mut Vec<u8>, layer: FrameLayer) -> Pushed
 fn push_own_name(out: &mut Vec<u8>, name: LayerName) -> Pushed
     ensures { OnOk result (out.new.items ≡ out.old.items ++ spec.name_text name) }
 {
-    push_letter(out, name.0)?;
-    push_letter(out, name.1)?;
-    push_letter(out, name.2)
+    push_name_character(out, name.0)?;
+    push_name_character(out, name.1)?;
+    push_name_character(out, name.2)
 }
 
 /// Adds a character of a construction's name, if it is a letter or a digit.
-fn push_letter(out: &mut Vec<u8>, byte: u8) -> Pushed
-    ensures { OnOk result (out.new.items ≡ out.old.items ++ spec.name_letter byte) }
+fn push_name_character(out: &mut Vec<u8>, byte: u8) -> Pushed
+    ensures { OnOk result (out.new.items ≡ out.old.items ++ spec.name_character byte) }
 {
     if byte.is_ascii_alphanumeric() {
         out.push(byte)?;
