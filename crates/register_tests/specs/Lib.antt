@@ -1,2 +1,3 @@
 pub mod Neighbours
 pub mod ReadFirst
+pub mod laws

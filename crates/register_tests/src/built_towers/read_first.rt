@@ -28,7 +28,8 @@ impl Rules for ReadFirst {
 
 impl Construction for ReadFirst {
     ghost use Rattle.std.specs.Prelude.{refl};
-    ghost use Rattle.register_tests.specs.ReadFirst.{ReadFirstMayBeAt, read_first_sound};
+    ghost use Rattle.register_tests.specs.ReadFirst.{ReadFirstMayBeAt};
+    ghost use Rattle.register_tests.specs.laws.ReadFirst.{read_first_sound};
     ghost use Rattle.frames.specs.Equality.{op_decides};
 
     ghost MayBeAt = { λ _. ReadFirstMayBeAt };

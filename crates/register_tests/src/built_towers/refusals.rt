@@ -47,7 +47,7 @@ fn assert_built(rt: &impl Abort, built: Built, expected: Built, numbers: &[u32])
 }
 
 /// Asserts for how many readers a safe bit can be copied.
-fn copies_of<S: Register>(rt: &impl Abort, bit: S) {
+fn assert_copies<S: Register>(rt: &impl Abort, bit: S) {
     for readers in [0, 5, u32::MAX] {
         assert_built(
             rt,
@@ -69,7 +69,7 @@ fn copies_of<S: Register>(rt: &impl Abort, bit: S) {
 
 #[test]
 fn over_safe_bits(rt: HostRuntime) -> Result<(), Fail> {
-    copies_of(&rt, Safe);
+    assert_copies(&rt, Safe);
     let of_two_readers = Copies::new(Safe, 2)?;
     assert_eq!(rt;
         Copies::new(of_two_readers, 1).err(),
@@ -85,7 +85,7 @@ fn over_safe_bits(rt: HostRuntime) -> Result<(), Fail> {
 
 /// Asserts which unary numbers can be built over bits for four readers. Each bit has four cells and
 /// a word.
-fn numbers_of<S: Register>(rt: &impl Abort, bits: S) {
+fn assert_numbers<S: Register>(rt: &impl Abort, bits: S) {
     for values in [0, 1, 513, u32::MAX] {
         assert_built(rt, shape_of(Unary::new(bits, values)), BAD_SIZE, &[values]);
     }
@@ -97,11 +97,11 @@ fn numbers_of<S: Register>(rt: &impl Abort, bits: S) {
 
 #[test]
 fn over_regular_bits(rt: HostRuntime) {
-    numbers_of(&rt, regular(4));
+    assert_numbers(&rt, regular(4));
 }
 
 /// Asserts how many bits of 16 cells each a unary number can have.
-fn most_bits<S: Register>(rt: &impl Abort, of_16_cells: S) {
+fn assert_most_bits<S: Register>(rt: &impl Abort, of_16_cells: S) {
     match Unary::new(of_16_cells, 256) {
         Ok(most) => assert_eq!(rt; most.size().cell, 4096),
         Err(error) => assert!(rt; false, "{error}"),
@@ -115,7 +115,7 @@ fn most_bits<S: Register>(rt: &impl Abort, of_16_cells: S) {
 }
 
 /// Asserts for how many readers registers of 1,024 and of 1,028 cells can be copied.
-fn most_copies<S: Register>(rt: &impl Abort, of_1024_cells: S, of_1028_cells: S) {
+fn assert_most_copies<S: Register>(rt: &impl Abort, of_1024_cells: S, of_1028_cells: S) {
     assert!(rt; Copies::new(of_1024_cells, 4).is_ok());
     assert!(rt; Copies::new(of_1028_cells, 3).is_ok());
     assert_built(
@@ -128,9 +128,9 @@ fn most_copies<S: Register>(rt: &impl Abort, of_1024_cells: S, of_1028_cells: S)
 
 #[test]
 fn at_most_4096_cells(rt: HostRuntime) -> Result<(), Fail> {
-    most_bits(&rt, Unary::new(unary(2, 4), 2)?);
+    assert_most_bits(&rt, Unary::new(unary(2, 4), 2)?);
     let of_4_cells = Unary::new(unary(2, 1), 2)?;
-    most_copies(
+    assert_most_copies(
         &rt,
         Unary::new(of_4_cells, 256)?,
         Unary::new(of_4_cells, 257)?,
@@ -140,7 +140,7 @@ fn at_most_4096_cells(rt: HostRuntime) -> Result<(), Fail> {
 
 /// Asserts which stamped registers can be built over registers of 4 and of 512 codes for one
 /// reader, and over one of 4 codes for two readers.
-fn stamped_of<S: Register>(rt: &impl Abort, of_4: S, of_512: S, of_two_readers: S) {
+fn assert_stamped<S: Register>(rt: &impl Abort, of_4: S, of_512: S, of_two_readers: S) {
     for (values, last, expected) in [
         (0, 0, BAD_SIZE),
         (1, 511, BAD_SIZE),
@@ -163,7 +163,7 @@ fn stamped_of<S: Register>(rt: &impl Abort, of_4: S, of_512: S, of_two_readers: 
 
 #[test]
 fn over_unary_numbers(rt: HostRuntime) {
-    stamped_of(&rt, unary(4, 1), unary(512, 1), unary(4, 2));
+    assert_stamped(&rt, unary(4, 1), unary(512, 1), unary(4, 2));
     let bits_of_three_values = Unary::new(unary(3, 4), 4);
     assert_eq!(rt; bits_of_three_values.err(), Some(LayerError::BadSize));
     let parts_of_two_readers = Matrix::new(unary(8, 2), 2, 2, 1);
@@ -172,7 +172,7 @@ fn over_unary_numbers(rt: HostRuntime) {
 
 /// Asserts the results of building matrices over parts. A row has the numbers of processes and
 /// values, the last tag, and the result.
-fn matrices_of<S: Register>(rt: &impl Abort, parts: S, rows: &[([u32; 3], Built)]) {
+fn assert_matrices_over<S: Register>(rt: &impl Abort, parts: S, rows: &[([u32; 3], Built)]) {
     for (numbers, expected) in rows {
         let [processes, values, last_tag] = *numbers;
         let built = shape_of(Matrix::new(parts, processes, values, last_tag));
@@ -194,14 +194,14 @@ struct Parts<S: Register> {
 }
 
 /// Asserts which matrices can be built over stamped registers.
-fn matrices<S: Register>(rt: &impl Abort, parts: Parts<S>) {
+fn assert_matrices<S: Register>(rt: &impl Abort, parts: Parts<S>) {
     let small = Ok((size(32, 40), 2, 2, 6));
     let larger = Ok((size(128, 136), 2, 2, 6));
     let largest = Ok((size(4096, 4128), 2, 4, 6));
     let of_4 = [([1, 2, 1], BAD_SIZE), ([2, 1, 0], BAD_SIZE)];
-    matrices_of(rt, parts.of_4, &of_4);
-    matrices_of(rt, parts.of_8, &[([2, 3, 1], BAD_SIZE), ([2, 2, 1], small)]);
-    matrices_of(rt, parts.of_10, &[([5, 2, 0], BAD_SIZE)]);
+    assert_matrices_over(rt, parts.of_4, &of_4);
+    assert_matrices_over(rt, parts.of_8, &[([2, 3, 1], BAD_SIZE), ([2, 2, 1], small)]);
+    assert_matrices_over(rt, parts.of_10, &[([5, 2, 0], BAD_SIZE)]);
     let of_512 = [
         ([2, 513, 0], BAD_SIZE),
         ([2, 2, 512], BAD_SIZE),
@@ -209,10 +209,10 @@ fn matrices<S: Register>(rt: &impl Abort, parts: Parts<S>) {
         ([4, 512, 511], BAD_SIZE),
         ([2, 2, 0], BAD_SIZE),
     ];
-    matrices_of(rt, parts.of_512, &of_512);
-    matrices_of(rt, parts.of_8_and_3, &[([2, 2, 1], larger)]);
-    matrices_of(rt, parts.of_16_and_15, &[([4, 2, 1], largest)]);
-    matrices_of(rt, parts.of_16_and_16, &[([4, 2, 1], TOO_MANY_BITS)]);
+    assert_matrices_over(rt, parts.of_512, &of_512);
+    assert_matrices_over(rt, parts.of_8_and_3, &[([2, 2, 1], larger)]);
+    assert_matrices_over(rt, parts.of_16_and_15, &[([4, 2, 1], largest)]);
+    assert_matrices_over(rt, parts.of_16_and_16, &[([4, 2, 1], TOO_MANY_BITS)]);
 }
 
 #[test]
@@ -226,7 +226,7 @@ fn over_stamped_registers(rt: HostRuntime) {
         of_16_and_15: stamped(16, 15),
         of_16_and_16: stamped(16, 16),
     };
-    matrices(&rt, parts);
+    assert_matrices(&rt, parts);
 }
 
 /// The number and the text of each refusal.
