@@ -5,7 +5,8 @@ use Rattle.frames.specs.declared.types.Op.{Op}
 use Rattle.frames.specs.declared.types.Op.TheVariants as op
 use Rattle.frames.specs.declared.types.Layer.TheVariants.{Stamped}
 use Rattle.frames.specs.declared.types.Outcome.TheVariants.{Spent}
-use Rattle.frames.specs.declared.types.FrameLayer.TheVariants.{Regular}
+use Rattle.frames.specs.declared.types.FrameLayer.TheVariants.{Named}
+use Rattle.frames.specs.declared.types.LayerName.{LayerName}
 use Rattle.layers.specs.declared.nested.Ask.{Ask}
 use Rattle.layers.specs.Nested.{Program, Ends, Asks, Reads, Sets, Table}
 use Rattle.layers.specs.OneWriter.{one_writer}
@@ -18,6 +19,10 @@ read_first_program who op.Read = Sets 0 1 (Asks op.Read Ends)
 abbrev pub read_first_asks : Op → Ask
 read_first_asks (op.Write v) = record { part = 0; who = 0; op = op.Write v }
 read_first_asks op.Read = record { part = 0; who = 1; op = op.Read }
+
+-- the name of the layer, `1st`
+abbrev pub read_first_name : LayerName
+read_first_name = record { 0 = 49; 1 = 115; 2 = 116 }
 
 abbrev pub read_first_table : Table Op
 read_first_table = record {
@@ -34,7 +39,7 @@ read_first_table = record {
   program = read_first_program;
   asks = read_first_asks;
   rest = λ task outcome. Ends outcome;
-  frame = λ task. record { layer = Regular; op = task; i = 0; x = 0 };
+  frame = λ task. record { layer = Named read_first_name; op = task; i = 0; x = 0 };
   find = λ who f. f.op;
 }
 

@@ -46,7 +46,7 @@ impl Construction for ReadFirst {
 
     fn frame(&self, task: Op) -> Frame {
         Frame {
-            layer: FrameLayer::Regular,
+            layer: FrameLayer::Named(LayerName(b'1', b's', b't')),
             op: task,
             i: 0,
             x: 0,
