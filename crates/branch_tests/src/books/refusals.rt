@@ -113,12 +113,12 @@ fn a_log_of_one_entry(rt: HostRuntime) {
 
 /// Commands that are refused late, for a reason that is checked after their guards. The book has
 /// one branch and three cells, the most that its limits allow, and session 0's cursor is on the
-/// branch. The commands `branchless` name a missing branch, and the commands `placeless` a missing
-/// place; `others` are refused for the reasons given with them.
+/// branch. The commands `missing_branch` name a branch that isn't there, and the commands
+/// `missing_place` a place; `others` are refused for the reasons given with them.
 #[derive(Drop)]
 struct Late {
-    branchless: [Command; 4],
-    placeless: [Command; 4],
+    missing_branch: [Command; 4],
+    missing_place: [Command; 4],
     others: [(Command, Refusal); 13],
 }
 
@@ -139,8 +139,8 @@ fn late_commands(main: &Name, zed: &Name, new: &Name, bad: &Name) -> Late {
         (Command::Clear(Break::Void), Refusal::NoBreak),
     ];
     Late {
-        branchless: following(zed, 9, READ, main),
-        placeless: following(main, 3, READ, new),
+        missing_branch: following(zed, 9, READ, main),
+        missing_place: following(main, 3, READ, new),
         others,
     }
 }
@@ -161,8 +161,8 @@ fn rows_in_order(refused: &Refused) -> [Ask<'_>; 11] {
         Ask::RefusesEach(5, &refused.early.own, Refusal::NoSession),
         Ask::RefusesEach(0, &refused.early.open, Refusal::Newer(0)),
         Ask::RefusesEach(0, &refused.early.own, Refusal::Newer(0)),
-        Ask::RefusesUnguarded(&refused.late.branchless, Refusal::NoBranch),
-        Ask::RefusesUnguarded(&refused.late.placeless, Refusal::NoPlace),
+        Ask::RefusesUnguarded(&refused.late.missing_branch, Refusal::NoBranch),
+        Ask::RefusesUnguarded(&refused.late.missing_place, Refusal::NoPlace),
         Ask::RefusesAll(&refused.late.others),
         Ask::Logs(61),
     ]

@@ -258,11 +258,7 @@ fn a_write_fails_after_each_byte(rt: HostRuntime) -> Result<(), Fail> {
                 room,
             };
             let (found, taken) = ended(&rt, rt.alloc(), &script, way);
-            let fault = if room < answers.len() {
-                Some(Fault::Write)
-            } else {
-                None
-            };
+            let fault = (room < answers.len()).then_some(Fault::Write);
             assert_eq!(rt; found, fault, "{room}");
             assert!(rt;
                 taken.len() == room && answers.starts_with(&taken),

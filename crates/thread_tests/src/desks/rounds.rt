@@ -128,8 +128,8 @@ fn grown_and_filled<R: Abort + Threads + Wait + Sync>(
     Ok((grown && report == all_installed(81), offers.counted()))
 }
 
-/// Fills a desk with `thieves` thieves. Its branches `main` and `a` have 41 segments each, and
-/// share the first. Returns the result of `grown_and_filled`.
+/// Fills a desk's branches, with the help of `thieves` thieves. The branches `main` and `a` have 41
+/// segments each, and share the first. Returns the result of `grown_and_filled`.
 fn filled_by<R: Abort + Threads + Wait + Sync>(
     rt: &R,
     alloc: Global,
