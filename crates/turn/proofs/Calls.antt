@@ -36,15 +36,15 @@ module _ {T E : Type 0} (by : E → ℕ) (entries : T → List E) where
   pub owns_handed : (given : List Bool) (v : V) → ((share : ℕ) → has_share given share ≡ true → has_share v.shares share ≡ true) → OwnsItsCalls by v → OwnsItsCalls by (handed by given v)
   owns_handed given v inside owns share held = owns share (inside share held) ∙ sym (under_kept by (has_share given) share v.calls held)
 
-  -- what a chair with these marks has at the table, between holdings
-  abbrev pub IsChair : M → List Bool → Type 0
-  IsChair m marks = (m.0.shares ≡ marks) × ((m.1 ≡ []) × (m.0.holds ≡ false)) × (0 < count marks) × OwnsItsCalls by m.0
+  -- a chair whose shares are `marks`, while it doesn't hold the turn
+  abbrev pub IsIdleChair : M → List Bool → Type 0
+  IsIdleChair m marks = (m.0.shares ≡ marks) × ((m.1 ≡ []) × (m.0.holds ≡ false)) × (0 < count marks) × OwnsItsCalls by m.0
 
   pub inside_marks : (m : M) (marks given : List Bool) (n : ℕ) → m.0.shares ≡ marks → given ≡ next_least n marks → (share : ℕ) → has_share given share ≡ true → has_share m.0.shares share ≡ true
   inside_marks m marks given n marked is share held = ap (λ (l : List Bool). has_share l share) marked ∙ given_inside n marks share (ap (λ (l : List Bool). has_share l share) (sym is) ∙ held)
 
   pub kept_chair : (m m' : M) (marks given left : List Bool) (n : ℕ) → m.0.shares ≡ marks → (m.1 ≡ []) × (m.0.holds ≡ false) → OwnsItsCalls by m.0 → length marks ≡ 16 → n < count m.0.shares
-      → given ≡ next_least n marks → left ≡ shares_without marks given → m' ≡ (kept by given m.0, m.1) → IsChair m' left
+      → given ≡ next_least n marks → left ≡ shares_without marks given → m' ≡ (kept by given m.0, m.1) → IsIdleChair m' left
   kept_chair m m' marks given left n marked idle owns long fewer is left_is after =
       let fewer' : n < count marks = subst (λ (l : List Bool). n < count l) marked fewer in
       let one = kept_some n marks long fewer' in
@@ -56,7 +56,7 @@ module _ {T E : Type 0} (by : E → ℕ) (entries : T → List E) where
       )
 
   pub handed_chair : (m m' : M) (marks given : List Bool) (n : ℕ) → m.0.shares ≡ marks → m.0.holds ≡ false → OwnsItsCalls by m.0 → length marks ≡ 16 → 0 < n → n < count m.0.shares
-      → given ≡ next_least n marks → m' ≡ (handed by given m.0, []) → IsChair m' given
+      → given ≡ next_least n marks → m' ≡ (handed by given m.0, []) → IsIdleChair m' given
   handed_chair m m' marks given n marked idle owns long some_asked fewer is after =
       let fewer' : n < count marks = subst (λ (l : List Bool). n < count l) marked fewer in
       let one = given_some n marks long some_asked fewer' in (
@@ -67,7 +67,7 @@ module _ {T E : Type 0} (by : E → ℕ) (entries : T → List E) where
       )
 
   pub joined_chair : (m o m1 m2 : M) (marks others both : List Bool) (n : ℕ) → m.0.shares ≡ marks → (m.1 ≡ []) × (m.0.holds ≡ false) → o.0.shares ≡ others → length marks ≡ 16 → 0 < count marks
-      → both ≡ together marks others → m1 ≡ (joined m.0 o.0, m.1) → NewsReports by entries m1 n m2 → IsChair m2 both
+      → both ≡ together marks others → m1 ≡ (joined m.0 o.0, m.1) → NewsReports by entries m1 n m2 → IsIdleChair m2 both
   joined_chair m o m1 m2 marks others both n marked idle marked' long some_share is after reported_length =
       let mine = number_held marks long some_share in let one = together_some marks others (chair_number marks) mine.0 mine.1 in (
         ap (λ (x : M). x.0.shares) reported_length.0 ∙ (ap (λ (x : M). x.0.shares) after ∙ ((λ i. together (marked i) (marked' i)) ∙ sym is)),
