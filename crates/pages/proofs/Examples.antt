@@ -219,7 +219,7 @@ AreNumbered-holds = record { number = λ i. 0; rises = λ i j le. omega arith; e
 
 -- the value that is read was never written
 AreNumbered-fails : AreNumbered 1 one_read → ⊥
-AreNumbered-fails h = ⊎_elim initial written (h.each returned).write
+AreNumbered-fails h = ⊎_elim initial written (h.each read_of_0).write
   where
     initial : (h.number 0 ≡ 0) × (◌≡◌ {A = ℕ} 0 1) → ⊥
     initial z = let same : ◌≡◌ {A = ℕ} 0 1 = z.1 in omega (arith, same)
