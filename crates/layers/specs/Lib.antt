@@ -1,4 +1,5 @@
 pub mod Nested
+pub mod Ended
 pub mod Sound
 pub mod Settled
 pub mod InPlace

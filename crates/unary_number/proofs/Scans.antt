@@ -30,6 +30,7 @@ use Rattle.frames.specs.correctness.Regularity.{is_refusal, IsRegular}
 use Rattle.frames.specs.laws.Steps.{step_keeps}
 use Rattle.frames.proofs.Pending.{first_well}
 use Rattle.layers.specs.declared.nested.Nested.{Nested}
+use Rattle.layers.specs.Ended.{Ended, ended_after, ended_by, ended_unless, ended_in}
 use Rattle.layers.specs.Nested.{Program, Ends, Table, asked, pushed, after_part, advance, resume, layered}
 use Rattle.layers.specs.Sound.{IsSoundTable, FitsBelow, LayerHolds, LayerReaches}
 use Rattle.layers.specs.laws.Layered.{layer_lawful}
@@ -37,7 +38,7 @@ use Rattle.layers.specs.laws.Over.{over}
 use Rattle.unary_number.specs.declared.task.UnaryTask.{UnaryTask}
 use Rattle.unary_number.specs.declared.task.UnaryTask.TheVariants.{Setting, Clearing, Looking}
 use Rattle.unary_number.specs.Program.{unary_table_with, unary_table, unary_program, unary_rest, unary_asks, clears_below, looks_above, after_look, UnaryMayBeAt}
-use Rattle.unary_number.specs.Scans.{Ended, ended_after, ended_by, ended_unless, ended_in, FindsOne, AlwaysFinds}
+use Rattle.unary_number.specs.Scans.{FindsOne, AlwaysFinds}
 use Rattle.unary_number.proofs.Kept.{unary_over_regular}
 
 -- an operation isn't refused
