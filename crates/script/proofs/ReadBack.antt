@@ -22,7 +22,7 @@ use Rattle.script.specs.declared.verb.Verb.TheVariants as verb
 use Rattle.script.specs.declared.verb.LookVerb.{LookVerb}
 use Rattle.script.specs.declared.verb.LookVerb.TheVariants as look
 use Rattle.script.specs.declared.verb.CommandVerb.{CommandVerb}
-use Rattle.script.specs.declared.verb.CommandVerb.TheVariants as act
+use Rattle.script.specs.declared.verb.CommandVerb.TheVariants as command_verb
 use Rattle.script.specs.declared.call.Request.{Request}
 use Rattle.script.specs.declared.call.Request.TheVariants.{Act, Look, Fill}
 use Rattle.script.specs.declared.call.Call.{Call}
@@ -99,19 +99,19 @@ break_again break.Refused h = refl
 -- a command's first word selects the verb by which the words after it are read as the command
 command_again : (c : Command) → AreSound (command_words c)
     → (v : CommandVerb) × (verb_of (next (map spelled (command_words c))) ≡ Some (verb.Command v)) × (command_of v (after_next (map spelled (command_words c))) ≡ Some c)
-command_again command.Join h = (act.Join, refl, refl)
-command_again command.Leave h = (act.Leave, refl, refl)
-command_again (command.Insert b k s) h = (act.Insert, refl, ap (option_map (λ (p : List ℕ × ℕ × Step). command.Insert p.0 p.1 p.2)) (placed_again b k step_of_words (step_words s) s (step_again s) (both (Text (codes "insert")) (Text b ∷ Number k ∷ step_words s) h).1))
-command_again (command.Remove b k) h = (act.Remove, refl, ap (option_map (λ (p : List ℕ × ℕ). command.Remove p.0 p.1)) (place_again b k (both (Text (codes "remove")) (place_words b k) h).1))
-command_again (command.Replace b k s) h = (act.Replace, refl, ap (option_map (λ (p : List ℕ × ℕ × Step). command.Replace p.0 p.1 p.2)) (placed_again b k step_of_words (step_words s) s (step_again s) (both (Text (codes "replace")) (Text b ∷ Number k ∷ step_words s) h).1))
-command_again (command.Fork b k name) h = (act.Fork, refl, ap (option_map (λ (p : List ℕ × ℕ × List ℕ). command.Fork p.0 p.1 p.2)) (placed_again b k only_branch (Text name ∷ []) name (branch_of_again name) (both (Text (codes "fork")) (Text b ∷ Number k ∷ Text name ∷ []) h).1))
-command_again (command.Detach b) h = (act.Detach, refl, ap (option_map command.Detach) (branch_of_again b (both (Text (codes "detach")) (Text b ∷ []) h).1))
-command_again (command.Drop b) h = (act.Drop, refl, ap (option_map command.Drop) (branch_of_again b (both (Text (codes "drop")) (Text b ∷ []) h).1))
-command_again (command.Go b k) h = (act.Go, refl, ap (option_map (λ (p : List ℕ × ℕ). command.Go p.0 p.1)) (place_again b k (both (Text (codes "go")) (place_words b k) h).1))
-command_again command.Seek h = (act.Seek, refl, refl)
-command_again command.Back h = (act.Back, refl, refl)
-command_again (command.Break br) h = (act.Break, refl, ap (option_map command.Break) (break_again br (both (Text (codes "break")) (break_words br) h).1))
-command_again (command.Clear br) h = (act.Clear, refl, ap (option_map command.Clear) (break_again br (both (Text (codes "clear")) (break_words br) h).1))
+command_again command.Join h = (command_verb.Join, refl, refl)
+command_again command.Leave h = (command_verb.Leave, refl, refl)
+command_again (command.Insert b k s) h = (command_verb.Insert, refl, ap (option_map (λ (p : List ℕ × ℕ × Step). command.Insert p.0 p.1 p.2)) (placed_again b k step_of_words (step_words s) s (step_again s) (both (Text (codes "insert")) (Text b ∷ Number k ∷ step_words s) h).1))
+command_again (command.Remove b k) h = (command_verb.Remove, refl, ap (option_map (λ (p : List ℕ × ℕ). command.Remove p.0 p.1)) (place_again b k (both (Text (codes "remove")) (place_words b k) h).1))
+command_again (command.Replace b k s) h = (command_verb.Replace, refl, ap (option_map (λ (p : List ℕ × ℕ × Step). command.Replace p.0 p.1 p.2)) (placed_again b k step_of_words (step_words s) s (step_again s) (both (Text (codes "replace")) (Text b ∷ Number k ∷ step_words s) h).1))
+command_again (command.Fork b k name) h = (command_verb.Fork, refl, ap (option_map (λ (p : List ℕ × ℕ × List ℕ). command.Fork p.0 p.1 p.2)) (placed_again b k only_branch (Text name ∷ []) name (branch_of_again name) (both (Text (codes "fork")) (Text b ∷ Number k ∷ Text name ∷ []) h).1))
+command_again (command.Detach b) h = (command_verb.Detach, refl, ap (option_map command.Detach) (branch_of_again b (both (Text (codes "detach")) (Text b ∷ []) h).1))
+command_again (command.Drop b) h = (command_verb.Drop, refl, ap (option_map command.Drop) (branch_of_again b (both (Text (codes "drop")) (Text b ∷ []) h).1))
+command_again (command.Go b k) h = (command_verb.Go, refl, ap (option_map (λ (p : List ℕ × ℕ). command.Go p.0 p.1)) (place_again b k (both (Text (codes "go")) (place_words b k) h).1))
+command_again command.Seek h = (command_verb.Seek, refl, refl)
+command_again command.Back h = (command_verb.Back, refl, refl)
+command_again (command.Break br) h = (command_verb.Break, refl, ap (option_map command.Break) (break_again br (both (Text (codes "break")) (break_words br) h).1))
+command_again (command.Clear br) h = (command_verb.Clear, refl, ap (option_map command.Clear) (break_again br (both (Text (codes "clear")) (break_words br) h).1))
 
 look_again : (session : ℕ) (q : Query) → IsOwn session (Look q) → AreSound (query_words q)
     → (v : LookVerb) × (verb_of (next (map spelled (query_words q))) ≡ Some (verb.Look v)) × (look_of session v (after_next (map spelled (query_words q))) ≡ Some q)

@@ -22,7 +22,7 @@ use Rattle.script.specs.declared.verb.Verb.TheVariants as verb
 use Rattle.script.specs.declared.verb.LookVerb.{LookVerb}
 use Rattle.script.specs.declared.verb.LookVerb.TheVariants as look
 use Rattle.script.specs.declared.verb.CommandVerb.{CommandVerb}
-use Rattle.script.specs.declared.verb.CommandVerb.TheVariants as act
+use Rattle.script.specs.declared.verb.CommandVerb.TheVariants as command_verb
 use Rattle.script.specs.declared.call.Request.{Request}
 use Rattle.script.specs.declared.call.Request.TheVariants.{Act, Look, Fill}
 use Rattle.script.specs.declared.call.Call.{Call}
@@ -104,19 +104,19 @@ module _ (ws : List (List ℕ)) where
   P c = Shows ws (command_words c)
 
   command_shows : (v : CommandVerb) (c : Command) → bytes_eq (next ws) (text_of (verb.Command v)) ≡ true → command_of v left ≡ Some c → P c
-  command_shows act.Join c b h = alone_to P command.Join c left (λ e. keyword ws (codes "join") [] refl b (at_end left e)) h
-  command_shows act.Leave c b h = alone_to P command.Leave c left (λ e. keyword ws (codes "leave") [] refl b (at_end left e)) h
-  command_shows act.Seek c b h = alone_to P command.Seek c left (λ e. keyword ws (codes "seek") [] refl b (at_end left e)) h
-  command_shows act.Back c b h = alone_to P command.Back c left (λ e. keyword ws (codes "back") [] refl b (at_end left e)) h
-  command_shows act.Go c b h = mapped_to P (λ (p : List ℕ × ℕ). command.Go p.0 p.1) (branch_and_place left) c (λ a e. keyword ws (codes "go") (place_words a.0 a.1) refl b (place_of_shows left a e)) h
-  command_shows act.Break c b h = mapped_to P command.Break (break_of left) c (λ a e. keyword ws (codes "break") (break_words a) refl b (break_of_shows left a e)) h
-  command_shows act.Clear c b h = mapped_to P command.Clear (break_of left) c (λ a e. keyword ws (codes "clear") (break_words a) refl b (break_of_shows left a e)) h
-  command_shows act.Insert c b h = mapped_to P (λ (p : List ℕ × ℕ × Step). command.Insert p.0 p.1 p.2) (placed step_of_words left) c (λ a e. keyword ws (codes "insert") (Text a.0 ∷ Number a.1 ∷ step_words a.2) refl b (placed_shows step_of_words step_words step_of_shows left a e)) h
-  command_shows act.Remove c b h = mapped_to P (λ (p : List ℕ × ℕ). command.Remove p.0 p.1) (branch_and_place left) c (λ a e. keyword ws (codes "remove") (place_words a.0 a.1) refl b (place_of_shows left a e)) h
-  command_shows act.Replace c b h = mapped_to P (λ (p : List ℕ × ℕ × Step). command.Replace p.0 p.1 p.2) (placed step_of_words left) c (λ a e. keyword ws (codes "replace") (Text a.0 ∷ Number a.1 ∷ step_words a.2) refl b (placed_shows step_of_words step_words step_of_shows left a e)) h
-  command_shows act.Fork c b h = mapped_to P (λ (p : List ℕ × ℕ × List ℕ). command.Fork p.0 p.1 p.2) (placed only_branch left) c (λ a e. keyword ws (codes "fork") (Text a.0 ∷ Number a.1 ∷ Text a.2 ∷ []) refl b (placed_shows only_branch (λ name. Text name ∷ []) branch_of_shows left a e)) h
-  command_shows act.Detach c b h = mapped_to P command.Detach (only_branch left) c (λ a e. keyword ws (codes "detach") (Text a ∷ []) refl b (branch_of_shows left a e)) h
-  command_shows act.Drop c b h = mapped_to P command.Drop (only_branch left) c (λ a e. keyword ws (codes "drop") (Text a ∷ []) refl b (branch_of_shows left a e)) h
+  command_shows command_verb.Join c b h = alone_to P command.Join c left (λ e. keyword ws (codes "join") [] refl b (at_end left e)) h
+  command_shows command_verb.Leave c b h = alone_to P command.Leave c left (λ e. keyword ws (codes "leave") [] refl b (at_end left e)) h
+  command_shows command_verb.Seek c b h = alone_to P command.Seek c left (λ e. keyword ws (codes "seek") [] refl b (at_end left e)) h
+  command_shows command_verb.Back c b h = alone_to P command.Back c left (λ e. keyword ws (codes "back") [] refl b (at_end left e)) h
+  command_shows command_verb.Go c b h = mapped_to P (λ (p : List ℕ × ℕ). command.Go p.0 p.1) (branch_and_place left) c (λ a e. keyword ws (codes "go") (place_words a.0 a.1) refl b (place_of_shows left a e)) h
+  command_shows command_verb.Break c b h = mapped_to P command.Break (break_of left) c (λ a e. keyword ws (codes "break") (break_words a) refl b (break_of_shows left a e)) h
+  command_shows command_verb.Clear c b h = mapped_to P command.Clear (break_of left) c (λ a e. keyword ws (codes "clear") (break_words a) refl b (break_of_shows left a e)) h
+  command_shows command_verb.Insert c b h = mapped_to P (λ (p : List ℕ × ℕ × Step). command.Insert p.0 p.1 p.2) (placed step_of_words left) c (λ a e. keyword ws (codes "insert") (Text a.0 ∷ Number a.1 ∷ step_words a.2) refl b (placed_shows step_of_words step_words step_of_shows left a e)) h
+  command_shows command_verb.Remove c b h = mapped_to P (λ (p : List ℕ × ℕ). command.Remove p.0 p.1) (branch_and_place left) c (λ a e. keyword ws (codes "remove") (place_words a.0 a.1) refl b (place_of_shows left a e)) h
+  command_shows command_verb.Replace c b h = mapped_to P (λ (p : List ℕ × ℕ × Step). command.Replace p.0 p.1 p.2) (placed step_of_words left) c (λ a e. keyword ws (codes "replace") (Text a.0 ∷ Number a.1 ∷ step_words a.2) refl b (placed_shows step_of_words step_words step_of_shows left a e)) h
+  command_shows command_verb.Fork c b h = mapped_to P (λ (p : List ℕ × ℕ × List ℕ). command.Fork p.0 p.1 p.2) (placed only_branch left) c (λ a e. keyword ws (codes "fork") (Text a.0 ∷ Number a.1 ∷ Text a.2 ∷ []) refl b (placed_shows only_branch (λ name. Text name ∷ []) branch_of_shows left a e)) h
+  command_shows command_verb.Detach c b h = mapped_to P command.Detach (only_branch left) c (λ a e. keyword ws (codes "detach") (Text a ∷ []) refl b (branch_of_shows left a e)) h
+  command_shows command_verb.Drop c b h = mapped_to P command.Drop (only_branch left) c (λ a e. keyword ws (codes "drop") (Text a ∷ []) refl b (branch_of_shows left a e)) h
 
   abbrev Q : ℕ → Query → Type 0
   Q session q = Shows ws (query_words q) × IsOwn session (Look q)

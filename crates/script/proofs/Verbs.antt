@@ -10,7 +10,7 @@ use Rattle.words.proofs.Steps.{is_word}
 use Rattle.script.specs.declared.verb.Verb.{Verb}
 use Rattle.script.specs.declared.verb.Verb.TheVariants as verb
 use Rattle.script.specs.declared.verb.LookVerb.TheVariants as look
-use Rattle.script.specs.declared.verb.CommandVerb.TheVariants as act
+use Rattle.script.specs.declared.verb.CommandVerb.TheVariants as command_verb
 use Rattle.script.specs.Lines.{verb_words, verb_in, verb_of}
 use Rattle.script.proofs.Shapes.{either}
 
@@ -30,19 +30,19 @@ text_of (verb.Look look.Bits) = codes "bits"
 text_of (verb.Look look.History) = codes "history"
 text_of (verb.Look look.Verdict) = codes "verdict"
 text_of verb.Fill = codes "fill"
-text_of (verb.Command act.Join) = codes "join"
-text_of (verb.Command act.Leave) = codes "leave"
-text_of (verb.Command act.Seek) = codes "seek"
-text_of (verb.Command act.Back) = codes "back"
-text_of (verb.Command act.Go) = codes "go"
-text_of (verb.Command act.Break) = codes "break"
-text_of (verb.Command act.Clear) = codes "clear"
-text_of (verb.Command act.Insert) = codes "insert"
-text_of (verb.Command act.Remove) = codes "remove"
-text_of (verb.Command act.Replace) = codes "replace"
-text_of (verb.Command act.Fork) = codes "fork"
-text_of (verb.Command act.Detach) = codes "detach"
-text_of (verb.Command act.Drop) = codes "drop"
+text_of (verb.Command command_verb.Join) = codes "join"
+text_of (verb.Command command_verb.Leave) = codes "leave"
+text_of (verb.Command command_verb.Seek) = codes "seek"
+text_of (verb.Command command_verb.Back) = codes "back"
+text_of (verb.Command command_verb.Go) = codes "go"
+text_of (verb.Command command_verb.Break) = codes "break"
+text_of (verb.Command command_verb.Clear) = codes "clear"
+text_of (verb.Command command_verb.Insert) = codes "insert"
+text_of (verb.Command command_verb.Remove) = codes "remove"
+text_of (verb.Command command_verb.Replace) = codes "replace"
+text_of (verb.Command command_verb.Fork) = codes "fork"
+text_of (verb.Command command_verb.Detach) = codes "detach"
+text_of (verb.Command command_verb.Drop) = codes "drop"
 
 -- whether a row has the word that selects its verb
 abbrev is_named : List ℕ × Verb → Bool

@@ -18,7 +18,7 @@ use Rattle.script.specs.declared.verb.Verb.TheVariants as verb
 use Rattle.script.specs.declared.verb.LookVerb.{LookVerb}
 use Rattle.script.specs.declared.verb.LookVerb.TheVariants as look
 use Rattle.script.specs.declared.verb.CommandVerb.{CommandVerb}
-use Rattle.script.specs.declared.verb.CommandVerb.TheVariants as act
+use Rattle.script.specs.declared.verb.CommandVerb.TheVariants as command_verb
 use Rattle.script.specs.declared.call.Request.{Request}
 use Rattle.script.specs.declared.call.Request.TheVariants.{Act, Look, Fill}
 use Rattle.script.specs.declared.call.Call.{Call}
@@ -89,19 +89,19 @@ verb_words =
     ∷ (codes "history", verb.Look look.History)
     ∷ (codes "verdict", verb.Look look.Verdict)
     ∷ (codes "fill", verb.Fill)
-    ∷ (codes "join", verb.Command act.Join)
-    ∷ (codes "leave", verb.Command act.Leave)
-    ∷ (codes "seek", verb.Command act.Seek)
-    ∷ (codes "back", verb.Command act.Back)
-    ∷ (codes "go", verb.Command act.Go)
-    ∷ (codes "break", verb.Command act.Break)
-    ∷ (codes "clear", verb.Command act.Clear)
-    ∷ (codes "insert", verb.Command act.Insert)
-    ∷ (codes "remove", verb.Command act.Remove)
-    ∷ (codes "replace", verb.Command act.Replace)
-    ∷ (codes "fork", verb.Command act.Fork)
-    ∷ (codes "detach", verb.Command act.Detach)
-    ∷ (codes "drop", verb.Command act.Drop)
+    ∷ (codes "join", verb.Command command_verb.Join)
+    ∷ (codes "leave", verb.Command command_verb.Leave)
+    ∷ (codes "seek", verb.Command command_verb.Seek)
+    ∷ (codes "back", verb.Command command_verb.Back)
+    ∷ (codes "go", verb.Command command_verb.Go)
+    ∷ (codes "break", verb.Command command_verb.Break)
+    ∷ (codes "clear", verb.Command command_verb.Clear)
+    ∷ (codes "insert", verb.Command command_verb.Insert)
+    ∷ (codes "remove", verb.Command command_verb.Remove)
+    ∷ (codes "replace", verb.Command command_verb.Replace)
+    ∷ (codes "fork", verb.Command command_verb.Fork)
+    ∷ (codes "detach", verb.Command command_verb.Detach)
+    ∷ (codes "drop", verb.Command command_verb.Drop)
     ∷ []
 
 -- what a word selects by a table; `None` if the table doesn't have the word
@@ -127,19 +127,19 @@ look_of session look.Verdict ws = option_map (λ p. Verdict p.0 p.1) (branch_and
 
 -- reads the words of a command after its first word
 abbrev pub command_of : CommandVerb → List (List ℕ) → Option Command
-command_of act.Join ws = if_no_more command.Join ws
-command_of act.Leave ws = if_no_more command.Leave ws
-command_of act.Seek ws = if_no_more command.Seek ws
-command_of act.Back ws = if_no_more command.Back ws
-command_of act.Go ws = option_map (λ p. command.Go p.0 p.1) (branch_and_place ws)
-command_of act.Break ws = option_map command.Break (break_of ws)
-command_of act.Clear ws = option_map command.Clear (break_of ws)
-command_of act.Insert ws = option_map (λ p. command.Insert p.0 p.1 p.2) (placed step_of_words ws)
-command_of act.Remove ws = option_map (λ p. command.Remove p.0 p.1) (branch_and_place ws)
-command_of act.Replace ws = option_map (λ p. command.Replace p.0 p.1 p.2) (placed step_of_words ws)
-command_of act.Fork ws = option_map (λ p. command.Fork p.0 p.1 p.2) (placed only_branch ws)
-command_of act.Detach ws = option_map command.Detach (only_branch ws)
-command_of act.Drop ws = option_map command.Drop (only_branch ws)
+command_of command_verb.Join ws = if_no_more command.Join ws
+command_of command_verb.Leave ws = if_no_more command.Leave ws
+command_of command_verb.Seek ws = if_no_more command.Seek ws
+command_of command_verb.Back ws = if_no_more command.Back ws
+command_of command_verb.Go ws = option_map (λ p. command.Go p.0 p.1) (branch_and_place ws)
+command_of command_verb.Break ws = option_map command.Break (break_of ws)
+command_of command_verb.Clear ws = option_map command.Clear (break_of ws)
+command_of command_verb.Insert ws = option_map (λ p. command.Insert p.0 p.1 p.2) (placed step_of_words ws)
+command_of command_verb.Remove ws = option_map (λ p. command.Remove p.0 p.1) (branch_and_place ws)
+command_of command_verb.Replace ws = option_map (λ p. command.Replace p.0 p.1 p.2) (placed step_of_words ws)
+command_of command_verb.Fork ws = option_map (λ p. command.Fork p.0 p.1 p.2) (placed only_branch ws)
+command_of command_verb.Detach ws = option_map command.Detach (only_branch ws)
+command_of command_verb.Drop ws = option_map command.Drop (only_branch ws)
 
 -- reads the words of a command after its first word; the guard, if it has one, is given
 abbrev pub act_of : Option ℕ → CommandVerb → List (List ℕ) → Option Request
