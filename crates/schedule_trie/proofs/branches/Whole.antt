@@ -7,7 +7,7 @@ use Rattle.schedule_steps.specs.declared.types.Step.{Step}
 use Rattle.branch_terms.specs.Forest.{slot, cell_of, only_in, put_last}
 use Rattle.schedule_trie.specs.Trie.{TrieOf, SegmentOf, segment_at, slots_of, line, forest, branches_on, keys_in, set_keys, has, has_cell, Once, SharesAbove, IsSegment, IsSoundTrie, IsWhole, KeepsNotesBut, Nowhere, IsExtendedEnd, IsPushed, LackedByOthers}
 use Rattle.schedule_trie.proofs.lists.NoRepeats.{has-append, has_not_from, has_cases, Once-append, has-in}
-use Rattle.schedule_trie.proofs.segments.Changes.{Changes}
+use Rattle.schedule_trie.proofs.segments.Changes.{Changes, there-changed}
 use Rattle.schedule_trie.proofs.segments.StepSet.{cut_from_sound}
 use Rattle.schedule_trie.proofs.edits.Pushes.{line_pushed, only_pushed, segments_more, apart_more}
 use Rattle.branch_terms.specs.declared.limits.TheConstants.{MOST_CELLS_MADE}
@@ -55,11 +55,7 @@ module _ {T : Type 0} (c d : TrieOf T) (index key : ℕ) (step : Step) (front : 
       by false e = inr (has_cases x c.made [] (x ≡ c.made) (sym (ap (λ b. b || has x (c.made ∷ [])) e) ∙ split) (λ f. f) (λ r. absurd (true≢false (sym r))))
 
   there : (k : ℕ) → IsSome (segment_at c.segments k) → IsSome (segment_at d.segments k)
-  there k h = by (nat_eq k key) refl
-    where
-      by : (b : Bool) → nat_eq k key ≡ b → IsSome (segment_at d.segments k)
-      by true e = subst (λ j. IsSome (segment_at d.segments j)) (sym (eqb-true k key e)) (subst IsSome (sym change.here) refl)
-      by false e = subst IsSome (sym (change.others k (eqb-false k key e))) h
+  there = there-changed (segment_at c.segments) (segment_at d.segments) key q change
 
   keys_here : keys_in d.branches index ≡ front ++ key ∷ []
   keys_here = ap (λ l. keys_in l index) keys_set ∙ keys_in-set_same c.branches index (front ++ key ∷ []) inside

@@ -10,7 +10,7 @@ use Rattle.branch_terms.specs.Forest.{slot, cell_of, before_cell, put_before, ev
 use Rattle.schedule_trie.specs.Trie.{SegmentOf, KeyedBranch, slots_of, branches_on, has, has_cell, Once, IsSoundTrie}
 use Rattle.schedule_trie.proofs.lists.NoRepeats.{has-head, has-tail, has_cases, has_not_from}
 use Rattle.schedule_trie.proofs.branches.Lines.{once_at, given_at}
-use Rattle.schedule_trie.proofs.segments.Changes.{absent_by, Changes, line_through, everywhere_on, has_cell_get}
+use Rattle.schedule_trie.proofs.segments.Changes.{absent_by, Changes, there-changed, line_through, everywhere_on, has_cell_get}
 use Rattle.schedule_trie.proofs.edits.Pushes.{segments_more, apart_more}
 
 -- a number in a list after an insert was there before, or is the inserted one
@@ -95,20 +95,13 @@ module _ {T : Type 0} (old new : ℕ → Option (SegmentOf T)) (key : ℕ) (q : 
     (cells : (x : ℕ) → has_cell x q.slots ≡ true → (has_cell x (slots_of (old key)) ≡ true) ⊎ (x ≡ made)) where
   pub sound_grown : IsSoundTrie new branches (made + 1)
   sound_grown = record {
-    held = λ i k h. there k (sound.held i k h);
+    held = λ i k h. there-changed old new key q change k (sound.held i k h);
     segments = segments_more old new key q change branches made sound some few once cells;
     apart = apart_more old new key q change branches made sound some few once cells;
     live = λ k h. sound.live k (was_there k h);
     shares = sound.shares;
   }
     where
-      there : (k : ℕ) → IsSome (old k) → IsSome (new k)
-      there k h = by (nat_eq k key) refl
-        where
-          by : (b : Bool) → nat_eq k key ≡ b → IsSome (new k)
-          by true e = subst (λ j. IsSome (new j)) (sym (eqb-true k key e)) (subst IsSome (sym change.here) refl)
-          by false e = subst IsSome (sym (change.others k (eqb-false k key e))) h
-
       was_there : (k : ℕ) → IsSome (new k) → IsSome (old k)
       was_there k h = by (nat_eq k key) refl
         where

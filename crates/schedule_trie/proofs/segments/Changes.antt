@@ -2,7 +2,7 @@
 use Rattle.std.proofs.Common.{◌≡◌, ℕ, zero, suc, ◌<◌, Bool, true, false, ◌||◌, nat_eq, cond, List, [], ◌∷◌, ◌++◌, length, map, slice_get, slice_index_or, Option, Some, None, IsSome, refl, sym, ap, subst, ◌∙◌, true≢false, arith, eq-eqb}
 use Rattle.std.specs.Option.{IfSome}
 use Rattle.std.specs.List.{slice_set}
-use Rattle.std.proofs.lemmas.Bool.{eqb-true}
+use Rattle.std.proofs.lemmas.Bool.{eqb-true, eqb-false}
 use Rattle.std.proofs.lemmas.List.{length-map, map-append, get_or-set_same, get_or-set_other}
 use Rattle.std.proofs.Math.ListN.{get_or-map}
 use Rattle.schedule_steps.specs.declared.types.Step.{Step}
@@ -19,6 +19,14 @@ use Rattle.schedule_trie.proofs.lists.NoRepeats.{has_not_from, has-head, has-tai
 pub record Changes {T : Type 0} (old new : ℕ → Option (SegmentOf T)) (key : ℕ) (p : SegmentOf T) : Type 0 where
   pub here : new key ≡ Some p
   pub others : (j : ℕ) → (j ≡ key → ⊥) → new j ≡ old j
+
+-- a segment that was there is there after a change
+pub there-changed : {T : Type 0} (old new : ℕ → Option (SegmentOf T)) (key : ℕ) (p : SegmentOf T) → Changes old new key p → (k : ℕ) → IsSome (old k) → IsSome (new k)
+there-changed old new key p change k h = by (nat_eq k key) refl
+  where
+    by : (b : Bool) → nat_eq k key ≡ b → IsSome (new k)
+    by true e = subst (λ j. IsSome (new j)) (sym (eqb-true k key e)) (subst IsSome (sym change.here) refl)
+    by false e = subst IsSome (sym (change.others k (eqb-false k key e))) h
 
 module _ {T : Type 0} where
   -- a list function that distributes over `++`, applied to each segment, is applied to each line
