@@ -122,7 +122,7 @@ pub enum FrameLayer {
 #[derive(Clone, Copy, Debug, PartialEq, Eq)]
 pub struct LayerName(pub u8, pub u8, pub u8);
 
-/// One layer's share of a pending operation. `op` is the operation on that layer. `i` says which of
+/// One layer's part of a pending operation. `op` is the operation on that layer. `i` says which of
 /// the registers that the layer uses is at work; for a safe bit, it is 0 before the start action
 /// and 1 after it. `x` is the code being written or, while a matrix reads a column, the greatest
 /// code read so far, at first 0. Each of `i` and `x` is 0 if the layer doesn't need it.
