@@ -1,7 +1,8 @@
 -- Numbers, keys, and lists of any items or of cells.
-use Rattle.std.proofs.Common.{◌≡◌, ℕ, zero, suc, ◌+◌, ◌-◌, ◌<◌, ◌≤◌, Bool, true, false, nat_eq, List, [], ◌∷◌, ◌++◌, length, take, drop, get_or, slice_get, Option, Some, None, Result, Ok, Err, IfOk, refl, sym, ap, subst, ◌∙◌, arith, eq-eqb, inl, inr}
+use Rattle.std.proofs.Common.{◌≡◌, ℕ, zero, suc, ◌+◌, ◌-◌, ◌<◌, ◌≤◌, Bool, true, false, nat_eq, List, [], ◌∷◌, ◌++◌, length, take, drop, get_or, slice_get, Option, Some, None, refl, sym, ap, subst, ◌∙◌, arith, eq-eqb, inl, inr}
 use Rattle.std.specs.Option.{option_eq}
 use Rattle.std.proofs.lemmas.Bool.{cases_order, eqb-true, eqb-false, ne_eqb}
+use Rattle.std.proofs.lemmas.List.{take_all}
 use Rattle.branch_terms.specs.declared.slot.Slot.{Slot}
 use Rattle.branch_terms.specs.Forest.{cell_of, cell_in}
 
@@ -46,16 +47,10 @@ pub slice_get-last : {X : Type 0} (xs : List X) (x : X) → slice_get (xs ++ x �
 slice_get-last [] x = refl
 slice_get-last (y ∷ ys) x = slice_get-last ys x
 
-pub taken_whole : {X : Type 0} (i : ℕ) (xs : List X) → length xs ≤ i → take i xs ≡ xs
-taken_whole zero [] h = refl
-taken_whole zero (x ∷ xs) h = absurd (omega arith)
-taken_whole (suc i) [] h = refl
-taken_whole (suc i) (x ∷ xs) h = ap (λ l. x ∷ l) (taken_whole i xs (omega arith))
-
 rest_item : {X : Type 0} (x : X) (xs : List X) (m i : ℕ) (d : X) → length xs ≤ m → i < length (take m xs) → d ≡ get_or (take m xs) i d
     → (i + 1 < length (x ∷ xs)) × (get_or (x ∷ xs) (i + 1) d ≡ d)
 rest_item x xs m i d most less at =
-    let whole = taken_whole m xs most in
+    let whole = take_all m xs most in
     let inside : i < length xs = subst (λ l. i < length l) whole less in
     let here : get_or xs i d ≡ d = sym (subst (λ l. d ≡ get_or l i d) whole at) in
     (omega (arith, inside), subst (λ n. get_or (x ∷ xs) n d ≡ d) (next i) here)
@@ -71,15 +66,10 @@ item_of_rest (x ∷ all) i d some less at = rest_item x all (suc (length all) - 
 pub rest_ends : {X : Type 0} (all : List X) (i : ℕ) → 0 < length all → length (take (length all - 1) (drop 1 all)) ≤ i → length all ≤ i + 1
 rest_ends [] i some end = omega arith
 rest_ends (x ∷ all) i some end =
-    let whole = taken_whole (suc (length all) - 1) all (omega arith) in
+    let whole = take_all (suc (length all) - 1) all (omega arith) in
     let len = subst (λ l. length l ≤ i) whole end in omega arith
 
 pub cell_in_at : (slots : List Slot) (k : ℕ) (s : Slot) → slice_get slots k ≡ Some s → cell_in slots k ≡ s.cell
 cell_in_at [] k s e = absurd (cc)
 cell_in_at (z ∷ zs) zero s e = let same : z ≡ s = cc in ap cell_of same
 cell_in_at (z ∷ zs) (suc k) s e = cell_in_at zs k s e
-
--- if one property of a value implies another, an Ok result that has the first has the other too
-pub if_ok : {A E : Type 0} (r : Result A E) (P Q : A → Type 0) → ((a : A) → P a → Q a) → IfOk r P → IfOk r Q
-if_ok (Ok a) P Q f h = f a h
-if_ok (Err e) P Q f h = tt

@@ -1,10 +1,9 @@
 -- The number of own cells of limbs.
 use Rattle.std.proofs.Common.{◌≡◌, ℕ, zero, suc, ◌+◌, ◌-◌, ◌<◌, ◌≤◌, true, false, nat_lt, List, [], ◌∷◌, ◌++◌, length, take, get_or, sym, ap, ◌∙◌, arith}
 use Rattle.std.proofs.lemmas.Bool.Decides.{nat_tests}
-use Rattle.std.proofs.lemmas.List.{take_more}
+use Rattle.std.proofs.lemmas.List.{take_more, take_all}
 use Rattle.branch_terms.specs.declared.limb.Limb.{Limb}
 use Rattle.branch_terms.specs.Limbs.{cells_of}
-use Rattle.branch_terms.proofs.Lists.{taken_whole}
 
 pub cells_of-append : (xs ys : List Limb) → cells_of (xs ++ ys) ≡ cells_of xs + cells_of ys
 cells_of-append [] ys = omega arith
@@ -34,5 +33,5 @@ module _ (ls : List Limb) (i : ℕ) (l : Limb) (less : i < length ls) (at : get_
 
 pub not_too_many : (ls : List Limb) (i room most : ℕ) → length ls ≤ i → cells_of (take i ls) + room ≡ most → false ≡ nat_lt most (cells_of ls)
 not_too_many ls i room most end so_far =
-    let all = ap cells_of (taken_whole i ls end) in
+    let all = ap cells_of (take_all i ls end) in
     let few : cells_of ls ≤ most = omega arith in sym (grind (arith, nat_tests))

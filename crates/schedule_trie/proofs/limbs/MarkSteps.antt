@@ -1,13 +1,12 @@
 -- Marking keys of a path one by one.
 use Rattle.std.proofs.Common.{◌≡◌, ℕ, zero, suc, ◌+◌, ◌<◌, ◌≤◌, ◌^◌, Bool, true, false, ◌||◌, nat_eq, List, [], ◌∷◌, ◌++◌, length, take, get_or, set, Option, Some, None, refl, sym, ap, subst, ◌∙◌, true≢false, arith}
 use Rattle.std.proofs.lemmas.Bool.{eqb-true, eqb-false, or_parts}
-use Rattle.std.proofs.lemmas.List.{length-append, length-set, take_more, get_or-set_same, get_or-set_other}
+use Rattle.std.proofs.lemmas.List.{length-append, length-set, take_more, get_or-set_same, get_or-set_other, take_all}
 use Rattle.schedule_trie.specs.declared.mark.Mark.{Mark}
 use Rattle.schedule_trie.specs.Trie.{SegmentOf, slots_of, line, has, Once}
 use Rattle.schedule_trie.specs.Climbs.{keys_up_to}
 use Rattle.schedule_trie.specs.Marks.{mark, mark_at, AreMarked}
 use Rattle.schedule_trie.proofs.climbs.Climbs.{up_to-here, line-last}
-use Rattle.branch_terms.proofs.Lists.{taken_whole}
 use Rattle.schedule_trie.proofs.lists.NoRepeats.{has-append, has_cases, has-in, once_before}
 use Rattle.schedule_trie.proofs.edits.Pushes.{line-append}
 
@@ -94,7 +93,7 @@ module _ {T : Type 0} (at : ℕ → Option (SegmentOf T)) (old : List (Option Ma
 
   pub marked_all : (new : List (Option Mark)) (i cells : ℕ) → length keys ≤ i → AreMarkedSoFar at old new keys branch above i cells → AreMarked at old new keys branch above
   marked_all new i cells end so =
-      let all = taken_whole i keys end in
+      let all = take_all i keys end in
       record {
         count = so.count;
         marked = λ k h. so.marked k (ap (has k) all ∙ h);

@@ -1,5 +1,5 @@
 use Rattle.std.proofs.Common.{◌≡◌, ◌≤◌, ℕ, map, ◌<◌, ◌++◌, ◌∷◌, [], length, sym, ap, subst, ◌∙◌, arith}
-use Rattle.std.proofs.lemmas.List.{length-map}
+use Rattle.std.proofs.lemmas.List.{length-map, take_all}
 use Rattle.schedule_trie.specs.Trie.{forest}
 use Rattle.branch_terms.specs.Forest.{Forest, name_of}
 use Rattle.branch_terms.specs.Limbs.{FitLimits, AreLawfulLimbs, forest_of, limbs}
@@ -8,7 +8,7 @@ use Rattle.branch_terms.proofs.LimbsKept.{limbs_kept}
 use Rattle.branch_terms.proofs.LimbsLawful.{limbs_lawful}
 use Rattle.schedule_trie.proofs.limbs.LimbLimits.{limbs_within}
 use Rattle.schedule_trie.proofs.limbs.LimbsSaved.{length-limbs, taken_next}
-use Rattle.branch_terms.proofs.Lists.{slice_get_some, taken_whole}
+use Rattle.branch_terms.proofs.Lists.{slice_get_some}
 use Rattle.schedule_trie.proofs.trie.Trie.limbs.Goals as goal
 
 past_all : (f : Forest) {count i : ℕ} → count ≡ length f.branches → count ≤ i → length (limbs f) ≤ i
@@ -37,24 +37,24 @@ loop-index-preserved g c = record {
 
 pub returns-clause-limbs : goal.returns-clause-limbs
 returns-clause-limbs g c =
-    c.loop-index.invariant.reported ∙ taken_whole c.loop-index.index (limbs (forest c.args.self.now)) (past_all (forest c.args.self.now) c.branches-index-end.ensures.count c.loop-index-test.false)
+    c.loop-index.invariant.reported ∙ take_all c.loop-index.index (limbs (forest c.args.self.now)) (past_all (forest c.args.self.now) c.branches-index-end.ensures.count c.loop-index-test.false)
 
 pub returns-clause-kept : goal.returns-clause-kept
 returns-clause-kept g c =
-    let change = c.loop-index.invariant.reported ∙ taken_whole c.loop-index.index (limbs (forest c.args.self.now)) (past_all (forest c.args.self.now) c.branches-index-end.ensures.count c.loop-index-test.false) in
+    let change = c.loop-index.invariant.reported ∙ take_all c.loop-index.index (limbs (forest c.args.self.now)) (past_all (forest c.args.self.now) c.branches-index-end.ensures.count c.loop-index-test.false) in
     subst (λ l. IsRenumbered (forest c.args.self.now) (forest_of l)) (sym change) (limbs_kept (forest c.args.self.now) c.lemma_invariant.ensures.forest)
 
 pub returns-clause-lawful : goal.returns-clause-lawful
 returns-clause-lawful g c =
-    let change = c.loop-index.invariant.reported ∙ taken_whole c.loop-index.index (limbs (forest c.args.self.now)) (past_all (forest c.args.self.now) c.branches-index-end.ensures.count c.loop-index-test.false) in
+    let change = c.loop-index.invariant.reported ∙ take_all c.loop-index.index (limbs (forest c.args.self.now)) (past_all (forest c.args.self.now) c.branches-index-end.ensures.count c.loop-index-test.false) in
     subst AreLawfulLimbs (sym change) (limbs_lawful (forest c.args.self.now) c.lemma_invariant.ensures.forest c.lemma_invariant.ensures.names)
 
 pub returns-clause-some : goal.returns-clause-some
 returns-clause-some g c =
-    let change = c.loop-index.invariant.reported ∙ taken_whole c.loop-index.index (limbs (forest c.args.self.now)) (past_all (forest c.args.self.now) c.branches-index-end.ensures.count c.loop-index-test.false) in
+    let change = c.loop-index.invariant.reported ∙ take_all c.loop-index.index (limbs (forest c.args.self.now)) (past_all (forest c.args.self.now) c.branches-index-end.ensures.count c.loop-index-test.false) in
     subst (λ l. 0 < length l) (sym change) (omega (arith, length-limbs (forest c.args.self.now), c.branches-index-end.ensures.count, c.branches-index-end.ensures.some))
 
 pub returns-clause-within : goal.returns-clause-within
 returns-clause-within g c =
-    let change = c.loop-index.invariant.reported ∙ taken_whole c.loop-index.index (limbs (forest c.args.self.now)) (past_all (forest c.args.self.now) c.branches-index-end.ensures.count c.loop-index-test.false) in
+    let change = c.loop-index.invariant.reported ∙ take_all c.loop-index.index (limbs (forest c.args.self.now)) (past_all (forest c.args.self.now) c.branches-index-end.ensures.count c.loop-index-test.false) in
     subst (FitLimits c.args.self.now.limits) (sym change) (limbs_within c.args.self.now c.lemma_invariant.ensures.whole)

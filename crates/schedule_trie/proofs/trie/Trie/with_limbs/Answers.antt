@@ -1,8 +1,9 @@
 use Rattle.std.proofs.Common.{◌+◌, ◌≤◌, ◌≡◌, length, take, sym, subst, arith, ◌∙◌, ap}
+use Rattle.std.proofs.lemmas.List.{take_all}
 use Rattle.branch_terms.specs.Forest.{lone_branch}
 use Rattle.schedule_trie.specs.Trie.{forest}
 use Rattle.branch_terms.specs.Limbs.{cells_of, forest_of}
-use Rattle.branch_terms.proofs.Lists.{taken_whole, item_of_rest, rest_ends}
+use Rattle.branch_terms.proofs.Lists.{item_of_rest, rest_ends}
 use Rattle.schedule_trie.proofs.limbs.LoadSteps.{first_grown, can_grow, grown_next}
 use Rattle.schedule_trie.proofs.trie.Trie.with_limbs.Goals as goal
 
@@ -42,4 +43,4 @@ loop-limb-preserved g c =
 pub returns-clause-forest : goal.returns-clause-forest
 returns-clause-forest g c =
     let ls = c.args.limbs.now in
-    c.loop-limb.invariant.grown ∙ ap forest_of (taken_whole (c.loop-limb.limb-index + 1) ls (rest_ends ls c.loop-limb.limb-index c.requires.some c.loop-limb-test.false))
+    c.loop-limb.invariant.grown ∙ ap forest_of (take_all (c.loop-limb.limb-index + 1) ls (rest_ends ls c.loop-limb.limb-index c.requires.some c.loop-limb-test.false))
