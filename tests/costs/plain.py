@@ -16,8 +16,8 @@ PLAIN_STEPS = {
     "stamped 4 3": 97,
     "matrix 2 2 1 3": 119,
 }
-SEED = 5
 PLAIN_FIRST_LOOK = {"safe 0": 54, "stamped 4 3": 114, "matrix 2 2 1 3": 179}
+SEED = 5
 
 
 class Plain:

@@ -1,6 +1,6 @@
 // Prints what the page says of each read of histories, a line of JSON for each history.
-// usage: node sentences.mjs < HISTORIES     in a folder where page/ is; a line of input is, as JSON,
-// the lines of a page `history` and of a page `verdict`, and how many steps there are
+// usage: node sentences.mjs < HISTORIES     in a folder where page/ is; a line of input is, as
+// JSON, the lines of a page `history` and of a page `verdict`, and how many steps there are
 import { createInterface } from "node:readline";
 import { pageIn } from "./page/pages.js";
 import { Reading, reasonOf } from "./page/reading.js";
