@@ -15,7 +15,7 @@ use Rattle.turn.specs.Histories.{first_view}
 use Rattle.sessions.specs.declared.command.Command.TheVariants as command
 use Rattle.sessions.specs.declared.reply.Reply.TheVariants.{Joined, No}
 use Rattle.sessions.specs.declared.log.Entry.{Entry}
-use Rattle.sessions.specs.Books.{Held, StoredWorld, opening_of}
+use Rattle.sessions.specs.Books.{BookOf, StoredWorld, opening_of}
 use Rattle.sessions.specs.Logs.{entry, world_after}
 use Rattle.sessions.specs.World.{World}
 use Rattle.desk.specs.declared.item.Item.{Item}
@@ -48,7 +48,7 @@ stored = record {
   logged = 0;
 }
 
-abbrev first : Held ⊤ SafePoint
+abbrev first : BookOf ⊤ SafePoint
 first = record { first = chart; now = stored; log = []; room = 0 }
 
 -- a chair with every share that has seen these calls

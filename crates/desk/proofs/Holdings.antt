@@ -16,7 +16,7 @@ use Rattle.sessions.specs.declared.command.Command.{Command}
 use Rattle.sessions.specs.declared.log.Entry.{Entry}
 use Rattle.sessions.specs.declared.reply.Reply.TheVariants.{No}
 use Rattle.sessions.specs.World.{World}
-use Rattle.sessions.specs.Books.{Held, opening_of}
+use Rattle.sessions.specs.Books.{BookOf, opening_of}
 use Rattle.sessions.specs.Logs.{IsLegal, entry, is_logged, logged, world_after}
 use Rattle.sessions.proofs.Towers.{tower_after}
 use Rattle.desk.specs.declared.item.Item.{Item}
@@ -31,7 +31,7 @@ use Rattle.desk.proofs.Works.{paged_so}
 use Rattle.desk.proofs.Logged.{put, put_under, legal_found, logged_last}
 use Rattle.desk.proofs.Answering.{replies_so}
 
-module _ {R P : Type 0} (is : R → Behaviour P) (first : Held R P) (v w : View (Item R P)) where
+module _ {R P : Type 0} (is : R → Behaviour P) (first : BookOf R P) (v w : View (Item R P)) where
   -- a list of items that a chair finds
   finds_so : (before : List (Item R P)) (found : List Entry) → StartsWith before v.seen → v.reported ≤ length before → (HasAll v.shares → before ≡ v.seen) → before ≡ items first found → Finds v found
   finds_so before found starts not_fewer whole is_found =
@@ -150,7 +150,7 @@ module _ {R P : Type 0} (is : R → Behaviour P) (first : Held R P) (v w : View 
       reads_more (λ n world. (at ≡ n) × IsAnswer world query slip) (λ n world. (at ≡ n) × IsAnswer world query result) (λ n world said. (said.0, paged_so world query slip result paged said.1))
 
 -- a fill: first a reading that needs the branch, then steps that keep what the chair has seen
-pub filled_so : {R P A : Type 0} (is : R → Behaviour P) (first : Held R P) (v u w : View (Item R P)) (branch : List ℕ) (planned : Result A Refusal) (result : Result Report Refusal)
+pub filled_so : {R P A : Type 0} (is : R → Behaviour P) (first : BookOf R P) (v u w : View (Item R P)) (branch : List ℕ) (planned : Result A Refusal) (result : Result Report Refusal)
     → ((world : World P) → NeedsBranch branch world planned → NeedsBranch branch world result) → Reads is first (λ n world. NeedsBranch branch world planned) v u → KeepsSeen u w
     → Filled is first branch v w result
 filled_so is first v u w branch planned result on reads stays =
@@ -181,5 +181,5 @@ module _ {R P : Type 0} where
   }
 
 -- a chair that kept what it had seen still keeps it after a reading
-pub stays_read : {R P : Type 0} (is : R → Behaviour P) (first : Held R P) (u v w : View (Item R P)) (says : ℕ → World P → Type 0) → KeepsSeen u v → Reads is first says v w → KeepsSeen u w
+pub stays_read : {R P : Type 0} (is : R → Behaviour P) (first : BookOf R P) (u v w : View (Item R P)) (says : ℕ → World P → Type 0) → KeepsSeen u v → Reads is first says v w → KeepsSeen u w
 stays_read is first u v w says stays reads = stays_on u v w stays (reads_stay is first v w says reads)

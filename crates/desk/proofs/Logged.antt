@@ -3,7 +3,7 @@ use Rattle.std.proofs.Common.{◌≡◌, ℕ, Bool, true, false, cond, List, [],
 use Rattle.std.proofs.lemmas.List.{append_cancel_left}
 use Rattle.turn.specs.Entries.{AtMostOne}
 use Rattle.sessions.specs.declared.log.Entry.{Entry}
-use Rattle.sessions.specs.Books.{Held}
+use Rattle.sessions.specs.Books.{BookOf}
 use Rattle.sessions.specs.World.{World}
 use Rattle.sessions.specs.Logs.{IsLegal, acted_by, is_logged, logged}
 use Rattle.desk.specs.declared.item.Item.{Item}
@@ -37,7 +37,7 @@ logged_last e log = put_last (is_logged e.reply) e log
 module _ {R P : Type 0} where
   -- what is added under the number `n` by a call of some chair: nothing, or the call with `n` as
   -- its chair
-  pub put_under : (t : Bool) (first : Held R P) (found : List Entry) (call : ℕ → Entry) (chair n : ℕ) (added : List (Item R P)) → ((k : ℕ) → (call k).chair ≡ k)
+  pub put_under : (t : Bool) (first : BookOf R P) (found : List Entry) (call : ℕ → Entry) (chair n : ℕ) (added : List (Item R P)) → ((k : ℕ) → (call k).chair ≡ k)
       → items first found ++ added ≡ items first (put t (call chair) found) → AtMostOne made_under n added
       → (added ≡ as_items (put t (call n) [])) × (put t (call chair) found ≡ put t (call n) found)
   put_under true first found call chair n added by is one =

@@ -17,7 +17,7 @@ use Rattle.sessions.specs.declared.reply.Reply.TheVariants.{No}
 use Rattle.sessions.specs.World.{World}
 use Rattle.sessions.specs.Acts.{command_result, is_full}
 use Rattle.sessions.specs.Looks.{looked_in, shown_in}
-use Rattle.sessions.specs.Books.{Held, IsHeld, ActsOnBook, RefusesMemoryLast, LacksMemory, opening_of, world_of}
+use Rattle.sessions.specs.Books.{BookOf, IsLegalBook, ActsOnBook, RefusesMemoryLast, LacksMemory, opening_of, world_of}
 use Rattle.sessions.specs.Logs.{IsLegal, entry, logged, is_logged, world_after}
 use Rattle.turn.specs.Entries.{AtMostOne}
 use Rattle.sessions.proofs.LoggedReplies.{acted_logged, acted_full}
@@ -32,12 +32,12 @@ use Rattle.desk.proofs.Lists.{items_more}
 use Rattle.desk.proofs.Logged.{put, logged_last}
 
 -- a journal's book: it has the same opening as the first book, and its log gives the journal's list
-pub record IsBook {R P : Type 0} (is : R → Behaviour P) (first old : Held R P) (before : List (Item R P)) : Type 0 where
+pub record IsBook {R P : Type 0} (is : R → Behaviour P) (first old : BookOf R P) (before : List (Item R P)) : Type 0 where
   pub opened : opening_of is old ≡ opening_of is first
   pub listed : items first old.log ≡ before
 
 -- the book that is taken out of a journal is the journal's book
-pub taken : {R P : Type 0} (is : R → Behaviour P) (first : Held R P) {old value : Held R P} {before : List (Item R P)} → old ≡ value
+pub taken : {R P : Type 0} (is : R → Behaviour P) (first : BookOf R P) {old value : BookOf R P} {before : List (Item R P)} → old ≡ value
     → opening_of is value ≡ opening_of is first → items first value.log ≡ before → IsBook is first old before
 taken is first same opened listed = record { opened = ap (opening_of is) same ∙ opened; listed = ap (λ h. items first h.log) same ∙ listed }
 
@@ -77,7 +77,7 @@ paged_no_stray (Err r) result e h = subst (λ r. IfOk r ShowsNoStray) (sym e) tt
 
 module _ {R P : Type 0} (is : R → Behaviour P) where
   -- if the reply is LogFull, the log is as long as its limit
-  module _ (old new : Held R P) (who : ℕ) (guard : Option ℕ) (command : Command) (held : IsHeld is new) (same_log : new.log ≡ old.log)
+  module _ (old new : BookOf R P) (who : ℕ) (guard : Option ℕ) (command : Command) (held : IsLegalBook is new) (same_log : new.log ≡ old.log)
       (acts : command_result who guard command (world_of is old.now) ≡ record { world = world_of is new.now; reply = No LogFull }) where
     by_room : (t : Bool) → is_full (world_of is old.now) ≡ t → length old.log ≡ new.now.limits.log
     by_room true full =
@@ -96,13 +96,13 @@ module _ {R P : Type 0} (is : R → Behaviour P) where
 
   -- if the log isn't full, no command is answered with Memory by definition; and if log and world
   -- stay the same, the log is shorter than its limit
-  module _ (old new : Held R P) (room : is_full (world_of is old.now) ≡ false) where
-    none_wanted : (who : ℕ) (guard : Option ℕ) (command : Command) → command_result who guard command (world_of is old.now) ≡ record { world = world_of is new.now; reply = No Memory } → ⊥
-    none_wanted who guard command acts =
+  module _ (old new : BookOf R P) (room : is_full (world_of is old.now) ≡ false) where
+    never_out_of_memory : (who : ℕ) (guard : Option ℕ) (command : Command) → command_result who guard command (world_of is old.now) ≡ record { world = world_of is new.now; reply = No Memory } → ⊥
+    never_out_of_memory who guard command acts =
         let clash : false ≡ true = ap (λ a. is_logged a.reply) (sym acts) ∙ (acted_logged who (world_of is old.now) guard command room).0 in
         cc
 
-    shorter : IsHeld is new → world_of is new.now ≡ world_of is old.now → new.log ≡ old.log → length old.log < new.now.limits.log
+    shorter : IsLegalBook is new → world_of is new.now ≡ world_of is old.now → new.log ≡ old.log → length old.log < new.now.limits.log
     shorter held same same_log =
         let few = below new.now.limits.log new.now.logged (ap is_full same ∙ room) in
         let count : length old.log ≡ new.now.logged = ap length (sym same_log) ∙ held.count in
@@ -111,7 +111,7 @@ module _ {R P : Type 0} (is : R → Behaviour P) where
         below : (most count : ℕ) → nat_le most count ≡ false → count < most
         below most count h = grind (arith, nat_tests)
 
-  module _ (first old new : Held R P) {before : List (Item R P)} (book : IsBook is first old before) (same : opening_of is new ≡ opening_of is old) (held : IsHeld is new) where
+  module _ (first old new : BookOf R P) {before : List (Item R P)} (book : IsBook is first old before) (same : opening_of is new ≡ opening_of is old) (held : IsLegalBook is new) where
     module _ (chair who : ℕ) (guard : Option ℕ) (command : Command) (receipt : Receipt) where
       call : Entry
       call = entry chair who guard command receipt.reply
@@ -133,7 +133,7 @@ module _ {R P : Type 0} (is : R → Behaviour P) where
           → receipt.reply ≡ No Memory → length old.log < (opening_of is first).limits.log
       unfolding call
       shorter_log (inl a) last no_memory =
-          absurd (none_wanted old new (last no_memory).first who guard command (a.acts ∙ ap (λ r. record { world = world_of is new.now; reply = r }) no_memory))
+          absurd (never_out_of_memory old new (last no_memory).first who guard command (a.acts ∙ ap (λ r. record { world = world_of is new.now; reply = r }) no_memory))
       shorter_log (inr w) last no_memory =
           subst (λ (o : World P). length old.log < o.limits.log) (same ∙ book.opened) (shorter old new (last no_memory).first held w.world w.log)
 
@@ -201,7 +201,7 @@ module _ {R P : Type 0} (is : R → Behaviour P) where
         reads_so (λ n w. (at ≡ n) × IsAnswer w query (answer_by r) × ShowsNoStrayOf w (answer_by r)) world log (is_at ∙ ap length log, answers, strays)
 
   -- work that leaves the book answers from the history that it found
-  module _ (first old : Held R P) {before : List (Item R P)} (book : IsBook is first old before) (held : IsHeld is old) where
+  module _ (first old : BookOf R P) {before : List (Item R P)} (book : IsBook is first old before) (held : IsLegalBook is old) where
     pub stays_so : (says : ℕ → World P → Type 0) → says (length old.log) (world_of is old.now) → IsReading is says before before
     stays_so says said = subst (λ l. IsReading is says before l) book.listed (reads_so first old old book refl held says refl refl said)
 

@@ -15,7 +15,7 @@ use Rattle.sessions.specs.declared.log.Entry.{Entry}
 use Rattle.sessions.specs.declared.reply.Reply.TheVariants.{No}
 use Rattle.sessions.specs.World.{World}
 use Rattle.sessions.specs.Acts.{command_result}
-use Rattle.sessions.specs.Books.{Held, opening_of}
+use Rattle.sessions.specs.Books.{BookOf, opening_of}
 use Rattle.sessions.specs.Logs.{IsLegal, entry, logged, world_after}
 use Rattle.desk.specs.declared.item.Item.{Item}
 use Rattle.desk.specs.declared.desk.Desk.{Desk}
@@ -29,7 +29,7 @@ use Rattle.desk.specs.Works.{IsAnswer, IsSaving, NeedsBranch}
 
 module _ {R P : Type 0} where
   -- the book as it was when the desk opened
-  abbrev pub book_at_first : Desk R P → Held R P
+  abbrev pub book_at_first : Desk R P → BookOf R P
   book_at_first desk = desk.first.value
 
   -- the chair is one of this desk: it belongs to the desk's turn, and has seen a history that is
@@ -62,7 +62,7 @@ module _ {R P : Type 0} where
     pub shares : w.shares ≡ v.shares
     pub reported : w.reported ≡ v.reported
 
-  module _ (is : R → Behaviour P) (first : Held R P) where
+  module _ (is : R → Behaviour P) (first : BookOf R P) where
     -- A command changes a chair's view from v to w. If the reply is logged, the call is added with
     -- its reply, under the chair's number, to the history found and to the chair's own calls. The
     -- resulting history is legal; in w the chair has seen it, and the receipt has its length. The

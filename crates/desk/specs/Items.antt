@@ -1,7 +1,7 @@
 -- In contracts, a desk's journal is a list of items: the opening, then the logged calls.
 use Rattle.std.specs.Prelude.{ℕ, List, [], ◌∷◌, map}
 use Rattle.sessions.specs.declared.log.Entry.{Entry}
-use Rattle.sessions.specs.Books.{Held}
+use Rattle.sessions.specs.Books.{BookOf}
 use Rattle.desk.specs.declared.item.Item.{Item}
 use Rattle.desk.specs.declared.item.Item.TheVariants.{Opening, Call}
 
@@ -23,5 +23,5 @@ module _ {R P : Type 0} where
   as_items calls = map (λ e. Call e) calls
 
   -- the list of a journal: the opening with the book `first`, followed by these calls
-  abbrev pub items : Held R P → List Entry → List (Item R P)
+  abbrev pub items : BookOf R P → List Entry → List (Item R P)
   items first calls = Opening first ∷ as_items calls

@@ -16,7 +16,7 @@ use Rattle.sessions.specs.declared.reply.Reply.TheVariants.{No}
 use Rattle.sessions.specs.World.{World}
 use Rattle.sessions.specs.Looks.{looked_in, shown_in}
 use Rattle.sessions.specs.Saves.{IsSaved}
-use Rattle.sessions.specs.Books.{Held, opening_of}
+use Rattle.sessions.specs.Books.{BookOf, opening_of}
 use Rattle.sessions.specs.Logs.{IsLegal, entry, logged, world_after}
 use Rattle.desk.specs.declared.item.Item.{Item}
 use Rattle.desk.specs.declared.receipt.Receipt.{Receipt}
@@ -67,7 +67,7 @@ module _ {R P : Type 0} (is : R → Behaviour P) where
   -- reply is logged. The new history is legal, and the receipt has its length. The reply is LogFull
   -- only if the history found is as long as the limit, and Memory only if that history is shorter.
   pub record IsAct (who : ℕ) (guard : Option ℕ) (command : Command) (before after : List (Item R P)) (receipt : Receipt) : Type 0 where
-    pub first : Held R P
+    pub first : BookOf R P
     pub found : List Entry
     pub chair : ℕ
     pub finds : before ≡ items first found
@@ -80,7 +80,7 @@ module _ {R P : Type 0} (is : R → Behaviour P) where
   -- Work that only reads finds a legal history, and leaves it unchanged. `says`, which is about
   -- the answer, holds of the history's length and the world after the history.
   pub record IsReading (says : ℕ → World P → Type 0) (before after : List (Item R P)) : Type 0 where
-    pub first : Held R P
+    pub first : BookOf R P
     pub found : List Entry
     pub finds : before ≡ items first found
     pub leaves : after ≡ before

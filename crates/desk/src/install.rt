@@ -40,7 +40,8 @@ impl<R: Register> Work<Journal<R>> for Install<R> {
     }
 }
 
-/// Stores a run in a book, as `Book::install` does. World and log are unchanged.
+/// Stores a run in a book, as `Book::install` does. World and log are unchanged. This contract says
+/// which run is stored; the work's relation doesn't.
 fn offer<R: Register>(book: &mut Book<R>, key: SegKey, run: Arc<Run<R>>) -> Installation
     ensures installs { let old = book.old.now.chart in
         Installs R.PartialEq.eq (R.behaviour old.start.register) old book.new.now.chart key

@@ -35,7 +35,8 @@ impl<R: Register> Work<Journal<R>> for Plan<'_> {
 }
 
 /// For each branch of a book, a job for its first segment that no stored run fits. The job of the
-/// branch called `branch`, if it has one, comes first. No segment has two jobs.
+/// branch called `branch`, if it has one, comes first. No segment has two jobs. This contract says
+/// which jobs are listed; the work's relation doesn't.
 fn jobs_left<R: Register>(
     alloc: Global,
     book: &Book<R>,
