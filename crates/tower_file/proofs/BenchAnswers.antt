@@ -23,7 +23,7 @@ use Rattle.words.proofs.Steps.{first_word}
 use Rattle.frames.specs.declared.types.Step.{Step}
 use Rattle.tower_file.proofs.StepLoop.{memory_only}
 use Rattle.tower_file.proofs.BenchLimbs.{limbs_text}
-use Rattle.tower_file.proofs.BenchSound.{line_goes_on, limbs_are, begun, bench_is}
+use Rattle.tower_file.proofs.BenchSound.{line_adds, limbs_are, begun, bench_is}
 use Rattle.tower_file.proofs.Formats.{IsFormat}
 use Rattle.tower_file.proofs.BenchReadBack.{bench_reading_again}
 
@@ -83,19 +83,19 @@ module _ {t : TowerSpec} {all : List (List ℕ)} {n : ℕ} {limbs : List Limb} {
       let said : List ℕ = next ls in
       let rest : List ℕ = join_with_byte 10 (after_next ls) in
       let regroup : (limbs_text limbs ++ text_with_end said) ++ rest ≡ limbs_text limbs ++ (said ++ 10 ∷ rest) = simp append_assoc in
-      ap (λ x. x ++ rest) (line_goes_on t n limbs said more e).spelled ∙ regroup ∙ ap (λ x. limbs_text limbs ++ x) (sym (joined ls whole)) ∙ so_far.spelled
+      ap (λ x. x ++ rest) (line_adds t n limbs said more e).spelled ∙ regroup ∙ ap (λ x. limbs_text limbs ++ x) (sym (joined ls whole)) ∙ so_far.spelled
 
   pub goes_on : (more : List Limb) (left : List (List ℕ)) → then_line t n limbs (next ls) ≡ Ok more → left ≡ after_next ls → IsSoFar t all (n + 1) more left
   goes_on more left e same = record {
     read = ap (limbs_of t (n + 1) more) same ∙ sym (by_said (Ok more) e);
     spelled = ap (λ xs. limbs_text more ++ join_with_byte 10 xs) same ∙ text_goes_on more e;
-    lawful = (line_goes_on t n limbs (next ls) more e).lawful so_far.lawful;
+    lawful = (line_adds t n limbs (next ls) more e).lawful so_far.lawful;
   }
 
   -- the limbs read up to this line are spelled by a prefix of the lines
   front_read : (more : List Limb) → then_line t n limbs (next ls) ≡ Ok more → SpellsLimbs t all
   front_read more e =
-      let g = line_goes_on t n limbs (next ls) more e in
+      let g = line_adds t n limbs (next ls) more e in
       record {
         limbs = more;
         rest = join_with_byte 10 (after_next ls);

@@ -63,7 +63,7 @@ put_limb_text ls l none =
     flat_map-append limb_text ls (l ∷ [])
     ∙ ap (λ x. limbs_text ls ++ x) (append-nil (limb_text l) ∙ ap (λ ss. text_with_end (branch_text l) ++ flat_map step_line ss) none ∙ append-nil (text_with_end (branch_text l)))
 
--- ---- they stay lawful
+-- ---- limbs stay lawful
 
 after_step : (e ls : List Limb) (s : Step) → are_lawful_after e (put_step ls s) ≡ are_lawful_after e ls
 after_step e [] s = refl

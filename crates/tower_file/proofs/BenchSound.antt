@@ -59,14 +59,14 @@ branch_line (w ∷ []) l first h = absurd (omega (arith, h.some))
 branch_line (w ∷ v ∷ vs) l first h = ap (λ x. x ++ 32 ∷ join_with_byte 32 (v ∷ vs)) first ∙ ap (λ x. codes "branch" ++ 32 ∷ x) h.spelled
 
 -- a line adds a branch or a step to these limbs, which gives `more`
-pub record GoOn (t : TowerSpec) (limbs : List Limb) (said : List ℕ) (more : List Limb) : Type 0 where
+pub record AddsLine (t : TowerSpec) (limbs : List Limb) (said : List ℕ) (more : List Limb) : Type 0 where
   pub spelled : limbs_text more ≡ limbs_text limbs ++ text_with_end said
   pub some : has_limbs more ≡ true
   pub lawful : are_lawful t limbs ≡ true → are_lawful t more ≡ true
 
-branch_goes_on : (t : TowerSpec) (n : ℕ) (limbs : List Limb) (said : List ℕ) (more : List Limb) → is_branch said ≡ true
-    → then_branch n limbs (after_next (words said)) ≡ Ok more → GoOn t limbs said more
-branch_goes_on t n limbs said more first h =
+branch_adds : (t : TowerSpec) (n : ℕ) (limbs : List Limb) (said : List ℕ) (more : List Limb) → is_branch said ≡ true
+    → then_branch n limbs (after_next (words said)) ≡ Ok more → AddsLine t limbs said more
+branch_adds t n limbs said more first h =
     let ws = words said in
     let a = bind_ok (ok_or (branch_of (after_next ws)) (fault BadBranch n)) (put_limb n limbs) more h in
     let l = a.0 in
@@ -74,7 +74,7 @@ branch_goes_on t n limbs said more first h =
     let b = unless_ok (not (is_new_name limbs l.name)) (cond (may_share limbs l) (Ok (limbs ++ l ∷ [])) (Err (fault Tangled n))) (fault BadBranch n) more a.2 in
     let c = when_ok (may_share limbs l) (Ok (limbs ++ l ∷ [])) (fault Tangled n) more b.1 in
     let spelled : said ≡ branch_text l = sym (join_with_byte-slice_split 32 said) ∙ branch_line ws l (is_word (next ws) (codes "branch") first) is in
-    subst (GoOn t limbs said) (ok_is (limbs ++ l ∷ []) more c.1)
+    subst (AddsLine t limbs said) (ok_is (limbs ++ l ∷ []) more c.1)
     (record {
       spelled = put_limb_text limbs l is.none ∙ ap (λ x. limbs_text limbs ++ text_with_end x) (sym spelled);
       some = some_last limbs l;
@@ -85,25 +85,25 @@ branch_goes_on t n limbs said more first h =
     is_true true e = refl
     is_true false e = absurd (true≢false e)
 
-step_goes_on : (t : TowerSpec) (n : ℕ) (limbs : List Limb) (said : List ℕ) (more : List Limb) → then_step t n limbs said ≡ Ok more → GoOn t limbs said more
-step_goes_on t n limbs said more h =
+step_adds : (t : TowerSpec) (n : ℕ) (limbs : List Limb) (said : List ℕ) (more : List Limb) → then_step t n limbs said ≡ Ok more → AddsLine t limbs said more
+step_adds t n limbs said more h =
     let a = when_ok (has_limbs limbs) (ok_or (fitting_step Two t said) (fault BadStep n) >>= λ s. Ok (put_step limbs s)) (fault BadBranch n) more h in
     let b = bind_ok (ok_or (fitting_step Two t said) (fault BadStep n)) (λ s. Ok (put_step limbs s)) more a.1 in
     let s = b.0 in
     let is = fitting_is Two t said s (ok_or_ok (fitting_step Two t said) (fault BadStep n) s b.1) in
-    subst (GoOn t limbs said) (ok_is (put_step limbs s) more b.2)
+    subst (AddsLine t limbs said) (ok_is (put_step limbs s) more b.2)
     (record {
       spelled = put_step_text limbs s a.0 ∙ ap (λ x. limbs_text limbs ++ text_with_end x) (sym is.0);
       some = some_step limbs s a.0;
       lawful = lawful_step t limbs s is.1;
     })
 
-pub line_goes_on : (t : TowerSpec) (n : ℕ) (limbs : List Limb) (said : List ℕ) (more : List Limb) → then_line t n limbs said ≡ Ok more → GoOn t limbs said more
-line_goes_on t n limbs said more h = by (is_branch said) refl h
+pub line_adds : (t : TowerSpec) (n : ℕ) (limbs : List Limb) (said : List ℕ) (more : List Limb) → then_line t n limbs said ≡ Ok more → AddsLine t limbs said more
+line_adds t n limbs said more h = by (is_branch said) refl h
   where
-    by : (b : Bool) → is_branch said ≡ b → cond b (then_branch n limbs (after_next (words said))) (then_step t n limbs said) ≡ Ok more → GoOn t limbs said more
-    by true first g = branch_goes_on t n limbs said more first g
-    by false first g = step_goes_on t n limbs said more g
+    by : (b : Bool) → is_branch said ≡ b → cond b (then_branch n limbs (after_next (words said))) (then_step t n limbs said) ≡ Ok more → AddsLine t limbs said more
+    by true first g = branch_adds t n limbs said more first g
+    by false first g = step_adds t n limbs said more g
 
 -- ---- all lines
 
@@ -131,7 +131,7 @@ limbs_are t n limbs [] all h = ended_is t n limbs [] all h
 limbs_are t n limbs (l ∷ []) all h = ended_is t n limbs l all h
 limbs_are t n limbs (l ∷ k ∷ ls) all h =
     let a = bind_ok (then_line t n limbs l) (λ more. limbs_of t (n + 1) more (k ∷ ls)) all h in
-    let first = line_goes_on t n limbs l a.0 a.1 in
+    let first = line_adds t n limbs l a.0 a.1 in
     let others = limbs_are t (n + 1) a.0 (k ∷ ls) all a.2 in
     let rest : List ℕ = join_with_byte 10 (k ∷ ls) in
     let regroup : limbs_text limbs ++ (l ++ 10 ∷ rest) ≡ (limbs_text limbs ++ text_with_end l) ++ rest = simp append_assoc in

@@ -45,22 +45,22 @@ few (Unary values readers init) h = record { values = grind (arith, nat_tests); 
 few (Stamped values last) h = record { values = grind (arith, nat_tests); processes = omega arith }
 few (Matrix processes values last_tag last_stamp) h = record { values = grind (arith, nat_tests); processes = grind (arith, nat_tests) }
 
-some_process : (t : TowerSpec) (who : ℕ) (o : Op) → suits t who o ≡ true → who < processes_of t
-some_process (Safe init) who o h = nobody_else 2 2 who o h
-some_process (Copies readers init) who o h = nobody_else 2 (readers + 1) who o h
-some_process (Regular readers init) who o h = nobody_else 2 (readers + 1) who o h
-some_process (Unary values readers init) who o h = nobody_else values (readers + 1) who o h
-some_process (Stamped values last) who o h = nobody_else values 2 who o h
-some_process (Matrix processes values last_tag last_stamp) who (op.Write v) h = grind (arith, nat_tests)
-some_process (Matrix processes values last_tag last_stamp) who op.Read h = grind (arith, nat_tests)
+process_below : (t : TowerSpec) (who : ℕ) (o : Op) → suits t who o ≡ true → who < processes_of t
+process_below (Safe init) who o h = nobody_else 2 2 who o h
+process_below (Copies readers init) who o h = nobody_else 2 (readers + 1) who o h
+process_below (Regular readers init) who o h = nobody_else 2 (readers + 1) who o h
+process_below (Unary values readers init) who o h = nobody_else values (readers + 1) who o h
+process_below (Stamped values last) who o h = nobody_else values 2 who o h
+process_below (Matrix processes values last_tag last_stamp) who (op.Write v) h = grind (arith, nat_tests)
+process_below (Matrix processes values last_tag last_stamp) who op.Read h = grind (arith, nat_tests)
 
-some_value : (t : TowerSpec) (who v : ℕ) → suits t who (op.Write v) ≡ true → v < values_of t
-some_value (Safe init) who v h = no_other_value 2 2 who v h
-some_value (Copies readers init) who v h = no_other_value 2 (readers + 1) who v h
-some_value (Regular readers init) who v h = no_other_value 2 (readers + 1) who v h
-some_value (Unary values readers init) who v h = no_other_value values (readers + 1) who v h
-some_value (Stamped values last) who v h = no_other_value values 2 who v h
-some_value (Matrix processes values last_tag last_stamp) who v h = grind (arith, nat_tests)
+value_below : (t : TowerSpec) (who v : ℕ) → suits t who (op.Write v) ≡ true → v < values_of t
+value_below (Safe init) who v h = no_other_value 2 2 who v h
+value_below (Copies readers init) who v h = no_other_value 2 (readers + 1) who v h
+value_below (Regular readers init) who v h = no_other_value 2 (readers + 1) who v h
+value_below (Unary values readers init) who v h = no_other_value values (readers + 1) who v h
+value_below (Stamped values last) who v h = no_other_value values 2 who v h
+value_below (Matrix processes values last_tag last_stamp) who v h = grind (arith, nat_tests)
 
 -- ---- the tower's line
 
@@ -130,8 +130,8 @@ tower_again (Matrix processes values last_tag last_stamp) h =
 
 -- the numbers of a fitting step are short
 pub step_short : (t : TowerSpec) (s : Step) → IsFew t → fits t s ≡ true → HasShortNumbers s
-step_short t (step.Write p v) small h = (omega (arith, small.processes, some_process t p (op.Write v) h), omega (arith, small.values, some_value t p v h))
-step_short t (step.Read p) small h = omega (arith, small.processes, some_process t p op.Read h)
+step_short t (step.Write p v) small h = (omega (arith, small.processes, process_below t p (op.Write v) h), omega (arith, small.values, value_below t p v h))
+step_short t (step.Read p) small h = omega (arith, small.processes, process_below t p op.Read h)
 step_short t (step.Go p c) small h =
     let g = and_parts (nat_lt p (processes_of t)) (nat_lt c 2) h in
     (omega (arith, small.processes, ltb-true p (processes_of t) g.0), omega (arith, ltb-true c 2 g.1))
