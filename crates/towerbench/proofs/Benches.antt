@@ -36,14 +36,14 @@ module _ {P : Type 0} (t : TowerSpec) (b : Behaviour P) (alike : (s : Step) → 
   module _ (limits : Limits) (few_branches : limits.branches ≤ 1024) (few_cells : limits.cells ≤ MOST_CELLS_MADE) where
     has : (l : Limb) → l.from < limits.branches → l.shared ≤ limits.cells → AllFit b l.steps → has_fit t l ≡ true
     has l from shared fit =
-        let near : nat_lt l.from (10 ^ 9) ≡ true = is_below l.from (10 ^ 9) (omega arith) in
+        let low : nat_lt l.from (10 ^ 9) ≡ true = is_below l.from (10 ^ 9) (omega arith) in
         let few : nat_lt l.shared (10 ^ 9) ≡ true = is_below l.shared (10 ^ 9) (omega arith) in
         let steps : list_all (fits t) l.steps ≡ true = list_all-from_AllPass (fits t) l.steps (λ k d within. alike _ ∙ fit k d within) in
-        ap₂ (λ x y. x && y) (ap₂ (λ x y. x && y) near few) steps
+        ap₂ (λ x y. x && y) (ap₂ (λ x y. x && y) low few) steps
 
     pub have_fit : (ls : List Limb) → All (λ (l : Limb). AllFit b l.steps) ls → FitLimits limits ls → list_all (has_fit t) ls ≡ true
-    have_fit ls fit near =
-        list_all-from_AllPass (has_fit t) ls (λ k d within. has (slice_index_or ls k d) (near k d within).0 (near k d within).1 (fit k d within))
+    have_fit ls fit limited =
+        list_all-from_AllPass (has_fit t) ls (λ k d within. has (slice_index_or ls k d) (limited k d within).0 (limited k d within).1 (fit k d within))
 
 is_one : (ls : List Limb) → 0 < length ls → has_limbs ls ≡ true
 is_one [] some = absurd (omega (arith, some))

@@ -10,7 +10,7 @@ use Rattle.sessions.specs.declared.command.Command.{Command}
 use Rattle.sessions.specs.declared.log.Entry.{Entry}
 use Rattle.sessions.specs.World.{World}
 use Rattle.sessions.specs.Acts.{CommandResult, command_result, is_full}
-use Rattle.sessions.specs.Books.{Held, opening_of}
+use Rattle.sessions.specs.Books.{BookOf, opening_of}
 use Rattle.sessions.specs.Looks.{looked_in, shown_in}
 use Rattle.sessions.specs.Saves.{IsSaved}
 use Rattle.sessions.specs.Logs.{entry, logged, world_after}
@@ -41,7 +41,7 @@ module _ {P : Type 0} (w : World P) (query : Query) where
   refused (Ok page) a = tt
   refused (Err r) a = a
 
-module _ {R P : Type 0} (is : R → Behaviour P) (first : Held R P) (v w : View (Item R P)) where
+module _ {R P : Type 0} (is : R → Behaviour P) (first : BookOf R P) (v w : View (Item R P)) where
   -- a command by a chair that has every share acts on the world after the history that the chair
   -- had seen, and leaves the world after the history that the chair has then seen
   pub received_answers : (who : ℕ) (guard : Option ℕ) (command : Command) (receipt : Receipt) → Received is first who guard command v w receipt → HasAll v.shares

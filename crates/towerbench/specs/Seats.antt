@@ -9,14 +9,14 @@ use Rattle.desk.specs.Histories.{seen}
 use Rattle.conversation.specs.Scripts.{Answered}
 use Rattle.frames.specs.Behaviour.{Behaviour}
 use Rattle.sessions.specs.declared.log.Entry.{Entry}
-use Rattle.sessions.specs.Books.{Held, opening_of}
+use Rattle.sessions.specs.Books.{BookOf, opening_of}
 use Rattle.sessions.specs.Logs.{world_after}
 use Rattle.sessions.specs.World.{World}
 
 -- what contracts see of a seat: the book (branches, sessions and log) that its desk was opened
 -- with, the history of logged calls that its chair has seen, and the chair's shares
 pub record Seated (R P : Type 0) : Type 0 where
-  pub first : Held R P
+  pub first : BookOf R P
   pub seen : List Entry
   pub shares : List Bool
 

@@ -10,5 +10,5 @@ of_lawful-left-requires g c =
     let limbs = c.in_ok-limbs-in-Branches.limbs.items in
     record {
       lawful = lawful_bench c.args.tower limbs ground.lawful saved.some saved.lawful
-          (have_fit c.args.tower w.tower ground.alike w.limits ground.branches ground.cells limbs saved.fit saved.near);
+          (have_fit c.args.tower w.tower ground.alike w.limits ground.branches ground.cells limbs saved.fit saved.within);
     }
