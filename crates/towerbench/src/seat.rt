@@ -205,15 +205,10 @@ fn paged<R: Register>(
     ensures { IsPaged (answer_by slip) result }
 {
     let slip = slip?;
-    let Ok(mut own) = lens_of(alloc, lens.take()) else {
-        return Err(Refusal::Memory);
-    };
+    let mut own = lens_of(alloc, lens.take())?;
     let page = slip.into_page(alloc, &mut own);
     *lens = Some(own);
-    match page {
-        Ok(page) => Ok(page),
-        Err(AllocError) => Err(Refusal::Memory),
-    }
+    Ok(page?)
 }
 
 /// Returns `lens`, or a new lens if it is `None`.
