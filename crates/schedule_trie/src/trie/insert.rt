@@ -4,6 +4,7 @@ ghost use Rattle.std.specs.Prelude.{◌≡◌, ◌<◌, ◌≤◌, ◌++◌, len
 ghost use Rattle.std.specs.List.{insert as inserted_at};
 ghost use Rattle.schedule_trie.specs.Edits.{Insert, IsEdited, IsUnedited};
 ghost use Rattle.branch_terms.specs.Forest.{slots_in};
+ghost use Rattle.schedule_trie.specs.declared.segment.TheConstants.{MOST_SLOTS};
 ghost use Rattle.schedule_trie.specs.Trie.{forest, segment_at, slots_of, IsPutBefore, IsInserted};
 
 use super::Trie;
@@ -103,7 +104,7 @@ impl<T: Drop> Trie<T> {
     /// Inserts a new cell before the cell at an offset of a segment that isn't full.
     fn put_in(&mut self, key: SegKey, offset: usize, step: Step) -> Result<(), AllocError>
         requires offset { offset < length (slots_of (segment_at self.old.segments key)) }
-        requires few { length (slots_of (segment_at self.old.segments key)) < 128 }
+        requires few { length (slots_of (segment_at self.old.segments key)) < MOST_SLOTS }
         requires room { self.old.made < self.old.limits.cells }
         ensures ok { OnOk result (IsPutBefore self.old self.new key offset step) }
         ensures err { OnErr result (self.new ≡ self.old) }
