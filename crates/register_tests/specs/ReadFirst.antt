@@ -11,6 +11,10 @@ use Rattle.layers.specs.declared.nested.Ask.{Ask}
 use Rattle.layers.specs.Nested.{Program, Ends, Asks, Reads, Sets, Table}
 use Rattle.layers.specs.OneWriter.{one_writer}
 
+-- the name of the layer, `1st`
+abbrev pub read_first_name : LayerName
+read_first_name = record { 0 = 49; 1 = 115; 2 = 116 }
+
 -- the task of an operation is the operation itself; word 0 is 1 once the register has been read
 abbrev pub read_first_program : ℕ → Op → Program Op
 read_first_program who (op.Write v) = Reads 0 (λ read. if read == 0 then Ends (Spent Stamped) else Asks (op.Write v) Ends)
@@ -19,10 +23,6 @@ read_first_program who op.Read = Sets 0 1 (Asks op.Read Ends)
 abbrev pub read_first_asks : Op → Ask
 read_first_asks (op.Write v) = record { part = 0; who = 0; op = op.Write v }
 read_first_asks op.Read = record { part = 0; who = 1; op = op.Read }
-
--- the name of the layer, `1st`
-abbrev pub read_first_name : LayerName
-read_first_name = record { 0 = 49; 1 = 115; 2 = 116 }
 
 abbrev pub read_first_table : Table Op
 read_first_table = record {
