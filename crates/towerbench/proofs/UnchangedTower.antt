@@ -6,7 +6,7 @@ use Rattle.schedule_trie.specs.declared.refusal.Refusal.{Refusal}
 use Rattle.schedule_trie.specs.declared.refusal.Refusal.TheVariants as refusal
 use Rattle.sessions.specs.declared.command.Command.{Command}
 use Rattle.sessions.specs.World.{World}
-use Rattle.sessions.specs.Acts.{CommandResult, answered, command_result, first_refusal, is_full, left_by, refusals, refused}
+use Rattle.sessions.specs.Acts.{CommandResult, accepted_world_by, answered, command_result, first_refusal, is_full, refusals, refused}
 use Rattle.sessions.specs.Edits.{edit_of}
 use Rattle.script.specs.declared.call.Request.{Request}
 use Rattle.script.specs.declared.call.Request.TheVariants.{Act, Look, Fill}
@@ -28,7 +28,7 @@ module _ {P : Type 0} where
   then : (u v w : World P) → IsOn u v → IsOn v w → IsOn u w
   then u v w a b = record { tower = b.tower ∙ a.tower; limits = b.limits ∙ a.limits }
 
-  by_edit : (o : Option Edit) (who : ℕ) (c : Command) (w : World P) → IsOn w (left_by o who c w)
+  by_edit : (o : Option Edit) (who : ℕ) (c : Command) (w : World P) → IsOn w (accepted_world_by o who c w)
   by_edit (Some edit) who c w = record { tower = refl; limits = refl }
   by_edit None who c w = record { tower = refl; limits = refl }
 
