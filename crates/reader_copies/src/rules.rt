@@ -89,7 +89,7 @@ impl Construction for CopiesRules {
         0
     }
 
-    #[tactic(auto, using(crate::specs::Sound::settled_more))]
+    #[tactic(auto, using(crate::specs::laws::Sound::settled_more))]
     fn start(&self, _store: &mut Store, _base: u32, who: u32, op: Op) -> Continuation<CopiesTask> {
         Continuation::Asks(match op {
             Op::Write(v) => CopiesTask::Writing { v, reader: 1 },
@@ -97,7 +97,7 @@ impl Construction for CopiesRules {
         })
     }
 
-    #[tactic(auto, using(crate::specs::Sound::settled_more, crate::specs::Sound::settled_none))]
+    #[tactic(auto, using(crate::specs::laws::Sound::settled_more, crate::specs::laws::Sound::settled_none))]
     fn after(
         &self,
         _store: &mut Store,
