@@ -11,7 +11,7 @@ use Rattle.lineage.proofs.KeyLists.{has-append, has-head, has-tail, has_cases, h
 use Rattle.lineage.proofs.Walks.{path_to_is}
 use Rattle.lineage.proofs.Pushes.{pushed_sound, pushed_last}
 
--- functions that agree on each key of a list give the same values for it
+-- functions that agree on each key of a list map the list to the same values
 pub map_on : {Y : Type 0} (f g : ℕ → Y) (keys : List ℕ) → ((k : ℕ) → has k keys ≡ true → f k ≡ g k) → map f keys ≡ map g keys
 map_on f g [] h = refl
 map_on f g (k ∷ keys) h =
@@ -56,7 +56,7 @@ module _ {X : Type 0} (s : List (Option (Node X))) (tips : List (Option ℕ)) wh
     };
   }
 
-  -- one more item
+  -- one more item is added
   module _ (t u : List (Option (Node X))) (now new : List (Option ℕ)) (items rest : List X) (key : ℕ) (item : X) (so_far : IsPutSoFar s t tips now items (item ∷ rest))
       (vacant : node_at t key ≡ None) (here : node_at u key ≡ Some (node item (tip_at now (length tips)) 1)) (others : (k : ℕ) → k ≢ key → node_at u k ≡ node_at t k)
       (new_is : new ≡ set now (length tips) (Some key)) (len : count_by is_some u ≡ count_by is_some t + 1) (room : length now + count_by is_some t + 1 < 2 ^ 64) where
@@ -75,7 +75,7 @@ module _ {X : Type 0} (s : List (Option (Node X))) (tips : List (Option ℕ)) wh
     path_now : path_to u (Some key) ≡ path_to t put.tip ++ key ∷ []
     path_now = pushed_last t u now new (length tips) key item put.sound within vacant here others new_is ∙ ap (λ o. path_to t o ++ key ∷ []) tip_here
 
-    -- the items added before stay
+    -- the keys of the items added before differ from the new key
     other : (k : ℕ) → has k (path_to t put.tip) ≡ true → k ≢ key
     other k m same = let n = put.there k m in let none : node_at t k ≡ None = ap (node_at t) same ∙ vacant in let some = n.1 in cc
 

@@ -21,7 +21,7 @@ module _ (p : ℕ → Option (Option ℕ)) (key : ℕ) (rest : List ℕ) (whole 
       let back = goes_on at w.front w.back (subst (IsClimb p at) w.is h) in
       subst (λ u. has k u ≡ true) (sym w.is) (has-right k w.front (j ∷ w.back) (has-tail k j w.back (subst (λ b. has k b ≡ true) (sym back) on)))
 
-  -- j isn't above the key
+  -- j is neither the key nor above it
   pub not_above : has j (key ∷ rest) ≡ true → ⊥
   not_above m =
       let w = on_path j (key ∷ rest) m in

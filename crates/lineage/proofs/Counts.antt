@@ -3,6 +3,7 @@ use Rattle.std.proofs.Common.{◌≡◌, ◌≢◌, ℕ, ◌+◌, ◌<◌, ◌�
 use Rattle.std.specs.List.{count_by}
 use Rattle.std.proofs.lemmas.List.Sums.{sum_by-cons, count_by-le-length, sum_by-le-sum_by}
 
+-- 1 if true, 0 if false
 abbrev pub one : Bool → ℕ
 one b = cond b 1 0
 
@@ -11,7 +12,7 @@ module _ {A : Type 0} (p : Option A → Bool) where
   count-cons x xs = sum_by-cons (λ y. cond (p y) 1 0) x xs
 
   module _ (none : p None ≡ false) where
-    -- the first of a list, and the rest
+    -- the count is that of the first item plus that of the others
     uncons : (xs : List (Option A)) → count_by p xs ≡ one (p (get_or xs zero None)) + count_by p (drop 1 xs)
     uncons [] = let nothing : one (p None) ≡ 0 = ap one none in let e : 0 ≡ one (p None) + 0 = omega (arith, nothing) in e
     uncons (x ∷ xs) = count-cons x xs

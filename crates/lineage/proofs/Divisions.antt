@@ -114,7 +114,7 @@ module _ {X : Type 0} (s t : List (Option (Node X))) (tips : List (Option ℕ)) 
   on_new : IsOn s tips key → IsOn t tips fresh
   on_new o = record { path = o.path; up = flat_map (cut_key key fresh) o.up; is = climbs (tip_at tips o.path) o.up o.is; on = has_fresh key fresh o.up o.on }
 
-  -- the former state of each node
+  -- each node but the new one was there before, with as many holders
   was : (k : ℕ) (m : Node X) → k ≢ fresh → node_at t k ≡ Some m → (k ≡ key) ⊎ (k ≢ key) → (o : Node X) × ((node_at s k ≡ Some o) × (m.holders ≡ o.holders))
   was k m nf e (inl same) =
       let is : Some m ≡ Some (node n.item (Some fresh) n.holders) = sym e ∙ ap (node_at t) same ∙ below_is in

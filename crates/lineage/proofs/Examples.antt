@@ -50,7 +50,7 @@ IsForked-fails h =
     let path : 0 ∷ [] ≡ h.path = ap (λ paths. slice_index_or paths 1 []) h.paths in
     let last : 0 ≡ 1 = ap (λ o. unwrap_or o 0) (ap last_of path ∙ h.last) in omega (arith, last)
 
--- key 1 is right above key 0 in the one path, and the new path ends with it
+-- key 1 is right above key 0 in the one path, and the new path ends with key 1
 IsForkedAbove-holds : IsForkedAbove one_key (family (Some 7 ∷ Some 8 ∷ []) ((1 ∷ 0 ∷ []) ∷ (1 ∷ []) ∷ [])) 0 1 8
 IsForkedAbove-holds =
     record { path = 1 ∷ []; paths = refl; shared = shared; added = record { was_vacant = refl; here = refl; others = others } }
@@ -70,7 +70,7 @@ IsForkedAbove-fails h =
     let path : 0 ∷ [] ≡ h.path = ap (λ paths. slice_index_or paths 1 []) h.paths in
     let same : 0 ≡ 1 = ap (λ keys. slice_index_or keys 0 0) (path ∙ h.shared 0 [] [] refl) in omega (arith, same)
 
--- the path of key 0 has item 9 instead, at the new key 1, and key 0 is vacant
+-- the path has item 9 at the new key 1 instead of item 7 at key 0, which is now vacant
 IsExchanged-holds : IsExchanged one_key (family (None ∷ Some 9 ∷ []) ((1 ∷ []) ∷ [])) 0 (9 ∷ [])
 IsExchanged-holds = record { keys = 1 ∷ []; paths = refl; items_are = refl; fresh = fresh; kept = kept; gone = gone }
   where
@@ -104,7 +104,7 @@ EndsAlone-holds = record { key = 1; last = refl; own = own }
     own (suc zero) other = refl
     own (suc (suc j)) other = refl
 
--- the other ends with a key that the first has too
+-- of these paths, the second ends with a key that the first has too
 EndsAlone-fails : EndsAlone forked 1 → ⊥
 EndsAlone-fails h =
     let key : 0 ≡ h.key = ap (λ o. unwrap_or o 0) h.last in

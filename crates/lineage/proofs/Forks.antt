@@ -27,7 +27,7 @@ module _ {X : Type 0} where
   held_item false None = refl
   held_item false (Some n) = refl
 
-  -- the node as it was
+  -- a node to which `with_holder` gives one holder or none was there before
   held_from : (b : Bool) (o : Option (Node X)) (n : Node X) → with_holder b o ≡ Some n → (m : Node X) × ((o ≡ Some m) × (n.holders ≡ m.holders + one b))
   held_from true None n e = absurd (cc)
   held_from false None n e = absurd (cc)
@@ -130,7 +130,7 @@ module _ {X : Type 0} where
       items = same_items s t long same_item;
     }
 
-  -- no key has more holders than a word can count
+  -- a word can count one more holder of each node
   pub few_holders : (s : List (Option (Node X))) (tips : List (Option ℕ)) (k : ℕ) (n : Node X) → IsSoundFamily s tips → node_at s k ≡ Some n
       → length tips + count_by is_some s + 1 < 2 ^ 64 → n.holders + 1 < 2 ^ 64
   few_holders s tips k n sound e room =

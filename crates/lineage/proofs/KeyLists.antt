@@ -81,7 +81,7 @@ has_from_any x (y ∷ ys) h = by (eqb x y) refl (has_from_any x ys)
     by true e rest = ap (λ c. c || has x ys) e
     by false e rest = ap (λ c. c || has x ys) e ∙ rest (sym (ap (λ c. c || list_any (eqb x) ys) e) ∙ h)
 
--- the last key of a list is the one that was added last
+-- the last key of a list is the one added at its end
 pub last_from-push : (first : Option ℕ) (ks : List ℕ) (k : ℕ) → last_from first (ks ++ k ∷ []) ≡ Some k
 last_from-push first [] k = refl
 last_from-push first (j ∷ ks) k = last_from-push (Some j) ks k

@@ -15,7 +15,7 @@ use Rattle.lineage.proofs.Counts.{one, count_none, count_no}
 use Rattle.lineage.proofs.KeptLinks.{is_above_true, is_key_true, node_from, node_climb}
 use Rattle.lineage.proofs.ClimbsThrough.{climb_on, not_above}
 
--- a tip that is a key has a node
+-- a key that is the tip of a path has a node
 pub tip_node : {X : Type 0} (s : List (Option (Node X))) (tips : List (Option ℕ)) (path key : ℕ) → IsSoundFamily s tips → tip_at tips path ≡ Some key → (n : Node X) × (node_at s key ≡ Some n)
 tip_node {X} s tips path key sound tip = by (node_at s key) refl
   where

@@ -32,7 +32,7 @@ added s t tips new key n vacant here others = record {
 module _ {X : Type 0} (s t : List (Option (Node X))) (tips new : List (Option ℕ)) (path key : ℕ) (item : X) (sound : IsSoundFamily s tips) (within : path < length tips)
     (vacant : node_at s key ≡ None) (here : node_at t key ≡ Some (node item (tip_at tips path) 1)) (others : (k : ℕ) → k ≢ key → node_at t k ≡ node_at s k)
     (now : new ≡ set tips path (Some key)) where
-  -- the links that existed are unchanged
+  -- the new key had no link before, so each link that existed is unchanged
   not_new : (k : ℕ) (next : Option ℕ) → above_node s k ≡ Some next → k ≢ key
   not_new k next e same = let no : above_node s k ≡ None = ap (above_node s) same ∙ ap above_in vacant in cc
 

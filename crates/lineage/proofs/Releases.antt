@@ -58,7 +58,7 @@ released_last {X} first s tips at r none = record {
     by k (inl o) = o
     by k (inr m) = absurd (empty k r.going.up r.going.is m)
 
--- a climb that begins with a key
+-- a climb from a key is this key, and then the climb from the link of the key
 begins : (p : ℕ → Option (Option ℕ)) (key : ℕ) (up : List ℕ) → IsClimb p (Some key) up
     → (rest : List ℕ) × ((up ≡ key ∷ rest) × ((next : Option ℕ) × ((p key ≡ Some next) × IsClimb p next rest)))
 begins p key [] h = absurd (cc)
@@ -89,7 +89,7 @@ module _ {X : Type 0} (first s t : List (Option (Node X))) (tips : List (Option 
   whole : IsClimb (above_node s) (Some key) (key ∷ rest)
   whole = (refl, (n.above, (link, rest_of.1.1)))
 
-  -- if it was the key's last holder
+  -- the case in which the key has no other holder
   module _ (last : n.holders ≤ 1) where
     gone : node_at t key ≡ None
     gone =
@@ -151,7 +151,7 @@ module _ {X : Type 0} (first s t : List (Option (Node X))) (tips : List (Option 
         let b = ap length (keys_up_is s (Some key) (key ∷ rest) whole) in
         omega (arith, a, b)
 
-  -- if the key has more holders
+  -- the case in which the key has more holders
   module _ (more : 1 < n.holders) where
     less : node_at t key ≡ Some (node n.item n.above (n.holders - 1))
     less =
@@ -165,7 +165,7 @@ module _ {X : Type 0} (first s t : List (Option (Node X))) (tips : List (Option 
     keeps : (k : ℕ) (next : Option ℕ) → above_node s k ≡ Some next → above_node t k ≡ Some next
     keeps k next e = same_above k (cases_eq k key) ∙ e
 
-    -- the former state of each node
+    -- each node was there before, with the same item and link; the key's node had one holder more
     was_more : (k : ℕ) (m : Node X) → node_at t k ≡ Some m → (k ≡ key) ⊎ (k ≢ key)
         → (o : Node X) × ((node_at s k ≡ Some o) × ((m.holders + one (nat_eq k key) ≡ o.holders) × ((m.item ≡ o.item) × (m.above ≡ o.above))))
     was_more k m e (inl same) =
@@ -178,7 +178,7 @@ module _ {X : Type 0} (first s t : List (Option (Node X))) (tips : List (Option 
         let no : one (nat_eq k key) ≡ 0 = ap one (ne_eqb k key ne) in
         (m, (sym (others k ne) ∙ e, (omega (arith, no), (refl, refl))))
 
-    -- so all of the climb is on a path that is left
+    -- each key of the climb from `key` is on a path that is left
     on_left : (k : ℕ) → has k (key ∷ rest) ≡ true → IsOn s tips k
     on_left k m = by (cases_lt 0 (count_by (is_key key) tips))
       where
@@ -252,7 +252,7 @@ releasing_there first s tips at key r is =
     let n = node_from (node_at s key) b.1.1.0 b.1.1.1.0 in
     (n.0, n.1.0)
 
--- one step of the release, from the key at which it is
+-- one step of the release, from `at`, which is the key to be released
 pub releasing_next : {X : Type 0} (first s t : List (Option (Node X))) (tips : List (Option ℕ)) (at : Option ℕ) (key : ℕ) (next : Option ℕ) → IsReleasing first s tips at → at ≡ Some key
     → node_at t key ≡ less_one (node_at s key) → ((k : ℕ) → k ≢ key → node_at t k ≡ node_at s k) → next ≡ next_up (node_at s key)
     → IsReleasing first t tips next × (length (keys_up t next) < length (keys_up s at))

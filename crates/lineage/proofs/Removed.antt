@@ -3,7 +3,7 @@ use Rattle.std.proofs.Common.{◌≡◌, ◌≢◌, ℕ, zero, suc, List, [], �
 use Rattle.std.specs.List.{remove}
 use Rattle.lineage.specs.Lineages.{tip_at}
 
--- each tip that is left was there before
+-- if each tip has a property, so has each tip that is left
 pub removed_from : (P : Option ℕ → Type 0) (tips : List (Option ℕ)) (path : ℕ) → ((i : ℕ) → P (tip_at tips i)) → (i : ℕ) → P (tip_at (remove tips path) i)
 removed_from P [] zero h i = h zero
 removed_from P [] (suc path) h i = h zero

@@ -10,6 +10,7 @@ use Rattle.lineage.specs.Lineages.{tip_at, is_key, is_above, past}
 use Rattle.lineage.proofs.KeyLists.{has-head, has-tail, has_cases, reverse_cons}
 use Rattle.lineage.proofs.Counts.{one}
 
+-- `past` of the link of a key, if the key has an item
 abbrev pub past_link : ℕ → Option ℕ → Option (Option ℕ) → Option (Option ℕ)
 past_link key top None = None
 past_link key top (Some next) = Some (past key top next)
@@ -65,7 +66,7 @@ module _ (key : ℕ) (top : Option ℕ) where
       by (inr nk) (inl same) = ap (has x) (kept_other k up nk) ∙ subst (λ z. has z (k ∷ keys_without key up) ≡ true) (sym same) (has-head k (keys_without key up))
       by (inr nk) (inr m) = ap (has x) (kept_other k up nk) ∙ has-tail x k (keys_without key up) m
 
--- each climb skips the key
+-- once the key's own link replaces each link to the key, each climb skips the key
 pub climb_past : (p q : ℕ → Option (Option ℕ)) (key : ℕ) (top : Option ℕ) → p key ≡ Some top → (top ≡ Some key → ⊥) → ((k : ℕ) → k ≢ key → q k ≡ past_link key top (p k))
     → (at : Option ℕ) (up : List ℕ) → IsClimb p at up → IsClimb q (past key top at) (keys_without key up)
 climb_past p q key top here itself links at [] h = ap (past key top) h
@@ -85,7 +86,7 @@ climb_past p q key top here itself links at (k ∷ up) h = by (cases_eq key k) (
         let c : IsClimb q (past key top at) (k ∷ keys_without key up) = (a, (past key top h.1.0, (l, ih))) in
         subst (λ l. IsClimb q (past key top at) l) (sym (kept_other key top k up ne)) c
 
--- each link to the key becomes a link to the key above it
+-- after `past`, a link is to m if it was to m, or to the key and the key's own link is to m
 pub each_past : (key m : ℕ) (top : Option ℕ) → m ≢ key → (o : Option ℕ) → one (is_key m (past key top o)) ≡ one (is_key m o) + cond (is_key m top) (one (is_key key o)) 0
 each_past key m top ne None = by (is_key m top)
   where
@@ -149,8 +150,8 @@ all_past key top xs ys len h =
     ext_get_or None ys (map (past key top) xs) (len ∙ sym (length-map xs (past key top)))
     (λ i lt. h i (subst (λ n. i < n) len lt) ∙ sym (map_at (past key top) xs i refl))
 
--- if each element passes at most one of two tests, and then also a third test, the counts of the
--- two tests add up to at most that of the third
+-- if each item passes at most one of two tests, and each that passes one of them also passes a
+-- third, then the counts of the two tests add up to at most that of the third
 pub sum_apart : {A : Type 0} (p q r : A → Bool) (xs : List A) → ((x : A) → one (p x) + one (q x) ≤ one (r x)) → count_by p xs + count_by q xs ≤ count_by r xs
 sum_apart p q r [] h = omega arith
 sum_apart p q r (x ∷ xs) h =

@@ -110,7 +110,7 @@ module _ {X : Type 0} where
         apart_node i ne None = omega arith
         apart_node i ne (Some w) = apart_tip i ne w.above
 
-  -- the effect of the steps, one after the other
+  -- nodes after a removal: in p the holders are passed on, and in t the links also skip the key
   none_of : (key : ℕ) (top : Option ℕ) (b : Bool) (h : ℕ) (o : Option (Node X)) → o ≡ None → past_node key top (passed_on b h o) ≡ None
   none_of key top true h o e = ap (λ z. past_node key top (passed_on true h z)) e
   none_of key top false h o e = ap (λ z. past_node key top (passed_on false h z)) e
@@ -241,7 +241,7 @@ module _ {X : Type 0} where
     pub skipped_items : (k : ℕ) → k ≢ key → item_at (family_on t new) k ≡ item_at (family_on s tips) k
     skipped_items k ne = item_is t new k ∙ ap item_in (others k ne) ∙ item_of key n.above (is_key k n.above) n.holders (node_at s k) ∙ sym (item_is s tips k)
 
--- nodes one after the other
+-- in t the links of nodes below `place` skip the key; in u that of the node at `place` does too
 module _ {X : Type 0} (s t u : List (Option (Node X))) (place : ℕ) where
   pub skipped_more : (key : ℕ) (top : Option ℕ) → ((k : ℕ) → k < place → node_at t k ≡ past_node key top (node_at s k)) → ((k : ℕ) → place ≤ k → node_at t k ≡ node_at s k)
       → node_at u place ≡ past_node key top (node_at t place) → ((k : ℕ) → k ≢ place → node_at u k ≡ node_at t k) → (k : ℕ) → k < place + 1 → node_at u k ≡ past_node key top (node_at s k)

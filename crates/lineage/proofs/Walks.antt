@@ -17,7 +17,7 @@ module _ {X : Type 0} (s : List (Option (Node X))) where
       by (inl lt) = lt
       by (inr le) = let n : above_node s k ≡ None = ap above_in (get_or_past s k None le) in absurd (cc)
 
-  -- the keys found by climbing are those of the climb
+  -- `keys_up` gives the keys of the climb, and `path_to` the same keys in reverse
   pub keys_up_is : (at : Option ℕ) (up : List ℕ) → IsClimb (above_node s) at up → keys_up s at ≡ up
   keys_up_is at up h = climb_is (above_node s) (length s) at up h (climb_short (above_node s) (length s) link_within at up h)
 
@@ -49,7 +49,7 @@ module _ {X : Type 0} (s : List (Option (Node X))) where
       let e = h.ends i in
       ap last_of (path_at tips i ∙ path_to_is (tip_at tips i) e.up e.is) ∙ climb_top (above_node s) (tip_at tips i) e.up e.is
 
-  -- one step up
+  -- one step up from `at` to the link of its node n: the rest of the climb ends, and is shorter
   pub record Onward (at : Option ℕ) (n : Node X) : Type 0 where
     pub ends : Ends (above_node s) n.above
     pub shorter : length (keys_up s n.above) < length (keys_up s at)

@@ -28,6 +28,7 @@ past key above None = None
 past key above (Some k) = if nat_eq key k then above else Some k
 
 module _ {X : Type 0} where
+  -- the node with this item, this link and this number of holders
   abbrev pub node : X → Option ℕ → ℕ → Node X
   node item above holders = record { item = item; above = above; holders = holders }
 

@@ -20,12 +20,12 @@ main keys = keyed_branch (codes "main") keys
 abbrev noted : TrieOf ℕ
 noted = cut (main (0 ∷ []) ∷ []) (cell 0 (Read 1) (Some 7) ∷ [])
 
--- the same with another step, and with no note, or still with 7
+-- the same trie, but the segment has another step, and the given note or none
 abbrev edited : Option ℕ → TrieOf ℕ
 edited note = cut (main (0 ∷ []) ∷ []) (cell 0 (Write 0 1) note ∷ [])
 
--- `main` with two segments of one cell each; and with
--- the first alone, so that no branch has the second
+-- two segments of one cell each. In `whole`, `main` has both; in `with_lost_segment`, it has only
+-- the first, so that no branch has the second.
 abbrev two_segments : List (Option (SegmentOf ℕ))
 two_segments = cell 0 (Read 1) None ∷ cell 1 (Read 1) None ∷ []
 
@@ -126,7 +126,7 @@ IsCut-fails h = lost (h.live 1 refl).0 (h.live 1 refl).1
 SpotIsAt-holds : SpotIsAt (segment_at two_segments) (0 ∷ 1 ∷ []) 1 (1, 0)
 SpotIsAt-holds = record { front = 0 ∷ []; back = []; is = refl; first = refl; before = refl; within = omega arith }
 
--- and not at place 0
+-- the first cell of the second segment isn't at place 0
 SpotIsAt-fails : SpotIsAt (segment_at two_segments) (0 ∷ 1 ∷ []) 0 (1, 0) → ⊥
 SpotIsAt-fails h = by h.front h.back h.is h.before
   where
@@ -142,7 +142,7 @@ SpotIsAt-fails h = by h.front h.back h.is h.before
 HoldsCellAt-holds : HoldsCellAt whole (codes "main") 1 1
 HoldsCellAt-holds = record { cell = 1; there = refl; held = refl }
 
--- and the first doesn't
+-- the first segment doesn't have the cell at place 1 of `main`
 HoldsCellAt-fails : HoldsCellAt whole (codes "main") 1 0 → ⊥
 HoldsCellAt-fails h =
     let number : 1 ≡ h.cell = ap (λ o. unwrap_or o 0) h.there in

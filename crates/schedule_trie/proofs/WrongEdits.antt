@@ -15,7 +15,7 @@ cut branches segments made = record { branches = branches; segments = segments; 
 abbrev one : TrieOf ℕ
 one = cut (keyed_branch main (0 ∷ []) ∷ []) (Some (segment (slot 0 read ∷ []) (Some 7)) ∷ []) 1
 
--- same-step-keeps-the-note
+-- same-step-keeps-the-note: a replace by the same step has to clear the note too
 pub same_step : IsEdited one one (Replace main 0 read) → ⊥
 same_step e =
     let held : HoldsCellAt one main 0 0 = record { cell = 0; there = refl; held = refl } in
@@ -46,7 +46,7 @@ abbrev four : TrieOf ℕ
 four = cut (keyed_branch main (0 ∷ 1 ∷ []) ∷ [])
     (Some (segment (slot 0 read ∷ slot 1 read ∷ []) None) ∷ Some (segment (slot 2 read ∷ slot 3 read ∷ []) None) ∷ []) 4
 
--- each cell is in its own segment, and there is a fifth
+-- `main` has the same four cells and a fifth, each in a segment of its own
 abbrev five : TrieOf ℕ
 five = cut (keyed_branch main (2 ∷ 0 ∷ 3 ∷ 1 ∷ 4 ∷ []) ∷ [])
     (Some (segment (slot 1 read ∷ []) None) ∷ Some (segment (slot 3 read ∷ []) None) ∷ Some (segment (slot 0 read ∷ []) None)

@@ -181,7 +181,7 @@ fn next_edition(entries: &mut IndexMap<Name, Cached>, edition: u32) -> u32
     if edition < u32::MAX {
         return edition + 1;
     }
-    // (the editions begin again)
+    // the greatest edition is used up: editions begin again at 1
     forget_editions(entries);
     1
 }

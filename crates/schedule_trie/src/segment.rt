@@ -72,8 +72,8 @@ impl<T: Drop> Segment<T> {
         Ok(())
     }
 
-    /// Inserts a cell at an offset, and clears the note. If memory runs out, nothing changes. What
-    /// was in `copies` is lost: it gives memory for copies of cells.
+    /// Inserts a cell at an offset, and clears the note. If memory runs out, nothing changes. Cells
+    /// are copied to `copies` for a time, so what was in it is lost.
     pub(crate) fn insert(
         &mut self,
         copies: &mut Vec<Slot>,
@@ -87,7 +87,7 @@ impl<T: Drop> Segment<T> {
         ensures err_slots { OnErr result (self.new.slots.items ≡ self.old.slots.items) }
         ensures err_note { OnErr result (self.new.note ≡ self.old.note) }
     {
-        // (to copy many cells out and back is cheaper than to move each by one)
+        // (copying many cells out and back is cheaper than moving each of them by one)
         copy_from(copies, &self.slots, offset)?;
         self.slots.reserve(1)?;
         end_with(&mut self.slots, offset, slot, copies);
@@ -141,7 +141,7 @@ impl<T: Drop> Segment<T> {
     }
 }
 
-/// Puts copies of the cells from an offset on in place of what is in `copies`.
+/// Replaces what is in `copies` by copies of the cells from `offset` to the end.
 fn copy_from(copies: &mut Vec<Slot>, slots: &[Slot], offset: usize) -> Result<(), AllocError>
     requires { offset ≤ length slots.now }
     ensures { OnOk result (copies.new.items ≡ drop offset slots.now) }
@@ -150,8 +150,8 @@ fn copy_from(copies: &mut Vec<Slot>, slots: &[Slot], offset: usize) -> Result<()
     copies.extend_from_slice(&slots[offset..])
 }
 
-/// Puts a cell and these others in place of the cells from an offset on. There has to be memory
-/// for them.
+/// Replaces the cells from `offset` to the end by the cell `slot` and then `others`. Memory for
+/// these has to be reserved.
 fn end_with(slots: &mut Vec<Slot>, offset: usize, slot: Slot, others: &[Slot])
     requires offset { offset ≤ length slots.old.items }
     requires room { offset + 1 + length others.now ≤ vec_capacity slots.old }

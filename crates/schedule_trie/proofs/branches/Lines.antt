@@ -69,11 +69,12 @@ module _ {T : Type 0} (at : ℕ → Option (SegmentOf T)) where
         let b : length (map cell_of (line at ks)) ≤ made = Once-bounded (map cell_of (line at ks)) made (line_once ks h) (λ x e. let p = in_line x ks e in given_at p.0 x p.2) in
         subst (λ n. n ≤ made) (length-map (line at ks) cell_of) b
 
--- a segment of a trie is one of a trie in which more cells were made
+-- if the numbers of a segment's cells are below `made`, they are also below a greater number
 pub weaker : {T : Type 0} (made more : ℕ) → made ≤ more → (o : Option (SegmentOf T)) → IfSome o (IsSegment made) → IfSome o (IsSegment more)
 weaker made more grows None h = tt
 weaker made more grows (Some p) h = record { some = h.some; few = h.few; once = h.once; given = λ x g. let l : x < made = h.given x g in omega arith }
 
+-- no branch has more cells than were ever made
 pub sound_short : {T : Type 0} (at : ℕ → Option (SegmentOf T)) (branches : List KeyedBranch) (made : ℕ) → IsSoundTrie at branches made → (i : ℕ) → length (line at (keys_in branches i)) ≤ made
 sound_short at branches made s i =
     line_short at made s.segments s.apart (keys_in branches i)
@@ -103,7 +104,7 @@ module _ {T : Type 0} (t : Inside T) where
       let same : keys_in (trie_of t).branches i ≡ keys = keys_are h i ∙ sym e in
       (sym same, subst (λ l. length (line (segment_at (trie_of t).segments) l) ≤ t.made) same (line_fits h i), omega (arith, h.whole.within.cells, h.whole.within.most_cells))
 
--- the steps of the keys read so far
+-- the steps of a line, read key by key: `done` are the steps read so far
 module _ {T : Type 0} (at : ℕ → Option (SegmentOf T)) where
   pub steps_more : (keys : List ℕ) (i : ℕ) (done more : List Step) → i < length keys
       → done ++ map step_of (line at (drop i keys)) ≡ map step_of (line at keys) → more ≡ done ++ map step_of (slots_of (at (get_or keys i 0)))

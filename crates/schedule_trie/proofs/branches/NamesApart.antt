@@ -9,7 +9,7 @@ use Rattle.schedule_trie.specs.Trie.{forest, segment_at}
 use Rattle.schedule_trie.specs.TrieFields.{names_of, trie_of}
 use Rattle.schedule_trie.proofs.branches.KeyedBranches.{names_on}
 
--- a name that differs from each of these isn't one of them
+-- if a name differs from each of these names, each of these differs from it
 differs : (name other : List ℕ) (names : List (List ℕ)) (i : ℕ) → AllByRecursion (λ n. pointwise nat_eq name n ≡ false) names → slice_get names i ≡ Some other
     → pointwise nat_eq other name ≡ false
 differs name other [] i all e = cc

@@ -150,7 +150,7 @@ module _ {T : Type 0} (at : ℕ → Option (SegmentOf T)) where
         by None e = tt
         by (Some s) e = let p = lies_on i k s e in given_at at made sound.segments sound.apart p.key s.cell (has_cell_get (slots_of (at p.key)) p.offset s p.cell)
 
--- the forest, in terms of the fields
+-- a trie's forest satisfies `IsForest`, if no two of its names are equal
 pub is_forest : {T : Type 0} (t : Inside T) → IsHeldTrie t → IsDistinct (pointwise nat_eq) (names_of t) → IsForest (forest (trie_of t))
 is_forest t held unique = record {
   apart = branches_apart t unique;

@@ -55,7 +55,7 @@ module _ {X : Type 0} (p : X → Bool) where
   pub first_right : (xs ys : List X) → position_or_len p xs ≡ length xs → position_or_len p (xs ++ ys) ≡ length xs + position_or_len p ys
   first_right xs ys e = let parts = prefix_len-append (λ x. not (p x)) xs ys in grind (arith, nat_tests)
 
--- the key before a key that is once in a path
+-- the key before the first `key` of a path: the last of `front`, or `up` if `front` is empty
 before-here : (key : ℕ) (up : Option ℕ) (front back : List ℕ) → has key front ≡ false → before_key key up (front ++ key ∷ back) ≡ last_from up front
 before-here key up [] back h = ap (λ b. cond b up (before_key key (Some key) back)) (eq-eqb key key refl)
 before-here key up (k ∷ front) back h = by (nat_eq key k) refl (before-here key (Some k) front back)

@@ -40,7 +40,7 @@ pub record IsTurn {T : Type 0} (at : ℕ → Option (SegmentOf T)) (keys : List 
   pub fewer : length (keys_to keys above) < length (keys_to keys last)
   pub cells : length (line at (keys_to keys last)) ≡ length (line at (keys_to keys above)) + length (slots_of (at key))
 
--- a climb of a branch, if in each branch that has a key the same key is right above it
+-- climbs of a branch; a step up needs that `above` is right above `key` in each branch with `key`
 module _ {T : Type 0} (c : TrieOf T) (whole : IsWhole c) (index : ℕ) where
   pub branch_once : Once (keys_in c.branches index)
   branch_once = Once-from_linked whole.sound.shares.above (keys_in c.branches index) (whole.sound.shares.linked index)
@@ -69,7 +69,7 @@ module _ {T : Type 0} (c : TrieOf T) (whole : IsWhole c) (index : ℕ) where
       let short = sound_short (segment_at c.segments) c.branches c.made whole.sound index in
       omega (arith, short, whole.within.cells, whole.within.most_cells)
 
--- each segment has a cell
+-- if each key's segment has a cell, there are at most as many keys as cells
 few_keys : {T : Type 0} (at : ℕ → Option (SegmentOf T)) (keys : List ℕ) → ((k : ℕ) → has k keys ≡ true → 0 < length (slots_of (at k))) → length keys ≤ length (line at keys)
 few_keys at [] h = omega arith
 few_keys at (k ∷ ks) h =
@@ -87,15 +87,16 @@ path_few t held i =
     let short = line_fits t held i in
     omega (arith, few, short)
 
--- one access to a segment: the key right above in each path is also right above in each branch
+-- if `above` is right above `key` in each path that has `key`, then so it is in each branch
 module _ {T : Type 0} (t : Inside T) (c : TrieOf T) (seen : trie_of t ≡ c) (held : IsHeldTrie t) (key : ℕ) (above : Option ℕ) where
+  -- `above` is the key right above `key` in each path that has `key`, or None if `key` is the first
   abbrev pub IsAbove : Type 0
   IsAbove = (i : ℕ) (front back : List ℕ) → path_in t.segments i ≡ front ++ key ∷ back → above ≡ last_of front
 
   pub each_up : IsAbove → (i : ℕ) (front back : List ℕ) → keys_in c.branches i ≡ front ++ key ∷ back → above ≡ last_of front
   each_up each i front back e = each i front back (sym (keys_are t held i) ∙ ap (λ z. keys_in z.branches i) seen ∙ e)
 
-  -- no path has a key without a segment
+  -- if `key` has no item, no path has `key`, so `IsAbove` holds
   pub none_up : item_at t.segments key ≡ None → IsAbove
   none_up none i front back e =
       let h : has key (keys_in (trie_of t).branches i) ≡ true = ap (has key) (keys_are t held i ∙ e) ∙ has-in key front back in

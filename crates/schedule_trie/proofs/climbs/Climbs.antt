@@ -16,7 +16,7 @@ use Rattle.std.proofs.lemmas.Bool.Decides.{nat_tests}
 use Rattle.schedule_trie.proofs.climbs.CellPlaces.{most, first_left, first_right, none_of, first_of, first_is, none_is}
 use Rattle.branch_terms.proofs.Lists.{slice_get_left, slice_get_right, turned}
 
--- the keys up to a key, if it isn't among those before it
+-- if `front` lacks the key, the keys of the path down to the key are `front` and the key
 pub up_to-here : (key : ℕ) (front back : List ℕ) → has key front ≡ false → keys_up_to key (front ++ key ∷ back) ≡ front ++ key ∷ []
 up_to-here key [] back h = ap (λ b. cond b (key ∷ []) (key ∷ keys_up_to key back)) (eq-eqb key key refl)
 up_to-here key (k ∷ front) back h = by (nat_eq key k) refl (up_to-here key front back)
@@ -60,7 +60,7 @@ last_is keys once =
     let p = front_is keys [] (subst Once (sym all) once) in
     record { reached = subst (λ l. HasClimbedTo l (last_of keys)) all p.1; all = ap (λ l. keys_to l (last_of keys)) (sym all) ∙ p.0 }
 
--- one step of a climb
+-- one step of a climb: `above` is the key right above `key`; None if `key` is the first
 pub record IsStepUp (keys : List ℕ) (key : ℕ) (above : Option ℕ) : Type 0 where
   pub reached : HasClimbedTo keys above
   pub is : keys_up_to key keys ≡ keys_to keys above ++ key ∷ []
@@ -81,7 +81,7 @@ step_up keys key above once h each =
       parts = p.is ∙ ap (λ l. l ++ key ∷ p.back) (sym to);
     }
 
--- the first index of a cell, if it isn't among the first cells, and if it is
+-- `position_or_len` is the list's length if the list lacks the cell; if it is less, the list has it
 lacks_past : (cell : ℕ) (slots : List Slot) → has_cell cell slots ≡ false → position_or_len (is_cell cell) slots ≡ length slots
 lacks_past cell [] h = refl
 lacks_past cell (s ∷ ss) h = by (nat_eq cell s.cell) refl (lacks_past cell ss)

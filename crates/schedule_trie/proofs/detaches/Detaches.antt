@@ -32,7 +32,7 @@ once_from (x ∷ xs) h = (
       cc),
 )
 
--- the values at keys, from the item of each key
+-- if `at` maps a list of keys to these values, each key has the value at the same index
 have_values : {X : Type 0} (at : ℕ → Option X) (keys : List ℕ) (xs : List X) → map at keys ≡ map Some xs → HaveValues at keys xs
 have_values at [] [] e = tt
 have_values at [] (x ∷ xs) e = absurd (cc)

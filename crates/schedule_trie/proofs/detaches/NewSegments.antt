@@ -26,7 +26,7 @@ linked_once up (k ∷ ks) once = (
     below j h true e = absurd (true≢false (sym (subst (λ z. has z ks ≡ true) (eqb-true j k e) h) ∙ once.0))
     below j h false e = ap (λ b. cond b up (before_key j (Some k) ks)) e
 
--- in that branch alone
+-- the branch at `index` gets new keys with its cells renumbered; no other branch changes
 only_changed : {T : Type 0} (at new : ℕ → Option (SegmentOf T)) (made : ℕ) (branches : List KeyedBranch) (index : ℕ) (keys : List ℕ) → index < length branches
     → ((i k : ℕ) → has k (keys_in branches i) ≡ true → new k ≡ at k) → line new keys ≡ renumbered made (line at (keys_in branches index))
     → branches_on new (set_keys branches index keys) ≡ only_in index (renumbered made) (branches_on at branches)
@@ -90,7 +90,7 @@ module _ {T : Type 0} (at new : ℕ → Option (SegmentOf T)) (branches : List K
       by false true e f = absurd (never_both k j x f e b a)
       by false false e f = sound.apart j k x (was_in j x e a) (was_in k x f b)
 
-  -- the key above a key, now
+  -- the key above a key: for the new keys, in their path; for all others, as before
   abbrev above_now : ℕ → Option ℕ
   above_now k = cond (has k keys) (before_key k None keys) (sound.shares.above k)
 

@@ -6,7 +6,7 @@ use Rattle.schedule_trie.specs.Trie.{TrieOf, SegmentOf, KeyedBranch, segment_at,
 use Rattle.schedule_trie.proofs.lists.NoRepeats.{has-head, has-tail, has_not_from}
 use Rattle.schedule_trie.proofs.branches.Lines.{in_line, slots_in_on}
 
--- no branch has a segment
+-- no branch has the segment at this key
 abbrev LackedByAll : List KeyedBranch → ℕ → Type 0
 LackedByAll branches key = (i : ℕ) → has key (keys_in branches i) ≡ false
 
@@ -78,7 +78,7 @@ module _ {T : Type 0} (old new : ℕ → Option (SegmentOf T)) (branches : List 
   pub released_branches : branches_on new branches ≡ branches_on old branches
   released_branches = branches_alike old new branches released.kept
 
--- the notes that are kept, if segments may have been added before the release
+-- a release keeps all notes, also if segments without notes (in `mid`) were added before it
 module _ {T : Type 0} (c d : TrieOf T) (mid : ℕ → Option (SegmentOf T))
     (apart : (j k x : ℕ) → has_cell x (slots_of (mid j)) ≡ true → has_cell x (slots_of (mid k)) ≡ true → j ≡ k)
     (released : IsReleased mid (segment_at d.segments) d.branches) (kept : (k : ℕ) → IsSome (segment_at c.segments k) → mid k ≡ segment_at c.segments k)

@@ -47,7 +47,7 @@ module _ (slots : List Slot) (first cell i : ℕ) (done : List Slot)
       ∙ ap (λ l. done ++ l) (sym (at_drop_all (λ l. numbered cell (map step_of l)) slots i past))
       ∙ was
 
--- the numbers given
+-- `numbered` gives the numbers from n to n + `length steps` - 1, none of them twice
 numbered_cell : (n : ℕ) (steps : List Step) (x : ℕ) → has_cell x (numbered n steps) ≡ true → (n ≤ x) × (x < n + length steps)
 numbered_cell n [] x h = absurd (true≢false (sym h))
 numbered_cell n (s ∷ ss) x h =
@@ -63,7 +63,7 @@ numbered_once n (s ∷ ss) =
 renumbered_cell : (n : ℕ) (slots : List Slot) (x : ℕ) → has_cell x (renumbered n slots) ≡ true → (n ≤ x) × (x < n + length slots)
 renumbered_cell n slots x h = let p = numbered_cell n (map step_of slots) x h in (p.0, omega (arith, p.1, length-map slots step_of))
 
--- each key has the value at its index
+-- for each key, `at` gives the value that has the same index in its list as the key
 abbrev pub HaveValues : {X : Type 0} → (ℕ → Option X) → List ℕ → List X → Type 0
 HaveValues at [] [] = Unit {0}
 HaveValues at [] (x ∷ xs) = ⊥
@@ -71,7 +71,7 @@ HaveValues at (k ∷ ks) [] = ⊥
 HaveValues at (k ∷ ks) (x ∷ xs) = (at k ≡ Some x) × HaveValues at ks xs
 
 module _ {T : Type 0} where
-  -- each new key has new cells, with the steps of the segment at its index
+  -- the segment at each new key is a copy, with new cells, of that at the old key of the same index
   abbrev pub AreCopied : (ℕ → Option (SegmentOf T)) → (ℕ → Option (SegmentOf T)) → ℕ → List ℕ → List ℕ → Type 0
   AreCopied at new n [] [] = Unit {0}
   AreCopied at new n [] (j ∷ js) = ⊥
@@ -113,7 +113,7 @@ module _ {T : Type 0} where
       (λ i. slots_of (c.0 i) ++ line_copied at new (n + length (slots_of (at k))) ks js c.1 i)
       ∙ sym (renumbered-append n (slots_of (at k)) (line at ks))
 
-  -- a key of the new path has a segment, whose cells are new and which has no note
+  -- `o` is a segment whose cells have numbers from n to `made` - 1, and it has no note
   pub record IsCopied (n made : ℕ) (o : Option (SegmentOf T)) : Type 0 where
     pub cells : (x : ℕ) → has_cell x (slots_of o) ≡ true → (n ≤ x) × (x < made)
     pub segment : IfSome o (IsSegment made)
@@ -152,7 +152,7 @@ module _ {T : Type 0} where
       (λ r. later n (n + length (slots_of (at k))) made (new j) (omega arith)
       (each_copied at new (n + length (slots_of (at k))) made ks js j c.1 (λ z g. sizes z (has-tail z k ks g)) (omega arith) r))
 
-  -- no two of them have a common cell
+  -- no two copies have a common cell
   pub apart_copied : (at new : ℕ → Option (SegmentOf T)) (n : ℕ) (ks js : List ℕ) (i j x : ℕ) → AreCopied at new n ks js
       → ((k : ℕ) → has k ks ≡ true → (0 < length (slots_of (at k))) × (length (slots_of (at k)) ≤ 128)) → has i js ≡ true → has j js ≡ true
       → has_cell x (slots_of (new i)) ≡ true → has_cell x (slots_of (new j)) ≡ true → i ≡ j

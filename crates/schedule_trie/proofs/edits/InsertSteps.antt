@@ -40,7 +40,7 @@ within_more l made branches h room = record {
 pub slots_seen : {T : Type 0} (t : Inside T) (key : ℕ) (v : Segment T) (c : TrieOf T) → trie_of t ≡ c → item_at t.segments key ≡ Some v → slots_of (segment_at c.segments key) ≡ v.slots.items
 slots_seen t key v c seen there = ap (λ b. slots_of (segment_at b.segments key)) (sym seen) ∙ ap slots_of (segment_seen t key ∙ ap segment_of there)
 
--- an insert in the first n items of a list, and in the others
+-- an insert in a list is an insert in its first n items, or in the items after them
 pub insert-front : (slots : List Slot) (n offset : ℕ) (s : Slot) → offset ≤ n → insert (take n slots) offset s ++ drop n slots ≡ insert slots offset s
 insert-front slots n zero s less = ap (λ l. s ∷ l) (take-append-drop n slots)
 insert-front slots zero (suc offset) s less = absurd (omega arith)
@@ -247,6 +247,7 @@ module _ {T : Type 0} (c d : TrieOf T) (key fresh offset : ℕ) (step : Step) (a
     cut = cut_from_sound d d.made sound_after;
   }
 
+-- a segment with these cells and no note
 abbrev pub unnoted : {T : Type 0} → Vec Slot → Segment T
 unnoted slots = record { slots = slots; note = None }
 

@@ -89,7 +89,7 @@ module _ {T : Type 0} (old : ℕ → Option (SegmentOf T)) (branches : List Keye
   pub grown_cells : (x : ℕ) → has_cell x grown ≡ true → (has_cell x (slots_of (old key)) ≡ true) ⊎ (x ≡ made)
   grown_cells x h = has-inserted x made (map cell_of (slots_of (old key))) offset (subst (λ l. has x l ≡ true) cells_are h)
 
--- the new cell is put in the same segment
+-- the trie is still correct once the segment at `key` has the new cell
 module _ {T : Type 0} (old new : ℕ → Option (SegmentOf T)) (key : ℕ) (q : SegmentOf T) (change : Changes old new key q) (branches : List KeyedBranch) (made : ℕ)
     (sound : IsSoundTrie old branches made) (was : IsSome (old key)) (some : 0 < length q.slots) (few : length q.slots ≤ 128) (once : Once (map cell_of q.slots))
     (cells : (x : ℕ) → has_cell x q.slots ≡ true → (has_cell x (slots_of (old key)) ≡ true) ⊎ (x ≡ made)) where
@@ -112,7 +112,7 @@ module _ {T : Type 0} (old new : ℕ → Option (SegmentOf T)) (key : ℕ) (q : 
 module _ {T : Type 0} (old new : ℕ → Option (SegmentOf T)) (key : ℕ) (q : SegmentOf T) (change : Changes old new key q) (g : List Slot → List Slot)
     (empty : g [] ≡ []) (through : (xs ys : List Slot) → g (xs ++ ys) ≡ g xs ++ g ys) (here : q.slots ≡ g (slots_of (old key)))
     (elsewhere : (j : ℕ) → (j ≡ key → ⊥) → g (slots_of (old j)) ≡ slots_of (old j)) where
-  -- a list function that changes only the cells of this segment changes each branch
+  -- if g gives this segment's new cells, and changes no other segment, it gives each branch's cells
   pub branches_changed : (branches : List KeyedBranch) → branches_on new branches ≡ everywhere g (branches_on old branches)
   branches_changed = everywhere_on old new g (line_through old new g empty through each)
     where

@@ -17,6 +17,7 @@ use Rattle.schedule_trie.proofs.edits.PushSteps.{has_front}
 use Rattle.schedule_trie.proofs.segments.StepSet.{segment_seen}
 use Rattle.schedule_trie.proofs.branches.KeyedBranches.{keyed_branches-set, keys_in-of, keys_in-set_other, keys_in-set_same}
 
+-- the key right above each key, as `above` gives it, but for `key` it is `up`
 abbrev above_with : (ℕ → Option ℕ) → ℕ → Option ℕ → ℕ → Option ℕ
 above_with above key up j = cond (nat_eq key j) up (above j)
 

@@ -43,7 +43,7 @@ kept_held t key w kept same = record {
   names = kept.names;
 }
 
--- only capacity has changed
+-- the fields that contracts see are equal: at most reserved memory has changed
 module _ {T : Type 0} (t u : Inside T) (entries : u.branches.entries ≡ t.branches.entries)
     (segments : u.segments ≡ t.segments) (made : u.made ≡ t.made) (limits : u.limits ≡ t.limits) where
   roomed_seen : trie_of u ≡ trie_of t
@@ -78,7 +78,7 @@ module _ {T : Type 0} (t : Inside T) (index key : ℕ) (held : IsHeldTrie t) (en
     seen : segment_at (trie_of t).segments key ≡ Some (segment v.slots.items v.note)
     seen = segment_seen t key ∙ ap segment_of there
 
-    -- a push that is refused changes nothing
+    -- a push that fails leaves an equal segment, so the trie is unchanged
     pub cut_kept : w.slots.items ≡ v.slots.items → w.note ≡ v.note → trie_of (record t { segments = with_item t.segments key w }) ≡ trie_of t
     cut_kept items note = cut_written t key v w there items note
 
@@ -120,7 +120,7 @@ module _ {T : Type 0} (t : Inside T) (index key : ℕ) (held : IsHeldTrie t) (en
           (notes_but (trie_of t) (trie_of after) key Nowhere (IsExtendedEnd (trie_of t) (trie_of after) index step) (notes_at (trie_of t) (trie_of after) key change.others (ap note_of change.here ∙ note))
           (λ k h. absurd h) (record { front = end.front; last = end.last; some = some_slots t.made (segment_at (trie_of t).segments key) (subst IsSome (sym seen) refl) (held.whole.sound.segments key) }, ap slots_of change.here ∙ slots))
 
--- the last segment of a branch, which no other branch has
+-- a branch's last segment satisfies `IsOwnEnd` if no other branch has it and it isn't full
 pub is_own_end : {T : Type 0} (t : Inside T) (index key : ℕ) → IsHeldTrie t → last_of (path_in t.segments index) ≡ Some key → EndsAlone t.segments index
     → length (slots_of (segment_at (trie_of t).segments key)) < 128 → IsOwnEnd (trie_of t) index key
 is_own_end t index key held last alone few =

@@ -37,7 +37,7 @@ module _ {T : Type 0} (old new : ℕ → Option (SegmentOf T)) (key : ℕ) (q : 
   all_kept [] h = refl
   all_kept (s ∷ ss) h = λ i. branch s.name (line_kept s.keys (h 0) i) ∷ all_kept ss (λ j. h (suc j)) i
 
-  -- the cell is added in that branch alone
+  -- the cell is added in the branch at `index` alone
   pub only_pushed : (branches : List KeyedBranch) (index : ℕ) (keys : List ℕ) (s : Slot) → index < length branches → LackedByOthers branches index key
       → line new keys ≡ put_last s (line old (keys_in branches index))
       → branches_on new (set_keys branches index keys) ≡ only_in index (put_last s) (branches_on old branches)

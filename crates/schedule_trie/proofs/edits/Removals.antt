@@ -25,7 +25,7 @@ without-absent x (s ∷ ss) h = by (nat_eq x s.cell) refl (without-absent x ss)
     by false e rest =
         ap (λ b. cond (not b) (s ∷ without x ss) (without x ss)) (turned s.cell x ∙ e) ∙ ap (λ l. s ∷ l) (rest (sym (ap (λ c. c || has_cell x ss) e) ∙ h))
 
--- removing the item at an index removes just that cell, if no cell is twice
+-- removing the item at an index removes just the cell there, if no cell is twice
 pub without-at : (slots : List Slot) (i : ℕ) (s : Slot) → Once (map cell_of slots) → slice_get slots i ≡ Some s → remove slots i ≡ without s.cell slots
 without-at [] i s once e = absurd (cc)
 without-at (z ∷ zs) zero s once e =
@@ -132,7 +132,7 @@ module _ {T : Type 0} (old new : ℕ → Option (SegmentOf T)) (key offset : ℕ
         segment_at k true e = subst (λ j. IfSome (new j) (IsSegment made)) (sym (eqb-true k key e)) (subst (λ o. IfSome o (IsSegment made)) (sym is) segment)
         segment_at k false e = subst (λ o. IfSome o (IsSegment made)) (sym (others k (eqb-false k key e))) (sound.segments k)
 
-  -- the segment is removed with its last cell
+  -- the segment is removed with its only cell
   module _ (gone : new key ≡ None) where
     not_key : (k : ℕ) → IsSome (new k) → k ≡ key → ⊥
     not_key k h e = true≢false (sym (subst IsSome (ap new e ∙ gone) h))

@@ -24,7 +24,7 @@ module _ (key fresh : ℕ) where
   keys_in-divided (s ∷ ss) zero = refl
   keys_in-divided (s ∷ ss) (suc i) = keys_in-divided ss i
 
-  -- the keys that replace a key in a path
+  -- `rest` after the key k; if b is true, with the new key before k
   abbrev part : Bool → ℕ → List ℕ → List ℕ
   part b k rest = cond b (fresh ∷ k ∷ []) (k ∷ []) ++ rest
 

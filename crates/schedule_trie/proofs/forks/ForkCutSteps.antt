@@ -23,7 +23,7 @@ use Rattle.schedule_trie.proofs.segments.CellHolders.{one_holder}
 use Rattle.schedule_trie.proofs.branches.KeyedBranches.{keys_in-of, keyed_branches-divided}
 use Rattle.schedule_trie.proofs.segments.TouchedSegments.{parted}
 
--- a list from an index on
+-- the first `length xs - n` items of `drop n xs` are all of them
 pub rest_of : {X : Type 0} (n : ℕ) (xs : List X) → take (length xs - n) (drop n xs) ≡ drop n xs
 rest_of n xs = ap (λ k. take k (drop n xs)) (sym (length-drop n xs)) ∙ take-length (drop n xs)
 

@@ -23,7 +23,7 @@ module _ (key new : ℕ) where
       sym (append_assoc front (new ∷ []) (key ∷ divided_keys key new back)) in
       flat_map-append (above_key key new) front (key ∷ back) ∙ (λ i. divided-other key new front h i ++ here i) ∙ there
 
-  -- up to the new key
+  -- the keys of a divided path down to the new key: the n keys before `key`, and the new key
   divided-front : (ks : List ℕ) (n : ℕ) → n < length ks → key ≡ get_or ks n 0 → has key (take n ks) ≡ false
       → take (n + 1) (divided_keys key new ks) ≡ take n ks ++ new ∷ []
   divided-front ks n inside at_key lacks =

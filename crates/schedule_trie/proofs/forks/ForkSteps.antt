@@ -19,7 +19,7 @@ use Rattle.schedule_trie.proofs.forks.Forks.{with_front, front_whole, front_fork
 use Rattle.schedule_trie.proofs.segments.StepSet.{item_there}
 use Rattle.schedule_trie.proofs.branches.KeyedBranches.{names_on, keys_in-of, keyed_branches-last}
 
--- a path whose name no branch has is added last
+-- a branch with a new name is added last, with the first `count` keys of the branch at `index`
 module _ {T : Type 0} (c : TrieOf T) (u : Inside T) (name : List ℕ) (index count : ℕ) (es : List (List ℕ × Option ℕ)) (paths : List (List ℕ)) (path : List ℕ) (v : Option ℕ)
     (branches : keyed_branches (keys_of es) paths ≡ c.branches) (as_many : length paths ≡ length (keys_of es))
     (segments : segments_of u.segments.items ≡ c.segments) (made : u.made ≡ c.made) (limits : u.limits ≡ c.limits)

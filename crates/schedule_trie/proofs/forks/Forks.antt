@@ -17,7 +17,7 @@ has-keys_in [] more i k h = absurd (true≢false (sym h))
 has-keys_in (t ∷ ts) more zero k h = h
 has-keys_in (t ∷ ts) more (suc i) k h = has-keys_in ts more i k h
 
--- the front of a linked path is linked
+-- the first n keys of a linked path are linked
 pub linked_front : (above : ℕ → Option ℕ) (up : Option ℕ) (n : ℕ) (ks : List ℕ) → Linked above up ks → Linked above up (take n ks)
 linked_front above up zero ks l = tt
 linked_front above up (suc n) [] l = tt
@@ -30,7 +30,7 @@ module _ {T : Type 0} where
   branches_on-append : (at : ℕ → Option (SegmentOf T)) (a b : List KeyedBranch) → branches_on at (a ++ b) ≡ branches_on at a ++ branches_on at b
   branches_on-append at a b = map-append (branch_on at) a b
 
-  -- the front of a path has the first cells of its line
+  -- the cells at the first n keys of a path are the first cells of the path's line
   pub line_front : (at : ℕ → Option (SegmentOf T)) (n : ℕ) (ks : List ℕ) → line at (take n ks) ≡ take (length (line at (take n ks))) (line at ks)
   line_front at n ks =
       sym (take-append_seam (line at (take n ks)) (line at (drop n ks)))
@@ -89,7 +89,7 @@ module _ {T : Type 0} (c : TrieOf T) (name : List ℕ) (index count : ℕ) (whol
       ∙ ap (λ n. take n (line (segment_at c.segments) (keys_in c.branches index))) e
       ∙ ap (take place) (sym (slots_in_on (segment_at c.segments) c.branches index)))
 
-  -- no segment has cells both in the front and after it
+  -- no segment has cells on both sides of the fork's place, and no note is lost
   front_notes : (place : ℕ) → length (line (segment_at c.segments) front) ≡ place → (source : List ℕ) → index_of (forest c).branches source ≡ Some index
       → KeepsNotesOff c after (IsParted c source place)
   front_notes place e source found = record {

@@ -22,6 +22,7 @@ name_known edition [] i = refl
 name_known edition (e ∷ es) zero = refl
 name_known edition (e ∷ es) (suc i) = name_known edition es i
 
+-- the length in an entry, if there is an entry and the length is known in this edition
 abbrev pub known_at : ℕ → Option (List ℕ × Cached) → Option ℕ
 known_at edition None = None
 known_at edition (Some e) = known_in edition e.1
@@ -95,12 +96,13 @@ forgotten edition [] h i = refl
 forgotten edition (e ∷ es) h zero = not_known edition e.1 (h 0)
 forgotten edition (e ∷ es) h (suc i) = forgotten edition es (λ j. h (suc j)) i
 
+-- lengths cached before an edition were also cached before each later one
 pub later : (edition more : ℕ) (es : List (List ℕ × Cached)) → edition ≤ more → AreEarlier edition es → AreEarlier more es
 later edition more [] less h i = tt
 later edition more (e ∷ es) less h zero = let first : e.1.edition < edition = h 0 in omega (arith, less, first)
 later edition more (e ∷ es) less h (suc i) = later edition more es less (λ j. h (suc j)) i
 
--- after one more cached length becomes `unknown`, all up to there are
+-- after the next cached length becomes `unknown`, all up to it have an edition below 1
 pub one_more_unknown : (es : List (List ℕ × Cached)) (index : ℕ) → ((i : ℕ) → i < index → IfSome (slice_get es i) (λ e. e.1.edition < 1))
     → (i : ℕ) → i < index + 1 → IfSome (slice_get (set_value_at es index unknown) i) (λ e. e.1.edition < 1)
 one_more_unknown [] index h i less = tt

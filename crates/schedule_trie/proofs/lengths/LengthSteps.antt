@@ -64,7 +64,7 @@ forked_lengths t new entries index place name right free is is_step =
     subst (λ l. AreLengths l (forest new).branches) (sym all)
     (subst (AreLengths (es ++ (name, None) ∷ [])) (sym is_step.branches) (lengths_more es (forest (trie_of t)).branches name _ count right))
 
--- no length is cached any more
+-- only cached lengths differ between the fields t and u; in u none is cached, or all are right
 module _ {T : Type 0} (t u : Inside T) (names : names_of u ≡ names_of t) (segments : u.segments ≡ t.segments) (made : u.made ≡ t.made) (limits : u.limits ≡ t.limits) where
   pub none_held : IsHeldTrie t → AreNames (names_of t) → ((i : ℕ) → cached_in (slice_get u.branches.entries i) ≡ None) → IsKept u
   none_held held named none = record {

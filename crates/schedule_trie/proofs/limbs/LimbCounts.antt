@@ -21,7 +21,7 @@ module _ (ls : List Limb) (i : ℕ) (l : Limb) (less : i < length ls) (at : get_
       let sum = cells_of-append (take i ls) (l ∷ []) in
       let whole = ap cells_of more in omega arith
 
-  -- the limit is exceeded at the next limb, or not yet
+  -- the next limb has more steps than there is room for; or there is room, and less is left
   pub too_many_here : (room most : ℕ) → cells_of (take i ls) + room ≡ most → room < length l.steps → true ≡ nat_lt most (cells_of ls)
   too_many_here room most so_far few =
       let next = cells_of-next in

@@ -47,7 +47,7 @@ slots_in-taken (suc n) [] j less = refl
 slots_in-taken (suc n) (b ∷ bs) zero less = refl
 slots_in-taken (suc n) (b ∷ bs) (suc j) less = slots_in-taken n bs j (omega arith)
 
--- a cell of the first part
+-- a cell of joined lists is in the list in which its index lies
 cell_in-left : (ys zs : List Slot) (n : ℕ) → n < length ys → has_slot (cell_in (ys ++ zs) n) ys ≡ true
 cell_in-left [] zs n less = absurd (omega arith)
 cell_in-left (y ∷ ys) zs zero less = slot-head y ys
@@ -66,7 +66,7 @@ line_has at k x (j ∷ ks) h g =
     (λ e. or_left (has_cell x (slots_of (at j))) (has_cell x (line at ks)) (subst (λ i. has_cell x (slots_of (at i)) ≡ true) e g))
     (λ r. or_right (has_cell x (slots_of (at j))) (has_cell x (line at ks)) (line_has at k x ks r g))
 
--- the mark after which a path goes on
+-- m is the mark of the last key of `front`; or `front` is empty, and m has branch 0 and 0 cells
 stem_cases : (marks : List (Option Mark)) (front : List ℕ) (m : Mark) (P : Type 0) → IsMarkOf marks (last_of front) m → (front ≡ [] → m ≡ mark 0 0 → P)
     → ((f : List ℕ) (k : ℕ) → front ≡ f ++ k ∷ [] → mark_at marks k ≡ Some m → P) → P
 stem_cases marks [] m P is none some = none refl is

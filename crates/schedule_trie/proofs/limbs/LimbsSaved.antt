@@ -26,13 +26,14 @@ taken_next xs i x e =
     let next : i + 1 ≡ suc i = omega arith in
     ap (λ n. take n xs) next ∙ take_more xs i x e
 
--- a list of places with no mark has none after one more such place
+-- a list without marks is still without marks after None is added
 pub empty_more : (marks : List (Option Mark)) → ((k : ℕ) → mark_at marks k ≡ None) → (k : ℕ) → mark_at (marks ++ None ∷ []) k ≡ None
 empty_more [] h zero = refl
 empty_more [] h (suc k) = refl
 empty_more (m ∷ marks) h zero = h 0
 empty_more (m ∷ marks) h (suc k) = empty_more marks (λ j. h (suc j)) k
 
+-- a list with no marks, and with a place for each key, has the right marks before the first branch
 pub no_marks_first : {T : Type 0} (t : Inside T) (c : TrieOf T) (room : ℕ) (marks : List (Option Mark)) → trie_of t ≡ c
     → ((k : ℕ) → room ≤ k → item_at t.segments k ≡ None) → room ≤ length marks → ((k : ℕ) → mark_at marks k ≡ None) → MarksFirst c 0 marks
 no_marks_first t c room marks view past long empty =

@@ -28,7 +28,7 @@ only_last : (g : List Slot → List Slot) (bs : List Branch) (b : Branch) → on
 only_last g [] b = refl
 only_last g (c ∷ bs) b = ap (λ l. c ∷ l) (only_last g bs b)
 
--- a fork, then the limb's own steps
+-- a limb's branch is added: first by a fork, then with the limb's own steps
 module _ {T : Type 0} (a was b d : TrieOf T) (l : Limb) (steps : List Step) (index : ℕ) (can : CanGrow a l) (same : was ≡ a) (own : steps ≡ l.steps) (count : index ≡ length (forest was).branches)
     (fork : IsBranchForked was b l.from l.shared l.name) (push : ArePushed b d index steps) where
   last : index ≡ length (forest a).branches
@@ -87,7 +87,7 @@ grown_small a l whole can =
     let cells = can.cells in
     let most = whole.within.most_cells in omega arith
 
--- the first of lawful limbs are lawful, and so is the next
+-- the first n of lawful limbs are lawful; the last has a new name, and `may_share` accepts it
 lawful_first : (earlier ls : List Limb) (n : ℕ) → are_lawful_after earlier ls ≡ true → are_lawful_after earlier (take n ls) ≡ true
 lawful_first earlier ls zero h = refl
 lawful_first earlier [] (suc n) h = refl
@@ -108,7 +108,7 @@ lawful_last earlier (x ∷ xs) l h =
     let q = and_parts (may_share earlier x) (are_lawful_after (earlier ++ x ∷ []) (xs ++ l ∷ [])) p.1 in
     subst (λ e. (is_new_name e l.name ≡ true) × (may_share e l ≡ true)) (append_assoc earlier (x ∷ []) xs) (lawful_last (earlier ++ x ∷ []) xs l q.1)
 
--- the invariant of a forest of lawful limbs
+-- a forest keeps its invariant, `HasGrown`, when lawful limbs are added
 grown_all : (earlier : List Limb) (f : Forest) (ls : List Limb) → HasGrown earlier f → are_lawful_after earlier ls ≡ true → HasGrown (earlier ++ ls) (grow f ls)
 grown_all earlier f [] h lawful = subst (λ e. HasGrown e f) (sym (append-nil earlier)) h
 grown_all earlier f (l ∷ ls) h lawful =
@@ -146,7 +146,7 @@ free_name ls name new =
     ap (list_any (pointwise nat_eq name)) names ∙ any_names name ls ∙ not-true (list_any (has_name name) ls) p.1 in
     (p.0, none_found (pointwise nat_eq name) (map name_of (forest_of ls).branches) none)
 
--- the next of lawful limbs
+-- limb n of lawful limbs, once the n limbs before it have been added
 module _ (ls : List Limb) (lawful : AreLawfulLimbs ls) (n : ℕ) (l : Limb) (less : n < length ls) (at : get_or ls n l ≡ l) where
   abbrev xs : List Limb
   xs = take n ls
@@ -186,8 +186,8 @@ module _ (ls : List Limb) (lawful : AreLawfulLimbs ls) (n : ℕ) (l : Limb) (les
     grown_next d change =
         change.forest_is ∙ ap (λ f. grown f l) is ∙ sym (grow-last no_branches xs l) ∙ ap forest_of (sym more)
 
--- an item of the rest
--- the first limb
+-- the first limb: a forest of one branch, with this limb's name and steps, is the forest that the
+-- list of this limb alone describes
 abbrev no_slots : List Slot
 no_slots = []
 

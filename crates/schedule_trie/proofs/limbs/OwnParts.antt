@@ -1,4 +1,4 @@
--- Climbing a path up to its last key that is marked or known.
+-- Climbs of a path past keys that satisfy a condition: here, that they have no mark.
 use Rattle.std.proofs.Common.{◌≡◌, ℕ, true, List, [], ◌∷◌, ◌++◌, reverse, Option, Some, None, refl, sym, ap, subst, ◌∙◌, true≢false, append_assoc, append-nil}
 use Rattle.std.proofs.lemmas.List.{reverse-append}
 use Rattle.lineage.specs.Family.{last_of}
@@ -10,7 +10,7 @@ use Rattle.schedule_trie.proofs.climbs.Climbs.{IsLast, IsStepUp}
 use Rattle.schedule_trie.proofs.lists.NoRepeats.{has_cases, last_from-push}
 use Rattle.schedule_trie.proofs.lists.KeyPositions.{parting}
 
--- a climb is at a key; `own` are the keys below it, each of which is free
+-- a climb has reached `at`; `own` are the keys that it has passed, and each satisfies `IsFree`
 pub record IsClimbing (IsFree : ℕ → Type 0) (keys : List ℕ) (at : Option ℕ) (own : List ℕ) : Type 0 where
   pub reached : HasClimbedTo keys at
   pub is : keys ≡ keys_to keys at ++ reverse own
@@ -40,7 +40,7 @@ module _ (IsFree : ℕ → Type 0) (keys : List ℕ) where
             (λ same. subst IsFree (sym same) key_free) (λ rest. c.free k rest);
       }
 
--- the keys that a climb to the last marked key has passed
+-- the key has no mark: `IsFree` of a climb up to the last marked key
 abbrev pub IsUnmarked : List (Option Mark) → ℕ → Type 0
 IsUnmarked marks k = mark_at marks k ≡ None
 

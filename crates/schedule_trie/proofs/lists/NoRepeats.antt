@@ -23,7 +23,7 @@ pub Once-right : (xs ys : List ℕ) → Once (xs ++ ys) → Once ys
 Once-right [] ys h = h
 Once-right (x ∷ xs) ys h = Once-right xs ys h.1
 
--- no number is in two parts of it
+-- no number is in both of two lists that have no number twice when joined
 pub Once-apart : (x : ℕ) (xs ys : List ℕ) → Once (xs ++ ys) → has x xs ≡ true → has x ys ≡ true → ⊥
 Once-apart x [] ys once a b = true≢false (sym a)
 Once-apart x (z ∷ xs) ys once a b =

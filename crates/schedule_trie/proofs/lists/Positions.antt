@@ -3,7 +3,7 @@ use Rattle.std.proofs.Common.{◌≡◌, ℕ, zero, suc, ◌+◌, true, List, []
 use Rattle.schedule_trie.specs.Trie.{has, Linked}
 use Rattle.schedule_trie.proofs.lists.NoRepeats.{Ups, Ups-one, has_cases}
 
--- the way up from an index of a path
+-- above a path's key are as many keys as its index, and those above the path
 ups_at : (above : ℕ → Option ℕ) (up : Option ℕ) (seen ks : List ℕ) (place k : ℕ) → Ups above up seen → Linked above up ks → slice_get ks place ≡ Some k
     → (ys : List ℕ) × Ups above (above k) ys × (length ys ≡ length seen + place)
 ups_at above up seen [] place k u l e = absurd (cc)

@@ -9,7 +9,7 @@ use Rattle.schedule_trie.proofs.branches.Lines.{slots_in_on}
 use Rattle.schedule_trie.proofs.segments.Notes.{notes_but}
 use Rattle.branch_terms.proofs.Lists.{slice_get_some}
 
--- the result of `cell_on_branch`
+-- `cell_on_branch` gives the cell at the spot's offset in its segment
 pub cell_found : {T : Type 0} (c : TrieOf T) (name : List ℕ) (place index key offset : ℕ) (s : Slot) → index_of (forest c).branches name ≡ Some index
     → SpotHasCellAt (segment_at c.segments) (keys_in c.branches index) place (key, offset) → slice_get (slots_of (segment_at c.segments key)) offset ≡ Some s
     → cell_on_branch (forest c) name place ≡ Some s.cell
@@ -18,7 +18,7 @@ cell_found c name place index key offset s found cell_there here =
     ∙ ap (λ l. option_map cell_of (slice_get l place)) (slots_in_on (segment_at c.segments) c.branches index)
     ∙ ap (option_map cell_of) (sym cell_there.same ∙ here)
 
--- the segment of the cell at a place of a branch
+-- the segment in which the cell at a place is found has that cell
 pub holds_cell : {T : Type 0} (c : TrieOf T) (name : List ℕ) (place index key offset : ℕ) → index_of (forest c).branches name ≡ Some index
     → SpotHasCellAt (segment_at c.segments) (keys_in c.branches index) place (key, offset) → HoldsCellAt c name place key
 holds_cell c name place index key offset found cell_there =

@@ -52,7 +52,7 @@ module _ {T : Type 0} where
         ∙ sym (get_or-map segment_of slots j None);
   }
 
--- induction on cells that don't have a number
+-- induction on a list of cells, none of which has the number x
 pub absent_by : (x : ℕ) (P : List Slot → Type 0) → P [] → ((s : Slot) (ss : List Slot) → nat_eq s.cell x ≡ false → P ss → P (s ∷ ss))
     → (slots : List Slot) → has_cell x slots ≡ false → P slots
 absent_by x P none more [] h = none
@@ -98,13 +98,13 @@ set_step-cells [] i step = refl
 set_step-cells (z ∷ zs) zero step = refl
 set_step-cells (z ∷ zs) (suc i) step = ap (λ l. z.cell ∷ l) (set_step-cells zs i step)
 
--- setting a step is a write of a cell at the index
+-- setting a step is writing, at the index, a cell with the same number and the new step
 pub set_step-write : (slots : List Slot) (i : ℕ) (d : Slot) (step : Step) → i < length slots → slice_set slots i (slot (slice_index_or slots i d).cell step) ≡ set_step slots i step
 set_step-write [] i d step h = absurd (omega arith)
 set_step-write (z ∷ zs) zero d step h = refl
 set_step-write (z ∷ zs) (suc i) d step h = ap (λ l. z ∷ l) (set_step-write zs i d step (omega arith))
 
--- at each key, the segments before and after have the same cells
+-- at each key, the segments before and after have the same cells, perhaps with other steps
 pub record SameCells {T : Type 0} (old new : ℕ → Option (SegmentOf T)) : Type 0 where
   pub cells : (k : ℕ) → map cell_of (slots_of (new k)) ≡ map cell_of (slots_of (old k))
   pub there : (k : ℕ) → IsSome (old k) → IsSome (new k)

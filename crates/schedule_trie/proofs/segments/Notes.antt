@@ -12,7 +12,7 @@ is_touched (Some j) k = by (nat_eq j k) refl
     by true e = inl (ap Some (eqb-true j k e))
     by false e = inr (λ s. let same : j ≡ k = cc in true≢false (sym (eq-eqb j k same) ∙ e))
 
--- two segments, of which either may be missing, have the same cells
+-- if `slots_by` gives the same for two segments, `slots_of` does; if it gives None, there is none
 slots_from : {T : Type 0} (o q : Option (SegmentOf T)) → slots_by o ≡ slots_by q → slots_of o ≡ slots_of q
 slots_from None None e = refl
 slots_from None (Some q) e = cc
@@ -23,7 +23,7 @@ none_from : {T : Type 0} (o : Option (SegmentOf T)) → slots_by o ≡ None → 
 none_from None e = refl
 none_from (Some p) e = cc
 
--- if the touched segment has changed, one with unchanged cells keeps its note
+-- if the touched segment has other cells than before, each with unchanged cells keeps its note
 pub unchanged_kept : {T : Type 0} (old new : TrieOf T) (notes : KeepsNotes old new) → ((k : ℕ) → notes.touched ≡ Some k → HasChanged old new k)
     → KeepsUnchanged old new
 unchanged_kept {T} old new notes changed k same = by (segment_at old.segments k) refl
@@ -94,7 +94,7 @@ module _ {T : Type 0} (c d : TrieOf T) (key : ℕ) (others : (j : ℕ) → (j �
     only = λ k e. absurd (cc);
   }
 
--- the same, with conditions on that key
+-- `KeepsNotesBut` holds if just `key` is touched, `Must` holds of no other key, and `May` of `key`
 pub notes_but : {T : Type 0} (c d : TrieOf T) (key : ℕ) (Must May : ℕ → Type 0) → KeepsNotesOff c d (λ k. k ≡ key) → ((k : ℕ) → Must k → k ≡ key) → May key
     → KeepsNotesBut c d Must May
 notes_but c d key Must May n must may =

@@ -70,6 +70,7 @@ module _ {T : Type 0} where
 abbrev pub with_segment : {T : Type 0} → Inside T → ℕ → Segment T → Inside T
 with_segment t key w = record t { segments = with_item t.segments key w }
 
+-- storing w in place of v changes the trie's segment at `key`, from v's to w's, and no other
 pub record IsSeen {T : Type 0} (t : Inside T) (key : ℕ) (v w : Segment T) : Type 0 where
   pub change : Changes (segment_at (trie_of t).segments) (segment_at (trie_of (with_segment t key w)).segments) key (segment w.slots.items w.note)
   pub was : segment_at (trie_of t).segments key ≡ Some (segment v.slots.items v.note)

@@ -81,7 +81,7 @@ module _ {T : Type 0} (c : TrieOf T) (name : List ℕ) (index : ℕ) (found : in
             (spot_in_last at end.front key (length (slots_of (at key)) - 1) (omega arith)));
       }
 
--- a cell that is read is one of a list
+-- if `option_map` gives the number x for `o`, then `o` is a cell with this number
 some_cell : (o : Option Slot) (x : ℕ) → option_map cell_of o ≡ Some x → (s : Slot) × (o ≡ Some s) × (s.cell ≡ x)
 some_cell None x e = absurd (cc)
 some_cell (Some s) x e = (s, refl, cc)
@@ -112,7 +112,7 @@ module _ {T : Type 0} (c : TrieOf T) (name : List ℕ) (index place count : ℕ)
   parts : line (segment_at c.segments) (keys_in c.branches index) ≡ line (segment_at c.segments) front ++ line (segment_at c.segments) back
   parts = ap (line (segment_at c.segments)) (sym (take-append-drop count (keys_in c.branches index))) ∙ line-append (segment_at c.segments) front back
 
-  -- a segment with a cell of a line is in the line's keys
+  -- the key of a segment that has a cell of a line is one of the line's keys
   in_keys : (keys : List ℕ) (x k offset : ℕ) (s : Slot) → slice_get (line (segment_at c.segments) keys) offset ≡ Some s → s.cell ≡ x
       → has_cell x (slots_of (segment_at c.segments k)) ≡ true → has k keys ≡ true
   in_keys keys x k offset s e same h =

@@ -81,8 +81,8 @@ impl<T: Drop> Trie<T> {
         self.find_cell_of(index, self.len_at(index), place)
     }
 
-    /// Same as `find_cell`, for a branch of which it's known that it has `len` cells, so that these
-    /// aren't counted.
+    /// Same as `find_cell`, but takes the number of the branch's cells, `len`, so that they aren't
+    /// counted.
     pub fn find_cell_of(&self, index: usize, len: u32, place: u32) -> Option<(SegKey, usize)>
         requires { len ≡ length (slots_in (forest self.now).branches index) }
         ensures found { IfSome result (SpotHasCellAt (segment_at self.now.segments)

@@ -6,7 +6,7 @@ use Rattle.branch_terms.specs.declared.slot.Slot.{Slot}
 use Rattle.branch_terms.specs.Forest.{step_of}
 use Rattle.schedule_trie.proofs.trie.push_steps.Goals as goal
 
--- the steps so far
+-- `done` are the steps added so far
 module _ (slots : List Slot) (i : ℕ) (done all : List Step) (was : done ++ map step_of (drop i slots) ≡ all) where
   one_more : (d : Slot) (more : List Step) → i < length slots → more ≡ done ++ (get_or slots i d).step ∷ []
       → more ++ map step_of (drop (i + 1) slots) ≡ all

@@ -7,8 +7,8 @@ use Rattle.lineage.specs.Lineages.{node, node_over, node_under}
 use Rattle.lineage.proofs.Counts.{one, count_changed}
 use Rattle.lineage.proofs.lineage.divide.put_above.Goals as goal
 
--- a node is put over an existing one, below a new one:
--- the slab before, then with the new node, then at last
+-- a new node is put at `fresh`, and then n replaces the node at `key`; `old` is the slab before,
+-- and `mid` the slab between the two changes
 module _ {X : Type 0} (old mid : Slab (Node X)) (key fresh : ℕ) (o n : Node X) (there : ContainsKey old key) (vacant : get old fresh ≡ None)
     (updates : Updates old mid fresh (Some o)) where
   apart : key ≢ fresh

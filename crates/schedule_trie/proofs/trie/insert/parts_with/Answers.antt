@@ -20,7 +20,7 @@ returns-then-offset-lt-UPPER_SLOTS-clause-parts c =
     ∙ ap (λ l. insert (take 64 slots) c.args.offset c.args.slot ++ l) back
     ∙ insert-front slots 64 c.args.offset c.args.slot (omega (arith, c.if-offset-lt-UPPER_SLOTS.true))
 
--- the first part, if it gets the new cell
+-- if the first 64 cells get the new one, they are 65
 first_len : (slots above : List Slot) (offset : ℕ) (slot : Slot) → 128 ≤ length slots → offset < 64 → above ≡ insert (take 64 slots) offset slot → length above ≡ 65
 first_len slots above offset slot full less is =
     let front = length-take-le 64 slots (omega (arith, full)) in
