@@ -43,7 +43,7 @@ quiet_writes (e ∷ es) q r =
     let roles = and_parts (has_role e.1) (list_all (λ x. has_role x.1) es) r in
     writes_first e es ∙ ap (λ b. cond b 1 0 + returned_writes es) (unwritten e.1 quiet.0 roles.0) ∙ ap (λ n. 0 + n) (quiet_writes es quiet.1 roles.1) ∙ (omega arith)
 
--- none returns while a write is in progress
+-- no write returns while one is in progress
 progress_writes : (v : ℕ) (xs : List (ℕ × Event)) (w : InProgress 0 (op.Write v) xs) → HaveRoles xs → returned_writes xs ≡ returned_writes w.earlier
 progress_writes v xs w r =
     let x : ℕ × Event = (w.step, Invoke 0 (op.Write v)) in
@@ -60,7 +60,7 @@ one_returned k i (Wrote p) es later ends =
     ap (λ o. length (returning o k).returned) write.1 ∙ length-append k.returned (write.0 ∷ [])
 one_returned k i e es later ends = ap length (noting_returned (counts e (is_refused (es ++ later))) k e refl) ∙ (omega arith)
 
--- as many values are known as writes returned
+-- `Known` has as many values of returned writes as writes returned
 returned_count : (k : Known) (xs later : List (ℕ × Event)) → EndsWrites k xs later → length (known k xs later).returned ≡ length k.returned + returned_writes xs
 returned_count k [] later ends = omega arith
 returned_count k (e ∷ es) later ends =
@@ -69,7 +69,7 @@ returned_count k (e ∷ es) later ends =
     let first = writes_first e es in
     omega (arith, rest, one, first)
 
--- the write that returned when m writes had
+-- a write of v returns in `xs`, when the values of m returned writes are known
 record ReturnAt (k : Known) (xs later : List (ℕ × Event)) (m v : ℕ) : Type 0 where
   before : List (ℕ × Event)
   step : ℕ
@@ -127,7 +127,7 @@ module _ (initial : ℕ) where
   abbrev values : List (ℕ × Event) → List (ℕ × Event) → List ℕ
   values xs later = (known first xs later).returned ++ in_progress (known first xs later).writing
 
-  -- a write in progress, and one that returned, with their numbers
+  -- the number of a write in progress, and that of a write that returned
   write_in_progress : (xs later : List (ℕ × Event)) (v : ℕ) → IsOneWriterHistory (xs ++ later) → (known first xs later).writing ≡ Some v
       → IsWrite (length (known first xs later).returned + 1) v xs later
   write_in_progress xs later v whole writing =
@@ -162,7 +162,7 @@ module _ (initial : ℕ) where
             omega (arith, all, same, count));
       }
 
-  -- a value by its number is that of the write with this number
+  -- the value at index m is that of write number m + 1
   write_of_value : (xs later : List (ℕ × Event)) (m v d : ℕ) → IsOneWriterHistory (xs ++ later) → m < length (values xs later) → get_or (values xs later) m d ≡ v → IsWrite (m + 1) v xs later
   write_of_value xs later m v d whole high value =
       elim (cases_lt m (length k.returned)) as (λ _. IsWrite (m + 1) v xs later) [
@@ -186,7 +186,7 @@ module _ (initial : ℕ) where
           let same : u ≡ v = sym (get_or_at (known first xs later).returned u [] d m at) ∙ value in
           subst (λ n. IsWrite (n + 1) v xs later) at (write_in_progress xs later v whole (e ∙ ap Some same))
 
-  -- the write with a number has its place among the values
+  -- in the list of the initial value and the values of writes, v is at index n
   record HasValue (xs later : List (ℕ × Event)) (n v : ℕ) : Type 0 where
     high : n < length (initial ∷ values xs later)
     value : get_or (initial ∷ values xs later) n initial ≡ v
@@ -269,7 +269,8 @@ module _ (initial : ℕ) where
         }
         by (inr write) = let v = value_of_write before (afterwards r) n r.value full write in record { low = low; high = v.high; value_of = v.value }
 
-  -- numbers of the returned reads of a history, each by how many returned before it
+  -- numbers for the returned reads of a history: `number i`, which is at least `floor`, is for the
+  -- read that returns after i others, and is its number by `IsNumber`
   record Given (floor : ℕ) (k : Known) (history : List (ℕ × Event)) : Type 0 where
     number : ℕ → ℕ
     least : (i : ℕ) → floor ≤ number i
@@ -280,7 +281,7 @@ module _ (initial : ℕ) where
   abbrev Says : ℕ → Known → Event → Type 0
   Says n k e = OnReturn (λ k p x. IsNumber initial k p x n) k e
 
-  -- the first event's number, and the numbers of the others
+  -- a number for the first event, if this counts, and numbers for the others (`Numbered`)
   record Cut (counted : Bool) (floor : ℕ) (k : Known) (e : Event) (rest : List (ℕ × Event)) : Type 0 where
     n : ℕ
     low : floor ≤ n

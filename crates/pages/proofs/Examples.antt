@@ -31,12 +31,12 @@ use Rattle.pages.specs.Strays.{AreVerdictsOn}
 abbrev Events : Type 0
 Events = List (ℕ × Event)
 
--- the event at a place of a list
+-- the event at an index of a list
 abbrev event_at : ℕ → Events → Event
 event_at k events = (slice_index_or events k (0, Stop 9)).1
 
--- the value of the write that an event invokes, and the process whose write it returns; 7 for any
--- other event
+-- the value of the write that an event invokes, and (`writer_of`) the process whose write returns
+-- in it; 7 for any other event
 abbrev value_of : Event → ℕ
 value_of (Invoke p (Write v)) = v
 value_of e = 7
@@ -285,7 +285,7 @@ IsJudged-fails h = by h.before h.verdict h.following h.split h.on_it
 abbrev read_verdict : ReadVerdict
 read_verdict = record { step = 2; process = 1; value = 0; verdict = Fresh }
 
--- process 1 reads a safe bit at 0: one invocation and two bit actions
+-- process 1 reads a safe bit whose value is 0: one invocation and two bit actions
 AreVerdictsOn-holds : AreVerdictsOn safe_behaviour (read_verdict ∷ [])
 AreVerdictsOn-holds = record { value = 0; steps = step.Read 1 ∷ step.Go 1 0 ∷ step.Go 1 0 ∷ []; within = omega arith; fit = fit; judged = refl }
   where
@@ -365,7 +365,7 @@ abbrev written_by : Option Event → ℕ
 written_by (Some (Invoke p (Write v))) = v + 1
 written_by e = 0
 
--- what invokes a write of v
+-- for the event that invokes a write of v, `written_by` gives v + 1
 invokes_write : {history : Events} (v : ℕ) (a : Operation history) → a.op ≡ Write v → written_by (linear.event_at history a.number) ≡ v + 1
 invokes_write v a is = ap written_by (a.invoked ∙ ap (λ o. Some (Invoke a.process o)) is)
 

@@ -1,5 +1,5 @@
--- A law about what `Known` holds when each read returns is equivalent to Lamport's law: lemmas
--- `.._in_words` lead from it to Lamport's words, and lemmas `.._by_words` back.
+-- A law stated by what `Known` has when a read returns is equivalent to the same law in Lamport's
+-- words: lemmas `.._in_words` lead to Lamport's words, and lemmas `.._by_words` back.
 use Rattle.std.proofs.Common.{◌≡◌, ◌≢◌, ℕ, ◌<◌, Bool, true, false, ◌||◌, List, [], ◌∷◌, ◌++◌, length, drop, Option, Some, None, ◌⊎◌, inl, inr, refl, sym, ap, subst, ◌∙◌, true≢false, eq-eqb}
 use Rattle.std.specs.Prelude.{◌==◌, ◌↔◌, if◌then◌else◌}
 use Rattle.std.specs.List.{list_any}
@@ -55,7 +55,7 @@ module _ (Says : Known → ℕ → ℕ → Type 0) where
       by (Stop p) same = tt
       by (Chosen p bit v) same = tt
 
--- a law of each return, and the same in words, if the two agree on each read
+-- from `Says` of each read, as it returns, to `Words` of each returned read, and back
 module _ (initial : ℕ) (history : List (ℕ × Event)) (h : IsOneWriterHistory history) (Says : Known → ℕ → ℕ → Type 0) (Words : ReturnedRead history → Type 0) where
   each_in_words : ((r : ReturnedRead history) → Says (then_known initial r) r.process r.value → Words r) → EachRead Says (initially initial) (accepted history) → (r : ReturnedRead history) → Words r
   each_in_words f each r =
@@ -69,7 +69,7 @@ module _ (initial : ℕ) (history : List (ℕ × Event)) (h : IsOneWriterHistory
           let r = read_of history xs i p v ys s w in
           subst (λ l. Says (known (initially initial) l ((i, Got p v) ∷ ys)) p v) (sym w.split) (f r (words r))
 
--- a verdict, and what is fresh and what overlaps
+-- what a verdict says of A, that the value is fresh, and of B, that a write of the value overlaps
 seen_unless_stray : (verdict : Verdict) (A B : Type 0) → MatchVerdict verdict A B → verdict ≢ Stray → A ⊎ B
 seen_unless_stray Fresh A B h n = inl h
 seen_unless_stray Overlap A B h n = inr h.1
@@ -91,7 +91,7 @@ so_if_fresh Fresh A B h a = refl
 so_if_fresh Overlap A B h a = absurd (h.0 a)
 so_if_fresh Stray A B h a = absurd (h.0 a)
 
--- if there are no values, none passes either test
+-- there are no values exactly if no value passes either test
 none_among : (xs : List ℕ) (o : Option ℕ) → xs ++ in_progress o ≡ [] → (v : ℕ) → (list_any (λ u. u == v) xs || is_value v o) ≡ false
 none_among [] None e v = refl
 none_among [] (Some u) e v = absurd cc
@@ -118,7 +118,7 @@ module _ (initial : ℕ) (history : List (ℕ × Event)) (h : IsOneWriterHistory
   invoked : reading r.process all ≡ invoked_now r.process upto
   invoked = reading_of_progress r.process (initially initial) r.earlier r.since (afterwards r) r.invoked r.quiet
 
-  -- if no value overlaps a read, no write overlaps it
+  -- if `Known` has no value that overlaps a read, no write overlaps it; and back
   alone_in_words : overlapped r.process all ≡ [] → (v : ℕ) → ¬ Overlaps v r
   alone_in_words e v w =
       let none : drop (length upto.returned) all.returned ++ in_progress all.writing ≡ [] =
@@ -143,7 +143,7 @@ module _ (initial : ℕ) (history : List (ℕ × Event)) (h : IsOneWriterHistory
   regular_by_words : FreshOrOverlapping initial r → NotStray all r.process r.value
   regular_by_words says = not_stray_if_seen (judged all r.process r.value) _ _ (verdict_words initial history h r) says
 
--- what is said of each read that returns, and in words
+-- from the law that `Says` holds of each read as it returns to the law in words, and back
 module _ {P : Type 0} (b : Behaviour P) (records : HasOneWriter b → RecordsHistories b) where
   module _ (Says : Known → ℕ → ℕ → Type 0) (Words : (history : List (ℕ × Event)) → ℕ → ReturnedRead history → Type 0) where
     always_in_words : ((initial : ℕ) (history : List (ℕ × Event)) → IsOneWriterHistory history → (r : ReturnedRead history) → Says (then_known initial r) r.process r.value → Words history initial r)

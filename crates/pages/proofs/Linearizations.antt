@@ -31,7 +31,7 @@ state_first : (r : Ranking) (events : List (ℕ × Event)) (h : Ranked r events)
 state_first r [] h = refl
 state_first r (e ∷ es) h = refl
 
--- what one event of a ranked history does
+-- the event e may have the rank n after r, and with it r becomes z
 abbrev Does : Ranking → Option ℕ → Ranking → Event → Type 0
 Does r n z e = HasRank r e n × (z ≡ after_rank r e n)
 
@@ -51,7 +51,7 @@ within [] n e at = absurd (cc at)
 within (x ∷ es) zero e at = omega arith
 within (x ∷ es) (suc n) e at = let rest = within es n e at in omega (arith, rest)
 
--- ranks fall nowhere, and the value of a rank stays
+-- no event makes the greatest rank less, or changes the value of a rank that has one
 top_grows : (r : Ranking) (e : Event) (n : Option ℕ) → HasRank r e n → r.top ≤ (after_rank r e n).top
 top_grows r (Invoke p (op.Write v)) (Some n) h = omega arith
 top_grows r (Invoke p (op.Write v)) None h = omega arith
@@ -81,7 +81,7 @@ value_stays r (Void p reason) n m v h is = is
 value_stays r (Stop p) n m v h is = is
 value_stays r (Chosen p bit u) n m v h is = is
 
--- a value that has a rank had it before, or is that of a write with this rank
+-- the rank m had the value v before the event, or the event invokes a write of v with this rank
 abbrev Gets : Ranking → Event → Option ℕ → ℕ → ℕ → Type 0
 Gets r e n m v = (r.values m ≡ Some v) ⊎ ((p : ℕ) × ((e ≡ Invoke p (op.Write v)) × (n ≡ Some m)))
 
@@ -126,12 +126,12 @@ own_stays p r (Void q reason) n t = (refl, refl)
 own_stays p r (Stop q) n t = (refl, refl)
 own_stays p r (Chosen q bit v) n t = (refl, refl)
 
--- the rank of a write that is invoked, if any, and what was the greatest rank then, are kept
+-- the invocation of a write notes the write's rank, if any, and what the greatest rank was then
 begun : (p v : ℕ) (r : Ranking) (n : Option ℕ) → ((after_rank r (Invoke p (op.Write v)) n).mine p ≡ n) × ((after_rank r (Invoke p (op.Write v)) n).floor p ≡ r.top)
 begun p v r (Some n) = (put_same p (Some n) r.mine, put_same p r.top r.floor)
 begun p v r None = (put_same p None r.mine, put_same p r.top r.floor)
 
--- what holds at i, and at each number after a number from i at which it holds, holds from i on
+-- induction from i on: if Q holds at i, and passes from each k not below i to k + 1, it holds at j
 from : (Q : ℕ → Type 0) (i : ℕ) → Q i → ((k : ℕ) → i ≤ k → Q k → Q (suc k)) → (j : ℕ) → i ≤ j → Q j
 from Q i base next zero low = subst Q (let none : i ≡ 0 = omega (arith, low) in none) base
 from Q i base next (suc j) low = elim (cases_eq i (suc j)) as (λ _. Q (suc j)) [
@@ -139,7 +139,7 @@ from Q i base next (suc j) low = elim (cases_eq i (suc j)) as (λ _. Q (suc j)) 
   | inr other ↦ let less : i ≤ j = grind (arith, low, other) in next j less (from Q i base next j less)
 ]
 
--- the place of the operations with rank n, if each rank has `size` places
+-- the first place of the operations with rank n, if each rank has `size` places
 abbrev places : ℕ → ℕ → ℕ
 places size zero = 0
 places size (suc n) = size + places size n
@@ -151,7 +151,7 @@ places_grow size m (suc n) less = elim (cases_lt m n) as (λ _. size + places si
   | inr over ↦ let same : m ≡ n = omega (arith, less, over) in subst (λ k. size + places size m ≤ size + places size k) same (omega arith)
 ]
 
--- operations are in the order of their ranks, and of their turns within a rank
+-- places are in the order of the ranks m and n and, within a rank, of the offsets s and t
 comes_before : (size m n s t : ℕ) → s < size → m ≤ n → (m ≡ n → s < t) → places size m + s < places size n + t
 comes_before size m n s t small low turns = elim (cases_lt m n) as (λ _. places size m + s < places size n + t) [
   | inl under ↦ let more = places_grow size m n under in omega (arith, small, more)
@@ -168,12 +168,13 @@ places_rise size m n low = elim (cases_lt m n) as (λ _. places size m ≤ place
   | inr over ↦ let same : m ≡ n = omega (arith, low, over) in subst (λ k. places size m ≤ places size k) same (omega arith)
 ]
 
--- the rank of a read that an event returns
+-- of an event, if there is one, and the rank n that it is given: n if the event is the return of a
+-- read, else `None`
 abbrev got : Option Event → Option ℕ → Option ℕ
 got (Some (Got p v)) n = n
 got o n = None
 
--- whether it is an event by which a process begins or ends an operation
+-- whether there is an event, and process p begins or ends an operation by it
 abbrev pub is_own : ℕ → Option Event → Bool
 is_own p None = false
 is_own p (Some e) = begins_or_ends p e
@@ -210,7 +211,7 @@ module _ (initial : ℕ) (history : List (ℕ × Event)) (ranks : HasRanks initi
   still : (n : ℕ) → event_at history n ≡ None → state (suc n) ≡ state n
   still n at = stays_at (at_first first initial) history ranks.1 n at
 
-  -- what each event keeps
+  -- Q holds after event number n if it holds before, and the event, if there is one, keeps it
   kept : (Q : Ranking → Type 0) (n : ℕ) → ((e : Event) → event_at history n ≡ Some e → HasRank (state n) e (given n) → Q (after_rank (state n) e (given n))) → Q (state n) → Q (state (suc n))
   kept Q n keeps was = by (event_at history n) refl
     where
@@ -234,7 +235,8 @@ module _ (initial : ℕ) (history : List (ℕ × Event)) (ranks : HasRanks initi
       let all = was before in
       (one.0 ∙ all.0, one.1 ∙ all.1)) (was before)) n (omega (arith, less)) (omega arith)
 
-  -- a rank's value is the initial one, or that of a write with this rank
+  -- a write of v is given the rank n; `Origin` says that the value of a rank is that of such a
+  -- write, or the initial one
   abbrev Writes : ℕ → ℕ → Type 0
   Writes n v = (i : ℕ) × ((p : ℕ) × ((event_at history i ≡ Some (Invoke p (op.Write v))) × (given i ≡ Some n)))
 
@@ -262,7 +264,8 @@ module _ (initial : ℕ) (history : List (ℕ × Event)) (ranks : HasRanks initi
             | inr now ↦ inr (j, (now.0, (at ∙ ap Some now.1.0, now.1.1)))
           ]
 
-  -- a write's rank is above those of all operations that had returned, and no later write has it
+  -- before event i, the rank n is above those of all operations that have returned, and has no
+  -- value; after event i, it has the value v
   record IsWriteAt (i n v : ℕ) : Type 0 where
     above : (state i).top < n
     new : (state i).values n ≡ None
@@ -285,7 +288,8 @@ module _ (initial : ℕ) (history : List (ℕ × Event)) (ranks : HasRanks initi
     ]
   ]
 
-  -- the rank of a read that process p has invoked is that of its return, looked for from event k on
+  -- the rank given to the first of m events, from number k on, by which p begins or ends an
+  -- operation, if that event is the return of a read; else `None`
   abbrev scan : ℕ → ℕ → ℕ → Option ℕ
   scan p zero k = None
   scan p (suc m) k = if is_own p (event_at history k) then got (event_at history k) (given k) else scan p m (suc k)
@@ -340,7 +344,8 @@ module _ (initial : ℕ) (history : List (ℕ × Event)) (ranks : HasRanks initi
       by further None at rest = further (ap (is_own o.process) at) rest
       by further (Some e) at rest = here further e at (begins_or_ends o.process e) refl rest
 
-  -- the rank of an operation, and its turn among those with this rank
+  -- the rank of the operation that event i invokes, and (`turn_by`) the operation's offset within
+  -- that rank: 0 for a write, i + 1 for a read
   abbrev rank_by : ℕ → Option Event → Option ℕ
   rank_by i (Some (Invoke p (op.Write v))) = given i
   rank_by i (Some (Invoke p op.Read)) = scan p (length history) (suc i)
@@ -362,7 +367,7 @@ module _ (initial : ℕ) (history : List (ℕ × Event)) (ranks : HasRanks initi
   abbrev order : Order
   order = record { has = λ i. is_some (rank i); place = λ i. places size (unwrap_or (rank i) 0) + turn i }
 
-  -- an operation of the order has its place by its rank; a write has the first of these places
+  -- an operation with the rank m and, within it, the offset t; these give its place in the order
   record HasPlace (o : Operation history) (m t : ℕ) : Type 0 where
     ranked : rank o.number ≡ Some m
     turns : turn o.number ≡ t
@@ -378,7 +383,7 @@ module _ (initial : ℕ) (history : List (ℕ × Event)) (ranks : HasRanks initi
   small_turn : (o : Operation history) → suc o.number < size
   small_turn o = let in_it = within history o.number (Invoke o.process o.op) o.invoked in omega (arith, in_it)
 
-  -- a write of the order
+  -- a write of v in the order, with the rank m
   record IsWritten (o : Operation history) (v m : ℕ) : Type 0 where
     placed : HasPlace o m 0
     at : IsWriteAt o.number m v
@@ -443,7 +448,7 @@ module _ (initial : ℕ) (history : List (ℕ × Event)) (ranks : HasRanks initi
       ∙ ap (λ (r : Ranking). r.mine o.process) (does o.number (Invoke o.process (op.Write v)) (invokes o (op.Write v) is)).1
       ∙ (begun o.process v (state o.number) (given o.number)).0 ∙ sym (write_given o v is)
 
-  -- a returned operation is in the order, and its rank is not above the greatest then
+  -- an operation that returns in event n is in the order; its rank is at most the greatest after n
   record IsReturned (o : Operation history) (n : ℕ) : Type 0 where
     of : ℕ
     in_turn : ℕ
@@ -497,7 +502,7 @@ module _ (initial : ℕ) (history : List (ℕ × Event)) (ranks : HasRanks initi
       by true h = let g = gives o is h in absurd (none g.0 g.1.0 g.1.1)
       by false h = h
 
-  -- an operation of the order: a write in the first turn of its rank, or a read in a turn of its own
+  -- an operation of the order: a write at offset 0 of its rank, or a read at an offset of its own
   abbrev Kind : Operation history → ℕ → ℕ → Type 0
   Kind o m s = ((s ≡ 0) × ((v : ℕ) × IsWriteAt o.number m v)) ⊎ (s ≡ suc o.number)
 
@@ -526,7 +531,7 @@ module _ (initial : ℕ) (history : List (ℕ × Event)) (ranks : HasRanks initi
   turn_small o m s (inl w) = let zero_turn = w.0 in omega (arith, zero_turn)
   turn_small o m s (inr r) = let small = small_turn o in omega (arith, small, r)
 
-  -- at the rank that was the greatest when it was invoked, it is a read
+  -- an operation whose rank isn't above the greatest when it was invoked is a read
   turn_late : (o : Operation history) (m s : ℕ) → Kind o m s → m ≤ (state o.number).top → s ≡ suc o.number
   turn_late o m s (inl w) high = let above = w.1.1.above in let f : ⊥ = omega (arith, above, high) in absurd f
   turn_late o m s (inr r) high = r
@@ -577,7 +582,7 @@ module _ (initial : ℕ) (history : List (ℕ × Event)) (ranks : HasRanks initi
       let turns : b.in_turn ≡ a.in_turn = omega (arith, alike, first_place, second_place, same) in
       same_kind o x a.of a.in_turn a.kind (subst (λ m. Kind x m a.in_turn) one (subst (λ s. Kind x b.of s) turns b.kind))
 
-  -- the write that a read follows, or the initial value
+  -- a read gives the value of the last write before its place, or the initial value
   value_of_read : (o : Operation history) (n v : ℕ) → o.op ≡ op.Read → EndsAt o n (Got o.process v) → IsValueAt initial history order (order.place o.number) v
   value_of_read o n v is ends =
       elim (origin n m v r.value) as (λ _. IsValueAt initial history order (order.place o.number) v) [

@@ -56,7 +56,7 @@ quiet_at p (x ∷ xs) (suc k) e q at = quiet_at p xs k e (or_parts (begins_or_en
 abbrev op_at : {history : List (ℕ × Event)} (i p : ℕ) (o : Op) → event_at history i ≡ Some (Invoke p o) → Operation history
 op_at i p o at = record { number = i; process = p; op = o; invoked = at }
 
--- event number n ends an operation o of process p
+-- event number n, which is e, ends an operation o of process p
 abbrev Ended : List (ℕ × Event) → ℕ → Op → ℕ → Event → Type 0
 Ended history p o n e = (i : ℕ) × ((at : event_at history i ≡ Some (Invoke p o)) × EndsAt (op_at i p o at) n e)
 
@@ -141,7 +141,7 @@ module _ (initial : ℕ) (history : List (ℕ × Event)) (h : HasLinearization i
   abbrev Quiet : Operation history → ℕ → Type 0
   Quiet a k = (j : ℕ) (e : Event) → a.number < j → j < k → event_at history j ≡ Some e → begins_or_ends a.process e ≡ false
 
-  -- what is known before event number k
+  -- r agrees with the order, as what is known before event number k
   record Fits (k : ℕ) (r : Ranking) : Type 0 where
     top : (b : Operation history) → k ≤ b.number → has b.number ≡ true → IsLow r.top b
     floor : (a : Operation history) → a.number < k → Quiet a k → has a.number ≡ true → IsLow (r.floor a.process) a
@@ -160,7 +160,7 @@ module _ (initial : ℕ) (history : List (ℕ × Event)) (h : HasLinearization i
     new = λ b low in_it. put_other 0 (suc (place b.number)) (Some initial) (λ n. None) (λ e. omega (arith, e));
   }
 
-  -- an event that is no invocation
+  -- `Fits` also holds after an event that is no invocation
   after_other : (k : ℕ) (r : Ranking) (e : Event) (g : Option ℕ) → Fits k r → event_at history k ≡ Some e → ((p : ℕ) (o : Op) → Some e ≡ Some (Invoke p o) → ⊥)
       → HasRank r e g → ((m : ℕ) → (after_rank r e g).values m ≡ r.values m) → ((b : Operation history) → k < b.number → has b.number ≡ true → IsLow (after_rank r e g).top b) → Fits (suc k) (after_rank r e g)
   after_other k r e g f at not ranked same top = record {
@@ -181,7 +181,7 @@ module _ (initial : ℕ) (history : List (ℕ × Event)) (h : HasLinearization i
         | inr other ↦ grind (arith, less, other)
       ]
 
-  -- an invocation, which takes a rank if it is a write of the order
+  -- an invocation may have the rank that `taken` gives: a rank for a write in the order, else none
   invocation : (k p : ℕ) (o : Op) (r : Ranking) → Fits k r → (at : event_at history k ≡ Some (Invoke p o)) → HasRank r (Invoke p o) (taken o k)
   invocation k p (op.Write v) r f at = by (has k) refl
     where
@@ -194,7 +194,7 @@ module _ (initial : ℕ) (history : List (ℕ × Event)) (h : HasLinearization i
       by false in_it = tt
   invocation k p op.Read r f at = tt
 
-  -- how the values change
+  -- the invocation of a write in the order gives the write's rank a value, and changes no other
   value_new : (k p : ℕ) (o : Op) (r : Ranking) (v : ℕ) → o ≡ op.Write v → has k ≡ true → (after_rank r (Invoke p o) (taken o k)).values (suc (place k)) ≡ Some v
   value_new k p (op.Write u) r v is in_it = by (has k) in_it
     where

@@ -1,5 +1,5 @@
--- What a register records is a well-formed history, event by event; and that of a register with one
--- writer, if it is such a register.
+-- What a register records is a well-formed history; if the register has one writer, it is also a
+-- history of such a register (`IsOneWriterHistory`). The proof goes event by event.
 use Rattle.std.proofs.Common.{◌≡◌, ℕ, zero, suc, ◌+◌, ◌<◌, Bool, true, false, ◌&&◌, List, [], ◌∷◌, ◌++◌, length, Option, Some, None, ◌⊎◌, inl, inr, refl, sym, ap, subst, ◌∙◌, true≢false, arith, eq-eqb, get_or, replicate, append_assoc}
 use Rattle.std.specs.Prelude.{◌==◌, nat_lt}
 use Rattle.std.specs.List.{list_any, list_all}
@@ -43,7 +43,7 @@ quiet-left p xs ys q = (or_parts (list_any (λ e. begins_or_ends p e.1) xs) (lis
 quiet-right : (p : ℕ) (xs ys : List (ℕ × Event)) → IsQuiet p (xs ++ ys) → IsQuiet p ys
 quiet-right p xs ys q = (or_parts (list_any (λ e. begins_or_ends p e.1) xs) (list_any (λ e. begins_or_ends p e.1) ys) (sym (list_any-append (λ e. begins_or_ends p e.1) xs ys) ∙ q)).1
 
--- a list of one, split
+-- if a list of one event is split at an event, that is the one, and no event is before it
 only_one : (s since : List (ℕ × Event)) (x y : ℕ × Event) → x ∷ [] ≡ s ++ y ∷ since → (s ≡ []) × (x ≡ y)
 only_one [] since x y h = (refl, cc h)
 only_one (z ∷ []) since x y h = cc h
@@ -89,7 +89,7 @@ progress_before p o before i e w =
           )
     ]
 
--- an event that is no turn of a process leaves what it has pending
+-- an event that neither begins nor ends an operation of p leaves what p has pending
 pends_still : (p : ℕ) (x : Option Op) (before : List (ℕ × Event)) (i : ℕ) (e : Event) → begins_or_ends p e ≡ false → Pends p before x → Pends p (with_event before i e) x
 pends_still p None before i e t h = λ o w. elim (progress_before p o before i e w) [
   | inl same ↦ true≢false (sym (ap (begins_or_ends p) same ∙ eq-eqb p p refl) ∙ t)
@@ -97,7 +97,7 @@ pends_still p None before i e t h = λ o w. elim (progress_before p o before i e
 ]
 pends_still p (Some o) before i e t h = progress_still p o before i e t h
 
--- an invocation, and an end
+-- what p has pending after it invokes an operation, and after it ends one
 pends_invoked : (p : ℕ) (o : Op) (before : List (ℕ × Event)) (i : ℕ) → Pends p (with_event before i (Invoke p o)) (Some o)
 pends_invoked p o before i = record { earlier = before; step = i; since = []; split = refl; quiet = refl }
 
@@ -122,13 +122,13 @@ extends_more : {One : Type 0} (p : ℕ) (before first after : List (ℕ × Event
 extends_more p before first after x y a b =
     record { history = b.history; own = b.own; others = λ q z other is. b.others q z other (a.others q z other is) }
 
--- one event of a process
+-- one event of p, by which no other process begins or ends an operation, extends a history
 extends_event : {One : Type 0} (p : ℕ) (before : List (ℕ × Event)) (i : ℕ) (e : Event) (x : Option Op) → IsHistory One before → Follows before e → (One → has_role e ≡ true)
     → ((q : ℕ) → ¬ (q ≡ p) → begins_or_ends q e ≡ false) → Pends p (with_event before i e) x → Extends One p before (with_event before i e) x
 extends_event p before i e x h f r alone own =
     record { history = history_with before i e h f r; own = own; others = λ q y other is. pends_still q y before i e (alone q other) is }
 
--- the events of a step
+-- `before`, and then the events that the step with index i records
 abbrev with_events : List (ℕ × Event) → ℕ → StepEvents → List (ℕ × Event)
 with_events before i events = before ++ (at_index i events.first ++ at_index i events.second)
 
@@ -140,7 +140,7 @@ module _ {P : Type 0} (b : Behaviour P) where
   role_of p (op.Write v) h one = eq-eqb p 0 (writer_zero b.values b.processes p v (one p (op.Write v) h))
   role_of p op.Read h one = let some = reader_some b.values b.processes p (one p op.Read h) in grind (arith, nat_tests)
 
-  -- the end of an operation in progress
+  -- the return or refusal of an operation in progress, if it ends, extends a history
   extends_end : (Reached : P → Type 0) (p : ℕ) (o : Op) (next : Next P) (before : List (ℕ × Event)) (i : ℕ) → b.suits p o ≡ true → ReachedOrAnswered Reached (Answers b.values o) next
       → IsHistory One before → InProgress p o before → Extends One p before (before ++ at_index i (return_of p next)) (op_of (still_running o next))
   extends_end Reached p o (Pending point) before i fits well h w = extends_nothing p before (Some o) h w
@@ -156,7 +156,7 @@ module _ {P : Type 0} (b : Behaviour P) where
       extends_event p before i (Refused p layer) None h (o, w) (λ one. refl) (λ q other. ne_eqb p q (λ same. other (sym same)))
       (pends_ended p before i (Refused p layer) (eq-eqb p p refl) (λ o same. cc same))
 
-  -- an event that is nobody's turn, and nothing else
+  -- an event that begins or ends no operation extends a history, as the only event of a step
   extends_only : (p : ℕ) (before : List (ℕ × Event)) (i : ℕ) (e : Event) (x : Option Op) → IsHistory One before → Follows before e → (One → has_role e ≡ true) → ((q : ℕ) → begins_or_ends q e ≡ false)
       → Pends p before x → Extends One p before (with_events before i (in_order (Some e) None)) x
   extends_only p before i e x h f r nobody own = extends_event p before i e x h f r (λ q other. nobody q) (pends_still p x before i e (nobody p) own)
@@ -203,7 +203,7 @@ module _ {P : Type 0} (b : Behaviour P) where
     extends_acting_unless true s slot m before i fits holds reached h own = extends_only (process_of s) before i (Void (process_of s) Stopped) (op_of slot) h tt (λ one. refl) (λ q. refl) own
     extends_acting_unless false s slot m before i fits holds reached h own = extends_acting s slot m before i fits holds reached h own
 
-    -- the process of a fitting step is there
+    -- the register has the process of a step that fits it
     process_there : (s : Step) → fits_step b s ≡ true → process_of s < b.processes
     process_there (step.Write p v) h = lawful.nobody_else p (op.Write v) h
     process_there (step.Read p) h = lawful.nobody_else p op.Read h

@@ -21,7 +21,7 @@ pub no_event : (xs : List (ℕ × Event)) (x : ℕ × Event) (ys : List (ℕ × 
 no_event [] x ys h = cc h
 no_event (z ∷ xs) x ys h = cc h
 
--- each of these events is one that its process may have
+-- each of these events suits the role of its process (`has_role`)
 abbrev pub HaveRoles : List (ℕ × Event) → Type 0
 HaveRoles events = list_all (λ e. has_role e.1) events ≡ true
 
@@ -46,7 +46,7 @@ history-left xs ys h = record {
 abbrev pub noting : Bool → Event → Known → Known
 noting counted e k = if counted then after k e else k
 
--- what is known after some events, given the events `later` that follow them
+-- what is known after some events, if k is known before them and the events `later` follow them
 abbrev pub known : Known → List (ℕ × Event) → List (ℕ × Event) → Known
 known k [] later = k
 known k (e ∷ es) later = known (noting (counts e.1 (is_refused (es ++ later))) e.1 k) es later
@@ -66,7 +66,7 @@ returning_reads : (o : Option ℕ) (k : Known) → (returning o k).reads ≡ k.r
 returning_reads None k = refl
 returning_reads (Some v) k = refl
 
--- events that are no turn of the writer leave what is being written
+-- an event that neither begins nor ends an operation of the writer leaves what is being written
 after_writing : (k : Known) (e : Event) → begins_or_ends 0 e ≡ false → has_role e ≡ true → (after k e).writing ≡ k.writing
 after_writing k (Invoke p (op.Write v)) q r = absurd (true≢false (sym r ∙ q))
 after_writing k (Invoke p op.Read) q r = refl
@@ -89,7 +89,7 @@ known_writing k (e ∷ es) later q r =
     let counted = counts e.1 (is_refused (es ++ later)) in
     known_writing (noting counted e.1 k) es later quiet.1 roles.1 ∙ noting_writing counted k e.1 quiet.0 roles.0
 
--- such events don't change whether the write in progress is refused
+-- whether the write in progress is refused doesn't depend on events in which the writer is quiet
 quiet_refused_by : (e : Event) (later : Bool) → begins_or_ends 0 e ≡ false → has_role e ≡ true → refused_by e later ≡ later
 quiet_refused_by (Invoke p (op.Write v)) later q r = absurd (true≢false (sym r ∙ q))
 quiet_refused_by (Invoke p op.Read) later q r = refl
@@ -107,7 +107,7 @@ quiet_refused (e ∷ es) later q r =
     let roles = and_parts (has_role e.1) (list_all (λ x. has_role x.1) es) r in
     quiet_refused_by e.1 (is_refused (es ++ later)) quiet.0 roles.0 ∙ quiet_refused es later quiet.1 roles.1
 
--- a write in progress that isn't refused later is the one being written
+-- if a write of v is in progress and isn't refused later, `Known` has v as the value being written
 pub writing_of_progress : (k : Known) (v : ℕ) (xs later : List (ℕ × Event)) → InProgress 0 (op.Write v) xs → HaveRoles xs → is_refused later ≡ false → (known k xs later).writing ≡ Some v
 writing_of_progress k v xs later w r kept =
     let x : ℕ × Event = (w.step, Invoke 0 (op.Write v)) in
@@ -126,7 +126,7 @@ quiet_with : (p : ℕ) (xs : List (ℕ × Event)) (i : ℕ) (e : Event) → IsQu
 quiet_with p xs i e q t =
     list_any-append (λ x. begins_or_ends p x.1) xs ((i, e) ∷ []) ∙ ap (λ b. b || (begins_or_ends p e || false)) q ∙ ap (λ b. b || false) t
 
--- an event that is no turn of a process leaves its operation in progress
+-- an event that neither begins nor ends an operation of p leaves p's operation in progress
 pub progress_still : (p : ℕ) (o : Op) (before : List (ℕ × Event)) (i : ℕ) (e : Event) → begins_or_ends p e ≡ false → InProgress p o before → InProgress p o (with_event before i e)
 progress_still p o before i e t h = record {
   earlier = h.earlier;
@@ -136,7 +136,7 @@ progress_still p o before i e t h = record {
   quiet = quiet_with p h.since i e h.quiet t;
 }
 
--- what is being written is a write in progress that isn't refused later
+-- if k has v as the value being written, a write of v is in progress and isn't refused later
 abbrev Writes : Known → List (ℕ × Event) → List (ℕ × Event) → Type 0
 Writes k before later = (v : ℕ) → k.writing ≡ Some v → InProgress 0 (op.Write v) before × (is_refused later ≡ false)
 
@@ -146,7 +146,7 @@ writes_on k before i e later t r h v w =
     let was = h v w in
     (progress_still 0 (op.Write v) before i e t was.0, sym (quiet_refused_by e (is_refused later) t r) ∙ was.1)
 
--- the same is so after one more event
+-- `Writes` holds also after one more event
 writes_more : (k : Known) (before : List (ℕ × Event)) (i : ℕ) (e : Event) (later : List (ℕ × Event)) → Follows before e → has_role e ≡ true → Writes k before ((i, e) ∷ later)
     → Writes (noting (counts e (is_refused later)) e k) (with_event before i e) later
 writes_more k before i (Invoke p (op.Write u)) later f r h v w = by (is_refused later) refl w
@@ -185,7 +185,7 @@ pub progress_of_writing : (initial v : ℕ) (xs later : List (ℕ × Event)) →
     → InProgress 0 (op.Write v) xs × (is_refused later ≡ false)
 progress_of_writing initial v xs later h w = writes_all (initially initial) [] xs later h (λ u e. absurd (cc e)) v w
 
--- the values of writes change as one returns
+-- the fresh value and the values of returned writes change only when a write returns
 after_kept : (k : Known) (e : Event) → is_written e ≡ false → ((after k e).fresh ≡ k.fresh) × ((after k e).returned ≡ k.returned)
 after_kept k (Invoke p (op.Write v)) n = (refl, refl)
 after_kept k (Invoke p op.Read) n = (refl, refl)
@@ -213,7 +213,7 @@ known_fresh k (e ∷ es) later n =
     let counted = counts e.1 (is_refused (es ++ later)) in
     known_fresh (noting counted e.1 k) es later none.1 ∙ noting_fresh counted k e.1 none.0
 
--- the values of returned writes are only added to
+-- n has the values of returned writes that k has, and then maybe more
 abbrev Grown : Known → Known → Type 0
 Grown k n = (more : List ℕ) × (n.returned ≡ k.returned ++ more)
 
@@ -237,7 +237,7 @@ known_grows k (e ∷ es) later =
     let rest = known_grows (noting counted e.1 k) es later in
     (first.0 ++ rest.0, rest.1 ∙ ap (λ r. r ++ rest.0) first.1 ∙ append_assoc k.returned first.0 rest.0)
 
--- a value is among others
+-- a value that is in a list is found there
 any_here : (v : ℕ) (xs ys : List ℕ) → list_any (λ u. u == v) (xs ++ v ∷ ys) ≡ true
 any_here v [] ys = ap (λ b. b || list_any (λ u. u == v) ys) (eq-eqb v v refl)
 any_here v (x ∷ xs) ys = or_right (x == v) (list_any (λ u. u == v) (xs ++ v ∷ ys)) (any_here v xs ys)
@@ -261,7 +261,8 @@ returned_among k v xs ys later i w =
     ∙ ap (list_any (λ u. u == v)) (drop-append_seam k.returned (first.0 ++ v ∷ rest.0))
     ∙ any_here v first.0 rest.0
 
--- a write of the value v, in progress until then, returns among the events `xs`
+-- A write returns among the events `xs`, and `Known`, which is k before `xs`, has v as the value
+-- being written when it returns. `ReturnsIn` states this by the events alone, without `Known`.
 pub record ReturnedAmong (k : Known) (v : ℕ) (xs later : List (ℕ × Event)) : Type 0 where
   pub before : List (ℕ × Event)
   pub step : ℕ
@@ -306,8 +307,8 @@ among_head k i (Wrote p) es later v n r le h =
 among_head k i e es later v n r le h =
     inl (ap (λ s. list_any (λ u. u == v) (drop n s)) (sym (noting_returned (counts e (is_refused (es ++ later))) k e refl)) ∙ h)
 
--- a value that a write has returned: a write of it returned before these events, or returns among
--- them
+-- if after these events a write of v has returned, not counting the first n, then one had returned
+-- before them, or one returns among them
 pub among_of_returned : (k : Known) (xs later : List (ℕ × Event)) (v n : ℕ) → HaveRoles xs → n ≤ length k.returned → has_returned v n (known k xs later) ≡ true
     → (has_returned v n k ≡ true) ⊎ ReturnedAmong k v xs later
 among_of_returned k [] later v n r le h = inl h
@@ -360,7 +361,7 @@ last_return k (e ∷ es) later ends =
       | inr l ↦ inr (record { among = among_after k (known k (e ∷ es) later).fresh e es later l.among; last = l.last })
     ]
 
--- what a process's last read noted stays until it invokes another
+-- what was noted of a process's last read is kept while the process is quiet
 
 after_last_read : (p : ℕ) (k : Known) (e : Event) → begins_or_ends p e ≡ false → last_read p (after k e) ≡ last_read p k
 after_last_read p k (Invoke q (op.Write v)) n = refl
@@ -426,7 +427,7 @@ count_head : (b : Bool) (e : ℕ × Event) (es : List (ℕ × Event)) → cond b
 count_head true e es = omega arith
 count_head false e es = refl
 
--- a line for each read that returns
+-- there is one verdict for each read that returns
 length-verdicts_from : (k : Known) (xs : List (ℕ × Event)) → length (verdicts_from k xs) ≡ returned_reads xs
 length-verdicts_from k [] = refl
 length-verdicts_from k (e ∷ es) =
@@ -435,7 +436,7 @@ length-verdicts_from k (e ∷ es) =
     ∙ verdict_count k e.0 e.1 (returned_reads es)
     ∙ count_head (is_got e.1) e (filter (λ x. is_got x.1) es)
 
--- each read that returns counts
+-- the return of a read always counts
 reads_count : (e : Event) (refused : Bool) → counts e refused ≡ false → is_got e ≡ false
 reads_count (Got p v) refused c = absurd (true≢false c)
 reads_count e refused c = refl

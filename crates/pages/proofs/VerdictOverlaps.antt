@@ -14,7 +14,8 @@ use Rattle.frames.specs.correctness.Verdicts.{refused_by, is_refused}
 use Rattle.pages.specs.VerdictWords.{begins_or_ends, IsQuiet, InProgress, has_role, Follows, IsOneWriterHistory, EndsBy, IsOverlapping}
 use Rattle.pages.proofs.VerdictKnown.{HaveRoles, roles-left, roles-right, history-left, quiet_refused}
 
--- a write of the value v, in progress until then, returns in `during`
+-- A write of the value v, in progress until then, returns in `during`; it was invoked in `earlier`
+-- or in `during`. This is stated by the events alone, while `ReturnedAmong` states it by `Known`.
 pub record ReturnsIn (v : ℕ) (earlier during : List (ℕ × Event)) : Type 0 where
   pub before : List (ℕ × Event)
   pub step : ℕ
@@ -22,12 +23,12 @@ pub record ReturnsIn (v : ℕ) (earlier during : List (ℕ × Event)) : Type 0 w
   pub split : during ≡ before ++ (step, Wrote 0) ∷ since
   pub write : InProgress 0 (op.Write v) (earlier ++ before)
 
--- a write of the value v returns in `during`, or is in progress after these events and isn't
--- refused in `later`
+-- a write of the value v returns in `during`, or is in progress after `earlier` and `during` and
+-- isn't refused in `later`
 abbrev pub Crosses : ℕ → List (ℕ × Event) → List (ℕ × Event) → List (ℕ × Event) → Type 0
 Crosses v earlier during later = (InProgress 0 (op.Write v) (earlier ++ during) × (is_refused later ≡ false)) ⊎ ReturnsIn v earlier during
 
--- no quiet event begins or ends an operation of p
+-- no event among events in which p is quiet begins or ends an operation of p
 quiet_at : (p : ℕ) (before later : List (ℕ × Event)) (i : ℕ) (e : Event) → IsQuiet p (before ++ (i, e) ∷ later) → begins_or_ends p e ≡ false
 quiet_at p [] later i e q = (or_parts (begins_or_ends p e) (list_any (λ x. begins_or_ends p x.1) later) q).0
 quiet_at p (x ∷ before) later i e q =
@@ -77,7 +78,7 @@ same_boundary p (z ∷ xs) (w ∷ ys) later rest x y h a b s t =
     s
     t
 
--- an event of a list split in two is in the second part, or in the first
+-- an event of `xs ++ ys` is in `ys`, or in `xs`
 abbrev pub InSecond : List (ℕ × Event) → List (ℕ × Event) → List (ℕ × Event) → List (ℕ × Event) → ℕ × Event → Type 0
 InSecond xs ys before since x = (s : List (ℕ × Event)) × (before ≡ xs ++ s) × (ys ≡ s ++ x ∷ since)
 
@@ -105,7 +106,7 @@ return_of_boundary v before (Void p reason) w f t r n = absurd (true≢false (sy
 return_of_boundary v before (Stop p) w f t r n = absurd (true≢false (sym t))
 return_of_boundary v before (Chosen p bit u) w f t r n = absurd (true≢false (sym t))
 
--- a write in progress that is refused ends by its refusal
+-- an operation of process 0 that is in progress before these events ends in them by its refusal
 RefusedIn : List (ℕ × Event) → Type 0
 RefusedIn events = (layer : Layer) × EndsBy 0 (Refused 0 layer) events
 

@@ -18,6 +18,7 @@ module _ (initial : ℕ) where
   abbrev known_after : List (ℕ × Event) → List (ℕ × Event) → Known
   known_after xs later = known (initially initial) xs later
 
+  -- in a history of a register with one writer, each write that returns is in progress until then
   pub ends_writes : (xs later : List (ℕ × Event)) → IsOneWriterHistory xs → EndsWrites (initially initial) xs later
   ends_writes xs later h before i p rest s =
       let roles : HaveRoles (before ++ (i, Wrote p) ∷ rest) = subst HaveRoles s h.roles in
@@ -27,7 +28,7 @@ module _ (initial : ℕ) where
       let by_0 : InProgress 0 (op.Write write.0) before = subst (λ q. InProgress q (op.Write write.0) before) writer write.1 in
       (write.0, writing_of_progress (initially initial) write.0 before ((i, Wrote p) ∷ (rest ++ later)) by_0 (roles-left before ((i, Wrote p) ∷ rest) roles) refl, writer)
 
-  -- the fresh value
+  -- `Known` has v as the fresh value if v is fresh in Lamport's words, and back
   fresh_of_words : (v : ℕ) (xs later : List (ℕ × Event)) → HaveRoles xs → IsFresh initial v xs → (known_after xs later).fresh ≡ v
   fresh_of_words v xs later r (inl w) =
       let x : ℕ × Event = (w.step, Wrote 0) in
@@ -56,12 +57,12 @@ module _ (initial : ℕ) where
             })
       ]
 
-  -- the value being written
+  -- if `is_value` finds that v is the value of an option, the option is `Some v`
   value_of_option : (o : Option ℕ) (v : ℕ) → is_value v o ≡ true → o ≡ Some v
   value_of_option None v h = absurd (true≢false (sym h))
   value_of_option (Some u) v h = ap Some (eqb-true u v h)
 
-  -- values that overlap what comes between some events and others
+  -- values of writes that overlap the events `during`, which come between `earlier` and `later`
   module _ (v : ℕ) (earlier during later : List (ℕ × Event)) (h : IsOneWriterHistory (earlier ++ during)) where
     abbrev upto : Known
     upto = known_after earlier (during ++ later)
@@ -72,7 +73,7 @@ module _ (initial : ℕ) where
     abbrev since_then : Bool
     since_then = has_returned v (length upto.returned) all || is_value v all.writing
 
-    -- a split of the events between, with those that follow
+    -- a split of `during` is also one of `during` followed by `later`
     cut : (before : List (ℕ × Event)) (x : ℕ × Event) (since : List (ℕ × Event)) → during ≡ before ++ x ∷ since → during ++ later ≡ before ++ (x ∷ (since ++ later))
     cut before x since s = ap (λ es. es ++ later) s ∙ append_assoc before (x ∷ since) later
 
@@ -123,7 +124,7 @@ verdict_of_tests true b A B f g h k = f refl
 verdict_of_tests false true A B f g h k = (λ x. true≢false (sym (g x)), h refl)
 verdict_of_tests false false A B f g h k = (λ x. true≢false (sym (g x)), λ y. true≢false (sym (k y)))
 
--- what is known as a read returns
+-- what is known when a read returns, from the events before its return
 abbrev pub then_known : {history : List (ℕ × Event)} → ℕ → ReturnedRead history → Known
 then_known initial r = known (initially initial) (r.earlier ++ during r) (afterwards r)
 

@@ -66,7 +66,7 @@ pub record NumbersRead {history : List (ℕ × Event)} (initial n : ℕ) (r : Re
 
 -- each returned read can be assigned a write whose value it gives, as `NumbersRead` states, so
 -- that, of two reads, the first to return is never assigned the later write; `number k` is the
--- number of the write assigned to the read before whose return k reads return
+-- number of the write assigned to the read that returns after k others
 pub record AreNumbered (initial : ℕ) (history : List (ℕ × Event)) : Type 0 where
   pub number : ℕ → ℕ
   pub rises : (i j : ℕ) → i ≤ j → number i ≤ number j

@@ -17,8 +17,8 @@ pub fn linearizable<R: Register>(register: &R)
     ensures { IsLinearizable (R.behaviour register.now) }
 {}
 
-/// If the operations of a history can be given ranks, then the history has a linearization; and if
-/// the history is well-formed, also the other way round.
+/// If the operations of a history can be given ranks, then the history has a linearization. If the
+/// history is well-formed, the converse holds too.
 pub fn linearized()
     ensures linear { (initial : ℕ) (history : List (ℕ × Event)) → HasRanks initial history
         → HasLinearization initial history }

@@ -6,13 +6,14 @@ use Rattle.schedule_trie.proofs.branches.NamesApart.{found_apart}
 use Rattle.pages.specs.declared.page.branches.BranchLength.{BranchLength}
 use Rattle.pages.specs.page.Branches.{length_of}
 
--- the branch at an index, by its name and its length
+-- there is a branch at index i, with this name and this length
 record IsBranchAt (branches : List Branch) (i : ℕ) (name : List ℕ) (len : ℕ) : Type 0 where
   pub here : Branch
   pub at : slice_get branches i ≡ Some here
   pub named : here.name ≡ name
   pub counted : length here.slots ≡ len
 
+-- at an index that has a name, there is a branch with that name
 there : (branches : List Branch) (i : ℕ) (name : List ℕ) → name_in branches i ≡ Some name → (b : Branch) × (slice_get branches i ≡ Some b) × (b.name ≡ name) × (slots_in branches i ≡ b.slots)
 there [] i name e = cc
 there (b ∷ bs) zero name e = (b, refl, cc, refl)

@@ -16,7 +16,7 @@ indexed-append i (events ∷ steps) later =
     ∙ sym (append_assoc own (indexed (i + 1) steps) (indexed ((i + 1) + length steps) later))
     ∙ ap (λ n. (own ++ indexed (i + 1) steps) ++ indexed n later) next_index
 
--- `all` has the events of the steps so far, and `index` is the index of the next step
+-- `all` has the events of these steps, each with its step's index; `index` is that of the next step
 pub record IsIndexed (all : List (ℕ × Event)) (index : ℕ) (steps : List StepEvents) : Type 0 where
   pub reported : all ≡ indexed 0 steps
   pub following : index ≡ length steps

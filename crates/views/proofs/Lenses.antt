@@ -1,4 +1,5 @@
--- What a lens keeps stays true, and a configuration that is found in it is like the one asked for.
+-- The configurations in a lens always match their keys, so one that is found is like the one asked
+-- for.
 use Rattle.std.proofs.Common.{◌≡◌, ℕ, zero, suc, ◌≤◌, Bool, true, List, [], ◌∷◌, ◌++◌, take, drop, length, ◌-◌, Some, refl, sym, ap, subst, ◌∙◌, inl, inr, arith}
 use Rattle.std.specs.Prelude.{Result, Ok, Err, OnOk, OnErr}
 use Rattle.std.specs.Bool.{Decides}
@@ -53,7 +54,8 @@ module _ {R P : Type 0} (is : R → Behaviour P) where
   like_trans : (c d e : Configuration R P) → IsAlike is c d → IsAlike is d e → IsAlike is c e
   like_trans c d e f g = record { home = f.home ∙ g.home; arrives = f.arrives ∙ g.arrives }
 
-  -- steps replayed from a place of a run reach a later place of it
+  -- from a configuration like the one at place `made` of a run, replay of the run's next steps
+  -- reaches one like that at place `count`
   pub goes_on : (run : SegmentRun R P) (made count : ℕ) (c d : Configuration R P) → made ≤ count → IsAlike is c (part_end is (record { run = run; count = made }))
       → d ≡ replayed (is c.register) c (drop made (take count run.steps)) → IsAlike is d (part_end is (record { run = run; count = count }))
   goes_on run made count c d less like went =
@@ -91,7 +93,7 @@ module _ {R P : Type 0} (is : R → Behaviour P) where
       still_true : (test : RunPart R P → Bool) → MatchTheirKeys is (lru_cache (promoted test places.entries) places.cap)
       still_true test e among = all e (Contains-promoted test places.entries e among)
 
-      -- a lens stays one if it is only read
+      -- after a look-up, a lens's cache is still one (`IsLens`)
       pub read_lens : (test : RunPart R P → Bool) → places.cap ≡ PLACES → IsLens is (lru_cache (promoted test places.entries) places.cap)
       read_lens test most = (still_true test, most)
 
@@ -106,7 +108,8 @@ module _ {R P : Type 0} (is : R → Behaviour P) where
         ]
       ]
 
-      -- a lens stays one if a true configuration is put into it
+      -- after a configuration like the one at a place is put in for that place, a lens's cache is
+      -- still one (`IsLens`), also if the put fails
       pub put_lens : {X Y : Type 0} (place : RunPart R P) (c : Configuration R P) (new : LruCache (RunPart R P) (Configuration R P)) (result : Result X Y) → places.cap ≡ PLACES → IsAlike is c (part_end is place)
           → OnOk result (new ≡ lru_cache (put_entries (same_place E F) places place c) places.cap) → OnErr result (new ≡ places) → IsLens is new
       put_lens place c new (Ok x) most like ok err = subst (IsLens is) (sym ok) (put_true place c like, most)

@@ -63,14 +63,14 @@ no_last (part ∷ parts) e = absurd (some_last part parts e)
     some_last q [] f = cc
     some_last q (r ∷ qs) f = some_last r qs f
 
--- the end of parts is that of their last one
+-- the configuration that parts of runs reach is the one that the last of them reaches
 end_of_last : {R P : Type 0} (is : R → Behaviour P) (c : Configuration R P) (parts : List (RunPart R P)) (last : RunPart R P) → last_part parts ≡ Some last
     → parts_end is c parts ≡ part_end is last
 end_of_last is c [] last e = cc
 end_of_last is c (part ∷ []) last e = let same : part ≡ last = cc in ap (part_end is) same
 end_of_last is c (part ∷ next ∷ parts) last e = end_of_last is (part_end is part) (next ∷ parts) last e
 
--- the last run shows what all runs reach
+-- the page made from the last part alone is the page of the configuration that all parts reach
 pub found_is_last : {R P : Type 0} (is : R → Behaviour P) (kind : ConfigKind) (head : Head) (first : Configuration R P) (parts : List (RunPart R P)) (last : Option (Arc (SegmentRun R P) Global × ℕ))
     → last_part parts ≡ option_map part_of last → content_page is (found_last kind head first last) ≡ last_page is kind head first parts
 found_is_last is kind head first parts None e = ap (last_page is kind head first) (sym (no_last parts e))

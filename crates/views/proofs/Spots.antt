@@ -37,7 +37,7 @@ module _ {R P : Type 0} (E : R → R → Bool) (equal : IsEquivalence E) (is : R
   no_parts_replay c d parts place steps same none e =
       subst (λ n. ReplaysAs c d parts (take n steps)) (sym e) (subst (λ ps. ReplaysAs c d ps []) (sym none) (record { end = same; events = refl }))
 
-  -- the steps of segments, one after the other
+  -- the steps of the segments with these keys, one segment after the other
   abbrev steps_along : List ℕ → List Step
   steps_along keys = map step_of (line (segment_at old.segments) keys)
 
@@ -74,7 +74,7 @@ module _ {R P : Type 0} (E : R → R → Bool) (equal : IsEquivalence E) (is : R
   settled_parts_replay c d place [] parts n home same sum h = no_parts_replay c d parts place [] same h.0 (sym sum ∙ ap counted h.0)
   settled_parts_replay c d place (k ∷ ks) parts n home same sum h = by (λ c' d' place' parts' n'. settled_parts_replay c' d' place' ks parts' n') (nat_eq place 0) refl parts sum h
     where
-      -- the same of the segments after this one
+      -- what `settled_parts_replay` states, of the segments after this one
       Later : Type 0
       Later = (c' d' : Configuration R P) (place' : ℕ) (parts' : List (RunPart R P)) (n' : ℕ) → is c'.register ≡ b → SameConfiguration E d' c' → counted parts' ≡ place'
           → Settles E b old new c' place' (reached old place' ks) parts' n' → ReplaysAs c' d' parts' (take place' (steps_along ks))
@@ -173,7 +173,7 @@ len_is_step_count f name len len_of_is = by (index_of f.branches name) refl
         subst (λ (o : Option ℕ). len ≡ length (unwrap_or (path_by o f) [])) (sym e) (same ∙ sym (length-map (slots_in f.branches i) step_of))
 
 module _ {R P : Type 0} (E : R → R → Bool) (equal : IsEquivalence E) (is : R → Behaviour P) (alike : (x y : R) → E x y ≡ true → is x ≡ is y) where
-  -- the parts that a settle of a place answers are as `IsSpotOf` states
+  -- the parts that are the result of settling a place are as `IsSpotOf` states
   pub spot_of : (old new : Charted R P) (name : List ℕ) (place len : ℕ) (parts : List (RunPart R P)) (n : ℕ) → Some len ≡ len_of (forest old.trie) name
       → old.start ≡ initial_configuration (is old.start.register) old.start.register old.value
       → IsSettled E (is old.start.register) old new name place parts n

@@ -47,7 +47,7 @@ none_stray k [] h = All-nil (λ read. read.verdict ≢ Stray)
 none_stray k (e ∷ es) h =
     All-append (λ read. read.verdict ≢ Stray) (verdict_of_event k e.0 e.1) (verdicts_from (after k e.1) es) (verdict_not_stray k e.0 e.1 h.0) (none_stray (after k e.1) es h.1)
 
--- what holds of verdicts holds of those that a page shows
+-- if A implies B for every list of verdicts, and A holds of those that a page shows, so does B
 on_verdicts : {A B : List ReadVerdict → Type 0} → ((reads : List ReadVerdict) → A reads → B reads) → (p : Page) → OnVerdicts A p → OnVerdicts B p
 on_verdicts {A} {B} f (page.Verdict p) h = by p.reads h
   where
@@ -109,7 +109,7 @@ events_judge {P} b value (which.Verdict from) branch place steps within fit h = 
           judged = ap (λ v. verdicts v (recorded b value (take place steps))) h;
         }
 
--- each step of a branch fits
+-- if each step of each branch fits, so does each step of the branch with this name
 pub fit_in : {P : Type 0} (b : Behaviour P) (f : Forest) (name : List ℕ) → StepsFit b f → AllFit b (steps_in f name)
 fit_in b f name fits = by (index_of f.branches name)
   where

@@ -30,7 +30,7 @@ fn digest_with_step(digest: u64, step: Step) -> u64
     digest.wrapping_mul(FACTOR).wrapping_add(word_of_step(step))
 }
 
-/// A number for a step. Bit actions, the most frequent steps, are matched first.
+/// The number that a step adds to a digest. Bit actions, the most frequent, are matched first.
 #[inline(always)]
 fn word_of_step(step: Step) -> u64
     ensures { result ≡ spec.word_of_step step }

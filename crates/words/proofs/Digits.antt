@@ -1,4 +1,4 @@
--- The value of a run of digits, one digit at a time.
+-- The value of successive digits, one digit at a time.
 use Rattle.std.proofs.Common.{◌≡◌, ℕ, ◌+◌, ◌-◌, ◌*◌, ◌^◌, ◌<◌, ◌≤◌, true, List, length, take, get_or, arith, rules, tests, lit<, add-one, ◌∙◌, ◌/◌, ◌%◌, ◌++◌, ◌∷◌, [], sym, ap, append_assoc}
 use Rattle.std.proofs.lemmas.Bool.Decides.{nat_tests}
 use Rattle.std.specs.List.{list_all}

@@ -16,7 +16,8 @@ use Rattle.words.specs.Fronts.{begins_with_digit, IsWholeNumber}
 use Rattle.words.proofs.Numbers.{digits-decimal, digit_first, eight_digits, nine_digits}
 use Rattle.words.proofs.Digits.{digit_bounds}
 
--- one more digit is taken from the text that is left, and added to the number
+-- if the text after the number v begins with the digit d, then the same text is the number
+-- v * 10 + d and what follows the digit
 pub one_more : (first v d b : ℕ) (text left following : List ℕ) → 0 < v → v < 100000000 → is_ascii_digit b ≡ true → d ≡ b - 48 → left ≡ b ∷ following
     → decimal first ++ text ≡ decimal v ++ left → decimal first ++ text ≡ decimal (v * 10 + d) ++ following
 one_more first v d b text left following some short h e is front =
@@ -31,16 +32,17 @@ one_more first v d b text left following some short h e is front =
 pub small_more : (v d b : ℕ) → v < 100000000 → is_ascii_digit b ≡ true → d ≡ b - 48 → v * 10 + d < 10 ^ 9
 small_more v d b short h e = let bounds = digit_bounds b h in omega arith
 
--- a text that begins with a space and a digit begins with a space and that digit's number
+-- a space, a digit and `left` are a space, the decimal form of the digit's value, and `left`
 pub one_digit : (text digits left : List ℕ) (b d : ℕ) → text ≡ 32 ∷ digits → digits ≡ b ∷ left → is_ascii_digit b ≡ true → d ≡ b - 48 → text ≡ 32 ∷ (decimal d ++ left)
 one_digit text digits left b d e f h is =
     let bounds = digit_bounds b h in
     let digit : decimal d ≡ b ∷ [] = decimal_digit d (omega arith) ∙ ap (λ (c : ℕ). c ∷ []) (omega arith) in
     e ∙ ap (λ (xs : List ℕ). 32 ∷ xs) (f ∙ ap (λ (ds : List ℕ). ds ++ left) (sym digit))
 
--- ---- no longer number or step could be read
+-- ---- what follows the number at the front of a text, and the first number of a step
 
--- digits, and what follows them
+-- if one text is the digits xs and then `left`, and also the digits ys and then a byte c that is no
+-- digit, and `left` doesn't begin with a digit if xs are fewer, then `left` begins with c
 digits_split : (xs ys left : List ℕ) (c : ℕ) (rest : List ℕ) → list_all is_ascii_digit xs ≡ true → list_all is_ascii_digit ys ≡ true → is_ascii_digit c ≡ false
     → (length xs < length ys → begins_with_digit left ≡ false) → xs ++ left ≡ ys ++ c ∷ rest → left ≡ c ∷ rest
 digits_split [] [] left c rest dx dy other h e = e
@@ -68,7 +70,8 @@ left_of_zero n left c rest short e =
           absurd (omega (arith, first, ap (λ (ds : List ℕ). get_or ds 0 0) a.3, first_decimal n (omega arith) (omega arith)))
     ]
 
--- a number that was read with all its digits is the number at the front of the text
+-- if a text begins with the number n and then c, which is no digit, and v is read from it with all
+-- its digits, then the text after v is the text after n
 pub left_of_number : (v n : ℕ) (left : List ℕ) (c : ℕ) (rest : List ℕ) → v < 10 ^ 9 → n < 10 ^ 9 → is_ascii_digit c ≡ false → IsWholeNumber v left
     → decimal v ++ left ≡ decimal n ++ c ∷ rest → left ≡ c ∷ rest
 left_of_number v n left c rest hv hn other whole e =
@@ -83,6 +86,7 @@ left_of_number v n left c rest hv hn other whole e =
 abbrev pub HasNoNumber : List ℕ → Type 0
 HasNoNumber text = (d : ℕ) (rest : List ℕ) → is_ascii_digit d ≡ true → text ≡ 32 ∷ d ∷ rest → ⊥
 
+-- the text doesn't begin with a line end
 abbrev pub HasNoEnd : List ℕ → Type 0
 HasNoEnd text = (left : List ℕ) → text ≡ 10 ∷ left → ⊥
 
@@ -91,13 +95,14 @@ no_number text n more short none e =
     let a = digit_first n short in
     none a.0 (a.1 ++ more) a.2 (e ∙ ap (λ (ds : List ℕ). 32 ∷ (ds ++ more)) a.3)
 
--- a step's letter, its first number, and what follows that
+-- the letter with which a step's text begins
 abbrev letter : Step → ℕ
 letter (step.Write p v) = 119
 letter (step.Read p) = 114
 letter (step.Go p c) = 103
 letter (step.Stop p) = 120
 
+-- what follows the number of the process, in a step's text and then `rest`
 abbrev after_process : Step → List ℕ → List ℕ
 after_process (step.Write p v) rest = 32 ∷ (decimal v ++ rest)
 after_process (step.Read p) rest = rest
@@ -118,7 +123,7 @@ short_process (step.Read p) h = h
 short_process (step.Go p c) h = h.0
 short_process (step.Stop p) h = h
 
--- what follows begins with no digit
+-- what follows the number of the process in a step's line doesn't begin with a digit
 process_ends : (s : Step) (rest : List ℕ) → (c : ℕ) × (more : List ℕ) × (is_ascii_digit c ≡ false) × (after_process s (10 ∷ rest) ≡ c ∷ more)
 process_ends (step.Write p v) rest = (32, decimal v ++ 10 ∷ rest, refl, refl)
 process_ends (step.Read p) rest = (10, rest, refl, refl)

@@ -79,7 +79,8 @@ is_word w v h = (bytes_eq-Decides w v).0 h
 
 -- ---- steps
 
--- a word, and the numbers after it of which a step is made
+-- if a step is made of the numbers after a word, the word and the numbers, joined by spaces, are
+-- the step's text
 with_two : (w v : List ℕ) (ws : List (List ℕ)) (s : Step) (of : ℕ × ℕ → Step) → ((n : ℕ × ℕ) → text v (n.0 ∷ n.1 ∷ []) ≡ step_text (of n)) → w ≡ v → option_map of (two_numbers ws) ≡ Some s
     → join_with_byte 32 (w ∷ ws) ≡ step_text s
 with_two w v ws s of spells e h =
@@ -105,7 +106,7 @@ pub step_is : (ws : List (List ℕ)) (s : Step) → step_of_words ws ≡ Some s 
 step_is [] s h = absurd cc
 step_is (w ∷ ws) s h = step_by (bytes_eq w (codes "w")) (bytes_eq w (codes "r")) (bytes_eq w (codes "g")) (bytes_eq w (codes "x")) w ws s (is_word w (codes "w")) (is_word w (codes "r")) (is_word w (codes "g")) (is_word w (codes "x")) h
 
--- the first word of a step is one of these four
+-- the first word of a step is `w`, `r`, `g` or `x`, and so no other word
 words_of_steps : (isw isr isg isx : Bool) (ws : List (List ℕ)) (w other : List ℕ) (s : Step) → (isw ≡ true → w ≡ codes "w") → (isr ≡ true → w ≡ codes "r") → (isg ≡ true → w ≡ codes "g") → (isx ≡ true → w ≡ codes "x")
     → bytes_eq (codes "w") other ≡ false → bytes_eq (codes "r") other ≡ false → bytes_eq (codes "g") other ≡ false → bytes_eq (codes "x") other ≡ false
     → cond isw (option_map (λ n. step.Write n.0 n.1) (two_numbers ws)) (cond isr (option_map (λ p. step.Read p) (one_number ws)) (cond isg (option_map (λ n. step.Go n.0 n.1) (two_numbers ws)) (cond isx (option_map (λ p. step.Stop p) (one_number ws)) None))) ≡ Some s
@@ -137,7 +138,8 @@ two_short (w ∷ ws) n h =
     let b = some_then (one_number ws) (λ y. Some (a.0, y)) n a.2 in
     subst (λ (m : ℕ × ℕ). (m.0 < 10 ^ 9) × (m.1 < 10 ^ 9)) (same_Some (a.0, b.0) n b.2) ((decimal-number w a.0 a.1).0, one_short ws b.0 b.1)
 
--- the numbers that a step is made of
+-- if `of` makes a step with short numbers from the value of o, and this step is s, then s has short
+-- numbers
 with_short : {A : Type 0} (o : Option A) (of : A → Step) (s : Step) → ((n : A) → o ≡ Some n → HasShortNumbers (of n)) → option_map of o ≡ Some s → HasShortNumbers s
 with_short o of s short h = let a = mapped of o s h in subst HasShortNumbers a.2 (short a.0 a.1)
 
@@ -182,7 +184,7 @@ step_prints (step.Stop p) h = text_prints (codes "x") (p ∷ []) refl (h, tt)
 pub step_first : (text rest : List ℕ) (s : Step) → HasShortNumbers s → text ≡ step_text s ++ 10 ∷ rest → parts 10 text ≡ step_text s ∷ parts 10 rest
 step_first text rest s h e = ap (parts 10) e ∙ cut_at 10 (step_text s) rest (all_weaker is_print (is_not 10) print_stays (step_text s) (step_prints s h))
 
--- the next of these lines spells the step s and has its end; the lines after it are those of `rest`
+-- the next of these lines spells the step s and ends with a line end; `rest` has the lines after it
 pub record IsNextStep (all : List (List ℕ)) (s : Step) (rest : List ℕ) : Type 0 where
   pub step : step_of_words (words (next all)) ≡ Some s
   pub whole : is_end (after_next all) ≡ false
@@ -199,7 +201,7 @@ step_next text left all rest s e view h front =
       left = sym (ap after_next is);
     }
 
--- a line with its end, and what follows that
+-- two or more lines, joined by line ends, are the first line, a line end, and the others joined
 joined_next : (ls : List (List ℕ)) → is_end (after_next ls) ≡ false → join_with_byte 10 ls ≡ next ls ++ 10 ∷ join_with_byte 10 (after_next ls)
 joined_next [] h = absurd cc
 joined_next (l ∷ []) h = absurd cc

@@ -66,7 +66,7 @@ no_cut c (x ∷ xs) h =
     let a = and_parts (is_not c x) (list_all (is_not c) xs) h in
     slice_split-cons_no (λ b. b == c) x xs (not-true (x == c) a.0) ∙ ap (onto_first x) (no_cut c xs a.1)
 
--- the words of a text: its first word, and the decimal form of each number
+-- the text of a word and numbers has these words: the word, and the decimal form of each number
 pub words-text : (word : List ℕ) (ns : List ℕ) → list_all (is_not 32) word ≡ true → AllByRecursion IsShort ns → words (text word ns) ≡ word ∷ map decimal ns
 words-text word [] h small = ap words (append-nil word) ∙ no_cut 32 word h
 words-text word (n ∷ ns) h small =

@@ -1,4 +1,4 @@
--- The parts of a text: the lines of a file, and the words of a line.
+-- The parts of a text, which are its pieces between separators: a file's lines, or a line's words.
 use Rattle.std.specs.Prelude.{ℕ, List, [], ◌∷◌, Option, Some, None, option_and_then, Bool, true, false, ◌==◌, ◌&&◌, ◌||◌, not, nat_le, length, if◌then◌else◌}
 use Rattle.std.specs.List.{list_all, slice_split}
 use Rattle.std.specs.Char.{is_ascii_digit}

@@ -1,4 +1,4 @@
-//! The parts of a text, such as the words of a line.
+//! The parts of a text. Here a part is a piece of text between separators, such as a line's word.
 
 ghost use Rattle.std.specs.Prelude.{◌≡◌, ◌==◌, ◌∷◌, position};
 ghost use Rattle.std.specs.Option.{option_map};
@@ -6,7 +6,7 @@ ghost use Rattle.words.specs.Words.{parts, parts_left, next, after_next, is_end}
 
 use std::marker::Model;
 
-/// The parts of a text that aren't taken yet. The text is cut into parts at its separators.
+/// The parts of a text that aren't taken yet. A part is a piece of the text between separators.
 #[derive(Drop)]
 pub struct Parts<'a> {
     text: Option<&'a [u8]>,

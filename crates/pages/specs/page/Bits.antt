@@ -6,6 +6,7 @@ use Rattle.pages.specs.declared.page.bits.BitsPage.{BitsPage}
 use Rattle.pages.specs.page.Head.{head_line}
 use Rattle.pages.specs.page.Memory.{bit_cell_lines, words_line}
 
+-- the page that shows each bit cell and each word of a configuration's memory
 abbrev pub bits_page : {R P : Type 0} → Head → Configuration R P → BitsPage
 bits_page head c = record { head = head; cells = c.memory.cells; words = c.memory.words }
 

@@ -77,7 +77,7 @@ pub(crate) fn pending<R: Register>(
     Ok(Listed::new(all))
 }
 
-/// The pending operation of a process.
+/// The operation that process `p` has pending, as frames, and whether the process has stopped.
 fn pending_at<R: Register>(
     alloc: Global,
     config: &Config<R>,

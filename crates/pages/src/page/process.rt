@@ -190,7 +190,7 @@ fn push_stopped(out: &mut Vec<u8>, p: usize, op: Op) -> Pushed
     push_text(out, " stopped\n")
 }
 
-/// Adds an operation.
+/// Adds the text of an operation: `write` and the value for a write, `read` for a read.
 pub(crate) fn push_op(out: &mut Vec<u8>, op: Op) -> Pushed
     ensures { OnOk result (out.new.items ≡ out.old.items ++ spec.op_text op) }
 {

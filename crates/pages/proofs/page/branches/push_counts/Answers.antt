@@ -5,7 +5,7 @@ use Rattle.std.proofs.lemmas.Result.{on_ok_weaker}
 use Rattle.pages.specs.page.Head.{line_end}
 use Rattle.pages.proofs.page.branches.push_counts.Goals as goal
 
--- one more piece after a list and the pieces after it
+-- if a text is `out` and `pieces`, the text and one more piece are `out`, `pieces` and that piece
 more : (out pieces piece text : List ℕ) → text ≡ out ++ pieces → text ++ piece ≡ out ++ (pieces ++ piece)
 more out pieces piece text e = ap (λ x. x ++ piece) e ∙ append_assoc out pieces piece
 
