@@ -1,4 +1,4 @@
--- Which part of a script was answered, byte after byte.
+-- Which lines of a script were answered, as its bytes are read.
 use Rattle.std.proofs.Common.{◌≡◌, ℕ, ◌+◌, ◌<◌, ◌≤◌, Bool, true, false, cond, nat_eq, List, [], ◌∷◌, ◌++◌, length, take, refl, sym, ap, ◌∙◌, arith, append_assoc, append-nil, eq-eqb}
 use Rattle.std.proofs.lemmas.Bool.Decides.{nat_tests}
 use Rattle.std.specs.List.{fold}
@@ -9,7 +9,7 @@ use Rattle.conversation.proofs.Splits.{split-push, split-push_cut, split-append}
 use Rattle.conversation.proofs.Fronts.{front_more}
 use Rattle.conversation.specs.declared.limits.TheConstants.{KEPT_BYTES}
 
--- the marks, with line n marked so
+-- these marks, except that the mark of line n is `memory`
 abbrev mark : Marks → ℕ → Bool → Marks
 mark marks n memory k = cond (nat_eq k n) memory (marks k)
 
@@ -24,17 +24,19 @@ mark_before marks n memory k h = ap (λ b. cond b memory (marks k)) (sym (other 
 
 -- ---- the whole lines of a text
 
+-- all lines but the last of `whole ++ rest ∷ []` are `whole`
 but_last : (whole : List (List ℕ)) (rest : List ℕ) → all_but_last (whole ++ rest ∷ []) ≡ whole
 but_last [] rest = refl
 but_last (line ∷ []) rest = refl
 but_last (line ∷ next ∷ lines) rest = ap (λ (ls : List (List ℕ)). line ∷ ls) (but_last (next ∷ lines) rest)
 
--- the lines of a longer text: its whole lines, and at least one more
+-- the lines `ls` begin with the lines `whole`, and there is at least one more
 record GoesOn (whole ls : List (List ℕ)) : Type 0 where
   pub next : List ℕ
   pub others : List (List ℕ)
   pub same : ls ≡ whole ++ next ∷ others
 
+-- if a text has these whole lines and a last one, a longer text begins with the same whole lines
 go_on : (seen more : List ℕ) (whole : List (List ℕ)) (rest : List ℕ) → lines_of seen ≡ whole ++ rest ∷ [] → GoesOn whole (lines_of (seen ++ more))
 go_on seen [] whole rest e = record { next = rest; others = []; same = ap lines_of (append-nil seen) ∙ e }
 go_on seen (b ∷ more) whole rest e = step (is_line_end b) refl (λ w r cut. go_on (seen ++ b ∷ []) more w r cut)
@@ -53,14 +55,14 @@ go_on seen (b ∷ more) whole rest e = step (is_line_end b) refl (λ w r cut. go
         let on = later whole (rest ++ b ∷ []) (split-push is_line_end seen b whole rest h e) in
         record { next = on.next; others = on.others; same = joined ∙ on.same }
 
--- the first whole lines are those of the shorter text
+-- if the lines of a text are `whole` and at least one more, its first whole lines are `whole`
 first_lines : (whole : List (List ℕ)) (next : List ℕ) (others : List (List ℕ)) → take (length whole) (all_but_last (whole ++ next ∷ others)) ≡ whole
 first_lines [] next others = refl
 first_lines (line ∷ []) next others = refl
 first_lines (line ∷ more ∷ whole) next others = ap (λ (ls : List (List ℕ)). line ∷ ls) (first_lines (more ∷ whole) next others)
 
 module _ {W : Type 0} (define : Definition W) where
-  -- what lines leave depends on their own marks alone
+  -- what answering these lines gives depends on no other lines' marks
   same_marks : (old new : Marks) (lines : List (List ℕ)) (p : ScriptProgress W) → ((k : ℕ) → k ≤ p.lines + length lines → old k ≡ new k)
       → fold (next_line define old) p lines ≡ fold (next_line define new) p lines
   same_marks old new [] p h = refl
@@ -121,6 +123,7 @@ pub record HasAnsweredAll {W : Type 0} (define : Definition W) (start : W) (scri
 
 module _ {W : Type 0} (define : Definition W) (front : (memory : Bool) (number : ℕ) (line : List ℕ) (w : W) → define memory number (take KEPT_BYTES line) w ≡ define memory number line w)
     (start : W) (seen : List ℕ) (world : W) (lines : ℕ) (line text : List ℕ) (t : HasAnswered define start seen world lines line text) where
+  -- once the last line is answered too, all lines are
   pub answered_all : (new_world : W) (new_text : List ℕ) → IsLineAnswer define (lines + 1) line world new_world text new_text → HasAnsweredAll define start seen new_world (lines + 1) new_text
   answered_all new_world new_text a = record {
     marks = new_marks;
@@ -159,6 +162,7 @@ module _ {W : Type 0} (define : Definition W) (front : (memory : Bool) (number :
           ∙ ap (further p) answered
           ∙ ap (λ n. record { world = new_world; lines = n + 1; text = p.text ++ a.text }) (sym t.same_lines)
 
+  -- once the line that was kept ends, and is answered, the bytes up to its end are answered
   pub answered_line : (new_world : W) (new_lines : ℕ) (new_line new_text : List ℕ) → IsLineAnswer define (lines + 1) line world new_world text new_text
       → new_lines ≡ lines + 1 → new_line ≡ [] → HasAnswered define start (seen ++ 10 ∷ []) new_world new_lines new_line new_text
   answered_line new_world new_lines new_line new_text a n l =

@@ -10,7 +10,7 @@ take_none : (n : ℕ) (bytes : List ℕ) → n ≡ 0 → take n bytes ≡ []
 take_none zero bytes e = refl
 take_none (suc n) bytes e = cc
 
--- if a line goes on, those of its further bytes that still fit are kept
+-- what is kept after a line's next bytes is the first KEPT_BYTES bytes of the longer line
 pub front_more : (front text bytes : List ℕ) → front ≡ take KEPT_BYTES text → kept_with front bytes ≡ take KEPT_BYTES (text ++ bytes)
 front_more front text bytes e = elim (cases_lt (length text) KEPT_BYTES) [
   | inl short ↦

@@ -30,6 +30,7 @@ module _ {W : Type 0} (define : Definition W) (start : W) where
   }
 
   module _ (before after : Streams) (count : ℕ) (world : W) (lines : ℕ) (line : List ℕ) (r : Reached define start before after count world lines line) where
+    -- a read that takes no bytes changes nothing of what was reached
     pub reached_kept : (next : Option (List ℕ)) → Consumes after.unread next [] → Reached define start before (streams next after.written) count world lines line
     reached_kept next k = record { seen = r.seen; text = r.text; read = consumes_kept before.unread after.unread next r.seen r.read k; counted = r.counted; wrote = r.wrote; reported = r.reported }
 
@@ -55,7 +56,7 @@ module _ {W : Type 0} (define : Definition W) (start : W) where
       went = answered_whole define start r.seen world lines line r.text r.reported;
     }
 
-    -- a piece whose answers run out of memory goes unanswered
+    -- if memory runs out while a piece is answered, no answer to its lines is written
     pub fault_memory : (next : Option (List ℕ)) (piece : List ℕ) → Consumes after.unread next piece → count + length piece ≤ MOST_SCRIPT_BYTES
         → EndsWithFault (answers_to define start) Memory before (streams next after.written)
     fault_memory next piece k few = record {
@@ -157,7 +158,7 @@ module _ {W : Type 0} (define : Definition W) (start : W) where
             went = inr (ended, (h.0, sym all.same_text ∙ h.1));
           }
 
-  -- an end with and without a fault, clause by clause
+  -- the two clauses of `converse` about its end: without a fault, and with one
   module _ (before after : Streams) (left : W) where
     abbrev IsEnd : Result ⊤ StreamFault → Type 0
     IsEnd r = record { done : OnOk r (Leaves define start left before after); fault : IfErr r (λ e. EndsWithFault (answers_to define start) e before after) }
@@ -166,7 +167,7 @@ module _ {W : Type 0} (define : Definition W) (start : W) where
     finished (Ok done) h = record { done = h; fault = tt }
     finished (Err e) h = record { done = tt; fault = h }
 
-  -- the same, after a last read of no bytes
+  -- a conversation that ends after a last read, of no bytes, ends as `IsEnd` says
   pub finished_after : (before after : Streams) (count : ℕ) (world : W) (lines : ℕ) (line : List ℕ) → Reached define start before after count world lines line → (next : Option (List ℕ)) → Consumes after.unread next []
       → (end : Streams) (left : W) (r : Result ⊤ StreamFault) → (Reached define start before (streams next after.written) count world lines line → Finished define start before end left r) → IsEnd before end left r
   finished_after before after count world lines line h next k end left r f = finished before end left r (f (reached_kept before after count world lines line h next k))

@@ -4,7 +4,7 @@ use Rattle.std.specs.List.{slice_split, onto_first, All}
 use Rattle.std.proofs.lemmas.List.Splits.{slice_split-cons_yes, slice_split-cons_no, length-slice_split}
 
 module _ (p : ℕ → Bool) where
-  -- there is always a part
+  -- a text has at least one part
   pub split_some : (xs : List ℕ) → 0 < length (slice_split p xs)
   split_some xs = omega (arith, length-slice_split p xs)
 
@@ -51,11 +51,11 @@ module _ (p : ℕ → Bool) where
         | false ↦ onto_last-onto_first x y (slice_split p xs) (split_some xs)
       ]
 
-  -- a text followed by another byte has it at the end of its last part
+  -- a byte that isn't a separator, added to a text, is at the end of the text's last part
   pub split-push : (xs : List ℕ) (y : ℕ) (whole : List (List ℕ)) (rest : List ℕ) → p y ≡ false → slice_split p xs ≡ whole ++ rest ∷ [] → slice_split p (xs ++ y ∷ []) ≡ whole ++ (rest ++ y ∷ []) ∷ []
   split-push xs y whole rest h e = split-push_last xs y h ∙ ap (onto_last y) e ∙ onto_last-append whole rest y
 
-  -- a text followed by several bytes that aren't separators has them at the end of its last part
+  -- bytes that aren't separators, added to a text, are at the end of the text's last part
   pub split-append : (xs ys : List ℕ) (whole : List (List ℕ)) (rest : List ℕ) → All (λ y. p y ≡ false) ys → slice_split p xs ≡ whole ++ rest ∷ [] → slice_split p (xs ++ ys) ≡ whole ++ (rest ++ ys) ∷ []
   split-append xs [] whole rest h e = ap (slice_split p) (append-nil xs) ∙ e ∙ ap (λ r. whole ++ r ∷ []) (sym (append-nil rest))
   split-append xs (y ∷ ys) whole rest h e =

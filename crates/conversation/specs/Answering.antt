@@ -8,10 +8,10 @@ use Rattle.conversation.specs.Moments.{Streams}
 use Rattle.conversation.specs.Scripts.{Definition, Marks, lines_of, after_lines, answers_to, is_line_end}
 use Rattle.conversation.specs.Conversations.{Leaves, EndsWithFault}
 
--- The whole lines of the bytes `seen`, which end with an LF, were answered, from the opening world
--- `start` on: `lines` is their number, `text` has their answers, and `world` is the world that they
--- left. Some of them may have been refused memory. `line` is what is kept of the bytes after the
--- last LF: at most the first KEPT_BYTES.
+-- The whole lines of the bytes `seen`, those that end with an LF, were answered, from the opening
+-- world `start` on: `lines` is their number, `text` has their answers, and they left `world`. Some
+-- of them may have been refused memory. `line` is what is kept of the bytes after the last LF: at
+-- most the first KEPT_BYTES.
 pub record HasAnswered {W : Type 0} (define : Definition W) (start : W) (seen : List ℕ) (world : W) (lines : ℕ) (line text : List ℕ) : Type 0 where
   pub marks : Marks
   pub whole : List (List ℕ)

@@ -260,7 +260,7 @@ fn first_line(text: &[u8]) -> Option<(&[u8], &[u8])>
 ///
 /// # Errors
 ///
-/// Read or Write if a stream fails; TooLong exactly if `MOST_SCRIPT_BYTES` bytes were read, or
+/// Read or Write if a stream fails; TooLong only if `MOST_SCRIPT_BYTES` bytes were read, or
 /// `MOST_READS` reads were made, without an end; Memory if memory runs out. If nobody else changes
 /// what lines see, only a prefix of the answers was then written.
 pub fn converse<

@@ -18,7 +18,7 @@ pub fn write_file<F: Files + AllocGlobal>(files: &F, path: &str, bytes: &[u8]) -
         Ok(_) => overwrite(files, path, bytes),
         Err(e) => match e.kind() {
             ErrorKind::NotFound if !is_link(files, path) => replace(files, path, None, bytes),
-            // A link to nothing; or a page's file, which has no metadata.
+            // A link to nothing; or a file of the page in a browser, which has no metadata.
             ErrorKind::NotFound | ErrorKind::Unsupported => overwrite(files, path, bytes),
             _ => Err(e),
         },

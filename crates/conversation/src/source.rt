@@ -19,14 +19,14 @@ const PIECE_BYTES: usize = 4096;
 pub enum SourceFault {
     /// The file can't be opened, or a read of it failed.
     Unreadable,
-    /// There is no memory for the file's bytes.
+    /// There is no memory to open the file, or for its bytes.
     Memory,
     /// The file has more bytes than the limit.
     TooLong,
 }
 
 impl SourceFault {
-    /// The fault that a file can't be opened because of this error.
+    /// The fault of a file that can't be opened because of this error.
     fn of(error: io::Error) -> SourceFault {
         match error.kind() {
             ErrorKind::OutOfMemory => SourceFault::Memory,

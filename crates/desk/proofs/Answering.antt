@@ -21,7 +21,8 @@ module _ {P : Type 0} where
   legal_last w [] e h = h.0
   legal_last w (f ∷ log) e h = legal_last (acted_by f w).world log e h.2
 
-  -- a world and the one after its calls: these are counted, and the limits stay
+  -- n calls lead from the world w to the world `after`: n more are counted as logged, and the
+  -- limits stay
   abbrev IsCounted : World P → World P → ℕ → Type 0
   IsCounted w after n = (after.logged ≡ w.logged + n) × (after.limits ≡ w.limits)
 
@@ -38,7 +39,8 @@ module _ {P : Type 0} where
   counted_calls w [] h = (omega arith, refl)
   counted_calls w (e ∷ log) h = one_more (is_full w) w e (length log) (world_after w (e ∷ log)) refl h.0 h.1 (counted_calls (acted_by e w).world log h.2)
 
-  -- if fewer calls were logged than the limit allows, since none was, the log isn't full
+  -- if no call is logged in the world w, and fewer calls follow than its limit, the log isn't full
+  -- after them
   pub not_full : (w : World P) (found : List Entry) → w.logged ≡ 0 → IsLegal w found → length found < w.limits.log → is_full (world_after w found) ≡ false
   not_full w found fresh legal room =
       let count = counted_calls w found legal in
@@ -66,7 +68,7 @@ module _ {P : Type 0} where
         let after = after_more w found e in
         inl (λ i. record { world = sym after i; reply = last i })
 
-    -- the reply is the one that the world after the found calls gives, or Memory
+    -- the reply is the one that the command gets in the world after the calls found, or Memory
     pub replies_so : (reply : Reply) (after : List Entry) → after ≡ logged (entry chair who guard command reply) found → IsLegal w found → IsLegal w (logged (entry chair who guard command reply) found)
         → (reply ≡ No LogFull → length found ≡ w.limits.log) → (command_result who guard command (world_after w found) ≡ record { world = world_after w after; reply = reply }) ⊎ (reply ≡ No Memory)
     replies_so reply after is before legal full =

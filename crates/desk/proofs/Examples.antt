@@ -31,7 +31,7 @@ is register = safe_behaviour
 abbrev limits : Limits
 limits = record { cells = 9; branches = 9; log = 9 }
 
--- the one branch `main`, of no steps
+-- a trie with one branch, `main`, which has no steps
 abbrev trie : TrieOf (StoredRun ⊤ SafePoint)
 trie = record { branches = keyed_branch (codes "main") [] ∷ []; segments = []; made = 0; limits = limits }
 
@@ -65,7 +65,7 @@ nothing (x ∷ front) back e is = cc
 found_nothing : Finds (having []) []
 found_nothing = record { begins = ([], refl); whole = λ all. refl; reported = omega arith }
 
--- a join found no memory: it is not logged, and the history is as it was
+-- memory ran out for a join: it isn't logged, and the chair has seen no call
 Received-holds : Received is first 3 None command.Join (having []) (having []) (record { at = 0; reply = No Memory })
 Received-holds = record {
   found = [];
@@ -84,7 +84,7 @@ Received-holds = record {
     memory_full : No Memory ≡ No LogFull → ⊥
     memory_full e = cc
 
--- a join is replied to as done, and no call is in the history
+-- the reply to a join is Joined, but the chair has seen no call
 Received-fails : Received is first 3 None command.Join (having []) (having []) (record { at = 0; reply = Joined }) → ⊥
 Received-fails h = nothing h.found [] _ h.sees
 
@@ -92,22 +92,22 @@ Received-fails h = nothing h.found [] _ h.sees
 found_so : (says : ℕ → World SafePoint → Type 0) → says 0 (opening_of is first) → Reads is first says (having []) (having [])
 found_so says answer = record { found = []; finds = found_nothing; legal = tt; answers = answer; sees = refl; calls = refl; shares = refl; reported = refl }
 
--- a reading answers with the length of the history that it found, which has no call
+-- a reading found a history of length 0, as its answer says
 Reads-holds : Reads is first (λ n world. n ≡ 0) (having []) (having [])
 Reads-holds = found_so (λ n world. n ≡ 0) refl
 
--- the history that was found has one call, and the answer is 0
+-- a reading found a history of one call, but its answer says that the length is 0
 Reads-fails : Reads is first (λ n world. n ≡ 0) (having []) (having (join ∷ [])) → ⊥
 Reads-fails h = let one : 1 ≡ length h.found = ap length h.sees in omega (arith, one, h.answers)
 
 stays : KeepsSeen (having []) (having [])
 stays = record { begins = ([], refl); whole = λ all. refl; calls = refl; shares = refl; reported = refl }
 
--- a fill finds no branch `a`
+-- a fill is refused as NoBranch, since there is no branch `a`
 Filled-holds : Filled is first (codes "a") (having []) (having []) (Err NoBranch)
 Filled-holds = (having [], found_so (λ n world. NeedsBranch {A = Report} (codes "a") world (Err NoBranch)) refl, stays)
 
--- it finds no branch `main`, which is there
+-- a fill is refused as NoBranch, though its branch, `main`, is there
 Filled-fails : Filled is first (codes "main") (having []) (having []) (Err NoBranch) → ⊥
 Filled-fails h = there (subst (λ found. NeedsBranch {A = Report} (codes "main") (world_after (opening_of is first) found) (Err NoBranch)) found h.1.answers)
   where

@@ -32,7 +32,7 @@ use Rattle.desk.proofs.Logged.{put, put_under, legal_found, logged_last}
 use Rattle.desk.proofs.Answering.{replies_so}
 
 module _ {R P : Type 0} (is : R → Behaviour P) (first : BookOf R P) (v w : View (Item R P)) where
-  -- a list of items that a chair finds
+  -- a chair that finds the list `before` finds the calls in it, as `Finds` says
   finds_so : (before : List (Item R P)) (found : List Entry) → StartsWith before v.seen → v.reported ≤ length before → (HasAll v.shares → before ≡ v.seen) → before ≡ items first found → Finds v found
   finds_so before found starts not_fewer whole is_found =
       let long = ap length is_found ∙ length_items first found in
@@ -48,6 +48,7 @@ module _ {R P : Type 0} (is : R → Behaviour P) (first : BookOf R P) (v w : Vie
       record { whole = is_list ∙ ap (items first) (sym same); legal = subst (IsLegal (opening_of is first)) (sym same) legal }
 
   module _ (who : ℕ) (guard : Option ℕ) (command : Command) (receipt : Receipt) where
+    -- a chair that did the work of a command received its reply, as `Received` says
     pub received : IsHistory is first v.seen → Holding made_under (λ before after. IsAct is who guard command before after receipt) v w
         → Received is first who guard command v w receipt × IsHistory is first w.seen
     received h (before, added, starts, not_fewer, one, after, act, whole) =
@@ -84,6 +85,7 @@ module _ {R P : Type 0} (is : R → Behaviour P) (first : BookOf R P) (v w : Vie
         )
 
   module _ (says : ℕ → World P → Type 0) where
+    -- a chair that did work that only reads made a reading, as `Reads` says
     pub reads_on : IsHistory is first v.seen → Holding made_under (λ before after. IsReading is says before after) v w → Reads is first says v w × IsHistory is first w.seen
     reads_on h (before, added, starts, not_fewer, one, after, reading, whole) =
         let found = reading.found in
@@ -106,7 +108,7 @@ module _ {R P : Type 0} (is : R → Behaviour P) (first : BookOf R P) (v w : Vie
           history_so w.seen found list legal,
         )
 
-    -- a weaker relation also holds of a reading
+    -- what `says` implies also holds of a reading's answer
     reads_more : (more : ℕ → World P → Type 0) → ((n : ℕ) (world : World P) → says n world → more n world) → Reads is first says v w → Reads is first more v w
     reads_more more on r = record {
       found = r.found;
@@ -143,13 +145,13 @@ module _ {R P : Type 0} (is : R → Behaviour P) (first : BookOf R P) (v w : Vie
         let reads = (reads_on asked h held).0 in
         reads.answers.2 (subst IsRegularOrAtomic (sym (tower_after (opening_of is first) reads.found)) lawful)
 
-  -- the page of a look that found this answers as the look does
+  -- if a look has determined an answer, what results from making its page answers the look, too
   pub looked_on : (query : Query) (at : ℕ) (slip result : Result Page Refusal) → IsPaged slip result → Looked is first query v w (record { at = at; result = slip })
       → Looked is first query v w (record { at = at; result = result })
   looked_on query at slip result paged =
       reads_more (λ n world. (at ≡ n) × IsAnswer world query slip) (λ n world. (at ≡ n) × IsAnswer world query result) (λ n world said. (said.0, paged_so world query slip result paged said.1))
 
--- a fill: first a reading that needs the branch, then steps that keep what the chair has seen
+-- a fill is a reading that needs the branch, after which the chair keeps what it has seen
 pub filled_so : {R P A : Type 0} (is : R → Behaviour P) (first : BookOf R P) (v u w : View (Item R P)) (branch : List ℕ) (planned : Result A Refusal) (result : Result Report Refusal)
     → ((world : World P) → NeedsBranch branch world planned → NeedsBranch branch world result) → Reads is first (λ n world. NeedsBranch branch world planned) v u → KeepsSeen u w
     → Filled is first branch v w result

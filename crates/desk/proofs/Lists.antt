@@ -24,7 +24,7 @@ module _ {R P : Type 0} where
   pub length_items : (first : BookOf R P) (calls : List Entry) → length (items first calls) ≡ length calls + 1
   length_items first calls = omega (arith, length-map {B = Item R P} calls (λ e. Call e))
 
-  -- the opening at the head of a list
+  -- the book of the opening at the head of a list, or `other` if the list has no opening there
   opening_or : BookOf R P → List (Item R P) → BookOf R P
   opening_or other [] = other
   opening_or other (Opening first ∷ rest) = first

@@ -15,7 +15,7 @@ pub legal_front : {P : Type 0} (w : World P) (xs ys : List Entry) → IsLegal w 
 legal_front w [] ys h = tt
 legal_front w (e ∷ xs) ys h = (h.0, h.1, legal_front (acted_by e w).world xs ys h.2)
 
--- a log with one more call, if the call is logged
+-- the log with the entry e added at its end if t is true, or else the log alone
 abbrev pub put : Bool → Entry → List Entry → List Entry
 put t e log = cond t (log ++ e ∷ []) log
 

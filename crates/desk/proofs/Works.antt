@@ -58,7 +58,8 @@ pub may_be_memory : {P : Type 0} (n : ℕ) (w : World P) (r : Result Saved Refus
 may_be_memory n w (Ok saved) Is k same = absurd k
 may_be_memory n w (Err x) Is k same = same x k
 
--- what is found of a branch, and what refuses it
+-- a result that is Ok only if the branch is there, and else has the error that `if_lacks` gives, is
+-- as `NeedsBranch` says
 needs : {P A : Type 0} (w : World P) (branch : List ℕ) (r : Result A Refusal) → OnOk r (IsSome (index_of w.forest.branches branch))
     → IfErr r (λ e. if_lacks (index_of w.forest.branches branch) ≡ e) → NeedsBranch branch w r
 needs w branch (Ok x) found refused = found
@@ -94,8 +95,8 @@ module _ {R P : Type 0} (is : R → Behaviour P) where
     pub full_log : length old.log ≡ new.now.limits.log
     full_log = by_room (is_full (world_of is old.now)) refl
 
-  -- if the log isn't full, no command is answered with Memory by definition; and if log and world
-  -- stay the same, the log is shorter than its limit
+  -- if the log isn't full, `command_result` never gives the reply Memory; and if log and world stay
+  -- the same, the log is shorter than its limit
   module _ (old new : BookOf R P) (room : is_full (world_of is old.now) ≡ false) where
     never_out_of_memory : (who : ℕ) (guard : Option ℕ) (command : Command) → command_result who guard command (world_of is old.now) ≡ record { world = world_of is new.now; reply = No Memory } → ⊥
     never_out_of_memory who guard command acts =
@@ -137,6 +138,7 @@ module _ {R P : Type 0} (is : R → Behaviour P) where
       shorter_log (inr w) last no_memory =
           subst (λ (o : World P). length old.log < o.limits.log) (same ∙ book.opened) (shorter old new (last no_memory).first held w.world w.log)
 
+      -- what a book does with a command is, for its journal, work as `IsAct` says
       pub acts_so : ActsOnBook is old new (entry chair who guard command receipt.reply) ⊎ LacksMemory is old new receipt.reply
           → RefusesMemoryLast is old who guard command receipt.reply → receipt.at ≡ length new.log
           → IsAct is who guard command before (items first new.log) receipt
@@ -169,7 +171,7 @@ module _ {R P : Type 0} (is : R → Behaviour P) where
           one_at_most true = inr (Call call, refl, refl)
           one_at_most false = inl refl
 
-    -- work that leaves world and log answers from the history that it found
+    -- work that changes neither world nor log answers from the history that it found
     pub reads_so : (says : ℕ → World P → Type 0) → world_of is new.now ≡ world_of is old.now → new.log ≡ old.log → says (length old.log) (world_of is old.now)
         → IsReading is says before (items first new.log)
     reads_so says world log said =
@@ -187,6 +189,7 @@ module _ {R P : Type 0} (is : R → Behaviour P) where
     abbrev world_found : World P
     world_found = world_after (opening_of is old) old.log
 
+    -- what a book does for a look is, for its journal, work as `IsLook` says
     pub looks_so : (query : Query) (at : ℕ) (r : Result (Slipped R) Refusal) → IfOk r (λ slip. Some slip.page ≡ shown_in world_found query)
         → OnOk r (looked_in world_found query ≡ Ok world_found.forest) → IfErr r (IsRefused (looked_in world_found query))
         → (IsRegularOrAtomic (opening_of is old).tower → IfOk r (λ slip. ShowsNoStray slip.page))
@@ -200,7 +203,7 @@ module _ {R P : Type 0} (is : R → Behaviour P) where
         λ lawful. answer_no_stray r (never (subst IsRegularOrAtomic (ap (λ w. w.tower) here ∙ tower_after (opening_of is old) old.log) lawful)) in
         reads_so (λ n w. (at ≡ n) × IsAnswer w query (answer_by r) × ShowsNoStrayOf w (answer_by r)) world log (is_at ∙ ap length log, answers, strays)
 
-  -- work that leaves the book answers from the history that it found
+  -- work that doesn't change the book answers from the history that it found
   module _ (first old : BookOf R P) {before : List (Item R P)} (book : IsBook is first old before) (held : IsLegalBook is old) where
     pub stays_so : (says : ℕ → World P → Type 0) → says (length old.log) (world_of is old.now) → IsReading is says before before
     stays_so says said = subst (λ l. IsReading is says before l) book.listed (reads_so first old old book refl held says refl refl said)

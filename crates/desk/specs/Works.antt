@@ -40,7 +40,7 @@ abbrev pub answer_by : {R : Type 0} → Result (Slipped R) Refusal → Result Pa
 answer_by (Ok slip) = Ok slip.page
 answer_by (Err r) = Err r
 
--- the answer of a look that found a history of length n, and has determined this
+-- the answer of a look that found a history of length n: the page of its slip, or why it is refused
 abbrev pub answer_at : {R : Type 0} → ℕ → Result (Slipped R) Refusal → Answer
 answer_at n slip = record { at = n; result = answer_by slip }
 

@@ -11,6 +11,7 @@ use Rattle.sessions.specs.Logs.{is_logged}
 use Rattle.sessions.specs.Books.{IsLate}
 use Rattle.sessions.proofs.LoggedReplies.{acted_logged}
 
+-- an option that isn't `Some x` for any x is `None`
 pub lacks_some : {A : Type 0} (o : Option A) → ((x : A) → o ≡ Some x → ⊥) → None ≡ o
 lacks_some None h = refl
 lacks_some (Some x) h = absurd (h x refl)
@@ -21,12 +22,13 @@ first_after [] ys e = refl
 first_after (None ∷ xs) ys e = first_after xs ys e
 first_after (Some r ∷ xs) ys e = cc
 
+-- if the first list has a refusal, its first one is also the first refusal of both lists together
 pub first_before : (xs ys : List (Option Refusal)) (r : Refusal) → first_refusal xs ≡ Some r → first_refusal (xs ++ ys) ≡ Some r
 first_before [] ys r e = cc
 first_before (None ∷ xs) ys r e = first_before xs ys r e
 first_before (Some q ∷ xs) ys r e = e
 
--- three conditions of which none holds
+-- if none of three conditions gives its refusal, the first and the third condition are false
 none_of : (a b c : Bool) (r s t : Refusal) → first_refusal (refused_if a r ∷ refused_if b s ∷ refused_if c t ∷ []) ≡ None → (a ≡ false) × (c ≡ false)
 none_of true b c r s t e = cc
 none_of false true c r s t e = cc
@@ -45,6 +47,7 @@ below_16 : (who : ℕ) (t : Bool) → nat_lt 15 who ≡ t → t ≡ false → wh
 below_16 who t e f = grind (arith, e, f)
 
 module _ {P : Type 0} (who : ℕ) (guard : Option ℕ) (c : Command) (w : World P) where
+  -- if a command has no early refusal, its session exists, and its step, if any, fits the register
   pub early_none : first_refusal (early_refusals who guard c w) ≡ None → (who < 16) × (fits_command w.tower c ≡ true)
   early_none e =
       let none = none_of (lacks_session who c w.cursors) (is_missed guard w.edits) (not (fits_command w.tower c)) _ _ _ e in
@@ -57,16 +60,19 @@ module _ {P : Type 0} (who : ℕ) (guard : Option ℕ) (c : Command) (w : World 
         ap (λ t. first_refusal (refused_if t LogFull ∷ (early_refusals who guard c w ++ late_refusals who c w))) room
         ∙ first_after (early_refusals who guard c w) (late_refusals who c w) (sym e)
 
+    -- a refusal that is logged leaves the world with one more command counted as logged
     counted : (r : Refusal) → is_logged (No r) ≡ true → refused r w ≡ with_one_logged w
     counted LogFull h = cc
     counted r h = refl
 
+    -- if the log isn't full, the first reason to refuse a command is its reply, which is logged
     pub refused_so : (r : Refusal) → first_refusal (refusals who guard c w) ≡ Some r → command_result who guard c w ≡ record { world = with_one_logged w; reply = No r }
     refused_so r e =
         let acts : command_result who guard c w ≡ record { world = refused r w; reply = No r } = ap (λ o. answered o who c w) e in
         let logged = ap (λ a. is_logged a.reply) (sym acts) ∙ (acted_logged who w guard c room).0 in
         acts ∙ ap (λ v. record { world = v; reply = No r }) (counted r logged)
 
+    -- if the log isn't full, a command's first early refusal is its reply, which is logged
     pub early_refused : (r : Refusal) → Some r ≡ first_refusal (early_refusals who guard c w) → command_result who guard c w ≡ record { world = with_one_logged w; reply = No r }
     early_refused r e =
         refused_so r (ap (λ t. first_refusal (refused_if t LogFull ∷ (early_refusals who guard c w ++ late_refusals who c w))) room
@@ -77,7 +83,8 @@ module _ {P : Type 0} (who : ℕ) (guard : Option ℕ) (c : Command) (w : World 
         → command_result who guard c w ≡ record { world = after; reply = reply }
     done_so after reply none leaves replies = ap (λ o. answered o who c w) none ∙ λ i. record { world = leaves i; reply = replies i }
 
-    -- if it runs out of memory, nothing refuses it
+    -- if a command has no early refusal, and Memory is why it isn't carried out (`IsLate`), then
+    -- there is no reason to refuse it
     pub late_none : None ≡ first_refusal (early_refusals who guard c w) → (r : Refusal) → r ≡ Memory → IsLate who c w r → first_refusal (refusals who guard c w) ≡ None
     late_none early r is (inr none) = not_early early ∙ none.1
     late_none early r is (inl e) =
@@ -85,6 +92,8 @@ module _ {P : Type 0} (who : ℕ) (guard : Option ℕ) (c : Command) (w : World 
         let logged : is_logged (No Memory) ≡ true = ap (λ o. is_logged (answered o who c w).reply) (sym memory) ∙ (acted_logged who w guard c room).0 in
         absurd (cc)
 
+    -- if a command has no early refusal, its late one is its reply, which is logged, unless memory
+    -- ran out
     pub late_refused : None ≡ first_refusal (early_refusals who guard c w) → (r : Refusal) → (r ≡ Memory → ⊥) → IsLate who c w r → (after : World P) → after ≡ w
         → command_result who guard c w ≡ record { world = with_one_logged after; reply = No r }
     late_refused early r other (inr none) after same = absurd (other none.0)

@@ -26,8 +26,8 @@ below a b t e f = grind (arith, e, f)
 above : (a b : ℕ) → b < a → nat_le a b ≡ false
 above a b h = grind (arith, nat_tests)
 
--- if a book's world stays the same, so does its opening; and if its log stays the same as well, it
--- still has what its type guarantees
+-- a book keeps the chart that it opened with, and its world: so its opening stays the same; and if
+-- its log does too, the book still has what its type guarantees
 module _ {R P : Type 0} (is : R → Behaviour P) (old new : BookOf R P) (is_first : new.first ≡ old.first) (is_world : world_of is new.now ≡ world_of is old.now) where
   pub opens_same : opening_of is new ≡ opening_of is old
   opens_same = λ i. opening (is (is_first i).start.register) (is_first i).value (is_world i).limits (forest (is_first i).trie)
@@ -49,7 +49,7 @@ module _ {R P : Type 0} (is : R → Behaviour P) (old new : BookOf R P) (is_firs
         same_limit = most ∙ b.same_limit;
       }
 
--- a log's length, counted on a book of which the other is the model
+-- if two books are equal, the length of one's log is also that of the other's
 pub log_count : {R P : Type 0} {book model : BookOf R P} {n : ℕ} → book ≡ model → n ≡ length model.log → n ≡ length book.log
 log_count is count = count ∙ ap (λ b. length b.log) (sym is)
 
@@ -63,7 +63,7 @@ module _ {R P : Type 0} (is : R → Behaviour P) (first : Charted R P) (s t : Wo
   pub room : is_full (world_of is old.now) ≡ false
   room = let most = b.same_limit in above s.chart.trie.limits.log (length log.items) (omega (arith, most, count, less))
 
-  -- memory runs out
+  -- memory runs out for a command: the opening stays the same, and the book's invariant holds
   module _ (who : ℕ) (guard : Option ℕ) (c : Command) (has : (n : ℕ) → is_full (world_of is (stored s n)) ≡ false → NoneDue who guard c (world_of is (stored s n)) × (world_of is (stored t n) ≡ world_of is (stored s n))) where
     world_kept : world_of is (stored t (length reserved.items)) ≡ world_of is old.now
     world_kept = ap (λ l. world_of is (stored t (length l))) kept ∙ (has (length log.items) room).1
@@ -74,7 +74,7 @@ module _ {R P : Type 0} (is : R → Behaviour P) (first : Charted R P) (s t : Wo
     pub book_kept : IsBook is limit (book_of first t reserved)
     book_kept = book_same is old (book_of first t reserved) refl world_kept limit kept b
 
-  -- the command is answered
+  -- the command is answered, and the entry e is added to the log
   module _ (more : Vec Entry) (e made : Entry) (is_made : made ≡ e) (pushed : more.items ≡ reserved.items ++ made ∷ [])
       (has : (n : ℕ) → is_full (world_of is (stored s n)) ≡ false → command_result e.who e.if_at e.command (world_of is (stored s n)) ≡ record { world = with_one_logged (world_of is (stored t n)); reply = e.reply }) where
     abbrev new : BookOf R P

@@ -22,7 +22,7 @@ module _ {R P : Type 0} (is : R → Behaviour P) (old : StoredWorld R P) (who : 
     replies = refl;
   }
 
-  -- a break that finds no memory is refused as Memory, and nothing is changed
+  -- if memory runs out when a break is set, the refusal is Memory, and nothing is changed
   pub break_unset : (r : Result Reply Refusal) (Is : Refusal → Type 0) → IsErrAnd r Is → ((x : Refusal) → Is x → x ≡ Memory)
       → slice_set old.breaks who new ≡ old.breaks
       → Does is who (command.Break b) old (record old { breaks = slice_set old.breaks who new }) r
@@ -40,6 +40,7 @@ module _ {R P : Type 0} (is : R → Behaviour P) (old : StoredWorld R P) (who : 
     replies = refl;
   }
 
+-- a clear of a break that the session hasn't set is refused as NoBreak, and nothing is changed
 pub break_lacks : {R P : Type 0} (is : R → Behaviour P) (old : StoredWorld R P) (who : ℕ) (b : Break)
     → has_break b (breaks_at old.breaks who) ≡ false → Undone is who (command.Clear b) old old NoBreak
 break_lacks is old who b has = record {

@@ -1,4 +1,4 @@
--- The cells that are ever made stay within the limits.
+-- An accepted edit keeps the number of cells ever made within the limit of cells.
 use Rattle.std.proofs.Common.{◌≡◌, ◌+◌, ◌<◌, ◌≤◌, not, nat_eq, nat_lt, nat_le, length, map, Ok, IfOk, arith}
 use Rattle.std.specs.List.{list_any}
 use Rattle.std.specs.Cmp.Lexicographic.{pointwise}

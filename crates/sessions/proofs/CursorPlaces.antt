@@ -142,14 +142,15 @@ module _ (x : ℕ) (new : Slot) where
       by rest true = omega arith
       by rest false = omega arith
 
--- no cell has this number
+-- none of these cells has the number x
 abbrev pub Lacks : ℕ → List Slot → Type 0
 Lacks x slots = (k : ℕ) (s : Slot) → slice_get slots k ≡ Some s → s.cell ≡ x → ⊥
 
--- at most one cell has this number
+-- the number x is the number of at most one of these cells
 abbrev pub HasOnce : ℕ → List Slot → Type 0
 HasOnce x slots = (k l : ℕ) (s t : Slot) → slice_get slots k ≡ Some s → slice_get slots l ≡ Some t → s.cell ≡ x → t.cell ≡ x → k ≡ l
 
+-- if no cell has the number x, removing the cells with this number removes none
 pub none_gone : (x : ℕ) (slots : List Slot) → Lacks x slots → length slots ≤ length (without x slots)
 none_gone x [] h = omega arith
 none_gone x (y ∷ ys) h = by (none_gone x ys (λ k s e c. h (suc k) s e c)) (nat_eq y.cell x) refl
@@ -158,6 +159,7 @@ none_gone x (y ∷ ys) h = by (none_gone x ys (λ k s e c. h (suc k) s e c)) (na
     by rest true e = absurd (h 0 y refl (same_number y.cell x e))
     by rest false e = omega arith
 
+-- if at most one cell has the number x, removing the cells with this number removes at most one
 pub one_gone : (x : ℕ) (slots : List Slot) → HasOnce x slots → length slots ≤ suc (length (without x slots))
 one_gone x [] h = omega arith
 one_gone x (y ∷ ys) h = by (one_gone x ys (λ k l s t d e a b. let same : suc k ≡ suc l = h (suc k) (suc l) s t d e a b in omega arith)) (nat_eq y.cell x) refl
@@ -169,12 +171,13 @@ one_gone x (y ∷ ys) h = by (one_gone x ys (λ k l s t d e a b. let same : suc 
     by rest true e = let all = none_gone x ys (lacks (same_number y.cell x e)) in omega arith
     by rest false e = omega arith
 
--- the cell at the place that was found for a number has that number
+-- if place k was found for the number x, there is a cell at k, and its number is x
 pub cell_found : (x k : ℕ) (slots : List Slot) (d : Slot) → position (is_cell x) slots ≡ Some k → (s : Slot) × (slice_get slots k ≡ Some s) × (s.cell ≡ x)
 cell_found x k slots d e =
     let p = position-Some (is_cell x) slots k d e in
     (get_or slots k d, slice_get-get_or slots k d p.0, same_number (get_or slots k d).cell x p.1)
 
+-- if no place was found for the number x, no cell has this number
 pub cell_lacked : (x : ℕ) (slots : List Slot) → position (is_cell x) slots ≡ None → Lacks x slots
 cell_lacked x slots e k s at c = by (nat_lt (position_or_len (is_cell x) slots) (length slots)) refl e
   where
@@ -200,7 +203,7 @@ some_at : (o : Option ℕ) → is_some o ≡ true → (k : ℕ) × (o ≡ Some k
 some_at None e = absurd (cc)
 some_at (Some k) e = (k, refl)
 
--- a branch has a cell once
+-- cells of one branch that have the same number are at the same place
 same_place : (f : Forest) → IsForest f → (j k l : ℕ) (s t : Slot) → slice_get (slots_in f.branches j) k ≡ Some s → slice_get (slots_in f.branches j) l ≡ Some t → s.cell ≡ t.cell → k ≡ l
 same_place f held j k l s t d e c =
     let slots = slots_in f.branches j in
@@ -229,7 +232,7 @@ module _ (f : Forest) (held : IsForest f) (name : List ℕ) (place i : ℕ) (fou
   cell_none : length here ≤ place → cell_on_branch f name place ≡ None
   cell_none past = ap (λ o. cell_by o f place) found ∙ ap (option_map cell_of) (slice_get_past here place past)
 
-  -- at the end of a branch no cursor is after the place
+  -- an edit at the end of a branch moves no cursor
   none_shifted : length here ≤ place → is_shifted_by f name place c ≡ true → ⊥
   none_shifted past e =
       let p = and_parts (pointwise nat_eq name c.branch) (nat_lt place c.place) (ap (λ o. acts_in o f name c.branch && nat_lt place c.place) (sym (cell_none past)) ∙ e) in
@@ -240,7 +243,8 @@ module _ (f : Forest) (held : IsForest f) (name : List ℕ) (place i : ℕ) (fou
       let ahead : place < c.place = above place c.place p.1 in
       omega (arith, s.within)
 
-  -- a cursor after a cell is on a branch that has it
+  -- if an edit at a cell moves the cursor, the cursor's branch has the cell, and the cursor is
+  -- after the edit's place
   shifted_after : (t : Slot) → slice_get here place ≡ Some t → is_shifted_by f name place c ≡ true → ((k : ℕ) × (position (is_cell t.cell) there ≡ Some k)) × (place < c.place)
   shifted_after t at e =
       let p = and_parts (is_some (place_of f c.branch t.cell)) (nat_lt place c.place) (ap (λ o. acts_in o f name c.branch && nat_lt place c.place) (sym (cell_is t at)) ∙ e) in
@@ -312,7 +316,7 @@ module _ (f : Forest) (held : IsForest f) (name : List ℕ) (place i : ℕ) (fou
       (λ e. let p = shifted_after t at e in record { index = s.index; named = named; within = omega (arith, s.within, p.1) })
       (λ e. record { index = s.index; named = named; within = stays t at e (position (is_cell t.cell) there) refl (length (slots_in cs s.index)) same few })
 
--- one more branch
+-- with more branches after these, a branch keeps its name and its slots, and a cursor its place
 name_more : (bs more : List Branch) (j : ℕ) (name : List ℕ) → name_in bs j ≡ Some name → name_in (bs ++ more) j ≡ Some name
 name_more [] more j name e = absurd (cc)
 name_more (b ∷ bs) more zero name e = e
@@ -328,7 +332,7 @@ on_more bs more c s =
     let same : length (slots_in (bs ++ more) s.index) ≡ length (slots_in bs s.index) = ap length (slots_more bs more s.index c.branch s.named) in
     record { index = s.index; named = name_more bs more s.index c.branch s.named; within = omega (arith, s.within) }
 
--- one branch less
+-- a cursor's place still exists if another branch, with index i, is removed
 on_fewer : (bs : List Branch) (i : ℕ) (c : Cursor) (j : ℕ) → (i ≡ j → ⊥) → name_in bs j ≡ Some c.branch → c.place ≤ length (slots_in bs j) → IsOnBranch (remove bs i) c
 on_fewer [] i c j apart e h = absurd (cc)
 on_fewer (b ∷ bs) zero c zero apart e h = absurd (apart refl)
@@ -378,7 +382,7 @@ on_cursor (Insert name place step) f c = shifted shift.Up f name place c
 on_cursor (Remove name place) f c = shifted shift.Down f name place c
 on_cursor edit f c = c
 
--- no cursor is on a branch that is dropped
+-- the edit doesn't drop the branch of the cursor c
 abbrev Stays : Edit → Cursor → Type 0
 Stays (Drop name) c = pointwise nat_eq name c.branch ≡ false
 Stays edit c = Unit {0}
@@ -444,7 +448,8 @@ module _ (limits : Limits) (f : Forest) (held : IsForest f) (c : Cursor) (s : Is
       let named = named_at name f.branches i found in
       on_fewer f.branches i c s.index (λ same. other_name name c.branch h (named_one f.branches i s.index name c.branch same named s.named)) s.named s.within))
 
--- if each cursor is at a place that exists after a change, all are
+-- the changed cursors are at places of the branches g, if `change` takes each cursor that is at a
+-- place of the branches f to a place of g
 each_placed : (f g : Forest) (change : Cursor → Cursor) (cursors : List (Option Cursor)) → ((who : ℕ) (c : Cursor) → cursor_at cursors who ≡ Some c → IsAtPlace f c → IsAtPlace g (change c))
     → AreAtPlaces f cursors → AreAtPlaces g (each_cursor change cursors)
 each_placed f g change cursors one all who =
@@ -454,6 +459,7 @@ each_placed f g change cursors one all who =
     by None e h = tt
     by (Some c) e h = one who c e h
 
+-- as `each_placed`, but the cursors don't change
 all_kept : (f g : Forest) (cursors : List (Option Cursor)) → ((who : ℕ) (c : Cursor) → cursor_at cursors who ≡ Some c → IsAtPlace f c → IsAtPlace g c) → AreAtPlaces f cursors → AreAtPlaces g cursors
 all_kept f g cursors one all who = by (cursor_at cursors who) refl (all who)
   where
@@ -486,7 +492,7 @@ put_placed f cursors who o h one all k = by (nat_eq k who) refl
         subst (λ p. IfSome p (IsAtPlace f)) (sym here) one
     by false e = subst (λ p. IfSome p (IsAtPlace f)) (sym (get_or-set_other cursors who k o None (other_number k who e))) (all k)
 
--- the first cursor of a session that joins is at a place that exists
+-- the cursor of a session that joins is at a place that exists
 pub first_placed : (f : Forest) → AreNamedApart f.branches → IfSome (first_cursor f) (IsAtPlace f)
 first_placed f apart = by (name_in f.branches 0) refl
   where
@@ -494,7 +500,7 @@ first_placed f apart = by (name_in f.branches 0) refl
     by None e = tt
     by (Some name) e = from_branch f (cursor name 0) apart (record { index = 0; named = e; within = omega arith })
 
--- no branch has more cells than were made, since it has each at most once
+-- if cells with the same number are at the same place, the cells' numbers all differ
 cells_apart : (slots : List Slot) → ((k l : ℕ) (s t : Slot) → slice_get slots k ≡ Some s → slice_get slots l ≡ Some t → s.cell ≡ t.cell → k ≡ l) → IsDistinct nat_eq (map cell_of slots)
 unfolding IsDistinct
 cells_apart [] h = tt
@@ -517,6 +523,7 @@ cells_below n (y ∷ ys) h q e = by (cells_below n ys (λ k. h (suc k)) q) (nat_
     by rest true g i = let same = same_number q y.cell g in let first : y.cell < n = h 0 in omega arith
     by rest false g i = rest i
 
+-- no branch has more cells than were ever made, since it has each of them at most once
 pub few_within : (f : Forest) → IsForest f → (j : ℕ) → length (slots_in f.branches j) ≤ f.made
 few_within f held j =
     let slots = slots_in f.branches j in
@@ -525,6 +532,7 @@ few_within f held j =
     let same : length (map cell_of slots) ≡ length slots = length-map slots cell_of in
     omega arith
 
+-- if at most MOST_CELLS_MADE cells were ever made, cursors at places that exist are within bounds
 pub are_within : (f : Forest) (cursors : List (Option Cursor)) → IsForest f → f.made ≤ MOST_CELLS_MADE → AreAtPlaces f cursors → AreWithin cursors
 are_within f cursors held few all who = by (cursor_at cursors who) (all who)
   where
@@ -540,7 +548,7 @@ goes_within f c place n h len few =
     let same : length (slots_in f.branches p.0) ≡ n = cc in
     ap (λ o. forests.on_found o (looked_at f place)) p.1 ∙ ap (λ b. cond b (Err NoPlace) (Ok f)) (lt_false (length (slots_in f.branches p.0)) place (omega arith))
 
--- the place of a hit exists
+-- each place up to the end of a cursor's branch exists, so the place of a hit does
 pub hit_exists : (f : Forest) (c : Cursor) (place : ℕ) → IsAtPlace f c → place < length (steps_in f c.branch) + 1
     → IsAtPlace f (cursor c.branch place)
 hit_exists f c place h within =

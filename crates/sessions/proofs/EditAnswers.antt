@@ -32,7 +32,7 @@ below_one n e = grind (arith, nat_tests)
 above_one : (n : ℕ) → nat_lt 1 n ≡ true → nat_le n 1 ≡ false
 above_one n e = grind (arith, nat_tests)
 
--- a drop that the branches allow is held up by a cursor alone
+-- if the branches allow a drop, and no cursor holds it up, no cursor is on the dropped branch
 free_of : (f g : Forest) (name : List ℕ) (o : Option ℕ) (occupied : Bool) → forests.on_found o (forests.drop_at f) ≡ Ok g
     → (is_some (option_map (λ i. length (slots_in f.branches i)) o) && (nat_lt 1 (length f.branches) && occupied)) ≡ false → occupied ≡ false
 free_of f g name None occupied e h = absurd (cc)
@@ -42,6 +42,8 @@ free_of f g name (Some i) occupied e h = by (nat_le (length f.branches) 1) refl 
     by true t d = absurd (cc)
     by false t d = sym (ap (λ b. b && occupied) (below_one (length f.branches) t)) ∙ h
 
+-- an edit that the branches and the limits allow, and that no cursor holds up, drops no branch with
+-- a cursor on it
 free : (limits : Limits) (f g : Forest) (edit : Edit) (cursors : List (Option Cursor)) → edited limits f edit ≡ Ok g → is_held_up edit f cursors ≡ false → drops_occupied edit cursors ≡ false
 free limits f g (Insert name place step) cursors e h = refl
 free limits f g (Remove name place) cursors e h = refl
@@ -50,7 +52,7 @@ free limits f g (Fork name place new) cursors e h = refl
 free limits f g (Detach name) cursors e h = refl
 free limits f g (Drop name) cursors e h = free_of f g name (index_of f.branches name) (is_occupied name cursors) e h
 
--- it is one that they allow
+-- the branches allow a drop that a cursor holds up, and a cursor is on the branch to be dropped
 held_up_of : (f : Forest) (o : Option ℕ) (occupied : Bool) → (is_some (option_map (λ i. length (slots_in f.branches i)) o) && (nat_lt 1 (length f.branches) && occupied)) ≡ true
     → (refusal_in (forests.on_found o (forests.drop_at f)) ≡ None) × (occupied ≡ true)
 held_up_of f None occupied h = absurd (cc)
@@ -71,7 +73,7 @@ module _ {P : Type 0} (who : ℕ) (c : Command) (w : World P) where
       let p = held_up_of w.forest (index_of w.forest.branches name) (is_occupied name w.cursors) h in
       ap (λ o. first_refusal (o ∷ refused_if (is_occupied name w.cursors) Occupied ∷ [])) p.0 ∙ ap (λ b. first_refusal (refused_if b Occupied ∷ [])) p.1
 
-  -- why an edit that isn't held up is refused
+  -- if the branches or the limits don't allow an edit, their reason is its first late refusal
   refused : (edit : Edit) (r : Refusal) → edited w.limits w.forest edit ≡ Err r → first_refusal (late_by (Some edit) who c w) ≡ Some r
   refused edit r e = ap (λ b. first_refusal (refusal_in b ∷ refused_if (drops_occupied edit w.cursors) Occupied ∷ [])) e
 
@@ -94,12 +96,13 @@ module _ {P : Type 0} (who : ℕ) (c : Command) (w : World P) where
   late_edit (Detach name) r h = late_or_memory (Detach name) r refl h
   late_edit (Drop name) r h = inl (refused (Drop name) r h)
 
-  -- an edit that is done
+  -- an edit that the branches and the limits allow has no late refusal, if it drops no branch with
+  -- a cursor on it
   fine : (edit : Edit) (g : Forest) → edited w.limits w.forest edit ≡ Ok g → drops_occupied edit w.cursors ≡ false → first_refusal (late_by (Some edit) who c w) ≡ None
   fine edit g e stays =
       ap (λ b. first_refusal (refusal_in b ∷ refused_if (drops_occupied edit w.cursors) Occupied ∷ [])) e ∙ ap (λ b. first_refusal (refused_if b Occupied ∷ [])) stays
 
-  -- it replies the count of edits
+  -- the reply to an accepted edit is the number of edits, this one included
   edit_reply : IsSome (edit_of c) → reply_to who c w ≡ Edited (w.edits + 1)
   edit_reply = by c
     where
@@ -122,7 +125,7 @@ pub not_held_up : (b : Bool) (done : Unit {0}) → (b ≡ true → Ok done ≡ E
 not_held_up true done h = let clash = h refl in absurd (cc)
 not_held_up false done h = refl
 
--- the workspace after an edit
+-- the workspace `old` after an accepted edit, which leaves this chart and these cursors
 abbrev pub after : {R P : Type 0} → Workspace R P → Charted R P → List (Option Cursor) → Workspace R P
 after old chart cursors = record old { chart = chart; cursors = cursors; edits = old.edits + 1 }
 
@@ -165,7 +168,7 @@ module _ {R P : Type 0} (is : R → Behaviour P) (n : ℕ) (old : Workspace R P)
         by false free =
             rw is_edit (late_edit who c (world_of is (stored old n)) edit e (h free).0)
 
-    -- an edit that is refused, or runs out of memory
+    -- a failed edit, which changed neither chart nor cursors, is answered as `Does` says
     pub undone_edit : (r : Result Reply Refusal) (e : Refusal) (Is : Refusal → Type 0) → IsErrAnd r Is → ((x : Refusal) → Is x → x ≡ e) → (is_held_up edit (forest old.chart.trie) old.cursors ≡ true → ◌≡◌ {A = Result (Unit {0}) Refusal} (Err e) (Err Occupied))
         → (is_held_up edit (forest old.chart.trie) old.cursors ≡ false → Edits old.chart chart edit (Err e)) → (chart ≡ old.chart) × (cursors ≡ old.cursors)
         → Does is who c (stored old n) (stored (record old { chart = chart; cursors = cursors }) n) r

@@ -30,6 +30,7 @@ module _ {R P : Type 0} where
       let checked = h.2.noted.4 in
       record { branches = checked.unchanged ∙ noted.unchanged; limits = checked.limits ∙ noted.limits; start = h.2.start; value = h.2.value }
 
+  -- a change that keeps the chart, as `IsChartKept` says, changes nothing that commands see
   pub kept_world : (is : R → Behaviour P) (s : Workspace R P) (new : Charted R P) (n : ℕ) → IsChartKept s.chart new
       → world_of is (stored (record s { chart = new }) n) ≡ world_of is (stored s n)
   kept_world is s new n kept = λ i. record {

@@ -17,6 +17,7 @@ use Rattle.sessions.specs.Books.{opening_over, stored, world_of}
 use Rattle.sessions.specs.declared.workspace.Workspace.{Workspace}
 use Rattle.sessions.specs.Saves.{IsSaved}
 
+-- limbs that are loaded give the branches that they describe, with no more cells than the limit
 pub loaded_is : (limits : Limits) (ls : List Limb) (f : Forest) → loaded limits ls ≡ Ok f → (f ≡ forest_of ls) × (f.made ≤ limits.cells)
 loaded_is limits ls f e = by (nat_lt limits.cells (cells_of ls)) refl (nat_lt limits.branches (length ls)) e
   where

@@ -1,4 +1,4 @@
--- Every reply to a command that can be logged is logged.
+-- If the log isn't full, the reply that `command_result` gives to a command is one that is logged.
 use Rattle.std.proofs.Common.{◌≡◌, ℕ, ◌+◌, Bool, true, false, not, cond, nat_le, nat_lt, nat_eq, List, [], ◌∷◌, Option, Some, None, Result, Ok, Err, length, map, refl, sym, ap, subst, ◌∙◌}
 use Rattle.std.specs.List.{list_any}
 use Rattle.std.specs.Cmp.Lexicographic.{pointwise}
@@ -34,7 +34,7 @@ first_of : (o : Option Refusal) (rs : List (Option Refusal)) → IsOrdinary o �
 first_of None rs a b = b
 first_of (Some r) rs a b = a
 
--- what the branches answer
+-- if the refusals in two results are logged, so is the refusal in the result that a test chooses
 by_test : (t : Bool) (x y : Result Forest Refusal) → IsOrdinary (refusal_in x) → IsOrdinary (refusal_in y) → IsOrdinary (refusal_in (cond t x y))
 by_test true x y a b = a
 by_test false x y a b = b
@@ -111,7 +111,8 @@ module _ {P : Type 0} (who : ℕ) (w : World P) where
   accepted_limits (Some edit) c = refl
   accepted_limits None c = refl
 
-  -- an answer that is logged is counted
+  -- if the first refusal of a command, if any, is logged, then the reply is logged, the command is
+  -- counted, and the limits stay
   by_first : (c : Command) (o : Option Refusal) → IsOrdinary o
       → (is_logged (answered o who c w).reply ≡ true) × ((answered o who c w).world.logged ≡ w.logged + 1) × ((answered o who c w).world.limits ≡ w.limits)
   by_first c None h = (reply_logged c, accepted_counted (edit_of c) c, accepted_limits (edit_of c) c)
@@ -127,7 +128,7 @@ module _ {P : Type 0} (who : ℕ) (w : World P) where
       (first_of (refused_if (not (fits_command w.tower c)) BadStep) _ (if_so (not (fits_command w.tower c)) BadStep refl)
       (late_ordinary (edit_of c) who c w)))))
 
-  -- the reply to a command that can be logged is never Memory
+  -- if the log isn't full, `command_result` never gives the reply Memory
   pub never_memory : (guard : Option ℕ) (c : Command) (after : World P) (reply : Reply) → is_full w ≡ false
       → command_result who guard c w ≡ record { world = after; reply = reply } → reply ≡ No Memory → ⊥
   never_memory guard c after reply room acts memory =

@@ -23,6 +23,7 @@ shown_at w query h = (alike_at w query h).0
 pub looked_at : {P : Type 0} (w : World P) (query : Query) → is_at_branch query ≡ true → views.looked query w.forest ≡ looked_in w query
 looked_at w query h = (alike_at w query h).1
 
+-- a query that is neither for all branches nor for a cursor is at a branch
 pub at_branch : (query : Query) → (query ≡ Branches → ⊥) → ((who : ℕ) → query ≡ Cursor who → ⊥) → is_at_branch query ≡ true
 at_branch Branches branches cursor = absurd (branches refl)
 at_branch (Cursor who) branches cursor = absurd (cursor who refl)
@@ -31,7 +32,7 @@ at_branch query branches cursor = refl
 not_past : (who : ℕ) → who < 16 → nat_lt 15 who ≡ false
 not_past who h = grind (arith, nat_tests)
 
--- a session's cursor
+-- session `who` has this cursor, or none
 module _ (cursors : List (Option declared.Cursor)) (who : ℕ) (default cursor : Option declared.Cursor)
     (sixteen : length cursors ≡ 16) (within : who < 16) (here : get_or cursors who default ≡ cursor) where
   pub cursor_is : cursor_at cursors who ≡ cursor

@@ -17,7 +17,7 @@ less : (m n : ℕ) (t : Bool) → nat_lt m n ≡ t → t ≡ true → m < n
 less m n t e f = grind (arith, e, f)
 
 module _ (test : ℕ → Bool) (from : ℕ) where
-  -- what is known of the places below n
+  -- o is the nearest hit below n in this direction; or it is `None`, and there is no such hit
   abbrev Found : Way → ℕ → Option ℕ → Type 0
   Found way n o = MatchOption o ((j : ℕ) → j < n → (test j && is_ahead way from j) ≡ false) (λ k. IsNextHit way test n from k)
 
@@ -28,6 +28,7 @@ module _ (test : ℕ → Bool) (from : ℕ) where
     | inr more ↦ let same : n ≡ j = omega (arith, h, more) in subst (λ m. (test m && is_ahead way from m) ≡ false) same here
   ]
 
+  -- the nearest hit after `from` stays the nearest when one more place is searched
   kept_forth : (n k : ℕ) → IsNextHit Forth test n from k → IsNextHit Forth test (suc n) from k
   kept_forth n k h = record {
     within = omega (arith, h.within);
@@ -104,6 +105,6 @@ module _ (test : ℕ → Bool) (from : ℕ) where
   some_hit way n None h = tt
   some_hit way n (Some k) h = h
 
-  -- the place that a seek finds
+  -- the place that a seek finds among those below n, if any, is the nearest hit
   pub next_is_hit : (way : Way) (n : ℕ) (o : Option ℕ) → o ≡ next_place way from (places_with test n) → IfSome o (λ k. IsNextHit way test n from k)
   next_is_hit way n o e = some_hit way n o (subst (Found way n) (sym e) (found way n))

@@ -35,7 +35,7 @@ at_first = opening safe_behaviour 0 limits (forests.opening_forest (step.Read 1 
 abbrev joined : World SafePoint
 joined = after (command.Join ∷ []) at_first
 
--- a reply to session 0
+-- the reply to a command of session 0
 abbrev says : Command → World SafePoint → Reply
 says c w = (command_result 0 None c w).reply
 
@@ -69,7 +69,7 @@ no_such_session = refl
 newer : (command_result 0 (Some 9) (command.Drop main) joined).reply ≡ No (Newer 0)
 newer = refl
 
--- a branch that is forked, and dropped once no cursor is on it
+-- the world in which `a` is forked off `main`, and the cursor of session 0 is on `a`
 abbrev forked : World SafePoint
 forked = after (command.Fork main 0 a ∷ command.Go a 0 ∷ []) joined
 
@@ -82,7 +82,7 @@ too_many = refl
 dropped : says (command.Drop a) (after (command.Leave ∷ []) forked) ≡ Edited 2
 dropped = refl
 
--- a write and a read that overlaps it
+-- a world whose one branch has a write and a read that overlap
 abbrev overlapped : World SafePoint
 overlapped =
     after (command.Join ∷ [])
@@ -106,7 +106,7 @@ back_no_hit = refl
 cleared : says (command.Clear break.Chosen) (after (command.Break break.Chosen ∷ command.Seek ∷ []) overlapped) ≡ BreakCleared
 cleared = refl
 
--- a log of one entry
+-- a world whose log is full with one entry
 abbrev one_logged : World SafePoint
 one_logged = after (command.Join ∷ []) (opening safe_behaviour 0 (record { cells = 65536; branches = 2; log = 1 }) (forests.opening_forest []))
 

@@ -32,7 +32,7 @@ module _ {R P : Type 0} (b : Behaviour P) where
   length-history c [] = refl
   length-history c (s ∷ steps) = ap suc (length-history (stepped b c s) steps)
 
--- a step in a segment of a branch, after the steps `before`
+-- the steps of a branch are those before a segment, the segment's own, and those following it
 module _ {P : Type 0} (b : Behaviour P) (value : ℕ) (breaks : List Break) (before segment following steps : List Step) (all : steps ≡ before ++ (segment ++ following)) where
   at : Alone P
   at = shown b value before
@@ -76,10 +76,12 @@ module _ {R P : Type 0} (E : R → R → Bool) (is : R → Behaviour P) (alike :
   abbrev along : List ℕ → List Step
   along keys = map step_of (line (segment_at old.segments) keys)
 
+  -- the steps along several keys are those of the first key's segment, then those along the rest
   along_more : (k : ℕ) (ks : List ℕ) → along (k ∷ ks) ≡ steps_at old k ++ along ks
   along_more k ks = map-append step_of (slots_of (segment_at old.segments k)) (line (segment_at old.segments) ks)
 
-  -- a run that follows a front, and counts whole
+  -- a run fits the segment right after the steps `before`, and all its steps count: the test of
+  -- hits is right for it (`ReportsPart`)
   reports_run : (before : List Step) (c : Configuration R P) (k : ℕ) (ks : List ℕ) (part : RunPart R P) → is c.register ≡ b → without_register c ≡ shown b value before
       → steps ≡ before ++ along (k ∷ ks) → RunFits E c (steps_at old k) part.run → part.count ≡ length (steps_at old k)
       → ReportsPart is breaks (is_hit b value steps breaks) (length before) part
@@ -102,7 +104,8 @@ module _ {R P : Type 0} (E : R → R → Bool) (is : R → Behaviour P) (alike :
   reports_none : (place : ℕ) (parts : List (RunPart R P)) → parts ≡ [] → ReportsParts is breaks (is_hit b value steps breaks) place parts
   reports_none place parts e = subst (ReportsParts is breaks (is_hit b value steps breaks) place) (sym e) tt
 
-  -- the runs of a settle of all that follows a front
+  -- all segments after the steps `before` are settled: the test of hits is right for their runs
+  -- (`ReportsParts`)
   reports_runs : (before : List Step) (c : Configuration R P) (keys : List ℕ) (rest : ℕ) (parts : List (RunPart R P)) (n : ℕ) → is c.register ≡ b → without_register c ≡ shown b value before
       → steps ≡ before ++ along keys → rest ≡ length (along keys) → Settles E b old new c rest (reached old rest keys) parts n
       → ReportsParts is breaks (is_hit b value steps breaks) (length before) parts
@@ -136,7 +139,7 @@ module _ {R P : Type 0} (E : R → R → Bool) (is : R → Behaviour P) (alike :
       by later false (part ∷ parts') s = some later part parts' s
 
 module _ {R P : Type 0} (E : R → R → Bool) (is : R → Behaviour P) (alike : (x y : R) → E x y ≡ true → is x ≡ is y) where
-  -- the runs that a settle of a whole branch gives agree with the test of its places
+  -- a whole branch is settled: the test of hits is right for its runs (`ReportsParts`)
   pub runs_report : (old new : Charted R P) (name : List ℕ) (len : ℕ) (parts : List (RunPart R P)) (n : ℕ) (breaks : List Break) → len ≡ length (steps_in (forest old.trie) name)
       → old.start ≡ initial_configuration (is old.start.register) old.start.register old.value
       → IsSettled E (is old.start.register) old new name len parts n
@@ -147,7 +150,7 @@ module _ {R P : Type 0} (E : R → R → Bool) (is : R → Behaviour P) (alike :
       reports_runs E is alike b old.trie new.trie old.value breaks (steps_in (forest old.trie) name) [] old.start (keys_named old.trie name) len parts n refl (ap without_register begins) named
       (long ∙ ap length named) h.settles
 
--- one step of many
+-- step i of several: the configuration right after it, and the events that it records
 module _ {R P : Type 0} (b : Behaviour P) where
   pub made_next : (c : Configuration R P) (steps : List Step) (i : ℕ) (s : Step) → i < length steps → s ≡ get_or steps i s
       → replayed b c (take (i + 1) steps) ≡ stepped b (replayed b c (take i steps)) s
@@ -170,7 +173,8 @@ module _ {R P : Type 0} (b : Behaviour P) where
   recorded_front c (x ∷ steps) (suc count) zero h = refl
   recorded_front c (x ∷ steps) (suc count) (suc i) h = recorded_front (stepped b c x) steps count i (omega (arith, h))
 
--- what a run says about its places
+-- if the test is right for the first `count` steps of a run, as `ReportsPart` says, then it is
+-- right for their stored events, if no break is on a bit, and for the steps when they are replayed
 module _ {R P : Type 0} (is : R → Behaviour P) (breaks : List Break) (test : ℕ → Bool) (place : ℕ) (run : SegmentRun R P) (count : ℕ) (reports : ReportsPart is breaks test place (record { run = run; count = count })) where
   pub events_report : IsRun (is run.entry.register) run → list_any is_on_bit breaks ≡ false → (i : ℕ) → i < length (take count run.events)
       → test ((place + 1) + i) ≡ is_any_met_by_events breaks (slice_index_or (take count run.events) i no_events)
@@ -201,7 +205,7 @@ module _ {R P : Type 0} (is : R → Behaviour P) (breaks : List Break) (test : �
   pub steps_count : length (take count run.steps) ≡ count
   steps_count = omega (arith, length-take count run.steps, reports.within)
 
--- runs that follow one another
+-- runs that follow one another, each with a count of its first steps
 module _ {R P Z : Type 0} where
   pub counted_split : (runs : List (Arc (SegmentRun R P) Z × ℕ)) (i : ℕ) (x : Arc (SegmentRun R P) Z × ℕ) → i < length runs → x ≡ get_or runs i x
       → counted (map part_of (take (i + 1) runs)) ≡ counted (map part_of (take i runs)) + x.1

@@ -22,6 +22,7 @@ module _ (test : ℕ → Bool) where
   alone : (place : ℕ) → filter test (place ∷ []) ≡ cond (test place) (place ∷ []) []
   alone place = refl
 
+  -- the places below `place + 1` that pass the test: those below `place`, and `place` if it passes
   pub places_more : (place : ℕ) → places_with test (place + 1) ≡ places_with test place ++ cond (test place) (place ∷ []) []
   places_more place =
       let e : place + 1 ≡ suc place = omega arith in
@@ -71,7 +72,8 @@ pub none_in : (breaks : List Break) → false ≡ list_any (λ break. is_met_by_
 none_in [] = refl
 none_in (b ∷ bs) = none_in bs
 
--- a break is met by one of two events if it is met by the first or by the second
+-- one of the breaks is met by the first event, or one by the second, exactly if one of the breaks
+-- is met by either event
 pub either_in : (first second : Option Event) (breaks : List Break)
     → (list_any (λ break. is_met_by_option break first) breaks || list_any (λ break. is_met_by_option break second) breaks) ≡ list_any (λ break. is_met_by_option break first || is_met_by_option break second) breaks
 either_in first second [] = refl
@@ -86,6 +88,7 @@ not_met_by_memory Chosen m e = refl
 not_met_by_memory Void m e = refl
 not_met_by_memory Refused m e = refl
 
+-- if none of the breaks is on a bit, whether one of them is met depends on the events alone
 pub met_by_events : (breaks : List Break) (events : StepEvents) (m : Memory) → list_any is_on_bit breaks ≡ false → is_met breaks events m ≡ is_any_met_by_events breaks events
 met_by_events [] events m e = refl
 met_by_events (break ∷ breaks) events m e =
@@ -93,7 +96,8 @@ met_by_events (break ∷ breaks) events m e =
     ap (λ b. b || is_met breaks events m) (or_nothing (is_met_by_events break events) (is_met_by_memory break m) (not_met_by_memory break m none.0))
     ∙ ap (λ b. is_met_by_events break events || b) (met_by_events breaks events m none.1)
 
--- if a test agrees with steps, it agrees with the first of them, and with those after it
+-- a test that is right for the events of successive steps (`ReportsEvents`) is right for those of
+-- the first step, and for those of the steps after it
 pub reports_first : (breaks : List Break) (test : ℕ → Bool) (place : ℕ) (events : StepEvents) (later : List StepEvents) → ReportsEvents breaks test place (events ∷ later)
     → test (place + 1) ≡ is_any_met_by_events breaks events
 reports_first breaks test place events later reports =
@@ -106,7 +110,7 @@ reports_after breaks test place events later reports i within =
     let next : ((place + 1) + 1) + i ≡ (place + 1) + suc i = omega arith in
     ap test next ∙ reports (suc i) (omega (arith, within))
 
--- whether a break is met, or one of the breaks after it
+-- t says whether break i is met; none of the breaks before it is (`so_far`)
 module _ (breaks : List Break) (events : StepEvents) (store m : Memory) (i : ℕ) (default : Break) (t : Bool)
     (within : i < length breaks) (same : store ≡ m)
     (here : t ≡ (is_met_by_events (get_or breaks i default) events || is_met_by_memory (get_or breaks i default) store))

@@ -13,7 +13,7 @@ use Rattle.sessions.specs.World.{World}
 use Rattle.sessions.specs.Acts.{accepted_world, first_refusal, hit_of, hit_reply, late_refusals, put_cursor, reply_to, with_one_logged}
 use Rattle.sessions.specs.Books.{Does, IsCarriedOut, StoredWorld, seek_command, world_of}
 
--- what a seek does to a world
+-- a seek has no late refusal; it puts the session's cursor at the hit, if any, and replies with it
 module _ {P : Type 0} (who : ℕ) (w : World P) where
   never_late : (way : Way) → first_refusal (late_refusals who (seek_command way) w) ≡ None
   never_late Forth = refl
@@ -45,7 +45,7 @@ module _ {R P : Type 0} (is : R → Behaviour P) (old new : StoredWorld R P) (wh
     replies = replies_so who (world_of is old) way ∙ ap hit_reply (sym found) ∙ sym replied;
   }
 
-  -- a seek that finds no memory is refused as Memory
+  -- if memory runs out, a seek is refused as Memory, and the world is unchanged
   pub unsought : (r : Result Reply Refusal) (Is : Refusal → Type 0) → IsErrAnd r Is → ((x : Refusal) → Is x → x ≡ Memory) → Does is who (seek_command way) old new r
   unsought (Ok reply) Is is_error one = absurd is_error
   unsought (Err x) Is is_error one = record { why = inr (one x is_error, never_late who (world_of is old) way); same = same }

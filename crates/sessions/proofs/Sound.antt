@@ -1,4 +1,4 @@
--- Each command leaves a sound world: one that is as `IsLawfulWorld` says.
+-- Each command that finds a lawful world, one that is as `IsLawfulWorld` says, leaves a lawful one.
 use Rattle.std.proofs.Common.{◌≡◌, ℕ, ◌+◌, ◌<◌, ◌≤◌, Bool, true, false, cond, nat_lt, List, [], ◌∷◌, ◌++◌, length, Option, Some, None, Result, Ok, Err, refl, ◌∙◌, arith}
 use Rattle.std.specs.Prelude.{IfSome, option_and_then, slice_set}
 use Rattle.std.specs.Option.{option_map}
@@ -50,7 +50,7 @@ sixteen (Detach name) f cursors = refl
 sixteen (Drop name) f cursors = refl
 
 module _ {P : Type 0} (who : ℕ) (w : World P) (sound : IsLawfulWorld w) (held : IsForest w.forest) where
-  -- sixteen cursors, at places that exist
+  -- the cursors of sixteen sessions (`None` for some), each at a place that exists
   abbrev ArePlaced : List (Option Cursor) → Type 0
   ArePlaced cursors = AreAtPlaces w.forest cursors × (length cursors ≡ 16)
 

@@ -91,7 +91,7 @@ pub record IsNewBook {R P : Type 0} (is : R → Behaviour P) (first : World P) (
   pub opening : opening_of is h ≡ first
   pub log : h.log ≡ []
 
--- neither the world of a book nor its log changes
+-- neither the world of a book nor its opening nor its log changes
 pub record KeepsWorld {R P : Type 0} (is : R → Behaviour P) (old new : BookOf R P) : Type 0 where
   pub world : world_of is new.now ≡ world_of is old.now
   pub opening : opening_of is new ≡ opening_of is old

@@ -13,8 +13,8 @@ IsPlace place = place < 2 ^ 32
 abbrev pub AreWithin : List (Option Cursor) → Type 0
 AreWithin cursors = (who : ℕ) → IfSome (cursor_at cursors who) (λ c. c.place ≤ MOST_CELLS_MADE)
 
--- a workspace can change: its cursors are within their bounds, it has sixteen lists of breaks, and
--- one more edit can be counted
+-- what a workspace needs so that a command can be carried out: its cursors are within their bounds,
+-- it has sixteen lists of breaks, and one more edit can be counted
 pub record CanAct {R P : Type 0} (s : Workspace R P) : Type 0 where
   pub within : AreWithin s.cursors
   pub breaks : length s.breaks.items ≡ 16

@@ -135,6 +135,7 @@ pub(crate) fn is_occupied(cursors: &[Option<Cursor>], branch: &Name) -> bool
     cursors.iter().any(|cursor| is_on_branch(branch, cursor))
 }
 
+/// Whether there is a cursor, and it is on this branch.
 fn is_on_branch(branch: &Name, cursor: &Option<Cursor>) -> bool
     ensures { result ≡ spec.is_on_branch branch.now cursor.now }
 {

@@ -1,4 +1,4 @@
--- What chairs know after a split, a join and at the end.
+-- What chairs know after a split, after a join, and when the turn is closed.
 use Rattle.std.proofs.Common.{◌≡◌, ◌<◌, ℕ, ◌≤◌, Bool, true, false, not, List, [], ◌∷◌, ◌++◌, length, sym, ap, ◌∙◌, subst, ⊎_elim, arith, append-nil, Option, Some}
 use Rattle.std.specs.Prelude.{All}
 use mathlib.Core.Logic.{dite}
@@ -43,6 +43,7 @@ module _ {T E : Type 0} (by : E → ℕ) (entries : T → List E) where
   pub inside_marks : (m : M) (marks given : List Bool) (n : ℕ) → m.0.shares ≡ marks → given ≡ next_least n marks → (share : ℕ) → has_share given share ≡ true → has_share m.0.shares share ≡ true
   inside_marks m marks given n marked is share held = ap (λ (l : List Bool). has_share l share) marked ∙ given_inside n marks share (ap (λ (l : List Bool). has_share l share) (sym is) ∙ held)
 
+  -- after a split, the chair that gave shares away is idle, and has those that are left
   pub kept_chair : (m m' : M) (marks given left : List Bool) (n : ℕ) → m.0.shares ≡ marks → (m.1 ≡ []) × (m.0.holds ≡ false) → OwnsItsCalls by m.0 → length marks ≡ 16 → n < count m.0.shares
       → given ≡ next_least n marks → left ≡ shares_without marks given → m' ≡ (kept by given m.0, m.1) → IsIdleChair m' left
   kept_chair m m' marks given left n marked idle owns long fewer is left_is after =
@@ -55,6 +56,7 @@ module _ {T E : Type 0} (by : E → ℕ) (entries : T → List E) where
         subst (λ (x : M). OwnsItsCalls by x.0) (sym after) (owns_kept given m.0 owns),
       )
 
+  -- after a split, the new chair is idle, and has the given shares
   pub handed_chair : (m m' : M) (marks given : List Bool) (n : ℕ) → m.0.shares ≡ marks → m.0.holds ≡ false → OwnsItsCalls by m.0 → length marks ≡ 16 → 0 < n → n < count m.0.shares
       → given ≡ next_least n marks → m' ≡ (handed by given m.0, []) → IsIdleChair m' given
   handed_chair m m' marks given n marked idle owns long some_asked fewer is after =
@@ -66,6 +68,7 @@ module _ {T E : Type 0} (by : E → ℕ) (entries : T → List E) where
         subst (λ (x : M). OwnsItsCalls by x.0) (sym after) (owns_handed given m.0 (inside_marks m marks given n marked is) owns),
       )
 
+  -- after a join, the chair that took the other over is idle, and has the shares of both
   pub joined_chair : (m o m1 m2 : M) (marks others both : List Bool) (n : ℕ) → m.0.shares ≡ marks → (m.1 ≡ []) × (m.0.holds ≡ false) → o.0.shares ≡ others → length marks ≡ 16 → 0 < count marks
       → both ≡ together marks others → m1 ≡ (joined m.0 o.0, m.1) → NewsReports by entries m1 n m2 → IsIdleChair m2 both
   joined_chair m o m1 m2 marks others both n marked idle marked' long some_share is after reported_length =
@@ -76,6 +79,8 @@ module _ {T E : Type 0} (by : E → ℕ) (entries : T → List E) where
         subst (λ (x : M). OwnsItsCalls by x.0) (sym reported_length.0) reported_length.3,
       )
 
+  -- a chair with the view v that takes over one with the view w, and then reads the list's length,
+  -- has joined them, as `IsJoined` says
   pub meets : (v w : V) (m1 m2 : M) (n : ℕ) → m1.0 ≡ joined v w → NewsReports by entries m1 n m2
       → IsJoined v w m2.0
   meets v w m1 m2 n is t =
@@ -94,7 +99,8 @@ module _ {T E : Type 0} (by : E → ℕ) (entries : T → List E) where
         subst (λ (l : List E). StartsWith l w.seen) (sym seen) (both.1 lengths.1),
       )
 
-  -- a chair with every share finds the value in its slot, and has seen its whole list
+  -- when a chair with every share closes the turn, the value is in its slot, and the chair has seen
+  -- the value's whole list
   pub closes : (id : ℕ) (v : V) (words : List ℕ) (xs : List (Option T)) → Final (Seen (Kept by entries) id v) words xs → v.holds ≡ false → HasAll v.shares
       → (y : T) × (get_elem? xs 0 ≡ some (Some y)) × (entries y ≡ v.seen)
   closes id v words xs final idle all =

@@ -17,7 +17,7 @@ share_0 = true ∷ replicate 15 false
 abbrev share_1 : List Bool
 share_1 = false ∷ true ∷ replicate 14 false
 
--- a view that has seen a list, with these calls
+-- the view of a chair that has these shares and these calls, and has seen this list
 abbrev having : List Bool → List ℕ → List ℕ → View ℕ
 having shares calls seen = record { shares = shares; calls = calls; seen = seen; reported = 0; holds = false; met = ([], []) }
 
@@ -52,7 +52,7 @@ IsJoined-fails : IsJoined (having share_0 (0 ∷ []) (0 ∷ [])) (having share_1
     (with_news (joined (having share_0 (0 ∷ []) (0 ∷ [])) (having share_1 (1 ∷ 1 ∷ []) (1 ∷ 1 ∷ []))) 3) → ⊥
 IsJoined-fails h = let e : 0 ≡ 1 = ap first h.4.1 in omega (arith, e)
 
--- the list that a chair of share 0 found as 0, 2 is one entry longer afterwards
+-- one entry of chair 0 is added at the end of a list
 abbrev GrowsByOne : List ℕ → List ℕ → Type 0
 GrowsByOne before after = after ≡ before ++ 0 ∷ []
 
@@ -72,10 +72,10 @@ Holding-fails h =
         (λ one. let e : 1 ≡ one.0 = ap first (is ∙ one.1) in omega (arith, e, one.2))
         h
 
--- a work added one entry of chair 3 to the list
+-- the work of chair 3 adds one entry of its own to the list
 work-holds : (added : List ℕ) × (1 ∷ 3 ∷ [] ≡ (1 ∷ []) ++ added) × AtMostOne by 3 added
 work-holds = (3 ∷ [], refl, inr (3, refl, refl))
 
--- a work changed an entry that was there
+-- the work of chair 3 also changes an entry that was there
 work-fails : (added : List ℕ) × (2 ∷ 3 ∷ [] ≡ (1 ∷ []) ++ added) × AtMostOne by 3 added → ⊥
 work-fails h = let e : 2 ≡ 1 = ap first h.1 in omega (arith, e)

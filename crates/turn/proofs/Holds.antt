@@ -1,5 +1,5 @@
--- What one holding of the turn does. m0 to m5 are what its chair has at the table
--- before it and after each step.
+-- What a chair does from when it takes the turn until it gives the turn back. m0 to m5 are what the
+-- chair has at the table before it takes the turn, and after each of its five steps.
 use Rattle.std.proofs.Common.{◌≡◌, ℕ, ◌≤◌, true, List, [], ◌∷◌, ◌++◌, length, drop, sym, ap, ◌∙◌, subst, Option, Some, None}
 use Rattle.std.proofs.Math.Seq.{drop-append_seam}
 use Rattle.atomic_table.specs.Table.{Me}

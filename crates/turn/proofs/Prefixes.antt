@@ -25,6 +25,7 @@ module _ {E : Type 0} where
       head_same : {p q : E} {ps qs : List E} → p ∷ ps ≡ q ∷ qs → p ≡ q
       head_same e = cc
 
+  -- a prefix of a list is also a prefix of the list with entries added at its end
   pub starts_more : (list front added : List E) → StartsWith list front → StartsWith (list ++ added) front
   starts_more list front added s = (s.0 ++ added, sym (append_assoc front s.0 added) ∙ ap (λ xs. xs ++ added) s.1)
 
@@ -42,7 +43,7 @@ module _ {E : Type 0} (by : E → ℕ) where
       ap (λ l. under by (by x) front ++ l) (sym here) ∙ (sym (under_append (by x) front (x ∷ xs)) ∙ (ap (under by (by x)) is ∙ (sym mine ∙ sym (append-nil (under by (by x) front))))) in
       absurd (omega (arith, ap length (append_cancel_left (under by (by x) front) (x ∷ under by (by x) xs) [] all)))
 
-  -- a prefix with all of a share's entries still has them all if it is longer
+  -- if a prefix of a list has all of a share's entries, so does every prefix that isn't shorter
   pub still_all : (share : ℕ) (list front back : List E) → StartsWith list front → StartsWith list back → length front ≤ length back → under by share front ≡ under by share list
       → under by share back ≡ under by share list
   still_all share list front back f b le same =
@@ -62,7 +63,8 @@ module _ {E : Type 0} (by : E → ℕ) where
   skip_other true share x xs other = ap (λ t. cond t (x ∷ under by share xs) (under by share xs)) (ne_eqb (by x) share other)
   skip_other false share x xs other = refl
 
-  -- a share in the set keeps its entries; one that isn't has none left
+  -- if the entries under shares that pass the test p are kept, a share that passes keeps all of its
+  -- entries
   pub under_kept : (p : ℕ → Bool) (share : ℕ) (xs : List E) → p share ≡ true → under by share (filter (λ e. p (by e)) xs) ≡ under by share xs
   under_kept p share [] held = refl
   under_kept p share (x ∷ xs) held = dite (ℕ_discrete (by x) share)
@@ -73,13 +75,14 @@ module _ {E : Type 0} (by : E → ℕ) where
       (λ other. skip_other (p (by x)) share x (filter (λ e. p (by e)) xs) other
       ∙ (under_kept p share xs held ∙ ap (λ t. cond t (x ∷ under by share xs) (under by share xs)) (sym (ne_eqb (by x) share other))))
 
+  -- if the entries under shares that pass the test p are kept, a share that fails has none left
   pub under_dropped : (p : ℕ → Bool) (share : ℕ) (xs : List E) → p share ≡ false → under by share (filter (λ e. p (by e)) xs) ≡ []
   under_dropped p share [] gone = refl
   under_dropped p share (x ∷ xs) gone = dite (ℕ_discrete (by x) share)
       (λ is. let F = filter (λ e. p (by e)) xs in ap (λ b. under by share (cond b (x ∷ F) F)) (ap p is ∙ gone) ∙ under_dropped p share xs gone)
       (λ other. skip_other (p (by x)) share x (filter (λ e. p (by e)) xs) other ∙ under_dropped p share xs gone)
 
-  -- an entry under another number isn't among a share's
+  -- if at most one entry was added, under the number n, no share but n gets an entry
   pub added_elsewhere : (n share : ℕ) (added : List E) → AtMostOne by n added → n ≢ share → under by share added ≡ []
   added_elsewhere n share added one other = Rattle.std.proofs.Common.⊎_elim (λ (e : added ≡ []). ap (under by share) e)
       (λ (t : (x : E) × (added ≡ x ∷ []) × (by x ≡ n)). ap (under by share) t.1 ∙ skip_other true share t.0 [] (λ is. other (sym t.2 ∙ is))) one

@@ -1,4 +1,4 @@
--- Each step keeps the rule.
+-- Each step on a turn's table keeps the table's invariant, `Kept`, which is called Rule here.
 use Rattle.std.proofs.Common.{◌≡◌, ◌≢◌, ◌⊎◌, ℕ, ◌<◌, ◌≤◌, zero, suc, eqb, Bool, true, false, cond, not, List, [], ◌∷◌, ◌++◌, length, get_or, set, refl, sym, ap, ◌∙◌, subst, ne_eqb, ltb-true, ltb-false, lt-ltb, lt_of_not-le, ⊎_elim, inl, inr, arith, append_assoc, append-nil, length-append, Option, Some}
 use Rattle.std.proofs.lemmas.List.{set-get_or}
 use Rattle.std.proofs.lemmas.List.Elements.{All-nil, All-append, All-cons, All-head, All-tail}
@@ -20,7 +20,7 @@ use Rattle.turn.specs.Rule.{ByChairs, Knows, Kept, grab_reports, publish_reports
 use Rattle.turn.proofs.Prefixes.{shorter, starts_more, under_append, nothing_new, still_all, under_kept, under_dropped, added_elsewhere}
 
 module _ {A : Type 0} where
-  -- an index that is there has the value that is set
+  -- an element that is set at an index of the list is then at that index
   there : (l : List A) (i : ℕ) (a b : A) → get_elem? l i ≡ some a → get_elem? (set l i b) i ≡ some b
   there [] i a b e = absurd (some-ne-none a (sym e))
   there (x ∷ xs) zero a b e = refl
@@ -50,24 +50,24 @@ module _ {T E : Type 0} (by : E → ℕ) (entries : T → List E) where
   word_1 : (s : St) (r : Rule s) → get_or s.words 1 0 ≡ length r.list
   word_1 s r = ap (λ (ws : List ℕ). get_or ws 1 0) r.words
 
-  -- a step that changes nothing
+  -- a step that changes neither word i nor the chair's view keeps the invariant
   unmoved : (s : St) (i me : ℕ) (v : V) → Rule s → get_elem? s.views me ≡ some v → Rule record { words = set s.words i (get_or s.words i 0); homes = s.homes; views = set s.views me v }
   unmoved s i me v r at = subst (λ (z : List ℕ × List V). Rule record { words = z.0; homes = s.homes; views = z.1 })
       (λ k. (sym (set-get_or s.words i 0) k, sym (set_again s.views me v at) k)) r
 
-  -- what a view knows of an unchanged list, if it reads a greater length, or the turn and the
-  -- shares' owners change
+  -- what a view says stays true if the list is unchanged, and the length that was read, the turn
+  -- and the shares' owners change as the premises allow
   same_list : (list : List E) (f f' h h' : ℕ) (owner owner' : ℕ → ℕ) (chair : ℕ) (v : V) (reported_length : ℕ) (holds : Bool) → Knows by list f h owner chair v
       → ((share : ℕ) → has_share v.shares share ≡ true → owner' share ≡ chair) → reported_length ≤ length list → (holds ≡ true → (f' ≡ 1) × (chair ≡ h') × (v.seen ≡ list) × HoldsSome v)
       → Knows by list f' h' owner' chair (record v { reported = reported_length; holds = holds })
   same_list list f f' h h' owner owner' chair v reported_length holds k owns within turn =
       record { below = k.below; seen = k.seen; owns = owns; calls = k.calls; saw = k.saw; others = k.others; reported = within; holding = turn; met = k.met }
 
-  -- another chair takes or frees the turn
+  -- what a view without the turn says stays true when another chair takes or frees the turn
   others_know : (list : List E) (f f' h h' : ℕ) (owner : ℕ → ℕ) (chair : ℕ) (v : V) → (v.holds ≡ true → ⊥) → Knows by list f h owner chair v → Knows by list f' h' owner chair v
   others_know list f f' h h' owner chair v idle k = same_list list f f' h h' owner owner chair v v.reported v.holds k k.owns k.reported (λ t. absurd (idle t))
 
-  -- shares have other owners, but not those of this chair
+  -- what a view says stays true if shares get other owners, but the chair still owns its own
   new_owners : (list : List E) (f h : ℕ) (owner owner' : ℕ → ℕ) (chair : ℕ) (v : V) → Knows by list f h owner chair v → ((share : ℕ) → has_share v.shares share ≡ true → owner' share ≡ chair)
       → Knows by list f h owner' chair v
   new_owners list f h owner owner' chair v k owns = same_list list f f h h owner owner' chair v v.reported v.holds k owns k.reported k.holding
@@ -75,7 +75,8 @@ module _ {T E : Type 0} (by : E → ℕ) (entries : T → List E) where
   owns_calls : (list : List E) (f h : ℕ) (owner : ℕ → ℕ) (chair : ℕ) (v : V) → Knows by list f h owner chair v → OwnsItsCalls by v
   owns_calls list f h owner chair v k share held = k.saw share held ∙ sym (k.calls share held)
 
-  -- the chair with the turn still has it if another view changes, or what else its own view knows
+  -- a chair still has the turn after the view v, its own or another's, is replaced by a view that
+  -- has the turn exactly if v had it
   away_stays : (s : St) (r : Rule s) (id : ℕ) (v w : V) → get_elem? s.views id ≡ some v → w.holds ≡ v.holds → r.flag ≢ 0
       → (x : V) × (s.homes ≡ none ∷ []) × (get_elem? (set s.views id w) r.holder ≡ some x) × (x.holds ≡ true)
   away_stays s r id v w at same busy = let a = r.away busy in dite (ℕ_discrete r.holder id)
@@ -83,7 +84,8 @@ module _ {T E : Type 0} (by : E → ℕ) (entries : T → List E) where
       (w, a.1, ap (get_elem? (set s.views id w)) is ∙ there s.views id v w at, same ∙ (ap (λ z. z.holds) (sym me) ∙ a.3)))
       (λ other. (a.0, a.1, set_else s.views id r.holder w other ∙ a.2, a.3))
 
-  -- the list, the turn and the words stay, while views and the shares' owners are others
+  -- the invariant holds of other views and other owners of shares, if what it says of them is true,
+  -- and the list, the turn and the words stay
   other_views : (s : St) (r : Rule s) (views : List V) (owner : ℕ → ℕ)
       → (r.flag ≢ 0 → (x : V) × (s.homes ≡ none ∷ []) × (get_elem? views r.holder ≡ some x) × (x.holds ≡ true))
       → ((chair : ℕ) (v : V) → get_elem? views chair ≡ some v → Knows by r.list r.flag r.holder owner chair v)
@@ -99,6 +101,7 @@ module _ {T E : Type 0} (by : E → ℕ) (entries : T → List E) where
     each = each;
   }
 
+  -- of entries that no chair made, none was made under a share
   pub none_under : (share : ℕ) (xs : List E) → share < 16 → All (λ e. 16 ≤ by e) xs → under by share xs ≡ []
   none_under share [] inside outside = refl
   none_under share (x ∷ xs) inside outside = let far = All-head (λ e. 16 ≤ by e) x xs outside in
@@ -271,7 +274,7 @@ module _ {T E : Type 0} (by : E → ℕ) (entries : T → List E) where
         ),
       )
 
-  -- a new chair is after the others
+  -- an element of `l ++ a ∷ []` is an element of l at the same index, or is a, at the last index
   at_end : (l : List V) (a b : V) (j : ℕ) → get_elem? (l ++ a ∷ []) j ≡ some b → (get_elem? l j ≡ some b) ⊎ ((j ≡ length l) × (a ≡ b))
   at_end [] a b zero e = inr (refl, some-injective a b e)
   at_end [] a b (suc j) e = absurd (some-ne-none b (sym e))

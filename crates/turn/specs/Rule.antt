@@ -47,9 +47,11 @@ module _ {E : Type 0} (by : E → ℕ) where
     pub each : (chair : ℕ) (v : View E) → get_elem? s.views chair ≡ some v → Knows list flag holder owner chair v
 
   module _ {T : Type 0} (entries : T → List E) where
+    -- a step on the table
     abbrev At : Type 0
     At = Step (Option T)
 
+    -- what a chair has at the table: its view, and the slot that it holds, if any, with its content
     abbrev Mine : Type 0
     Mine = Me (Option T) (View E)
 

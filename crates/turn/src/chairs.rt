@@ -129,6 +129,7 @@ impl<T: Counted + Drop> Chair<T> {
         self.shares.count() as u32
     }
 
+    /// Gives a new chair this number of the chair's shares, as `Turn::split` does.
     fn give(&mut self, board: &Board<T>, shares: u32) -> Chair<T>
         requires turn { IsTurn board.now.table_id self.old.access }
         requires some { 0 < shares }
@@ -151,6 +152,7 @@ impl<T: Counted + Drop> Chair<T> {
         }
     }
 
+    /// Takes over the shares and calls of another chair, and reads the list's length.
     fn take_in(&mut self, board: &Board<T>, other: Chair<T>)
         requires turn { IsTurn board.now.table_id self.old.access
             × IsTurn board.now.table_id other.access }
@@ -164,6 +166,7 @@ impl<T: Counted + Drop> Chair<T> {
         self.shares = together;
     }
 
+    /// Ends the turn for a chair that holds all 16 shares, and returns the turn's value.
     fn into_value(self, turn: Turn<T>) -> T
         requires { IsOf turn self × HasAll (view self).shares }
         ensures { T.entries result ≡ (view self).seen }

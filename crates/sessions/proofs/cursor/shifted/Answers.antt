@@ -6,7 +6,7 @@ use Rattle.schedule_trie.specs.Trie.{forest}
 use Rattle.sessions.specs.Cursors as spec
 use Rattle.sessions.proofs.cursor.shifted.Goals as goal
 
--- one more of a list is mapped into another
+-- the first i items of ys are those of xs, mapped by f; with item i set to y, the first i + 1 are
 maps_more : {X Y : Type 0} (f : X → Y) (xs : List X) (ys : List Y) (i : ℕ) (x : X) (y : Y) → take i ys ≡ map f (take i xs)
     → y ≡ f x → x ≡ get_or xs i x → i < length ys → i < length xs → take (i + 1) (slice_set ys i y) ≡ map f (take (i + 1) xs)
 maps_more f xs ys i x y front one here short long =

@@ -7,7 +7,7 @@ use Rattle.conversation.specs.Answering.{HasAnswered, kept_with}
 use Rattle.conversation.proofs.AnsweredLines.{answered_on, answered_line, line_answer_append}
 use Rattle.conversation.proofs.converse.Conversation.take.Goals as goal
 
--- one more line of a piece
+-- the bytes `before` and `rest` are `before`, the first line of `rest`, its line end, and `later`
 joined : (before rest line later : List ℕ) → rest ≡ line ++ 10 ∷ later → before ++ rest ≡ ((before ++ line) ++ 10 ∷ []) ++ later
 joined before rest line later e =
     ap (λ xs. before ++ xs) e ∙ sym (append_assoc before line (10 ∷ later)) ∙ sym (append_assoc (before ++ line) (10 ∷ []) later)

@@ -7,7 +7,7 @@ use Rattle.desk.specs.Chairs.{IsChairOf, KeepsSeen}
 use Rattle.desk.specs.Reports.{IsSum}
 use Rattle.desk.proofs.desk.Desk.install_all.Given as goal
 
--- the jobs counted so far and the outcomes still to come make up all outcomes
+-- the number of jobs counted so far plus that of the outcomes left is the number of all outcomes
 abbrev pub invariant-loop-done : goal.invariant-loop-done
 invariant-loop-done g l = record {
   at : IsChairOf g.R.Behaves.behaviour l.fn.self l.chair;
