@@ -13,7 +13,8 @@ use Rattle.frames.specs.correctness.Regularity.{is_refusal, NoneRefused}
 pub accepted_one : (i : ℕ) (e : Event) (rest : List (ℕ × Event)) → is_refused rest ≡ false → counts e false ≡ true → accepted ((i, e) ∷ rest) ≡ (i, e) ∷ accepted rest
 accepted_one i e rest none c = ap (λ b. if counts e b then (i, e) ∷ accepted rest else accepted rest) none ∙ ap (λ b. if b then (i, e) ∷ accepted rest else accepted rest) c
 
--- an event that refuses nothing counts, and leaves the write in progress before it accepted
+-- an event that isn't a refusal counts, and refuses no write in progress before it, if no later
+-- event refuses that write
 unrefused : (e : Event) → is_refusal e ≡ false → (refused_by e false ≡ false) × (counts e false ≡ true)
 unrefused (Refused p layer) n = absurd (cc n)
 unrefused (Invoke p (op.Write v)) n = (refl, refl)

@@ -7,9 +7,9 @@ use Rattle.frames.specs.declared.types.StepEvents.{StepEvents}
 use Rattle.frames.proofs.Seen.{refuses}
 use Rattle.frames.proofs.Pointwise.{put}
 
--- Accepted writes are numbered from 1 on, and 0 is the initial value: `value` gives the value of
--- each. `begun` is the last write invoked, and `done` the last returned; `low` is the last returned
--- when the reader's read was invoked; and `floor` is the number of the last returned read.
+-- Accepted writes are numbered from 1 on; the initial value has 0; `value` gives each one's value.
+-- `begun` is the number of the last write invoked, `done` of the last returned, `low` of the last
+-- returned when the reader's read was invoked; `floor` is the number of the last returned read.
 pub record Counted : Type 0 where
   pub value : ℕ → ℕ
   pub begun : ℕ
@@ -17,15 +17,17 @@ pub record Counted : Type 0 where
   pub low : ℕ
   pub floor : ℕ
 
+-- the count before the first event, if the initial value is v
 abbrev pub uncounted : ℕ → Counted
 uncounted v = record { value = λ n. v; begun = 0; done = 0; low = 0; floor = 0 }
 
+-- the event, if there is one, takes the count from c to z
 abbrev pub Counts : Option Event → Counted → Counted → Type 0
 Counts None c z = z ≡ c
 Counts (Some (Invoke p (Write v))) c z = z ≡ record c { value = put (c.begun + 1) v c.value; begun = c.begun + 1 }
 Counts (Some (Invoke p Read)) c z = z ≡ record c { low = c.done }
 Counts (Some (Wrote p)) c z = z ≡ record c { done = c.begun }
--- the read gets a number
+-- a returned read gets a number n of its value x, at most `begun`, and at least `low` and `floor`
 Counts (Some (Got p x)) c z = (n : ℕ) × ((c.value n ≡ x) × ((c.low ≤ n) × ((n ≤ c.begun) × ((c.floor ≤ n) × (z ≡ record c { floor = n })))))
 Counts _ c z = z ≡ c
 
@@ -33,10 +35,12 @@ abbrev pub Invokes : Option Event → Type 0
 Invokes (Some (Invoke p o)) = ⊤
 Invokes _ = ⊥
 
--- an operation may be refused only in the step that invokes it; it then counts for nothing
+-- The Bool says whether the step ends in a refusal. An operation may be refused only in the step
+-- that invokes it; it then counts for nothing.
 abbrev pub NumberedIf : Bool → Counted → StepEvents → Counted → Type 0
 NumberedIf true c e z = Invokes e.first × (z ≡ c)
 NumberedIf false c e z = (mid : Counted) × (Counts e.first c mid × Counts e.second mid z)
 
+-- the step takes the count from c to z
 abbrev pub NumberedStep : Counted → StepEvents → Counted → Type 0
 NumberedStep c e z = (refuses e.first ≡ false) × NumberedIf (refuses e.second) c e z

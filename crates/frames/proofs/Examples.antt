@@ -75,7 +75,8 @@ some v = Some v
 zero_is_not_one : some 0 ≡ some 1 → ⊥
 zero_is_not_one e = let f : 0 ≡ 1 = ap (λ o. unwrap_or o 0) e in omega (arith, f)
 
--- the values by rank at first, and once a write of 1 with rank m has been invoked
+-- the values by rank, at first (`before`), and once a write of 1 with rank m has been invoked
+-- (`within`)
 abbrev before : ℕ → ℕ → Option ℕ
 before first = put first (Some 0) (λ k. None)
 
@@ -138,7 +139,7 @@ Ranked-fails first h = write h.0 h.1
     write None k = none k.1.1.1.0 k.1.1.1.1.0
     write (Some m) k = one m k.1.1.1.0 k.0.0 k.1.1.1.1
 
--- HasRanks fails of these events
+-- HasRanks fails for the same events
 HasRanks-fails : HasRanks 0 ((0, Invoke 0 (Write 1)) ∷ (1, Invoke 1 Read) ∷ (2, Got 1 1) ∷ (3, Invoke 2 Read) ∷ (4, Got 2 0) ∷ []) → ⊥
 HasRanks-fails h = Ranked-fails h.0 h.1
 

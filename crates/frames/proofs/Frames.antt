@@ -27,7 +27,8 @@ reaches_at who i op.Read fits = at_test (i == 0)
     at_test false = grind (arith, nat_tests)
 
 module _ (who first : ℕ) (stack : List Frame) where
-  -- a safe bit's operation has exactly one frame
+  -- a list of frames whose length isn't 1 describes no point, since a safe bit's operation has
+  -- exactly one frame
   pub not_one : length (drop first stack) ≢ 1 → IsPointByFrames safe_behaviour.frames SafeReaches who (drop first stack) None
   not_one other o p there e = other (ap length e)
 

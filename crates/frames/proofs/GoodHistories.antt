@@ -23,6 +23,8 @@ pub gone_seen : (who : ℕ) (chosen : Option (ℕ × Bool)) (end : Option Event)
 gone_seen who None end s e = refl
 gone_seen who (Some c) end s e = ap (λ c. if c then s else sees end s) e
 
+-- if a bit action's events are fine, its operation isn't refused, and a read that it returns is
+-- good
 pub gone_reads : (Good : Returned → Type 0) (who : ℕ) (chosen : Option (ℕ × Bool)) (end : Option Event) (s : Seen) → IsFine Good s (in_order (chosen_of who chosen) end)
     → (refuses end ≡ false) × AllByRecursion Good (got end s)
 gone_reads Good who None end s h = (h.first, subst (AllByRecursion Good) (append-nil (got end s)) h.reads)
@@ -32,12 +34,14 @@ gone_reads Good who (Some c) end s h = (h.second, h.reads)
 abbrev pub IsGoodStep : (Returned → Type 0) → Seen → StepEvents → Seen → Type 0
 IsGoodStep Good s e z = IsFine Good s e × (z ≡ after_step e s)
 
--- this holds when a layer's operation has begun, and may have ended at once
+-- a step that invokes an operation, which may end at once, is good if the operation isn't refused,
+-- and a read that it returns is good
 pub good_begun : (Good : Returned → Type 0) (p : ℕ) (o : Op) (end : Option Event) (s : Seen) → refuses end ≡ false → AllByRecursion Good (got end (sees (Some (Invoke p o)) s))
     → IsGoodStep Good s (in_order (Some (Invoke p o)) end) (sees end (sees (Some (Invoke p o)) s))
 good_begun Good p o end s f g = (record { first = refl; second = f; reads = g }, sym (begun_seen p o end s f))
 
--- this holds when a layer's operation has made a bit action, and may have ended
+-- a bit action, which may end its operation, is good if the operation isn't refused, and a read
+-- that it returns is good
 pub good_gone : (Good : Returned → Type 0) (p : ℕ) (chosen : Option (ℕ × Bool)) (end : Option Event) (s : Seen) → refuses end ≡ false → AllByRecursion Good (got end s)
     → IsGoodStep Good s (in_order (chosen_of p chosen) end) (sees end s)
 good_gone Good p None end s f g = (record { first = f; second = refl; reads = all_both Good (got end s) [] g tt }, refl)

@@ -1,5 +1,5 @@
--- What holds of all items of two joined lists holds of each list's items; and what a joint test
--- says of both its parts.
+-- A property holds of all items of two joined lists exactly if it holds of all items of each. The
+-- last lemma says what a test of three Booleans says of each of them.
 use Rattle.std.proofs.Common.{◌≡◌, Bool, true, false, List, [], ◌∷◌, ◌++◌, IsTrue, rules}
 use Rattle.std.specs.Prelude.{◌&&◌, if◌then◌else◌}
 use Rattle.std.specs.List.{AllByRecursion}

@@ -70,13 +70,14 @@ known_after value k (Invoke p op.Read) h = known_read value p k h
 known_after value k (Wrote p) h = known_returning value k.writing k h
 known_after value k _ h = h
 
--- an item after the first i is among those after them
+-- if item n of a list is v, and n is at least i, then v is among the items after the first i
 among_later : (v d : ℕ) (xs : List ℕ) (i n : ℕ) → i ≤ n → n < length xs → get_or xs n d ≡ v → list_any (λ u. u == v) (drop i xs) ≡ true
 among_later v d xs i n low high there =
     let at : get_or (drop i xs) (n - i) d ≡ v = get_or-drop i xs (n - i) d ∙ ap (λ j. get_or xs j d) (let e : i + (n - i) ≡ n = omega (arith, low) in e) ∙ there in
     list_any_at (λ u. u == v) (drop i xs) (n - i) d (let l = length-drop i xs in omega (arith, low, high, l)) (eq-eqb (get_or (drop i xs) (n - i) d) v at)
 
--- the write overlaps the read, if its number is above the number of writes returned before the read
+-- if a read's number is above the number of writes returned before it, a write of its value
+-- overlaps it
 number_overlaps : (value n p v : ℕ) (k : Known) → IsNoted value k.returned (reading p k) → (reading p k).since < n → IsNumber value k p v n → overlaps (reading p k) v k ≡ true
 number_overlaps value zero p v k noted later is = let f : ⊥ = omega (arith, later) in absurd f
 number_overlaps value (suc m) p v k noted later is =
@@ -87,7 +88,7 @@ number_overlaps value (suc m) p v k noted later is =
     ∙ ap (list_any (λ u. u == v)) (sym (drop-append-le r.since k.returned (in_progress k.writing) noted.since))
     ∙ among_later v value (k.returned ++ in_progress k.writing) r.since m (omega (arith, later)) (omega (arith, high)) is.value_of
 
--- the write is fresh, if its number is that of the writes returned before the read
+-- if a read's number is the number of writes returned before it, the read gives the fresh value
 number_fresh : (value n p v : ℕ) (k : Known) → IsNoted value k.returned (reading p k) → n ≡ (reading p k).since → IsNumber value k p v n → v ≡ (reading p k).fresh
 number_fresh value n p v k noted e is =
     let since : (reading p k).since ≤ length k.returned = noted.since in

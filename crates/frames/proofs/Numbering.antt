@@ -39,12 +39,13 @@ use Rattle.frames.proofs.Pending.{op_of, ops_of, ops_after, none_at, first_well}
 use Rattle.frames.proofs.Pointwise.{put, put_same, put_other, put_is, put_put}
 use Rattle.frames.proofs.Counted.{Counted, uncounted, Counts, NumberedIf, NumberedStep}
 
+-- process 1 has invoked a read, and `low` of the count is as recorded for its last one
 pub record ReadSince (k : Known) (c : Counted) : Type 0 where
   pub read : Reading
   pub last : last_read 1 k ≡ Some read
   pub since : read.since ≡ c.low
 
--- `Known` and `Counted` agree
+-- `Known` and `Counted` agree, if the processes have the operations `ops` pending
 pub record CountAgrees (v : ℕ) (ops : ℕ → Option Op) (k : Known) (c : Counted) : Type 0 where
   pub values : (n : ℕ) → n ≤ c.begun → get_or (by_number v k) n v ≡ c.value n
   pub begun : length k.returned + length (in_progress k.writing) ≡ c.begun
@@ -62,11 +63,14 @@ module _ (v : ℕ) where
   abbrev pub Goes : ℕ → Known → List (ℕ × Event) → Type 0
   Goes floor k events = (is_refused events ≡ false) × Numbered v floor k (accepted events)
 
+  -- after the event, if there is one, `Known` agrees with the count z; and if all later events can
+  -- be numbered, they still can with this event before them
   pub record EventNumbers (ops : ℕ → Option Op) (e : Option Event) (k : Known) (c z : Counted) : Type 0 where
     pub agrees : CountAgrees v ops (afters e k) z
     pub join : (i : ℕ) (rest : List (ℕ × Event)) → Goes z.floor (afters e k) rest → Goes c.floor k (at_index i e ++ rest)
 
-  -- `next` is known after a step, agrees with the count, and continues the numbering
+  -- after the step `next` is known, and agrees with the count z; and if all later events can be
+  -- numbered, they still can with the events of the step before them
   pub record StepNumbers (ops : ℕ → Option Op) (e : StepEvents) (k : Known) (c z : Counted) : Type 0 where
     pub next : Known
     pub agrees : CountAgrees v ops next z
@@ -181,6 +185,7 @@ module _ (v : ℕ) where
       (an_event (put 1 None ops) (Got 1 x) k c z refl refl (omega (arith, e, rises)) (subst (IsNumber v k 1 x) (sym e) number)
       (subst (CountAgrees v (put 1 None ops) k) (sym is) (record { values = a.values; begun = a.begun; done = a.done; idle = λ h. a.idle h; low = λ h. absurd (cc h) })))
 
+  -- an operation is invoked
   begin_numbers : (p : ℕ) (o : Op) (ops : ℕ → Option Op) (k : Known) (c mid : Counted) → ops p ≡ None → OneEach p o → Counts (Some (Invoke p o)) c mid → CountAgrees v ops k c
       → EventNumbers (put p (Some o) ops) (Some (Invoke p o)) k c mid
   begin_numbers p (op.Write x) ops k c mid free role counts a =
@@ -211,6 +216,7 @@ module _ (v : ℕ) where
   step_same : (from to : ℕ → Option Op) (e : StepEvents) (k : Known) (c z : Counted) → ((p : ℕ) → from p ≡ to p) → StepNumbers from e k c z → StepNumbers to e k c z
   step_same from to e k c z same s = record { next = s.next; agrees = same_ops from to s.next z same s.agrees; join = s.join }
 
+  -- an operation is invoked, and may end in the same step
   begun_numbers : {P : Type 0} (Reached : P → Type 0) (values p : ℕ) (o : Op) (next : Next P) (ops : ℕ → Option Op) (k : Known) (c z : Counted) → ops p ≡ None → OneEach p o
       → ReachedOrAnswered Reached (Answers values o) next → NumberedStep c (in_order (Some (Invoke p o)) (return_of p next)) z → CountAgrees v ops k c
       → StepNumbers (put p (op_of (still_running o next)) ops) (in_order (Some (Invoke p o)) (return_of p next)) k c z
@@ -233,6 +239,7 @@ module _ (v : ℕ) where
           step_same (put p x (put p (Some o) ops)) (put p x ops) (in_order (Some (Invoke p o)) (return_of p next)) k c z (λ i. put_put p i (Some o) x ops)
           (both_events (put p x (put p (Some o) ops)) (put p (Some o) ops) (Some (Invoke p o)) (return_of p next) k c n.0 z first second)
 
+  -- an operation makes a bit action, and may end in the same step
   gone_numbers : {P : Type 0} (Reached : P → Type 0) (values p : ℕ) (o : Op) (chosen : Option (ℕ × Bool)) (next : Next P) (ops : ℕ → Option Op) (k : Known) (c z : Counted) → ops p ≡ Some o → OneEach p o
       → ReachedOrAnswered Reached (Answers values o) next → NumberedStep c (in_order (chosen_of p chosen) (return_of p next)) z → CountAgrees v ops k c
       → StepNumbers (put p (op_of (still_running o next)) ops) (in_order (chosen_of p chosen) (return_of p next)) k c z
@@ -252,7 +259,7 @@ module _ (v : ℕ) where
           both_events (put p (op_of (still_running o next)) ops) ops (Some (Chosen p bit.0 bit.1)) (return_of p next) k c n.0 z first
           (end_numbers Reached values p o next ops k n.0 z there role well fine n.1.1 mid)
 
-  -- a step that records one event, which changes nothing
+  -- a step that records one event, which leaves the count as it was
   quiet_step : (ops : ℕ → Option Op) (e : Event) (k : Known) (c mid z : Counted) → counts e false ≡ true → refused_by e false ≡ false → mid ≡ c → z ≡ mid → OnReturn (λ k p x. IsNumber v k p x mid.floor) k e → CountAgrees v ops (after k e) c
       → StepNumbers ops (in_order (Some e) None) k c z
   quiet_step ops e k c mid z counted kept e1 e2 says a =

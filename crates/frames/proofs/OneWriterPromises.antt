@@ -44,10 +44,12 @@ abbrev pub ReadsAgree : Option Event → Known → Seen → Type 0
 ReadsAgree (Some (Got p v)) k s = ReadAgrees p k s
 ReadsAgree _ k s = ⊤
 
+-- the folds agree on the read that the event returns, if any, and after the event
 pub record EventAgrees (ops : ℕ → Option Op) (e : Option Event) (k : Known) (s : Seen) : Type 0 where
   pub reads : ReadsAgree e k s
   pub after : Agrees ops (afters e k) (sees e s)
 
+-- the folds agree on the reads that each event of a step returns, and after the step
 pub record StepAgrees (ops : ℕ → Option Op) (e : StepEvents) (k : Known) (s : Seen) : Type 0 where
   pub first : ReadsAgree e.first k s
   pub second : ReadsAgree e.second (afters e.first k) (sees e.first s)
@@ -168,7 +170,7 @@ module _ {P : Type 0} (b : Behaviour P) (one : HasOneWriter b) (Holds : Memory �
     reads = λ p e. absurd (let n = ap (λ (r : Option (Running P)). op_of r) (none_at b.processes p) in cc);
   }
 
--- a history has the same refusals event by event and step by step
+-- `at_index` of an event, if there is one, has a refusal exactly if the event is one
 refusal_at : (i : ℕ) (e : Option Event) → list_any (λ x. is_refusal x.1) (at_index i e) ≡ refuses e
 refusal_at i (Some (Got p v)) = refl
 refusal_at i _ = refl

@@ -16,6 +16,7 @@ use Rattle.frames.proofs.Pointwise.{put, put_same, put_other}
 abbrev pub op_of : {P : Type 0} → Option (Running P) → Option Op
 op_of slot = option_map (λ r. r.op) slot
 
+-- the operation that each process has pending, if any
 abbrev pub ops_of : {P : Type 0} → Alone P → ℕ → Option Op
 ops_of c q = op_of (running_at q c)
 

@@ -24,6 +24,7 @@ put_again i k f =
 pub put_back : {A : Type 0} (i : ℕ) (f : ℕ → A) → f ≡ put i (f i) f
 put_back i f = λ d k. put_again i k f d
 
+-- putting x at i changes nothing, if f is x at i already
 pub put_is : {A : Type 0} (i k : ℕ) (x : A) (f : ℕ → A) → f i ≡ x → f k ≡ put i x f k
 put_is i k x f e = subst (λ y. f k ≡ put i y f k) e (put_again i k f)
 

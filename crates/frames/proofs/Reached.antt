@@ -16,6 +16,7 @@ pub record Reached {P : Type 0} (b : Behaviour P) (v : ℕ) (c : Alone P) (s : S
   pub leads : replayed b (first_configuration b v) steps ≡ c
   pub reports : seen (opening v) (history b (first_configuration b v) steps) ≡ s
 
+-- a step refuses nothing and returns only good reads, if the history before it shows s
 pub record IsFine (Good : Returned → Type 0) (s : Seen) (e : StepEvents) : Type 0 where
   pub first : refuses e.first ≡ false
   pub second : refuses e.second ≡ false
@@ -41,7 +42,7 @@ one_fits b s f = All-cons (λ s. fits_step b s ≡ true) s [] f (λ k d lt. absu
 pub fit-append : {P : Type 0} (b : Behaviour P) (xs : List Step) (s : Step) → AllFit b xs → fits_step b s ≡ true → AllFit b (xs ++ s ∷ [])
 fit-append b xs s h f = All-append (λ s. fits_step b s ≡ true) xs (s ∷ []) h (one_fits b s f)
 
--- no steps lead to the first configuration
+-- the empty list of steps leads to the first configuration
 pub reached_first : {P : Type 0} (b : Behaviour P) (v : ℕ) → Reached b v (first_configuration b v) (opening v)
 reached_first b v = record { steps = []; fit = λ k d lt. absurd (omega (arith, lt)); leads = refl; reports = refl }
 

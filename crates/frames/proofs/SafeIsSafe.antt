@@ -40,6 +40,7 @@ use Rattle.frames.proofs.VerdictFacts.{none_in, is_fresh}
 abbrev C : Type 0
 C = Alone SafePoint
 
+-- how the cell agrees with the history, if process 0 is at this point of a write
 abbrev pub WriterAt : SafePoint → Seen → Cell → Type 0
 WriterAt (WriteStart v) u cell = (x : ℕ) × ((u.writing ≡ Some x) × ((cell.writing ≡ None) × (value_of v ≡ x)))
 WriterAt (WriteEnd w) u cell = (x : ℕ) × ((v : Bool) × ((u.writing ≡ Some x) × ((cell.writing ≡ Some v) × (value_of v ≡ x))))
@@ -50,6 +51,7 @@ abbrev pub WriterSays : Option (Running SafePoint) → Seen → Cell → Type 0
 WriterSays None u cell = (u.writing ≡ None) × (cell.writing ≡ None)
 WriterSays (Some r) u cell = WriterAt r.point u cell
 
+-- what holds at this point of process 1's read, if no write has overlapped it so far
 abbrev pub ReaderAt : SafePoint → Seen → Cell → Type 0
 ReaderAt (WriteStart v) u cell = ⊥
 ReaderAt (WriteEnd w) u cell = ⊥
@@ -60,6 +62,7 @@ abbrev pub ReaderSays : Option (Running SafePoint) → Seen → Cell → Type 0
 ReaderSays None u cell = Unit {0}
 ReaderSays (Some r) u cell = ReaderAt r.point u cell
 
+-- the invariant: the cell has the last value written, and agrees with both processes' operations
 pub record SafeInv (c : C) (u : Seen) : Type 0 where
   pub processes : length c.running ≡ 2
   pub size : length c.memory.cells ≡ 1
@@ -87,7 +90,8 @@ reader_moves c u z o next m h size last writer reader = record {
   reader = subst (λ r. ReaderSays r z (cell_at 0 m)) (sym (get_or-set_at c.running 1 1 (still_running o next) None refl (omega (arith, h.processes)))) reader;
 }
 
--- a read in progress overlaps the write in progress
+-- while a write is in progress, `ReaderSays` stays true whatever becomes of the cell, since a read
+-- in progress overlaps the write
 no_write : (x : ℕ) (A : Type 0) (u : Seen) (cell to : Cell) (r : Option (Running SafePoint)) → u.writing ≡ Some x → ReaderSays r u cell → (z : Seen) → z.overlaps 1 ≡ u.overlaps 1 → ReaderSays r z to
 no_write x A u cell to None e h z o = tt
 no_write x A u cell to (Some r) e h z o = at r.point h
@@ -138,10 +142,11 @@ on_size f m l = length-set m.cells 0 (f (cell_at 0 m)) ∙ l
 ended_write : (v : Bool) (cell : Cell) → cell.writing ≡ Some v → (end_write cell).value ≡ v
 ended_write v cell e = ap (λ o. unwrap_or o cell.value) e
 
+-- step s refuses nothing and returns only good reads, and the invariant holds after it
 abbrev Good : C → Seen → Step → Type 0
 Good c u s = (z : Seen) × (IsGoodStep IsFreshAlone u (events_of safe_behaviour c s) z × SafeInv (stepped safe_behaviour c s) z)
 
--- a step is good if its effect keeps the invariant
+-- a step is good if its events are, and its effect keeps the invariant
 to_good : (c : C) (u z : Seen) (s : Step) (who : ℕ) (o : Op) (event : Option Event) (next : Next SafePoint) (m : Memory) → StepsTo safe_behaviour c s who o event next m
     → IsGoodStep IsFreshAlone u (in_order event (return_of who next)) z → SafeInv (moves who o next m c) z → Good c u s
 to_good c u z s who o event next m to good_step inv = (z, (subst (λ e. IsGoodStep IsFreshAlone u e z) (sym to.events) good_step, subst (λ d. SafeInv d z) (sym to.after) inv))

@@ -48,13 +48,16 @@ pub record Seen : Type 0 where
   pub fresh : ℕ → ℕ
   pub overlaps : ℕ → List ℕ
 
+-- what is shown before the first event, if the initial value is v
 abbrev pub opening : ℕ → Seen
 opening v = record { last = v; writing = None; fresh = λ p. v; overlaps = λ p. [] }
 
+-- the last value written, once the write in progress, if any, has returned
 abbrev pub now_last : Option ℕ → ℕ → ℕ
 now_last None x = x
 now_last (Some v) x = v
 
+-- what is shown after one more event, if there is one
 abbrev pub sees : Option Event → Seen → Seen
 sees (Some (Invoke p (Write v))) s = record s { writing = Some v; overlaps = λ r. v ∷ s.overlaps r }
 sees (Some (Invoke p Read)) s = record s { fresh = put p s.last s.fresh; overlaps = put p (in_progress s.writing) s.overlaps }
@@ -65,14 +68,17 @@ abbrev pub refuses : Option Event → Bool
 refuses (Some (Refused _ _)) = true
 refuses _ = false
 
--- a write refused in the step that invokes it counts for nothing
+-- what is shown after one more step; an operation refused in the step that invokes it counts for
+-- nothing
 abbrev pub after_step : StepEvents → Seen → Seen
 after_step e s = if refuses e.second then s else sees e.second (sees e.first s)
 
+-- the read that returns in this event, as a list of one item; an empty list if none does
 abbrev pub got : Option Event → Seen → List Returned
 got (Some (Got p x)) s = record { reader = p; value = x; fresh = s.fresh p; overlaps = s.overlaps p } ∷ []
 got _ s = []
 
+-- the reads that return in this step
 abbrev pub read_in : StepEvents → Seen → List Returned
 read_in e s = got e.first s ++ got e.second (sees e.first s)
 
@@ -81,6 +87,7 @@ abbrev pub reads : Seen → List StepEvents → List Returned
 reads s [] = []
 reads s (e ∷ es) = read_in e s ++ reads (after_step e s) es
 
+-- what is shown after all these steps
 abbrev pub seen : Seen → List StepEvents → Seen
 seen s [] = s
 seen s (e ∷ es) = seen (after_step e s) es

@@ -36,7 +36,7 @@ module _ {R P : Type 0} (b : Behaviour P) (Holds : Memory → Type 0) (Reaches :
   pub found_there : (who : ℕ) (x : List Frame) → who < b.processes → x ≡ get_or stacks who x → x ≡ stack_of b (running_at who (parked_configuration find r m stacks stopped))
   found_there who x lt is = is ∙ sym (get_or_default stacks who [] x (stack_there who lt)) ∙ was.flat who
 
-  -- a stack that is put in describes its process's pending operation
+  -- putting in the stack of a pending operation puts in that operation
   put_running : (who : ℕ) (slot : Option (Running P)) (stack : List Frame) → IsReached Reaches who slot → stack ≡ stack_of b slot
       → running_from find 0 (set stacks who stack) ≡ set (running_from find 0 stacks) who slot
   put_running who slot stack there is =
@@ -109,7 +109,7 @@ pointed {P} b Reaches find gives_point who slot stack p there is found =
     reached_at None h e = cc
     reached_at (Some r) h e = let same : r.point ≡ p = cc in (r.op, subst (Reaches who r.op) same h)
 
--- a function of the point that was found is the function of the pending operation's point
+-- if p is the point of a process's pending operation, f of that operation's point is f p
 pub of_point : {P X : Type 0} (slot : Option (Running P)) (p : P) (f : P → X) → option_map (λ r. r.point) slot ≡ Some p → option_map (λ r. f r.point) slot ≡ Some (f p)
 of_point None p f e = cc
 of_point (Some r) p f e = let same : r.point ≡ p = cc in ap (λ q. Some (f q)) same
@@ -172,7 +172,7 @@ same_flat is Holds Reaches find E alike finds_alike r r' m m' ps ps' was was' =
     stacks_from s =
         same_stacks is Holds Reaches find r r' (alike r r' s.register) m m' (stacks_of ps) (stacks_of ps') (marks_of ps) (marks_of ps') was was' s.running
 
--- a test that agrees with these comparisons decides equality of configurations
+-- a test that compares registers, memories and processes decides equality of configurations
 pub same_tested : {R P : Type 0} {is : R → Behaviour P} (Holds : R → Memory → Type 0) (Reaches : R → ℕ → Op → P → Type 0) {find : R → ℕ → List Frame → Option P}
     {E : R → R → Bool} (alike : (a b : R) → E a b ≡ true → is a ≡ is b) (finds_alike : (a b : R) → E a b ≡ true → find a ≡ find b)
     {r r' : R} {m m' : Memory} (ps ps' : List Parked)

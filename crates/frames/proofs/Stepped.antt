@@ -27,7 +27,8 @@ module _ {R P : Type 0} {b : Behaviour P} {Holds : Memory → Type 0} {Reaches :
   abbrev slot : Option (Running P)
   slot = running_at who before
 
-  -- a step has the effect `done`: these events, and the configuration that `now` and m' give
+  -- a step has the effect `done`: it records these events, and leaves the processes `now` and the
+  -- memory m'
   pub record Leaves (done : Acted P) (step_events : StepEvents) (now : List Parked) (m' : Memory) : Type 0 where
     pub events : step_events ≡ done.events
     pub flat : IsFlat b Holds Reaches (parked_configuration find r m' (stacks_of now) (marks_of now)) (stacks_of now)

@@ -84,8 +84,10 @@ pub record IsLawful {P : Type 0} (b : Behaviour P) (Holds : Memory → Type 0) (
   pub others_read : (who : ℕ) → 1 ≤ who → who < b.processes → b.suits who op.Read ≡ true
   pub nobody_else : (who : ℕ) (o : Op) → b.suits who o ≡ true → who < b.processes
   pub no_other_value : (who v : ℕ) → b.suits who (op.Write v) ≡ true → v < b.values
+  -- memory that satisfies `Holds` has the register's size; the initial memory satisfies `Holds`
   pub size_holds : (m : Memory) → Holds m → HasSize b.size m
   pub initial_holds : (v : ℕ) → v < b.values → Holds (b.initial v)
+  -- after an invocation that fits, and after a bit action, the operation is as `GoesOn` says
   pub begins_well : (who : ℕ) (o : Op) (m : Memory) → Holds m → b.suits who o ≡ true → GoesOn b Holds Reaches who o (b.begins who o m).next (b.begins who o m).memory
   pub goes_well : (who : ℕ) (o : Op) (p : P) (choice : Bool) (m : Memory) → Holds m → Reaches who o p
       → GoesOn b Holds Reaches who o (b.goes p choice m).next (b.goes p choice m).memory
@@ -95,5 +97,7 @@ pub record IsLawful {P : Type 0} (b : Behaviour P) (Holds : Memory → Type 0) (
   pub unused_choice : (who : ℕ) (o : Op) (p : P) (m : Memory) → Holds m → Reaches who o p → (b.goes p false m).chosen ≡ None → b.goes p true m ≡ b.goes p false m
   -- an operation that a process has pending fits the process
   pub reached_suits : (who : ℕ) (o : Op) (p : P) → Reaches who o p → b.suits who o ≡ true
+  -- an operation has at most `depth` frames, and its next action is on one of the register's own
+  -- cells
   pub frames_fit : (who : ℕ) (o : Op) (p : P) → Reaches who o p → length (b.frames p) ≤ b.depth
   pub acts_own : (who : ℕ) (o : Op) (p : P) → Reaches who o p → (b.acts p).cell < b.size.cell

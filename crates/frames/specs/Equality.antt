@@ -53,6 +53,7 @@ slots_decide F d a b = slice_eq-Decides (option_decides (running_decides F d)) a
 marks_decide : (a b : List Bool) → Decides (pointwise beq a b) (a ≡ b)
 marks_decide a b = slice_eq-Decides booleans_Decides a b _ refl
 
+-- `configuration_eq` is symmetric and transitive, if E is, and if F decides equality of points
 pub configuration_per : {R P : Type 0} (E : R → R → Bool) (F : P → P → Bool) → IsPartialEquivalence E → ((x y : P) → Decides (F x y) (x ≡ y))
     → IsPartialEquivalence (configuration_eq {R = R} {P = P} E F)
 configuration_per E F per d =
@@ -61,6 +62,7 @@ configuration_per E F per d =
     (and_per (on_per (λ c. c.running) (per_from_decides _ (slots_decide F d)))
     (on_per (λ c. c.stopped) (per_from_decides _ marks_decide))))
 
+-- `configuration_eq` decides `SameConfiguration`, if F decides equality of points
 pub configuration_decides : {R P : Type 0} (E : R → R → Bool) (F : P → P → Bool) → ((x y : P) → Decides (F x y) (x ≡ y))
     → (a b : Configuration R P) → Decides (configuration_eq E F a b) (SameConfiguration E a b)
 configuration_decides E F d a b =

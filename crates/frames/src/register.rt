@@ -252,6 +252,7 @@ pub trait Register: Behaves + Copy + Eq {
     // The frames of a pending operation determine the operation and its point.
     ghost reports: { (r : Self) → FramesGivePoint (Self.behaviour r) (Reaches r) (point r) };
 
+    // Each register of this type obeys the laws of a register.
     ghost lawful: { (r : Self) → IsLawful (Self.behaviour r) (Holds r) (Reaches r) };
 
     // Equal registers behave alike.

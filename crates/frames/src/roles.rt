@@ -36,9 +36,9 @@ impl<R: Register> HasRoles for R {
     }
 }
 
-/// Whether a step fits a register that has the roles of `whose`. An invocation fits if its
-/// operation fits its process; for a write, this can depend on the value. A bit action fits if its
-/// process exists and the choice is 0 or 1. A stop fits if its process exists.
+/// Whether a step fits `register`, which is a register or the description of one. An invocation
+/// fits if its operation fits its process; for a write, this can depend on the value. A bit action
+/// fits if its process exists and the choice is 0 or 1. A stop fits if its process exists.
 pub fn step_fits<T: HasRoles>(register: &T, step: Step) -> bool
     ensures { result ≡ step_fits (T.roles register.now) step }
 {

@@ -94,7 +94,7 @@ pub enum ActionKind {
     ReadEnd,
 }
 
-/// A bit action, and its cell.
+/// A bit action: its kind, and the number of its cell.
 #[derive(Clone, Copy, Debug, PartialEq, Eq)]
 pub struct Action {
     pub kind: ActionKind,

@@ -38,11 +38,11 @@ pub record IsAdmitted (Good : Returned → Type 0) (a : Admission) (s : Seen) (e
   pub refused : refuses e.second ≡ true → Invokes a.Refuses e.first s
   pub reads : AllByRecursion Good (read_in e s)
 
--- this holds of a step's events, which take `Seen` from s to z
+-- `IsAdmitted` holds of a step's events, which take `Seen` from s to z
 abbrev pub Admits : (Returned → Type 0) → Admission → Seen → StepEvents → Seen → Type 0
 Admits Good a s e z = IsAdmitted Good a s e × (z ≡ after_step e s)
 
--- on every list of fitting steps from every initial value, this holds of each step's events
+-- on every list of fitting steps from every initial value, `Admits` holds of each step's events
 abbrev pub AlwaysAdmits : {P : Type 0} → (Returned → Type 0) → Admission → Behaviour P → Type 0
 AlwaysAdmits Good a b = (v : ℕ) (steps : List Step) → v < b.values → AllFit b steps → Allowed (Admits Good a) (opening v) (history b (first_configuration b v) steps)
 
@@ -62,7 +62,7 @@ module _ (Good : Returned → Type 0) (a : Admission) where
       last_admitted (opening v) (history b first h.steps) e (subst (Allowed (Admits Good a) (opening v)) (history-append b h.steps step first) k) in
       subst (λ x. IsAdmitted Good a s (events_of b x step)) h.leads (subst (λ z. IsAdmitted Good a z e) h.reports w)
 
-  -- a pending operation isn't refused
+  -- a pending operation isn't refused, and a read that it returns is good
   pub gone_admitted : (who : ℕ) (chosen : Option (ℕ × Bool)) (end : Option Event) (s : Seen) → IsAdmitted Good a s (in_order (chosen_of who chosen) end)
       → (refuses end ≡ false) × AllByRecursion Good (got end s)
   gone_admitted who None end s h = (h.first, subst (AllByRecursion Good) (append-nil (got end s)) h.reads)
@@ -72,7 +72,7 @@ module _ (Good : Returned → Type 0) (a : Admission) where
       never false e = e
       never true e = absurd (h.refused e)
 
--- an end that is a refusal
+-- an operation's end that is a refusal has the outcome `Spent`
 pub spent_end : {P : Type 0} (who : ℕ) (next : Next P) → refuses (return_of who next) ≡ true → (layer : Layer) × (next ≡ Done (Spent layer))
 spent_end who (Pending p) e = absurd (cc e)
 spent_end who (Done (Value v)) e = absurd (cc e)
@@ -89,6 +89,7 @@ invoke_taken a all (Some (Void p r)) s = tt
 invoke_taken a all (Some (Stop p)) s = tt
 invoke_taken a all (Some (Chosen p b v)) s = tt
 
+-- a history that refuses nothing, and whose reads are good, is admitted if `Takes` always holds
 none_refused : (Good : Returned → Type 0) (a : Admission) → ((o : Op) (s : Seen) → a.Takes o s) → (s : Seen) (es : List StepEvents) → IsTrue (refuses_none es) → AllByRecursion Good (reads s es)
     → Allowed (Admits Good a) s es
 none_refused Good a all s [] f g = tt
@@ -109,17 +110,19 @@ none_refused Good a all s (e ∷ es) f g =
       ),
     )
 
--- a register that refuses nothing, and whose reads are good
+-- a register that refuses nothing, and whose reads are good, is admitted if `Takes` always holds
 pub always_admits : {P : Type 0} (Good : Returned → Type 0) (a : Admission) (b : Behaviour P) → ((o : Op) (s : Seen) → a.Takes o s) → Always Good b → AlwaysAdmits Good a b
 always_admits Good a b takes always v steps lt fit =
     let promised = always v steps lt fit in
     none_refused Good a takes (opening v) (history b (first_configuration b v) steps) promised.0 promised.1
 
--- `overlaps 0` has the values of all writes taken, if process 0 never reads
+-- a write may be taken if L is true of the number of writes taken before; `overlaps 0` has their
+-- values, if process 0 never reads
 abbrev pub takes_if : (ℕ → Bool) → Op → Seen → Type 0
 takes_if L (Write x) s = L (length (s.overlaps 0)) ≡ true
 takes_if L Read s = ⊤
 
+-- a write may be refused if L is false of that number
 abbrev pub refuses_if : (ℕ → Bool) → Op → Seen → Type 0
 refuses_if L (Write x) s = L (length (s.overlaps 0)) ≡ false
 refuses_if L Read s = ⊥

@@ -1,4 +1,4 @@
--- What a register's calls in place yield on a stack that holds only the operation's frames.
+-- What a layer's `begin_on` and `go_on` yield on a stack that holds only the operation's frames.
 use Rattle.std.proofs.Common.{◌≡◌, ℕ, ◌+◌, ◌≤◌, Bool, true, List, [], ◌++◌, length, take, ap, ◌∙◌, arith, Option}
 use Rattle.safe_bit.specs.declared.Place.{Place}
 use Rattle.safe_bit.specs.Memory.{Memory}

@@ -20,7 +20,8 @@ pub pushed_frames : (stack pushed all below : List Frame) (own frame : Frame) �
 pushed_frames stack pushed all below own frame push rest same =
     rest ∙ ap (λ xs. xs ++ below) push ∙ append_assoc stack (own ∷ []) below ∙ ap (λ x. stack ++ x ∷ below) same
 
--- a layer's operation has its own frame and at least one of its part's
+-- fewer than two frames describe no point: a layer's operation has its own frame and at least one
+-- of its part's
 pub too_few : {Task P : Type 0} (l : LayerOver Task P) (find : ℕ → List Frame → Option P) → FramesGivePoint l.below l.Reaches find → (who first : ℕ) (stack : List Frame)
     → length (drop first stack) < 2 → IsPointByFrames (layered l.table l.below).frames (LayerReaches l.table l.MayBeAt l.Reaches) who (drop first stack) None
 too_few l find gives_point who first stack few o n there e =
@@ -49,8 +50,8 @@ module _ {Task P : Type 0} (l : LayerOver Task P) (find : ℕ → List Frame →
         ),
       )
 
-  -- if these frames are those of a point, the point's task asks for the same, and the rest are its
-  -- part's frames
+  -- if these frames are those of a point, the point's task asks for `a`, and the frames after the
+  -- first are those of its part's point
   part_of : (o : Op) (n : Nested Task P) → LayerReaches l.table l.MayBeAt l.Reaches who o n → drop first stack ≡ (layered l.table l.below).frames n
       → (a ≡ l.table.asks n.task) × (drop (first + 1) stack ≡ l.below.frames n.below)
   part_of o n on e =

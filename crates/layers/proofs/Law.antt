@@ -1,5 +1,5 @@
--- What has to be shown of a layer's table, so that the layer's promise follows from its parts'. A part
--- may refuse an operation, but only in the step that invokes it.
+-- What has to be shown of a layer's table, so that the layer's promise follows from those of its
+-- parts. A part may refuse an operation, but only in the step that invokes it.
 use Rattle.std.proofs.Common.{◌≡◌, ℕ, ◌<◌, Bool, true, Option, Some, None}
 use Rattle.std.specs.Prelude.{⊤}
 use Rattle.std.specs.List.{AllByRecursion}
@@ -54,7 +54,7 @@ Runs {U = U} t w p op Out (Asks task rest) j =
     × ((o : Outcome) → Answers t.inner_values ask.op o → IsNotSpent o → AllByRecursion w.Good (got (Some (ended ask.who o)) s)
     → Runs t w p op Out (rest o) (record j { parts = put ask.part (sees (Some (ended ask.who o)) s) j.parts }))
 
--- The same over parts that may refuse an operation as it is invoked. Then the layer's operation ends,
+-- `Runs` over parts that may refuse an operation as it is invoked. Then the layer's operation ends,
 -- refused too, and the part's history shows what it showed before.
 abbrev pub RunsUnder : {Task U : Type 0} → Admission → Table Task → Watch Task U → ℕ → Op → (Option Event → U → Type 0) → Program Task → View Task → Type 0
 RunsUnder {U = U} a t w p op Out (Ends o) j = (u : U) × (Out (Some (ended p o)) u × w.Inv u (record j { tasks = put p None j.tasks }))
@@ -68,11 +68,12 @@ RunsUnder {U = U} a t w p op Out (Asks task rest) j =
     → RunsUnder a t w p op Out (rest o) (record j { parts = put ask.part (sees (Some (ended ask.who o)) s) j.parts }))
     × ((layer : Layer) → a.Refuses ask.op (j.parts ask.part) → (u : U) × (Out (Some (Refused p layer)) u × w.Inv u (record j { tasks = put p None j.tasks })))))
 
--- what a proof shows of a program that runs
+-- the type of `Runs` and `RunsUnder` once the table and the invariant are given
 abbrev pub Running : Type 0 → Type 0 → Type 1
 Running Task U = ℕ → Op → (Option Event → U → Type 0) → Program Task → View Task → Type 0
 
--- the steps that do nothing, and those after which an operation stays at its task
+-- `Up` allows void steps and stops, after which the same is known as before; and it allows each
+-- step after which an operation stays at its task, and the invariant is kept
 pub record Passes {Task U : Type 0} (w : Watch Task U) (Up : U → StepEvents → U → Type 0) : Type 0 where
   pub void : (u : U) (p : ℕ) (reason : Reason) → Up u (in_order (Some (Void p reason)) None) u
   pub stop : (u : U) (p : ℕ) → Up u (in_order (Some (Stop p)) None) u
@@ -93,9 +94,11 @@ pub record IsKeptBy {Task U : Type 0} (runs : Running Task U) (t : Table Task) (
       → runs p n.op (λ e. Up u (in_order (chosen_of p chosen) e)) (t.rest n.task o)
       (record j { parts = put (t.asks n.task).part (sees (Some (ended (t.asks n.task).who o)) (j.parts (t.asks n.task).part)) j.parts })
 
+-- the invariant is kept over parts that refuse nothing
 abbrev pub IsKept : {Task U : Type 0} → Table Task → (ℕ → Op → Task → Type 0) → Watch Task U → (ℕ → U) → (U → StepEvents → U → Type 0) → Type 0
 IsKept t MayBeAt w first Up = IsKeptBy (λ p op Out prog j. Runs t w p op Out prog j) t MayBeAt w first Up
 
+-- the invariant is kept over parts that may refuse an operation, as the admission says
 abbrev pub IsKeptUnder : {Task U : Type 0} → Admission → Table Task → (ℕ → Op → Task → Type 0) → Watch Task U → (ℕ → U) → (U → StepEvents → U → Type 0) → Type 0
 IsKeptUnder a t MayBeAt w first Up = IsKeptBy (λ p op Out prog j. RunsUnder a t w p op Out prog j) t MayBeAt w first Up
 
@@ -116,6 +119,7 @@ runs_under t w p op Out (Asks task rest) j r = (
   ),
 )
 
+-- an invariant kept over parts that refuse nothing is kept over parts that take every operation
 pub kept_under : {Task U : Type 0} (t : Table Task) (MayBeAt : ℕ → Op → Task → Type 0) (w : Watch Task U) (first : ℕ → U) (Up : U → StepEvents → U → Type 0)
     → IsKept t MayBeAt w first Up → IsKeptUnder takes_all t MayBeAt w first Up
 kept_under t MayBeAt w first Up k = record {

@@ -1,5 +1,5 @@
--- The law of layers: if each turn of a layer's programs keeps an invariant, and each part does as
--- it promises, the invariant holds in each history of the layer.
+-- The law of layers: if the programs, as they run in each step, keep an invariant, and each part
+-- does as it promises, the invariant holds in each history of the layer.
 use Rattle.std.proofs.Common.{◌≡◌, ℕ, ◌+◌, ◌*◌, ◌<◌, List, [], ◌∷◌, ◌++◌, length, get_or, refl, ap, sym, ◌∙◌, arith, true, None}
 use Rattle.std.proofs.lemmas.List.{get_or-append-add}
 use Rattle.safe_bit.specs.Memory.{word_at}
@@ -32,16 +32,19 @@ use Rattle.frames.proofs.Pending.{none_at, awake_at, first_well}
 use Rattle.layers.proofs.Turns.{task_in_progress}
 use Rattle.layers.proofs.LayerSteps.{Joint, steps_joint, step_joint, replayed_joint}
 
--- steps that do nothing, and those that record no outcome, return no read
+-- steps that do nothing, and those after which an operation stays at its task, are good, since they
+-- refuse nothing and return no read
 pub good_passes : {Task : Type 0} (w : Watch Task Seen) (Good : Returned → Type 0) → Passes w (IsGoodStep Good)
 good_passes w Good = record { void = good_void Good; stop = good_stop Good; still = λ u j p chosen h. (u, (good_gone Good p chosen None u refl tt, h)) }
 
--- what is known before step s, in which the layer's configuration is c, and after it
+-- what is known in configuration c, before step s, and after the step
 pub record NextStep {Task P U : Type 0} (l : LayerOver Task P) (w : Watch Task U) (Up : U → StepEvents → U → Type 0) (c : Alone (Nested Task P)) (s : Step) : Type 0 where
+  -- what is known of the layer's history, and the view, before the step
   pub u : U
   pub j : View Task
   pub inv : w.Inv u j
   pub tasks : (q : ℕ) → j.tasks q ≡ task_in_progress (running_at q c)
+  -- what is known of the layer's history after the step
   pub z : U
   pub up : Up u (events_of (layered l.table l.below) c s) z
 
@@ -103,7 +106,7 @@ module _ {Task P : Type 0} (l : LayerOver Task P) (user : ℕ → ℕ → ℕ) (
       steps_joint l user is_user (l.table.first v) w rule first Up K all (λ k lk. first_value v k lt lk) steps (first_configuration (layered l.table l.below) v) (first v) f
       (first_joint w rule first Up K v lt)
 
-  -- the invariant holds after any fitting steps, and one more fitting step goes on as the law says
+  -- the invariant holds after any fitting steps, and `Up` allows one more fitting step
   pub layer_next_under : {U : Type 0} (w : Watch Task U) (rule : Admission) (first : ℕ → U) (Up : U → StepEvents → U → Type 0) → AlwaysAdmits w.Good rule l.below → IsKeptUnder rule l.table l.MayBeAt w first Up
       → (v : ℕ) (steps : List Step) (s : Step) → v < l.table.values → AllFit (layered l.table l.below) steps → fits_step (layered l.table l.below) s ≡ true
       → NextStep l w Up (replayed (layered l.table l.below) (first_configuration (layered l.table l.below) v) steps) s

@@ -39,8 +39,8 @@ put_back i n xs = elim (cases_lt (length xs) (i + n)) [
       ∙ append-nil xs
 ]
 
--- what an action of a part chooses is, in the layer, what the action chooses on the cell of the
--- layer's memory
+-- an action on cell j of a part chooses, counted in the layer's cells, what the same action chooses
+-- on that cell of the layer
 choice_of_part : (kind : ActionKind) (at size : Place) (j : ℕ) (choice : Bool) (m : Memory) → j < size.cell
     → placed_bit at (choice_on kind j choice (part at size m)) ≡ choice_on kind (at.cell + j) choice m
 choice_of_part WriteStart at size j choice m few = refl

@@ -47,7 +47,8 @@ pub record Joint {Task P U : Type 0} (l : LayerOver Task P) (user : ℕ → ℕ 
   pub tasks : (q : ℕ) → j.tasks q ≡ task_in_progress (running_at q c)
   pub links : (k : ℕ) → k < l.table.parts → Linked l user value (λ q. is_stopped q c) c.memory (λ q. running_at q c) k (j.parts k)
 
--- part k alone, once p's stop has stopped each process q < n of the part as which p acts
+-- part k alone, in the middle of p's stop: each process below n of the part as which p acts has
+-- stopped
 pub record Stopping {Task P : Type 0} (l : LayerOver Task P) (user : ℕ → ℕ → ℕ) (value : ℕ → ℕ) (p : ℕ) (c : Alone (Nested Task P)) (k : ℕ) (s : Seen) (n : ℕ) : Type 0 where
   pub d : Alone P
   pub well : IsConfiguration l.below l.Holds l.Reaches d
@@ -75,14 +76,15 @@ module _ {Task P U : Type 0} (l : LayerOver Task P) (user : ℕ → ℕ → ℕ)
   abbrev J : Alone N → U → Type 0
   J c u = Joint l user value w c u
 
+  -- `Up` allows step s, and `Joint` holds after it
   abbrev Next_joint : Alone N → U → Step → Type 0
   Next_joint c u s = (z : U) × (Up u (events_of L c s) z × J (stepped L c s) z)
 
-  -- a void step keeps the links
+  -- a void step keeps `Joint`
   void_joint : (s : Step) (c : Alone N) (u : U) → IsVoid L c s → J c u → Next_joint c u s
   void_joint s c u v h = (u, (subst (λ e. Up u e u) (sym v.reported) (K.passes.void u (process_of s) (why_void c s)), subst (λ d. J d u) (sym v.leaves) h))
 
-  -- the links hold again after p's turn has ended
+  -- `Joint` holds after p's program has run to its next bit action or its end
   joined_ran : (p : ℕ) (o : Op) (s : Step) (event : Option Event) (begun : Begun N) (c : Alone N) (u : U)
       → p < length c.running → StepsTo L c s p o event begun.next begun.memory
       → IsConfiguration L (LayerHolds l.table l.below l.Holds) (LayerReaches l.table l.MayBeAt l.Reaches) (stepped L c s)
@@ -183,7 +185,7 @@ module _ {Task P U : Type 0} (l : LayerOver Task P) (user : ℕ → ℕ → ℕ)
       joined_ran p o (step.Go p choice) (chosen_of p chosen) (after_part (λ outcome m'. advance l.table l.below (l.table.rest task outcome) m') task moved.next new) c u
       (omega (arith, lp, h.well.each)) whole (keeps c (step.Go p choice) u f h) ran
 
-  -- the part's processes below n for which p acts stop
+  -- when p stops, so does each process below n of part k as which p acts
   stops_upto : (p : ℕ) (c : Alone N) (k : ℕ) (s : Seen) → is_stopped p c ≡ false → (n : ℕ) → n ≤ l.below.processes → Linked l user value (λ q. is_stopped q c) c.memory (λ q. running_at q c) k s
       → Stopping l user value p c k s n
   stops_upto p c k s awake zero ln h = record {

@@ -49,8 +49,8 @@ module _ {Task P : Type 0} (l : LayerOver Task P) (at : Place) (m : Memory) (lie
     pub part_lies : LiesIn q l.below.size m
     part_lies = subst (λ x. LiesIn x l.below.size m) (sym is) (part_inside l at m lies a.part part_there)
 
-    -- the part is asked after the layer's own frame is pushed; that frame is dropped if the part
-    -- has ended
+    -- the part is asked after the layer's own frame is pushed; that frame is dropped if the part's
+    -- operation has ended
     pub part_asked : (stack with_own left closed : List Frame) (first : ℕ) (given : Option Outcome) (after : Memory)
         → with_own ≡ stack ++ l.table.frame task ∷ [] → length stack ≡ first
         → Lands l.below.frames q (l.below.begins a.who a.op (part q l.below.size m)).next (l.below.begins a.who a.op (part q l.below.size m)).memory with_own m given left after
@@ -76,7 +76,7 @@ module _ {Task P : Type 0} (l : LayerOver Task P) (at : Place) (m : Memory) (lie
     pub part_has_frames : HasFramesFrom l.below.frames l.Reaches a.who (first + 1) stack a.op p
     part_has_frames = record { reached = rw e on.reached.below; there = drop_one_more first stack (l.below.frames p) (l.table.frame task) on.there }
 
-    -- the bit that the part's bit action chooses is the layer's
+    -- the part's bit action reports the choice that `pushed` gives for the layer
     pub part_chooses : (chosen : Option (ℕ × Bool)) → (HasFramesFrom l.below.frames l.Reaches a.who (first + 1) stack a.op p → chosen ≡ placed_bit q (l.below.goes p choice (part q l.below.size m)).chosen)
         → chosen ≡ placed_bit at (pushed l.below (l.table.asks task).part p choice (own l.table l.below at m)).chosen
     part_chooses chosen chooses =
@@ -84,6 +84,8 @@ module _ {Task P : Type 0} (l : LayerOver Task P) (at : Place) (m : Memory) (lie
         ∙ pushed_chosen l at m lies a.part p choice (part_there who o on.reached.may_be_at)
         ∙ ap (λ x. placed_bit at (pushed l.below x.part p choice (own l.table l.below at m)).chosen) e
 
+    -- the part makes its bit action; the layer's own frame is dropped if the part's operation has
+    -- ended
     pub part_moved : (given : Option Outcome) (left closed : List Frame) (after : Memory)
         → (HasFramesFrom l.below.frames l.Reaches a.who (first + 1) stack a.op p
         → Lands l.below.frames q (l.below.goes p choice (part q l.below.size m)).next (l.below.goes p choice (part q l.below.size m)).memory (take (first + 1) stack) m given left after)
@@ -108,7 +110,7 @@ module _ {Task P : Type 0} (l : LayerOver Task P) (at : Place) (m : Memory) (lie
               ∙ ap (λ x. with_part at (pushed b x.part p choice here).memory m) e;
         }
 
-    -- if the part has ended, the layer's own frame is the last one on the stack
+    -- if the part's operation has ended, the layer's own frame is the last one on the stack
     pub part_ended : (given : Option Outcome) (left : List Frame) (after : Memory)
         → (HasFramesFrom l.below.frames l.Reaches a.who (first + 1) stack a.op p
         → Lands l.below.frames q (l.below.goes p choice (part q l.below.size m)).next (l.below.goes p choice (part q l.below.size m)).memory (take (first + 1) stack) m given left after)

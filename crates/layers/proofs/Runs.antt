@@ -30,7 +30,7 @@ use Rattle.layers.specs.laws.Nested.{rest_sound}
 use Rattle.layers.specs.laws.Running.{push_holds, push_is_reached, follow_well, ask_holds, ask_is_reached, run_well, put_again, lies_after}
 use Rattle.layers.specs.laws.Over.{LayerOver}
 
--- an outcome, or none, after which no program goes on: the part waits, or is spent
+-- no program goes on after this outcome, or after none: the part's operation is spent, or waits
 abbrev pub Stops : Option Outcome → Type 0
 Stops None = ⊤
 Stops (Some outcome) = IsSpent outcome
@@ -50,7 +50,7 @@ pub done_of : {P : Type 0} (next : Next P) (outcome : Outcome) → ended next �
 done_of (Pending p) outcome e = cc
 done_of (Done o) outcome e = let same : o ≡ outcome = cc in ap Done same
 
--- a part that has ended leaves the frames that were below its own
+-- a part's operation that has ended leaves the frames that were below its own
 pub ended_leaves : {P : Type 0} (frames : P → List Frame) (next : Next P) (given : Option Outcome) (outcome : Outcome) (front left : List Frame) → given ≡ ended next → given ≡ Some outcome
     → left ≡ front ++ left_frames frames next → left ≡ front
 ended_leaves frames next given outcome front left answer e leaves = leaves ∙ ap (λ n. front ++ left_frames frames n) (done_of next outcome (sym answer ∙ e)) ∙ append-nil front
@@ -79,7 +79,8 @@ module _ {Task P : Type 0} (l : LayerOver Task P) (at : Place) where
   stops_there task next inner given front left before after lands h aim e =
       subst (λ a. Lands (layered l.table l.below).frames at a.next a.memory front before given left after) e (stops task next inner given front left before after lands h)
 
-  -- the effect of the rest of the work, after its first part, is the effect of the whole
+  -- work that replaces the layer's memory has the same effect, whether or not that memory was
+  -- replaced before
   pub again : (m : Memory) → LayerLies l.table l.below l.Holds at m → (mid m1 : Memory) → m1 ≡ with_part at mid m → LayerHolds l.table l.below l.Holds mid
       → (r aim : Begun (Nested Task P)) → r ≡ aim → LayerHolds l.table l.below l.Holds r.memory → (front : List Frame) (given : Option Outcome) (left : List Frame) (m2 : Memory)
       → Lands (layered l.table l.below).frames at r.next r.memory front m1 given left m2 → Lands (layered l.table l.below).frames at aim.next aim.memory front m given left m2
@@ -140,7 +141,7 @@ module _ {Task P : Type 0} (l : LayerOver Task P) (at : Place) where
         again m lies mid m1 em settled_well (run_on l.table l.below c1 (own l.table l.below at m1)) aim (settled_runs_on ∙ aims)
         (run_well l who o c1 (own l.table l.below at m1) settled_sound settled_lies.holds).holds stack given left m2 lands
 
-  -- after a part that has ended and isn't spent, the program runs on
+  -- after a part's operation that has ended and isn't spent, the program runs on
   pub advances : (task : Task) (outcome : Outcome) (m : Memory) → IsNotSpent outcome → advance l.table l.below (l.table.rest task outcome) m ≡ follow_on l.table l.below task (Done outcome) m
   advances task (Spent layer) m goes_on = absurd goes_on
   advances task Written m goes_on = refl
@@ -182,18 +183,18 @@ module _ {Task P : Type 0} (l : LayerOver Task P) (at : Place) where
       pub asked_lies : LayerLies l.table l.below l.Holds at m1
       asked_lies = lies_after l at m come.lies _ m1 lands.memory asked_well
 
-      -- the outcome of a part that has ended suits
+      -- the outcome of a part's operation that has ended suits the operation
       pub asked_answers : (outcome : Outcome) → given ≡ Some outcome → Answers l.below.values (l.table.asks task).op outcome
       asked_answers outcome e =
           subst (ReachedOrAnswered (l.Reaches (l.table.asks task).who (l.table.asks task).op) (Answers l.below.values (l.table.asks task).op)) (done_of _ outcome (sym lands.answer ∙ e))
           (ask_is_reached l come.who come.op task (own l.table l.below at m) come.lies.holds task_may_be_at)
 
-      -- a part that has ended leaves the frames that were below its own
+      -- a part's operation that has ended leaves the frames that were below its own
       pub asked_leaves : (outcome : Outcome) → given ≡ Some outcome → left ≡ stack
       asked_leaves outcome e =
           ended_leaves (task_frames l.table l.below task) (asked l.below (l.table.asks task) (own l.table l.below at m)).next given outcome stack left lands.answer e lands.stack
 
-      -- the program goes on after a part that has ended
+      -- the program goes on after a part's operation that has ended
       pub turns : (outcome : Outcome) → given ≡ Some outcome → IsNotSpent outcome → (c2 : Continuation Task) (m2 : Memory)
           → c2 ≡ (settled (own_words l.table l.below.size) (l.table.rest task outcome) (own l.table l.below at m1)).continuation
           → m2 ≡ with_part at (settled (own_words l.table l.below.size) (l.table.rest task outcome) (own l.table l.below at m1)).memory m1
@@ -216,7 +217,7 @@ module _ {Task P : Type 0} (l : LayerOver Task P) (at : Place) where
                 ∙ ap (with_part at late) lands.memory ∙ put_again l at m come.lies asked_memory late asked_well h ∙ come.puts late h;
           }
 
-  -- a spent part ends the layer's operation
+  -- a part's operation that is spent ends the layer's operation
   pub follows_spent : (task : Task) (outcome : Outcome) (stack : List Frame) (m : Memory) → LayerLies l.table l.below l.Holds at m → IsSpent outcome
       → Lands (layered l.table l.below).frames at (follow_on l.table l.below task (Done outcome) (own l.table l.below at m)).next (follow_on l.table l.below task (Done outcome) (own l.table l.below at m)).memory stack m (Some outcome) stack m
   follows_spent task (Spent layer) stack m lies h =
@@ -237,7 +238,8 @@ module _ {Task P : Type 0} (l : LayerOver Task P) {at : Place} {m : Memory} (lie
   in_task : (o : Op) (n : Nested Task P) → HasFramesOf o n → task ≡ n.task
   in_task o n on = finds ∙ found_task l who first stack frame found o n on
 
-  -- if the part has ended, the layer's own frame is still there, and gives the same task
+  -- if the part's operation has ended, the layer's own frame is still there, and gives the same
+  -- task
   module _ (left : List Frame) {end : Option Outcome} {outcome : Outcome} (is : end ≡ Some outcome) (still : IfSome end (λ _. left ≡ take (first + 1) stack)) where
     left_is : left ≡ take (first + 1) stack
     left_is = subst (λ e. IfSome e (λ _. left ≡ take (first + 1) stack)) is still
@@ -265,7 +267,7 @@ module _ {Task P : Type 0} (l : LayerOver Task P) {at : Place} {m : Memory} (lie
       (pushes : (o : Op) (p : P) → HasFramesOf o (record { task = task; below = p })
       → Lands (task_frames l.table l.below task) at (moved p).next (moved p).memory (take first stack) m end (cut_where_ended first end still) m1)
       {o : Op} {n : Nested Task P} (on : HasFramesOf o n) where
-    -- the stack, without the layer's frames if the part has ended
+    -- the stack, without the layer's own frame if the part's operation has ended
     abbrev left : List Frame
     left = cut_where_ended first end still
 
@@ -297,7 +299,8 @@ module _ {Task P : Type 0} (l : LayerOver Task P) {at : Place} {m : Memory} (lie
       ended_so : (moved n.below).next ≡ Done outcome
       ended_so = done_of (moved n.below).next outcome (sym lands.answer ∙ is)
 
-      -- if the part has ended, the layer lies at its place, the outcome suits, and the stack is cut
+      -- if the part's operation has ended, the layer lies at its place, the outcome suits, and the
+      -- stack is cut
       pub ended_lies : LayerLies l.table l.below l.Holds at m1
       ended_lies = lies_after l at m lies (moved n.below).memory m1 lands.memory pushed_well
 
@@ -318,7 +321,7 @@ module _ {Task P : Type 0} (l : LayerOver Task P) {at : Place} {m : Memory} (lie
       pub again_suits : (back : Task) → back ≡ task → l.MayBeAt who o back × Answers l.below.values (l.table.asks back).op outcome
       again_suits back same = subst (λ t. l.MayBeAt who o t × Answers l.below.values (l.table.asks t).op outcome) (sym same) ended_suits
 
-      -- the program runs on after the part has ended
+      -- the program runs on after the part's operation has ended
       pub ended_goes_on : (back : Task) → back ≡ task → (front : List Frame) → front ≡ take first still → (given : Option Outcome) (after : List Frame) (m2 : Memory)
           → Lands (layered l.table l.below).frames at (follow_on l.table l.below back (Done outcome) (own l.table l.below at m1)).next (follow_on l.table l.below back (Done outcome) (own l.table l.below at m1)).memory front m1 given after m2
           → Lands (layered l.table l.below).frames at (resume l.table l.below n choice (own l.table l.below at m)).next (resume l.table l.below n choice (own l.table l.below at m)).memory (take first stack) m given after m2

@@ -40,8 +40,8 @@ return_done P p (Value v) = refl
 return_done P p Written = refl
 return_done P p (Spent layer) = refl
 
--- in the middle of p's turn the view agrees with the memory, with the processes other than p, and
--- with the parts
+-- while p's program runs in a step, the view agrees with the memory, with the processes other than
+-- p, and with the parts
 pub record Mid {Task P U : Type 0} (l : LayerOver Task P) (user : ℕ → ℕ → ℕ) (value : ℕ → ℕ) (has_stopped : ℕ → Bool) (w : Watch Task U)
     (m : Memory) (at : ℕ → Option (Running (Nested Task P))) (p : ℕ) (j : View Task) : Type 0 where
   pub holds : LayerHolds l.table l.below l.Holds m
@@ -49,7 +49,7 @@ pub record Mid {Task P U : Type 0} (l : LayerOver Task P) (user : ℕ → ℕ �
   pub tasks : (q : ℕ) → (q ≡ p → ⊥) → j.tasks q ≡ task_in_progress (at q)
   pub links : (k : ℕ) → k < l.table.parts → Linked l user value has_stopped m at k (j.parts k)
 
--- what holds after p's turn has ended
+-- what holds once p's program has run to its next bit action or its end
 pub record Ran {Task P U : Type 0} (l : LayerOver Task P) (user : ℕ → ℕ → ℕ) (value : ℕ → ℕ) (has_stopped : ℕ → Bool) (w : Watch Task U)
     (p : ℕ) (o : Op) (Out : Option Event → U → Type 0) (begun : Begun (Nested Task P)) (at : ℕ → Option (Running (Nested Task P))) : Type 0 where
   pub u : U
@@ -78,7 +78,7 @@ module _ {Task P U : Type 0} (l : LayerOver Task P) (user : ℕ → ℕ → ℕ)
   abbrev RanTo : ℕ → Op → (Option Event → U → Type 0) → Begun (Nested Task P) → PendingOps → Type 0
   RanTo p o Out begun at = Ran l user value has_stopped w p o Out begun at
 
-  -- what holds after p's turn doesn't depend on what p had pending before it
+  -- `Ran` doesn't depend on what p had pending before the step
   ran_from : (p : ℕ) (o : Op) (Out : Option Event → U → Type 0) (begun : Begun (Nested Task P)) (at : PendingOps) → RanTo p o Out begun (put p None at) → RanTo p o Out begun at
   ran_from p o Out begun at r = record {
     u = r.u;
@@ -93,7 +93,7 @@ module _ {Task P U : Type 0} (l : LayerOver Task P) (user : ℕ → ℕ → ℕ)
     links = r.links;
   }
 
-  -- the turn of p goes on after a part's step
+  -- p's program runs on, or waits, after a step of a part
   pub after_part_ran : (p : ℕ) (o : Op) (task : Task) (m : Memory) (at : PendingOps) (j c : View Task) (s : Seen) (next : Next P) (Out : Option Event → U → Type 0) (go_on : Outcome → Memory → Begun (Nested Task P))
       → LayerHolds l.table l.below l.Holds m
       → ((i : ℕ) → i < l.table.words → j.words i ≡ word_at (own_words l.table l.below.size + i) m)
@@ -130,7 +130,7 @@ module _ {Task P U : Type 0} (l : LayerOver Task P) (user : ℕ → ℕ → ℕ)
   after_part_ran p o task m at j c s (Done (Spent layer)) Out go_on lh words tasks links fine good ans inv cw ct cp more =
       let never : ⊥ = cc in absurd never
 
-  -- a part's next point or end suits in terms of the table's numbers of values too
+  -- a part's next point or end suits in terms of the table's number of values too
   pub suits_by_table : (task : Task) (next : Next P) → ReachedOrAnswered (l.Reaches (l.table.asks task).who (l.table.asks task).op) (Answers l.below.values (l.table.asks task).op) next
       → ReachedOrAnswered (l.Reaches (l.table.asks task).who (l.table.asks task).op) (Answers l.table.inner_values (l.table.asks task).op) next
   suits_by_table task next h = subst (λ n. ReachedOrAnswered (l.Reaches (l.table.asks task).who (l.table.asks task).op) (Answers n (l.table.asks task).op) next) l.fit.same_values h
@@ -194,7 +194,7 @@ module _ {Task P U : Type 0} (l : LayerOver Task P) (user : ℕ → ℕ → ℕ)
                 (put a (after_step (in_order (Some (Invoke who aop)) (return_of who next)) (j.parts a)) j.parts k)) s.1 (moved k lt)));
           })
 
-  -- a turn of p that runs this program keeps the invariant and the links
+  -- if p's program runs from here, the invariant and the links are kept
   pub run_on : (rule : Admission) → IsUser l.table l.MayBeAt user → AlwaysAdmits w.Good rule l.below → ((k : ℕ) → k < l.table.parts → value k < l.below.values)
       → (p : ℕ) (o : Op) (Out : Option Event → U → Type 0) (prog : Program Task) (m : Memory) (at : PendingOps) (j : View Task)
       → has_stopped p ≡ false → at p ≡ None → IsSound l.table (l.MayBeAt p o) (Answers l.table.values o) prog

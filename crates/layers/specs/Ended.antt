@@ -1,4 +1,4 @@
--- Which operations on a layer's parts end at a given step.
+-- Which operations on a layer's parts end in a step.
 use Rattle.std.specs.Prelude.{ℕ, ◌+◌, ◌==◌, Bool, true, false, List, [], ◌∷◌, Option, Some, None}
 use Rattle.safe_bit.specs.Memory.{Memory, word_at, with_word}
 use Rattle.frames.specs.declared.types.Op.{Op}

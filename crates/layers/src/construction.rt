@@ -124,6 +124,7 @@ pub trait Construction: Rules + Copy + Eq {
     fn may_be_at(&self, who: u32, op: Op, task: Self::Task) -> bool
         ensures { Decides result (MayBeAt self.now who op task) };
 
+    // The laws of a layer's table hold of each construction of this type.
     ghost sound: { (l : Self) → IsSoundTable (Self.table l) (MayBeAt l) (left l) };
 
     // Equal layers have the same table.

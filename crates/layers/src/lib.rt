@@ -1,5 +1,6 @@
-//! Constructions of registers from registers. An operation calls its parts, the registers below it,
-//! one after another. One register type, `Layered`, serves every construction over any register.
+//! Constructions of registers from registers. An operation of a layer makes operations on the
+//! layer's parts, the registers below it, one after another. One register type, `Layered`, serves
+//! every construction over any register.
 #![tactic(auto)]
 
 pub mod construction;

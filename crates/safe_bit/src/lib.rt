@@ -12,7 +12,8 @@ ghost use Rattle.safe_bit.specs.Memory.{IsNumbered, blank, cell_at, word_at, on_
 use std::alloc::{AllocError, Global};
 use std::marker::Model;
 
-/// A safe bit: its value, the value being written, and the read in progress.
+/// A safe bit: its value, the value being written, whether it is being read, and whether that read
+/// is hit.
 #[derive(Clone, Copy, Debug, PartialEq, Eq)]
 pub struct Cell {
     /// The value that a read gives if it overlaps no write.

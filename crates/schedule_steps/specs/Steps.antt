@@ -1,4 +1,4 @@
--- What a step says.
+-- The process that makes a step.
 use Rattle.std.specs.Prelude.{ℕ}
 use Rattle.schedule_steps.specs.declared.types.Step.{Step}
 use Rattle.schedule_steps.specs.declared.types.Step.TheVariants as step

@@ -1,4 +1,4 @@
-//! An operation, a step, and what holds a step.
+//! Operations, steps, and items of a schedule that hold a step.
 
 ghost use Rattle.std.specs.Prelude.{◌≡◌};
 ghost use Rattle.std.specs.Bool.{Decides};

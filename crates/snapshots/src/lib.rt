@@ -6,8 +6,9 @@ ghost use base.Fml.{ftrue};
 
 use std::marker::{Model, PhantomData};
 
-/// A value as contracts saw it once. It has no bytes and owns nothing. It is std's `Snapshot`, but
-/// a struct that has one is known to cross threads if its other fields are.
+/// A value as contracts saw it once. It has no bytes and owns nothing. It is like std's `Snapshot`,
+/// but `Send` and `Sync` for every `T`, so that a struct with one crosses threads if its other
+/// fields do.
 pub struct Snapshot<T> {
     marker: PhantomData<T>,
     pub ghost value: { T },

@@ -17,11 +17,11 @@ use Rattle.frames.specs.Recorded.{AllFit, recorded}
 abbrev pub put : {A : Type 0} → ℕ → A → (ℕ → A) → ℕ → A
 put i x f k = if k == i then x else f k
 
--- What is known of the ranks after part of a history. `top` is the greatest rank of an operation
--- that has returned, at first that of the initial value. `values` gives the value of the write with
--- a rank, if one has been invoked. `floor` is, for each process, what `top` was when the process
--- invoked its last operation. `mine` is the rank of the write that a process is in, if it is in one
--- that takes effect.
+-- What is known of the ranks after a prefix of a history. `top` is the greatest rank of an
+-- operation that has returned, at first that of the initial value. `values` gives the value of the
+-- write with a rank, if one has been invoked. `floor` is, for each process, what `top` was when the
+-- process invoked its last operation. `mine` is the rank of the write that a process is in, if it
+-- is in one that takes effect.
 pub record Ranking : Type 0 where
   pub top : ℕ
   pub values : ℕ → Option ℕ

@@ -33,7 +33,8 @@ name_decides a b =
 layer_same : (a : FrameLayer) → layers.eq-value.it a a ≡ true
 layer_same = elim [ layer.Named a ↦ (name_decides a a).1 refl | _ ↦ refl ]
 
--- (`cc` at two different layers takes a quarter of a second)
+-- layers that the derived `==` finds equal are the same; by cases, since `cc` at two different
+-- layers takes a quarter of a second
 layer_found : (a b : FrameLayer) → layers.eq-value.it a b ≡ true → a ≡ b
 layer_found layer.Safe layer.Safe h = refl
 layer_found layer.Copies layer.Copies h = refl
@@ -78,12 +79,14 @@ parked_decides a b =
 pub parked_per : IsPartialEquivalence parked_eq
 parked_per = per_from_decides parked_eq parked_decides
 
+-- an item can be set before or after the first `count` items are taken
 pub set_at : (index count : ℕ) (frames : List Frame) (frame : Frame) → take count (set frames index frame) ≡ set (take count frames) index frame
 set_at index zero frames frame = refl
 set_at index (suc count) [] frame = refl
 set_at zero (suc count) (x ∷ xs) frame = refl
 set_at (suc index) (suc count) (x ∷ xs) frame = ap (λ l. x ∷ l) (set_at index count xs frame)
 
+-- replacing a process's stack replaces the operation that the stack describes
 pub set_running : {P : Type 0} (point : ℕ → List Frame → Option P) (k : ℕ) (stacks : List (List Frame)) (who : ℕ) (stack : List Frame)
     → running_from point k (set stacks who stack) ≡ set (running_from point k stacks) who (running_of (point (k + who)) stack)
 set_running point k [] who stack = refl

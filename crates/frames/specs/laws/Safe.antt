@@ -68,6 +68,7 @@ read_ends hit value choice after = record {
   memory = after;
 }
 
+-- a read's end action has the same effect with either choice, if the read isn't hit
 unhit : (hit value : Bool) (after : Memory) → (read_ends hit value false after).chosen ≡ None → read_ends hit value true after ≡ read_ends hit value false after
 unhit false value after none = refl
 unhit true value after none = cc
@@ -98,9 +99,12 @@ set_single x (y ∷ (z ∷ zs)) e = absurd (omega arith)
 abbrev pub safe_size : Place
 safe_size = record { cell = 1; word = 0 }
 
+-- changing the cell at a safe bit's place is the same as changing the bit's own memory and putting
+-- it back
 pub on_own_cell : (at : Place) (f : Cell → Cell) (m : Memory) → LiesIn at safe_size m → on_cell at.cell f m ≡ with_part at (on_cell 0 f (part at safe_size m)) m
 on_own_cell at f m h = ap (λ i. on_cell i f m) (sym (add-zero at.cell)) ∙ on_cell-part at safe_size 0 f m h (omega arith)
 
+-- setting the cell at a safe bit's place is the same as putting in a memory of this one cell
 pub with_own_cell : (at : Place) (v : Bool) (m : Memory) → LiesIn at safe_size m
     → on_cell at.cell (λ _. idle_cell v) m ≡ with_part at (record { cells = idle_cell v ∷ []; words = [] }) m
 with_own_cell at v m h =
@@ -148,7 +152,7 @@ bit_of_its_value : (b : Bool) → bit_of (value_of b) ≡ b
 bit_of_its_value false = refl
 bit_of_its_value true = refl
 
--- a frame determines the point that it describes
+-- from the frame of a point, `point_at` gives the point back
 pub point_of_its_frame : (p : SafePoint) → point_at (safe_frame p).op (safe_frame p).i ≡ p
 point_of_its_frame (at.WriteStart b) = ap at.WriteStart (bit_of_its_value b)
 point_of_its_frame (at.WriteEnd b) = ap at.WriteEnd (bit_of_its_value b)
@@ -194,7 +198,8 @@ begin_lands at m who op.Read stack lies fits = record { answer = refl; stack = r
 one_left : {A : Type 0} (first : ℕ) (xs : List A) (x : A) → drop first xs ≡ x ∷ [] → length xs ≡ first + 1
 one_left first xs x e = let l = ap length e in omega (arith, l, length-drop first xs)
 
--- if a list has just one item from index `first` on, setting it replaces that item
+-- if a list has just one item from index `first` on, setting that item gives the items before it,
+-- and then the new one
 set_last : {A : Type 0} (first : ℕ) (xs : List A) (x y : A) → drop first xs ≡ x ∷ [] → set xs first y ≡ take first xs ++ y ∷ []
 set_last first xs x y e =
     let l = one_left first xs x e in

@@ -32,14 +32,18 @@ points_alike t u f g p q = λ i. layered_point (p i) (q i)
 pub index_there : {A : Type 0} (first : ℕ) (xs ys : List A) (x : A) → drop first xs ≡ x ∷ ys → first < length xs
 index_there first xs ys x e = let l : length (drop first xs) ≡ length (x ∷ ys) = ap length e in omega (arith, l, length-drop first xs)
 
+-- if a list is taken apart at index `first` in two ways, the items there are equal, and so are the
+-- rests
 pub parts_there : {A : Type 0} (first : ℕ) (xs ys : List A) (x y : A) → drop first xs ≡ x ∷ ys → drop first xs ≡ y ∷ drop (first + 1) xs → (y ≡ x) × (drop (first + 1) xs ≡ ys)
 parts_there {A} first xs ys x y e f =
     let g : ◌≡◌ {A = List A} (y ∷ drop (first + 1) xs) (x ∷ ys) = sym f ∙ e in (cc, cc)
 
+-- the items after the first `first` + 1 are those that follow item `first`
 pub drop_one_more : {A : Type 0} (first : ℕ) (xs ys : List A) (x : A) → drop first xs ≡ x ∷ ys → drop (first + 1) xs ≡ ys
 drop_one_more first xs ys x e =
     let f = drop_more xs first x (index_there first xs ys x e) in (parts_there first xs ys x _ e f).1
 
+-- the first `first` + 1 items are the first `first` items, and then item `first`
 pub front_there : {A : Type 0} (first : ℕ) (xs ys : List A) (x : A) → drop first xs ≡ x ∷ ys → take (first + 1) xs ≡ take first xs ++ x ∷ []
 front_there first xs ys x e =
     let lt = index_there first xs ys x e in
