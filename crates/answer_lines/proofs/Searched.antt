@@ -9,8 +9,8 @@ use Rattle.answers.specs.declared.question.Question.{Question}
 use Rattle.answers.specs.Answers.{AllAnswered}
 use Rattle.answer_lines.specs.Search.{AreAnswersOn}
 
--- the answers found on a register that behaves as b are those on the tower t, if t is `spec`, whose
--- register behaves as b
+-- if a search found all answers for behaviour a, and a is b, that of the register of tower `spec`,
+-- it found those on tower t, which is `spec`
 pub answered : {P : Type 0} {t spec : TowerSpec} {a b : Behaviour P} (q : Question) (r : Result Found Unfound) → t ≡ spec → a ≡ b → ((found : List Possible) → AllAnswered b q found → AreAnswersOn spec q found)
     → IfOk r (λ f. AllAnswered a q f.possible.items) → IfOk r (λ f. AreAnswersOn t q f.possible.items)
 answered {spec = spec} {a = a} {b = b} q r is same all h = subst (λ (t : TowerSpec). IfOk r (λ f. AreAnswersOn t q f.possible.items)) (sym is) (each r (subst (λ (b : Behaviour _). IfOk r (λ f. AllAnswered b q f.possible.items)) same h))

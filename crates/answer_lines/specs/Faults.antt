@@ -7,9 +7,9 @@ use Rattle.answer_lines.specs.declared.fault.AnswersFault.{AnswersFault}
 use Rattle.answer_lines.specs.declared.fault.AnswersFault.TheVariants.{File, Cycle, TooMany, Memory}
 use Rattle.answer_lines.specs.Advice.{too_many, too_many_display}
 
--- The fault suits these bytes. The fault of a file is the first of its bytes, unless memory ran out; a
--- cycle and too many states are faults of bytes that spell a question; and of too many it says the
--- most that the file allows, and what to leave out.
+-- The fault suits these bytes. A fault `File` is the first in the bytes, unless memory ran out; the
+-- others are faults of bytes that spell a question; and `TooMany` has the most states that the file
+-- allows, and which processes to leave out or to shorten.
 abbrev pub IsFaultOf : List ℕ → AnswersFault → Type 0
 IsFaultOf bytes (File e) = e.kind ≢ out_of_memory_kind → question_reading bytes ≡ Err e
 IsFaultOf bytes Cycle = IsOk (question_reading bytes)

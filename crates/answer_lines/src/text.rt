@@ -45,7 +45,7 @@ fn push_outcomes(out: &mut Vec<u8>, outcomes: &[Outcome]) -> Pushed
     push_each(out, outcomes)
 }
 
-/// Adds the outcomes of process `p`.
+/// Adds the name of process `p` and its outcomes.
 fn push_answers_of(out: &mut Vec<u8>, p: usize, answers: &[Outcomes]) -> Pushed
     ensures { OnOk result (out.new.items ≡ out.old.items ++ spec.answers_of answers.now p) }
 {
@@ -56,7 +56,7 @@ fn push_answers_of(out: &mut Vec<u8>, p: usize, answers: &[Outcomes]) -> Pushed
     }
 }
 
-/// Adds the outcomes of process `p` if it has operations.
+/// Adds the name of process `p` and its outcomes, if it has operations.
 fn push_part(out: &mut Vec<u8>, p: usize, operations: &[Op], answers: &[Outcomes]) -> Pushed
     ensures { OnOk result (out.new.items ≡ out.old.items
         ++ spec.answers_part answers.now p operations.now) }
@@ -67,7 +67,7 @@ fn push_part(out: &mut Vec<u8>, p: usize, operations: &[Op], answers: &[Outcomes
     push_answers_of(out, p, answers)
 }
 
-/// Adds the outcomes of each process that has operations.
+/// Adds the name and the outcomes of each process that has operations.
 #[tactic(auto, using(crate::proofs::Parts::parts_more, crate::proofs::Parts::parts_all))]
 fn push_parts(out: &mut Vec<u8>, operations: &[Vec<Op>], answers: &[Outcomes]) -> Pushed
     ensures { OnOk result (out.new.items ≡ out.old.items

@@ -62,7 +62,7 @@ module _ (q : Question) where
   pub named_permitted : (answers : List (List Outcome)) (p kind : ℕ) (s : Step) → step_by q answers p kind ≡ Some s → IsPermitted (ended_counts answers) s
   named_permitted answers p kind s h = by_kind (ended_counts answers) p (kind == 0) (kind == 1) (kind == 2) s h
 
-  -- what a permitted step records is allowed
+  -- an operation's return is always allowed
   return_allowed : {P : Type 0} (before : List Event) (who : ℕ) (next : Next P) → AreAllowed q before (event_in (return_of who next))
   return_allowed before who (Pending p) = tt
   return_allowed before who (Done (Value v)) = (tt, tt)

@@ -68,7 +68,7 @@ module _ {R P : Type 0} (is : R → Behaviour P) (b : Behaviour P) (q : Question
           → result ≡ step_by q state.answers ((get_or path i d).label / 4) ((get_or path i d).label % 4) → IsTaken steps result (drop (i + 1) path)
       taken_at steps path i d result lt was says = taken steps (get_or path i d) (drop (i + 1) path) result (building_at steps path i d lt was) says
 
-    -- the step that was given is the one of the next mark
+    -- the step that was given, that of the next mark, fits
     pub taken_fits : (steps : List Step) (s : Step) (left : List Mark) (result : Option Step) → IsTaken steps result left → result ≡ Some s → fits_step (is state.configuration.register) s ≡ true
     taken_fits steps s left result t e = subst (λ (n : Step). fits_step (is state.configuration.register) n ≡ true) (same_Some t.step s (sym t.given ∙ e)) t.fits
 
@@ -81,7 +81,7 @@ module _ {R P : Type 0} (is : R → Behaviour P) (b : Behaviour P) (q : Question
     pub none_taken : (steps : List Step) (left : List Mark) (result : Option Step) → IsTaken steps result left → result ≡ None → ⊥
     none_taken steps left result t e = none-some t.step (sym e ∙ t.given)
 
-    -- at the end
+    -- once no mark is left, the steps lead to `key`
     pub built : (steps : List Step) → IsBuilding is b q key state steps [] → IsStateOfRun is b q.value q steps key
     built steps was = subst (IsStateOfRun is b q.value q steps) (sym was.leads) was.run
 

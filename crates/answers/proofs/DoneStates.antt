@@ -20,7 +20,7 @@ use Rattle.answers.specs.States.{StateOf, IsStateAfter, IsStateOfRun, AreAllOver
 use Rattle.answers.specs.laws.StateLaws.{SameState, state_eq, state_decides}
 use Rattle.answers.proofs.Schedules.{at_first, walk}
 
--- what `is_over` says
+-- if `is_over` holds, the process has stopped, or is idle and has ended all its operations
 over_parts : {X : Type 0} (s : Bool) (r : Option X) (n m : ℕ) → (s || (is_none r && n == m)) ≡ true → (s ≡ true) ⊎ ((r ≡ None) × (n ≡ m))
 over_parts true r n m h = inl refl
 over_parts false None n m h = inr (refl, (Decides-eqb n m).0 h)
@@ -55,7 +55,7 @@ module _ {R P : Type 0} (is : R → Behaviour P) (b : Behaviour P) (q : Question
     through = λ p lt. over_through steps x p run.at (done p lt);
   }
 
-  -- and the state has its answers
+  -- the state after some steps has the answers of these steps
   pub at_answers : (steps : List Step) (x : StateOf R P) → IsStateAfter is b q.value steps x → HasAnswers b q.value steps x.answers
   at_answers steps x at = record { for_each = at.each; in_order = at.answered }
 

@@ -58,7 +58,7 @@ module _ (q : Question) (writes : operations_of q 0 ≡ Write 1 ∷ []) (reads :
     after_holds i =
         if list_all (allows (λ r. length (outcomes_by r (Invoke 0 (Write 1) ∷ Wrote 0 ∷ []))) 1) (one i) then slice_get (reads i) 0 else None
 
-    -- and not within the write
+    -- IsAllowed fails: the read, within the write
     after_fails : IsAllowed q (Invoke 0 (Write 1) ∷ []) (Invoke 1 Read) → ⊥
     after_fails h = none-some Read ((λ i. if list_all (allows (λ r. length (outcomes_by r (Invoke 0 (Write 1) ∷ []))) 1) (sym one i) then slice_get (operations_of q 1) 0 else None) ∙ h)
 

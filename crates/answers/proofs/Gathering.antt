@@ -32,7 +32,7 @@ added : {X : Type 0} (xs : List X) (y : X) → slice_get (xs ++ y ∷ []) (lengt
 added [] y = refl
 added (z ∷ zs) y = added zs y
 
--- a test that an item passes, and a test that none passes
+-- if some item passes a test, it is found at some index
 pub place_of : {X : Type 0} (test : X → Bool) (xs : List X) → list_any test xs ≡ true → (i : ℕ) × ((x : X) × ((slice_get xs i ≡ Some x) × (test x ≡ true)))
 place_of {X} test [] h = absurd (true≢false (sym h))
 place_of {X} test (x ∷ xs) h = by (test x) refl h (place_of test xs)
@@ -42,6 +42,7 @@ place_of {X} test (x ∷ xs) h = by (test x) refl h (place_of test xs)
     by true e g later = (0, (x, (refl, e)))
     by false e g later = let l = later g in (suc l.0, l.1)
 
+-- if no item passes a test, the item at index i fails it
 pub fails_at : {X : Type 0} (test : X → Bool) (xs : List X) (i : ℕ) (x : X) → list_any test xs ≡ false → slice_get xs i ≡ Some x → test x ≡ false
 fails_at test [] i x h g = absurd (none-some x g)
 fails_at test (y ∷ ys) i x h g = by (test y) refl h i g (λ j. fails_at test ys j x)
@@ -84,7 +85,7 @@ module _ {R P : Type 0} (b : Behaviour P) (q : Question) (keys : List (StateOf R
             subst (λ n. IsCovered found x (depth_at marks n)) (sym e)
             (subst (λ (y : StateOf R P). IsCovered found y (depth_at marks at)) same (covered (subst (AreAllOver b q) (sym same) done)))
 
-    -- its answers are listed already
+    -- a state whose answers are listed already is covered
     pub covered_listed : list_any (λ (a : Possible). answers_eq a.answers.items k.answers) found ≡ true → IsCovered found k (depth_at marks at)
     covered_listed h =
         let p = place_of (λ (a : Possible). answers_eq a.answers.items k.answers) found h in

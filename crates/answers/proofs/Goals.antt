@@ -35,7 +35,7 @@ module _ {R P : Type 0} (q : Question) (x : StateOf R P) where
     λ h. let e = h n (omega arith) in let f = (over_below n).1 (λ p lt. h p (omega (arith, lt))) in λ i. e i && f i,
   )
 
--- the goal that is noted at an index is that of the state there
+-- f of the state at an index is what is noted for that index
 goal_read : {X : Type 0} (f : X → Bool) (nodes : List X) (goals : List Bool) (index : ℕ) (k : X) (d : Bool) → goals ≡ map f nodes → slice_get nodes index ≡ Some k
     → d ≡ slice_index_or goals index d → d ≡ f k
 goal_read f nodes goals index k d e stored read =
@@ -55,7 +55,7 @@ module _ {R P : Type 0} (b : Behaviour P) (q : Question) (nodes : List (StateOf 
     | inr n ↦ absurd (omega (arith, lt, marked, n.0))
   ]
 
--- what holds of each state holds of the initial one
+-- what `IsStateOf` says of each state holds of the initial one
 pub first_holds : {R P : Type 0} (b : Behaviour P) (Holds : Memory → Type 0) (Reaches : ℕ → Op → P → Type 0) → IsLawful b Holds Reaches → (r : R) (value : ℕ) → value < b.values
     → IsStateOf b Holds Reaches r (first_state b value r)
 first_holds b Holds Reaches lawful r value lt = record {

@@ -28,7 +28,7 @@ module _ {R P : Type 0} (is : R → Behaviour P) (b : Behaviour P) (q : Question
   answers_as : (k : StateOf R P) → state ≡ k → list_any (λ (a : Possible). answers_eq a.answers.items k.answers) found ≡ list_any (λ (a : Possible). answers_eq a.answers.items state.answers) found
   answers_as k e i = list_any (λ (a : Possible). answers_eq a.answers.items (sym e i).answers) found
 
-  -- they are listed already
+  -- if the answers of the state at `index` are listed already, those of the states up to it are
   pub listed_before : (steps : List Step) → ((k : StateOf R P) → slice_get nodes index ≡ Some k → IsBuilding is b q k state steps [])
       → list_any (λ (a : Possible). answers_eq a.answers.items state.answers) found ≡ true → IsGathered b q nodes marks (index + 1) found
   listed_before steps walk listed = elim ((slice_get_cases nodes index).1) [
@@ -37,7 +37,8 @@ module _ {R P : Type 0} (is : R → Behaviour P) (b : Behaviour P) (q : Question
     | inr n ↦ absurd (omega (arith, there, marked, n.0))
   ]
 
-  -- they are listed now
+  -- if the answers of the state at `index` are added to the list, those of the states up to it are
+  -- listed
   pub listed_now : (steps : List Step) → ((k : StateOf R P) → slice_get nodes index ≡ Some k → IsBuilding is b q k state steps [])
       → list_any (λ (a : Possible). answers_eq a.answers.items state.answers) found ≡ false → length steps ≡ depth_at marks index
       → (a : Possible) → a.answers.items ≡ state.answers → a.steps.items ≡ steps → IsGathered b q nodes marks (index + 1) (found ++ a ∷ [])

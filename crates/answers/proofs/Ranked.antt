@@ -18,7 +18,7 @@ use Rattle.answers.specs.declared.question.Question.{Question}
 use Rattle.answers.specs.Questions.{IsAcyclic, allows, are_named, next_of, operations_in, operations_of}
 use Rattle.answers.specs.States.{ended_counts}
 
--- a test that each item passes, and a test that some item fails
+-- if each item passes a test, the item at index i does
 passes_at : {X : Type 0} (test : X → Bool) (xs : List X) (i : ℕ) (x : X) → list_all test xs ≡ true → slice_get xs i ≡ Some x → test x ≡ true
 passes_at test [] i x h g = absurd (none-some x g)
 passes_at {X} test (y ∷ ys) i x h g = by (test y) refl h i g (λ j k l. passes_at test ys j x k l)
@@ -35,6 +35,7 @@ record Fails {X : Type 0} (test : X → Bool) (xs : List X) : Type 0 where
   stored : slice_get xs index ≡ Some item
   fails : test item ≡ false
 
+-- if not each item passes a test, some item fails it
 failing : {X : Type 0} (test : X → Bool) (xs : List X) → list_all test xs ≡ false → Fails test xs
 failing test [] h = absurd (true≢false h)
 failing {X} test (y ∷ ys) h = by (test y) refl h (failing test ys)
@@ -63,7 +64,7 @@ raised_elsewhere rank limit p n r i differs = by (r == p) (i == n) refl refl
     by true false e f = refl
     by false t e f = refl
 
--- the operations that are asked and haven't ended, counted
+-- the number of operations that are asked and haven't ended
 abbrev pub missing : List (Vec Op) → List (List Outcome) → ℕ
 missing os [] = 0
 missing [] (e ∷ es) = 0
@@ -253,7 +254,8 @@ module _ (q : Question) where
         | inr high ↦ let e : i ≡ suc j = omega (arith, le, high) in subst (λ n. acyclic.rank p i ≤ acyclic.rank p n) e (omega arith)
       ]
 
-      -- each process that waits does so for one whose next operation has a smaller rank
+      -- no process waits: it would wait for one whose next operation has a smaller rank, and so on
+      -- without end
       descend : (n p : ℕ) → ended p < length (operations_of q p) → acyclic.rank p (ended p) < n → ⊥
       descend zero p lt h = omega (arith, h)
       descend (suc n) p lt h =

@@ -80,7 +80,7 @@ module _ {R P : Type 0} (is : R → Behaviour P) (b : Behaviour P) (value : ℕ)
             ∙ (sym (append-nil (slice_index_or x.answers p []))
             ∙ (ap (λ l. slice_index_or x.answers p [] ++ l) (sym (none p ne)) ∙ answered_more steps x s p at))
 
-  -- a step that isn't enabled leaves the state
+  -- a step that isn't enabled leaves the state as it is
   pub at_same : (steps : List Step) (x : StateOf R P) (s : Step) → IsStateAfter is b value steps x → is_enabled x.configuration s ≡ false → IsStateAfter is b value (steps ++ s ∷ []) x
   at_same steps x s at off =
       let void : IsVoid b (alone x.configuration) s = void_unless_enabled b (alone x.configuration) s off in
@@ -101,7 +101,7 @@ module _ {R P : Type 0} (is : R → Behaviour P) (b : Behaviour P) (value : ℕ)
     no_choice : (p c : ℕ) → fits_step b (step.Go p (suc (suc c))) ≡ true → ⊥
     no_choice p c h = let lt = ltb-true (suc (suc c)) 2 (and_parts (nat_lt p b.processes) (nat_lt (suc (suc c)) 2) h).1 in omega (arith, lt)
 
-    -- by label p * 4 + kind
+    -- a step that p and `kind` name, and that fits and is enabled, is a move, by label p * 4 + kind
     named : (p kind : ℕ) (x : StateOf R P) (s : Step) → kind < 4 → is x.configuration.register ≡ b → p < b.processes
         → step_by q x.answers p kind ≡ Some s → fits_step b s ≡ true → is_enabled x.configuration s ≡ true
         → Moves (b.processes * 4) leads x (advanced b x s)
@@ -125,11 +125,11 @@ module _ {R P : Type 0} (is : R → Behaviour P) (b : Behaviour P) (value : ℕ)
     permitted_moves x (step.Go p (suc (suc c))) e lt h fits on = absurd (no_choice p c fits)
     permitted_moves x (step.Stop p) e lt h fits on = named p 3 x (step.Stop p) (omega arith) e lt (ap (λ t. if t then Some (step.Stop p) else None) h) fits on
 
-    -- the numbers of ended operations, by the state and by the events
+    -- the numbers of ended operations are the same by the state's answers and by the events
     same_counts : (steps : List Step) (x : StateOf R P) → IsStateAfter is b value steps x → ended_counts x.answers ≡ ended_before q (events_after b value steps)
     same_counts steps x at i r = length (at.answered r i)
 
-    -- the step that a move makes
+    -- a step that a move makes fits, and leads to the state that the move leads to
     by_test : (x z : StateOf R P) (s : Step) (t u : Bool) → fits_step b s ≡ t → (if t && u then Some (advanced b x s) else None) ≡ Some z
         → (fits_step b s ≡ true) × (advanced b x s ≡ z)
     by_test x z s true true e h = (e, same_Some (advanced b x s) z h)
@@ -173,7 +173,8 @@ module _ {R P : Type 0} (is : R → Behaviour P) (b : Behaviour P) (value : ℕ)
         pub few : moves ≤ most
         pub reached : Reaches (b.processes * 4) leads start moves state
 
-      -- a schedule is a path
+      -- a state reached by n moves leads, by at most as many moves as there are further steps, to
+      -- the state after them
       pub walk : (start : StateOf R P) (rest steps : List Step) (x : StateOf R P) (n : ℕ) → IsStateAfter is b value steps x → Reaches (b.processes * 4) leads start n x
           → AllFit b rest → AreAllowed q (events_after b value steps) (all_events (history b (shown b value steps) rest))
           → IsWalked start (steps ++ rest) (n + length rest)

@@ -1,5 +1,5 @@
--- Steps made one after another, what they have at the end, and a list in which other steps have the
--- same answers.
+-- States that drafts reach, one step after another; and a list of answers in which one schedule is
+-- replaced by another with the same answers.
 use Rattle.std.proofs.Common.{◌≡◌, ℕ, zero, suc, ◌⊎◌, inl, inr, List, [], ◌∷◌, ◌++◌, length, Some, true, slice_get, refl, sym, ap, subst, ◌∙◌, arith}
 use Rattle.std.specs.Prelude.{slice_set}
 use Rattle.std.specs.Global.{Vec}
@@ -21,11 +21,13 @@ use Rattle.answers.proofs.DoneStates.{at_answers, done_schedule}
 use Rattle.answers.proofs.Schedules.{run_first, run_more}
 
 module _ {R P : Type 0} (is : R → Behaviour P) (b : Behaviour P) (q : Question) where
+  -- the initial state is the one after no steps
   pub no_steps : (r : R) (x : StateOf R P) (steps : List Step) → is r ≡ b → x ≡ first_state b q.value r → steps ≡ [] → IsStateOfRun is b q.value q steps x
   no_steps r x steps e first none =
       subst (λ (s : List Step). IsStateOfRun is b q.value q s x) (sym none)
       (subst (IsStateOfRun is b q.value q []) (sym first) (run_first is b q.value q r e))
 
+  -- one more step that the question lets a process make leads to the state after it
   pub one_more : (Holds : Memory → Type 0) (Reach : ℕ → Op → P → Type 0) → IsLawful b Holds Reach → (steps more : List Step) (x z : StateOf R P) (p kind : ℕ) (s : Step)
       → IsStateOfRun is b q.value q steps x → step_by q x.answers p kind ≡ Some s → fits_step (is x.configuration.register) s ≡ true
       → more ≡ steps ++ s ∷ [] → z ≡ advanced (is x.configuration.register) x s → IsStateOfRun is b q.value q more z
@@ -36,7 +38,7 @@ module _ {R P : Type 0} (is : R → Behaviour P) (b : Behaviour P) (q : Question
       (subst (IsStateOfRun is b q.value q (steps ++ s ∷ [])) (sym made_b)
       (run_more is b q.value q Holds Reach lawful steps x s run fits_b (named_permitted q x.answers p kind s names)))
 
-  -- the steps to a done state with the answers listed
+  -- steps to a done state whose answers are those of `a` can be the schedule of `a`
   pub done_steps : (steps : Vec Step) (x : StateOf R P) (a : Possible) → IsStateOfRun is b q.value q steps.items x → AreAllOver b q x
       → answers_eq x.answers a.answers.items ≡ true → HasItsSchedule b q (record a { steps = steps })
   done_steps steps x a run done same = record {
@@ -44,7 +46,7 @@ module _ {R P : Type 0} (is : R → Behaviour P) (b : Behaviour P) (q : Question
     answers = subst (HasAnswers b q.value steps.items) ((answers_decide x.answers a.answers.items).0 same) (at_answers is b q steps.items x run.at);
   }
 
--- an item of a list with another item in place i is that item, or one of the list
+-- an item of a list whose item i was replaced by y is y, or one of the list before
 new_or_old : {X : Type 0} (xs : List X) (i j : ℕ) (y x : X) → slice_get (slice_set xs i y) j ≡ Some x → ((j ≡ i) × (y ≡ x)) ⊎ (slice_get xs j ≡ Some x)
 new_or_old [] i j y x h = absurd (none-some x h)
 new_or_old (d ∷ ds) zero zero y x h = inl (refl, same_Some y x h)
@@ -64,10 +66,10 @@ elsewhere (d ∷ ds) zero (suc j) y x ne h = h
 elsewhere (d ∷ ds) (suc i) zero y x ne h = h
 elsewhere (d ∷ ds) (suc i) (suc j) y x ne h = elsewhere ds i j y x (λ e. ne (ap suc e)) h
 
--- Possible answers with other steps, as many, are listed in place i.
+-- Item i of the list, a, is replaced by z, which has the same answers and as many other steps.
 module _ {P : Type 0} (b : Behaviour P) (q : Question) (found : List Possible) (i : ℕ) (a z : Possible) (stored : slice_get found i ≡ Some a)
     (answers : z.answers.items ≡ a.answers.items) (long : length z.steps.items ≡ length a.steps.items) (sound : HasItsSchedule b q z) (all : AllAnswered b q found) where
-  -- what was listed in a place has the same answers
+  -- the item at index j had the same answers before
   before : (j : ℕ) (c : Possible) → slice_get (slice_set found i z) j ≡ Some c → (d : Possible) × ((slice_get found j ≡ Some d) × (c.answers.items ≡ d.answers.items))
   before j c h = elim (new_or_old found i j z c h) [
     | inl p ↦ (a, (ap (slice_get found) p.0 ∙ stored, ap (λ (n : Possible). n.answers.items) (sym p.1) ∙ answers))

@@ -10,12 +10,13 @@ pub packed-append : (xs ys : List ℕ) → packed (xs ++ ys) ≡ packed xs ++ pa
 packed-append [] ys = refl
 packed-append (x ∷ xs) ys = ap (λ l. number_bytes x ++ l) (packed-append xs ys) ∙ sym (append_assoc (number_bytes x) (packed xs) (packed ys))
 
--- after some numbers more are written
+-- if xs are written and then ys, the bytes of both are written
 pub packed_more : (xs ys old mid new : List ℕ) → mid ≡ old ++ packed xs → new ≡ mid ++ packed ys → new ≡ old ++ packed (xs ++ ys)
 packed_more xs ys old mid new first second =
     second ∙ (ap (λ l. l ++ packed ys) first ∙ (append_assoc old (packed xs) (packed ys) ∙ ap (λ l. old ++ l) (sym (packed-append xs ys))))
 
--- what is written, with the bytes of the first numbers that are left, and the rest, is the whole
+-- if what is written and what is left are the whole, this also holds after the first numbers that
+-- are left are written
 pub front_written : (xs ys old new whole : List ℕ) → old ++ packed (xs ++ ys) ≡ whole → new ≡ old ++ packed xs → new ++ packed ys ≡ whole
 front_written xs ys old new whole was added =
     ap (λ l. l ++ packed ys) added ∙ (append_assoc old (packed xs) (packed ys) ∙ (ap (λ l. old ++ l) (sym (packed-append xs ys)) ∙ was))
@@ -24,7 +25,7 @@ front_written xs ys old new whole was added =
 pub written_all : {X : Type 0} (all : List X → List ℕ) → all [] ≡ [] → (xs : List X) (i : ℕ) (old whole : List ℕ) → old ++ all (drop i xs) ≡ whole → length xs ≤ i → old ≡ whole
 written_all all none xs i old whole was le = sym (append-nil old) ∙ (ap (λ l. old ++ l) (sym (ap all (drop_all i xs le) ∙ none)) ∙ was)
 
--- with one process more, its bytes are written
+-- if what is written and what is left are the whole, this also holds after process p is written
 pub processes_more : {P : Type 0} (b : Behaviour P) (running : List (Option (Running P))) (stopped : List Bool) (answers : List (List Outcome)) (count p : ℕ) (old whole : List ℕ)
     → old ++ packed (processes_numbers b running stopped answers (count - p) p) ≡ whole → (new : List ℕ) → p < count → new ≡ old ++ packed (process_numbers b running stopped answers p)
     → new ++ packed (processes_numbers b running stopped answers (count - (p + 1)) (p + 1)) ≡ whole

@@ -22,7 +22,8 @@ pub record IsCovered {R P : Type 0} (found : List Possible) (k : StateOf R P) (d
   pub answers : possible.answers.items ≡ k.answers
   pub shortest : length possible.steps.items ≤ d
 
--- the answers of the done states before index `at` are listed
+-- the answers of the done states before index `at` are listed, each once, with a schedule of theirs
+-- no longer than the paths to these states and to any later state
 pub record IsGathered {R P : Type 0} (b : Behaviour P) (q : Question) (keys : List (StateOf R P)) (marks : List Mark) (at : ℕ) (found : List Possible) : Type 0 where
   pub sound : (i : ℕ) (a : Possible) → slice_get found i ≡ Some a → HasItsSchedule b q a
   pub early : (i : ℕ) (a : Possible) → slice_get found i ≡ Some a → (j : ℕ) → at ≤ j → j < length keys → length a.steps.items ≤ depth_at marks j
@@ -41,6 +42,7 @@ module _ {R P : Type 0} (is : R → Behaviour P) (E : R → R → Bool) (F : P �
   abbrev pub IsSearched : (Memory → Type 0) → (ℕ → Op → P → Type 0) → List (List ℕ) → List Bool → List Mark → Type 0
   IsSearched Holds Reaches keys goals marks = IsWholeSearch (moves_of is q r) (state_eq E F) (IsStateOf (is r) Holds Reaches r) keys goals marks
 
-  -- the question's moves reach more than `most` states from there, none equal to another
+  -- from the initial state of register r the question's moves reach more than `most` states, none
+  -- equal to another
   pub record AreTooManyStates (most : ℕ) : Type 0 where
     pub many : AreTooMany ((is r).processes * 4) (λ x l. moved (is x.configuration.register) q x l) (state_eq E F) (first_state (is r) q.value r) most

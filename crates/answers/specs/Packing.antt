@@ -32,9 +32,9 @@ abbrev pub packed : List ℕ → List ℕ
 packed [] = []
 packed (n ∷ ns) = number_bytes n ++ packed ns
 
--- Numbers for a list, after `gap` zeros more: twice the number of zeros before each 1, and before
--- each greater number one more than that, and then the number; last, twice the number of zeros at
--- the end.
+-- Numbers for a list that `gap` zeros precede. For each 1: twice the number of zeros right before
+-- it. For each greater number: one more than twice the number of zeros right before it, and then
+-- the number itself. At the end: twice the number of zeros at the end of the list.
 abbrev pub by_gaps : ℕ → List ℕ → List ℕ
 by_gaps gap [] = 2 * gap ∷ []
 by_gaps gap (n ∷ ns) =

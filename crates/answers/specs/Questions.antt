@@ -107,7 +107,7 @@ pub record HasAnswers {P : Type 0} (b : Behaviour P) (value : ℕ) (steps : List
 abbrev pub is_named : Question → Nth → Bool
 is_named q n = nat_lt n.index (length (operations_of q n.process))
 
--- whether the two operations exist of which one has to follow the other
+-- whether both operations that `a` names exist
 abbrev pub are_named : Question → After → Bool
 are_named q a = is_named q a.later && is_named q a.earlier
 

@@ -69,7 +69,7 @@ abbrev pub moved_if : {R P : Type 0} → Behaviour P → StateOf R P → Option 
 moved_if b x None = None
 moved_if b x (Some s) = if fits_step b s && is_enabled x.configuration s then Some (advanced b x s) else None
 
--- the state to which a label leads: it names process l / 4 and kind l % 4
+-- the state to which label l leads; the label names process l / 4 and the kind of step l % 4
 abbrev pub moved : {R P : Type 0} → Behaviour P → Question → StateOf R P → ℕ → Option (StateOf R P)
 moved b q x l = moved_if b x (step_by q x.answers (l / 4) (l % 4))
 
@@ -85,7 +85,7 @@ is_over q x p = is_stopped p x.configuration || (is_none (running_at p x.configu
 abbrev pub AreAllOver : {R P : Type 0} → Behaviour P → Question → StateOf R P → Type 0
 AreAllOver b q x = (p : ℕ) → p < b.processes → is_over q x p ≡ true
 
--- the same configuration, of a register alone
+-- the configuration without its register
 abbrev pub alone : {R P : Type 0} → Configuration R P → Alone P
 alone c = record { register = tt; memory = c.memory; running = c.running; stopped = c.stopped }
 

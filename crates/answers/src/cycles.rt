@@ -14,8 +14,8 @@ use crate::question::Question;
 use frames::types::Outcome;
 use std::alloc::{AllocError, Global};
 
-/// The first process whose next operation has to follow none that hasn't ended; `None` if there is
-/// no such process.
+/// The first process whose next operation may end, since all operations that it has to follow have
+/// ended; `None` if there is no such process.
 fn first_free(question: &Question, processes: u32, answers: &[Outcomes]) -> Option<u32>
     ensures there { IfSome result (λ p. p < processes) }
     ensures free { IfSome result (λ p.

@@ -27,8 +27,8 @@ impl Effort {
     }
 }
 
-/// The first steps of a schedule, the state after them, and what makes them hard to read; and how
-/// many steps the process of the last one makes.
+/// The first steps of a schedule, the state after them, and what makes them hard to read; `own` is
+/// the number of steps by the process of the last one.
 #[derive(Drop)]
 pub(crate) struct Draft<R: Register> {
     pub(crate) steps: Vec<Step>,
@@ -122,7 +122,8 @@ impl<R: Register> Draft<R> {
         self.effort.is_less(other.effort)
     }
 
-    /// Whether the states are equal, and the last steps are of the same process.
+    /// Whether the states are equal, and the last steps are of the same process, which makes as
+    /// many steps in both.
     pub(crate) fn is_like(&self, other: &Draft<R>) -> bool {
         self.own == other.own
             && last_process(&self.steps) == last_process(&other.steps)
@@ -141,7 +142,7 @@ impl<R: Register> Draft<R> {
     }
 
     /// Whether this draft with one more step may become one that is easier than `given`, and has as
-    /// many steps of each process. Of two choices that have no effect, 0 is taken.
+    /// many steps of each process. A choice of 1 is taken only if it has an effect.
     pub(crate) fn may_take(&self, given: &Draft<R>, step: Step) -> bool {
         let p = step.process();
         let has_effect = is_hit(&self.state.config, step) || !is_choice_1(step);
@@ -151,7 +152,7 @@ impl<R: Register> Draft<R> {
     }
 }
 
-/// No steps.
+/// The draft without steps, in the initial state. `AllocError` if memory runs out.
 pub(crate) fn first_draft<'q, R: Register>(
     alloc: Global,
     moves: &Moves<'q, R>,

@@ -51,14 +51,14 @@ fn is_named(question: &Question, nth: Nth) -> bool
     (nth.index as usize) < op_count(question, nth.process)
 }
 
-/// Whether the operations exist that one has to follow the other.
+/// Whether both operations that `after` names exist.
 fn are_named(question: &Question, after: &After) -> bool
     ensures { result ≡ are_named question.now after.now }
 {
     is_named(question, after.later) && is_named(question, after.earlier)
 }
 
-/// Whether the operations exist that others have to follow, and those that have to.
+/// Whether all operations that the question's `after` names exist.
 fn all_named(question: &Question) -> bool
     ensures { result ≡ list_all (are_named question.now) question.now.after.items }
 {

@@ -18,7 +18,7 @@ pub struct Found {
     pub states: usize,
 }
 
-/// Why a question has no answer.
+/// Why a search finds no answers.
 #[derive(Clone, Copy, Debug, PartialEq, Eq)]
 pub enum Unfound {
     /// The question doesn't fit the register.

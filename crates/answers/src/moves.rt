@@ -103,7 +103,7 @@ fn allows(answers: &[Outcomes], p: u32, after: &After) -> bool
     !is_next || (earlier.index as usize) < ended(answers, earlier.process)
 }
 
-/// Whether these let process `p` invoke its next operation.
+/// Whether each of these lets process `p` invoke its next operation.
 fn all_allow(answers: &[Outcomes], p: u32, after: &[After]) -> bool
     ensures { result ≡ list_all (allows (ended_counts answers.now) p) after.now }
 {
@@ -243,7 +243,7 @@ fn outcomes_in(p: u32, event: Option<Event>) -> Option<Outcome>
     }
 }
 
-/// Adds to process `p`'s outcomes that of its operation that ends in these events, if one does.
+/// If an operation of process `p` ends in these events, adds its outcome to the answers.
 pub(crate) fn add_events(
     answers: &mut [Outcomes],
     p: u32,
@@ -258,7 +258,7 @@ pub(crate) fn add_events(
     }
 }
 
-/// Adds the outcome of process `p`'s operation that ends in these events, if one does.
+/// If an operation of process `p` ends in these events, adds its outcome to `own`.
 fn add_ended(own: &mut Outcomes, p: u32, events: StepEvents) -> Result<(), AllocError>
     ensures { OnOk result (own.new ≡ own.old ++ outcomes_by p (events_in events)) }
 {
@@ -266,7 +266,7 @@ fn add_ended(own: &mut Outcomes, p: u32, events: StepEvents) -> Result<(), Alloc
     add(own, p, events.second)
 }
 
-/// Adds the outcome of process `p`'s operation that ends in this event, if one does.
+/// If an operation of process `p` ends in this event, adds its outcome.
 fn add(outcomes: &mut Outcomes, p: u32, event: Option<Event>) -> Result<(), AllocError>
     ensures { OnOk result (outcomes.new ≡ outcomes.old ++ outcomes_by p (event_in event)) }
 {

@@ -75,7 +75,7 @@ impl Outcomes {
     }
 }
 
-/// No outcomes for each of `processes` processes.
+/// For each of `processes` processes an empty list of outcomes. `AllocError` if memory runs out.
 pub(crate) fn no_answers(alloc: Global, processes: u32) -> Result<Vec<Outcomes>, AllocError>
     ensures { IfOk result (λ all. all.items ≡ replicate processes []) }
 {

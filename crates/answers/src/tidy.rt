@@ -1,9 +1,9 @@
 //! Of the shortest schedules with the same answers, one that is easy to read: with the fewest hit
 //! reads, and then with the fewest switches between processes.
 //!
-//! A dynamic program over the number of steps. Of the drafts of one length whose states and last
-//! processes are equal, the one that costs least is kept; each process makes as many steps as in the
-//! schedule given. No clause says that the result costs least. That it is a schedule with the same
+//! A dynamic program over the number of steps. Of the drafts of one length that are alike
+//! (`is_like`), the easiest to read is kept; each process makes as many steps as in the schedule
+//! given. No clause says that the result is the easiest of all. That it is a schedule with the same
 //! answers, and as long, is seen by a replay, and is proved.
 
 ghost use Rattle.std.specs.Prelude.{◌≡◌, ◌<◌, Some, IfOk, IfSome, OnOk, length, slice_get, slice_set};
@@ -29,8 +29,8 @@ const MOST_DRAFTS: usize = 32;
 /// search.
 const MOST_LISTS: usize = 16;
 
-/// The place of a draft that this one may replace: of the one that is like it, or, if many are kept,
-/// of the one that costs most. `None` if there is no such draft.
+/// The index of a kept draft that this one may replace: the one that is like it or, if
+/// `MOST_DRAFTS` are kept, the hardest to read. `None` if there is no such draft.
 fn rival<R: Register>(drafts: &[Draft<R>], draft: &Draft<R>) -> Option<usize>
     ensures { IfSome result (λ index. index < length drafts.now) }
 {
@@ -50,7 +50,7 @@ fn rival<R: Register>(drafts: &[Draft<R>], draft: &Draft<R>) -> Option<usize>
     }
 }
 
-/// Keeps a draft, unless one that costs no more is in its place.
+/// Keeps a draft: in place of its rival if it is easier to read than that, and else if it has none.
 fn keep<R: Register>(drafts: &mut Vec<Draft<R>>, draft: Draft<R>) -> Result<(), AllocError> {
     match rival(drafts, &draft) {
         Some(index) => {
@@ -200,7 +200,7 @@ fn easier_steps<'q, R: Register>(
     }
 }
 
-/// Lists other steps at `index`.
+/// Replaces the steps of the schedule listed at `index`.
 fn put(found: &mut Vec<Possible>, index: usize, steps: Vec<Step>)
     requires { index < length found.old.items }
     ensures { (a : Possible) → slice_get found.old.items index ≡ Some a

@@ -46,6 +46,7 @@ greatest_so_far_known c g x h k = elim (cases_lt x g) [
 abbrev pub writer_of : ℕ → ℕ → ℕ → ℕ
 writer_of n V x = (x / V) % n
 
+-- the code made of a tag, process p and value v, given the numbers of processes and of values
 abbrev pub made : ℕ → ℕ → ℕ → ℕ → ℕ → ℕ
 made n V tag p v = (tag * n + p) * V + v
 
@@ -55,7 +56,7 @@ writer_made n V tag p v lp lv = ap (λ x. x % n) (div-mul-add (tag * n + p) V v 
 pub value_made : (n V tag p v : ℕ) → v < V → made n V tag p v % V ≡ v
 value_made n V tag p v lv = mod-mul-add (tag * n + p) V v lv
 
--- cells of different rows or columns are different parts
+-- parts in different rows or columns have different numbers
 pub cells_apart : (n a b d e : ℕ) → b < n → e < n → (a ≡ d → b ≡ e → ⊥) → a * n + b ≡ d * n + e → ⊥
 cells_apart n a b d e lb le ne same =
     ne (sym (div-mul-add a n b lb) ∙ ap (λ x. x / n) same ∙ div-mul-add d n e le) (sym (mod-mul-add a n b lb) ∙ ap (λ x. x % n) same ∙ mod-mul-add d n e le)

@@ -74,10 +74,11 @@ pub record KnownWithRows : Type 0 where
   pub known : Coded
   pub writes_row : ℕ → Bool
 
--- whose operation this event refuses, if it is a refusal
+-- if the event refuses an operation, it is one of process p
 abbrev pub RefusesOf : ℕ → Option Event → Type 0
 RefusesOf p e = (q : ℕ) (layer : Layer) → e ≡ Some (Refused q layer) → q ≡ p
 
+-- the event refuses no operation
 abbrev pub RefusesNone : Option Event → Type 0
 RefusesNone e = (q : ℕ) (layer : Layer) → e ≡ Some (Refused q layer) → ⊥
 
@@ -114,26 +115,29 @@ module _ (L : ℕ → Bool) (n V last : ℕ) (some : 2 ≤ n) (values : 0 < V) w
   abbrev rule : Admission
   rule = by_count L
 
-  -- p is in the midst of its turn, in phase x
+  -- p is within its step: the invariant holds with p in phase x
   abbrev Mid : ℕ → Phase → Coded → View MatrixTask → Type 0
   Mid p x c j = Invariant n V c (put p x (phases j)) j.parts
 
-  -- who writes a row, and what is known, after p's turn has ended with this task, or none
+  -- which processes write their rows once p's step has ended with task s, or with none
   abbrev rows : ℕ → Option (TaskInProgress MatrixTask) → View MatrixTask → ℕ → Bool
   rows p s j q = in_row (phase_of (put p s j.tasks q))
 
+  -- what is known once p's step has ended with task s, or with none, if c is known of the codes
   abbrev known_with_rows : ℕ → Option (TaskInProgress MatrixTask) → Coded → View MatrixTask → KnownWithRows
   known_with_rows p s c j = record { known = c; writes_row = rows p s j }
 
-  -- what an event that refuses nothing says, and one that may refuse p's operation
+  -- `Out` holds of each event that refuses nothing, with what is known after it
   abbrev AfterRow : ℕ → Coded → (Option Event → KnownWithRows → Type 0) → Type 0
   AfterRow p c Out = (e : Option Event) (z : Coded) (f : ℕ → Bool) → RefusesNone e → Counts V e c z → Out e (record { known = z; writes_row = f })
 
+  -- `Out` holds of each event that refuses nothing or p's operation, also after a write takes a
+  -- code
   abbrev AfterColumn : ℕ → Coded → (Option Event → KnownWithRows → Type 0) → Type 0
   AfterColumn p c Out =
       (e : Option Event) (d z : Coded) (f : ℕ → Bool) → RefusesOf p e → Takes V c d → Counts V e d z → Out e (record { known = z; writes_row = f })
 
-  -- p's turn ends with this task, or none
+  -- p's step ends with task s, or with none, and the invariant holds
   mid_ends : (p : ℕ) (s : Option (TaskInProgress MatrixTask)) (c : Coded) (j : View MatrixTask) → c.limit ≡ L → Mid p (phase_of s) c j → MatrixInv (known_with_rows p s c j) (record j { tasks = put p s j.tasks })
   mid_ends p s c j l h = (l, (subst (λ f. Invariant n V c f j.parts) (λ d q. phase_put p s j.tasks q d) h, λ q. refl))
 
@@ -418,6 +422,8 @@ module _ (L : ℕ → Bool) (n V last : ℕ) (some : 2 ≤ n) (values : 0 < V) w
       some_event : (a b : Event) → Some a ≡ Some b → a ≡ b
       some_event a b x = ap (λ o. unwrap_or o a) x
 
+  -- the invariant holds at first, and each step keeps it and changes what is known as `RowSteps`
+  -- says
   pub matrix_kept : IsKeptUnder rule t (MatrixMayBeAt n V last) w known_at_first (RowSteps V)
   matrix_kept = record {
     initial = λ v l j ew et ep. holds_at_first v j et ep;
@@ -430,6 +436,8 @@ module _ (L : ℕ → Bool) (n V last : ℕ) (some : 2 ≤ n) (values : 0 < V) w
     goes = λ u j p s chosen o h mine place ans pass good. goes u j p s.op s.task chosen o h (ap phase_of mine) place ans pass good;
   }
 
+  -- the process for which process q of part k acts: the writer of row k / n, or the reader of
+  -- column k % n
   abbrev pub matrix_user_of : ℕ → ℕ → ℕ
   matrix_user_of k q = if q == 0 then k / n else k % n
 
@@ -466,7 +474,7 @@ by_pending (Some r) = by_task r.point.task
     by_task (Column who o j g) = refl
     by_task (Row who o j x) = refl
 
--- no row is refused in its midst, over such a register
+-- over a register as in `matrix_over_counted`, no operation is refused while it writes its row
 pub rows_are_whole : {P : Type 0} (b : Behaviour P) (Keeps : Memory → Type 0) (Reaches : ℕ → Op → P → Type 0) (L : ℕ → Bool) (n V last : ℕ) (left : MatrixTask → ℕ) → IsLawful b Keeps Reaches
     → IsSoundTable (matrix_table n V last) (MatrixMayBeAt n V last) left → FitsBelow (matrix_table n V last) b → AlwaysAdmits IsNotStray (by_count L) b → RefusesNoRow (layered (matrix_table n V last) b)
 rows_are_whole b Keeps Reaches L n V last left lawful sound fit admits v steps p choice layer lt all fits row refused =
@@ -478,7 +486,7 @@ rows_are_whole b Keeps Reaches L n V last left lawful sound fit admits v steps p
     let not : x.u.writes_row p ≡ false = elim refused [ inl e ↦ x.up.first p layer e | inr e ↦ x.up.second p layer e ] in
     let no : true ≡ false = sym writes ∙ not in cc
 
--- a matrix over a regular register, which refuses nothing
+-- a matrix over a regular register, which refuses nothing, is atomic for many processes
 pub matrix_over_regular : {P : Type 0} (b : Behaviour P) (Keeps : Memory → Type 0) (Reaches : ℕ → Op → P → Type 0) (n V last : ℕ) (left : MatrixTask → ℕ) → IsLawful b Keeps Reaches
     → IsSoundTable (matrix_table n V last) (MatrixMayBeAt n V last) left → FitsBelow (matrix_table n V last) b → IsRegular b → IsAtomicForMany (layered (matrix_table n V last) b)
 matrix_over_regular b Keeps Reaches n V last left lawful sound fit regular =

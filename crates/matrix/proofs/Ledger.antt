@@ -7,8 +7,8 @@ use Rattle.frames.specs.declared.types.StepEvents.{StepEvents}
 use Rattle.matrix.proofs.Codes.{Coded, Known}
 use Rattle.matrix.proofs.Moves.{returned, invoked, closed, took_code}
 
--- a read returns x with code n, a write with the code that it has taken; a refused write has taken
--- none
+-- how an event changes what is known, from c to z: a read returns x with a known code n, a write
+-- returns with the code that it has taken, and a refused write has taken none
 abbrev pub Counts : ℕ → Option Event → Coded → Coded → Type 0
 Counts values None c z = z ≡ c
 Counts values (Some (Invoke p o)) c z = z ≡ invoked p o c
@@ -17,7 +17,7 @@ Counts values (Some (Wrote p)) c z = (n : ℕ) × ((c.code p (c.count p) ≡ Som
 Counts values (Some (Refused p layer)) c z = ((c.writing p ≡ false) ⊎ ((c.code p (c.count p) ≡ None) × (c.writing p ≡ true))) × (z ≡ closed p c)
 Counts values _ c z = z ≡ c
 
--- a process's write takes a code, which is new
+-- from c to d, a process's write takes a code, which is new
 pub record Fresh (values : ℕ) (c d : Coded) : Type 0 where
   pub process : ℕ
   pub code_taken : ℕ
@@ -31,7 +31,8 @@ pub record Fresh (values : ℕ) (c d : Coded) : Type 0 where
 abbrev pub Takes : ℕ → Coded → Coded → Type 0
 Takes values c d = (d ≡ c) ⊎ Fresh values c d
 
--- what one step does: codes may be taken before each of its events
+-- how one step with events e changes what is known, from c to z: codes may be taken before each
+-- event
 pub record Steps (values : ℕ) (c : Coded) (e : StepEvents) (z : Coded) : Type 0 where
   pub taken : Coded
   pub takes : Takes values c taken
@@ -41,7 +42,7 @@ pub record Steps (values : ℕ) (c : Coded) (e : StepEvents) (z : Coded) : Type 
   pub retakes : Takes values mid later
   pub second : Counts values e.second later z
 
--- what is known at first
+-- what is known at first, if the initial value is v
 abbrev pub uncoded : (ℕ → Bool) → ℕ → Coded
 uncoded limit v = record {
   limit = limit;

@@ -11,10 +11,11 @@ use Rattle.matrix.proofs.Codes.{Coded, Known, writer_of, made, writer_made, valu
 use Rattle.matrix.proofs.Phases.{Phase, Rests, WillRead, Looks, Holds, Puts, PartShows, InRow, Open, Took, KnowsColumn, Looking, WritesRow, Works, Invariant, Later, More, works_later}
 use Rattle.matrix.proofs.PhaseSteps.{in_place, all_held, same_codes, invariant_after}
 
--- p has written x to its whole row, and its operation returns with code x
+-- what is known once p has written x to its whole row, and its operation has returned
 abbrev pub returned : ℕ → ℕ → Coded → Coded
 returned p x c = record c { top = max c.top x; held = put p x c.held; writing = put p false c.writing; rows = put p (c.rows p + 1) c.rows }
 
+-- no process holds a lower code once p holds a code no lower than its own
 rises : (p x : ℕ) (c : Coded) → c.held p ≤ x → (a : ℕ) → c.held a ≤ put p x c.held a
 rises p x c le = put_all (λ a y. c.held a ≤ y) p x c.held le (λ a ne. omega arith)
 
@@ -65,7 +66,7 @@ abbrev pub values_of : ℕ → Op → Coded → ℕ → ℕ
 values_of p (Write v) c = put p v c.value
 values_of p Read c = c.value
 
--- p invokes an operation
+-- what is known once p has invoked operation o
 abbrev pub invoked : ℕ → Op → Coded → Coded
 invoked p o c = record c { count = counts_of p o c; floor = put p c.top c.floor; value = values_of p o c; held_at_start = put p c.held c.held_at_start; writing = put p (is_write o) c.writing }
 
@@ -128,14 +129,16 @@ not_yet n p g c o x b s e = (e.0 ∙ nothing_yet (c.held p) x b, (e.1.0, e.1.1 �
 found : (n j g : ℕ) (c : Coded) → 1 ≤ n → j ≡ n → ((j ≡ 0) × (g ≡ 0)) ⊎ Known c g → Known c g
 found n j g c some e h = elim h [ inl z ↦ absurd (let r : j ≡ 0 = z.0 in omega (arith, some, e, r)) | inr k ↦ k ]
 
--- g, the greatest code in the column, is no lower than what had returned, and than what p held
+-- g, the greatest code in p's column, is no lower than p's floor, the greatest code returned before
+-- p's operation began
 pub floor_found : (n p g : ℕ) (c : Coded) (o : Op) → KnowsColumn n c p o n g → c.floor p ≤ g
 floor_found n p g c o w = let t = w.witness in let u : c.floor p ≤ c.held_at_start p t.0 = t.1.1 in let v : c.held_at_start p t.0 ≤ g = w.at_least t.0 t.1.0 in omega (arith, u, v)
 
+-- g is no lower than the code that p last wrote to its whole row
 pub held_found : (n p g : ℕ) (c : Coded) (o : Op) → p < n → KnowsColumn n c p o n g → c.held p ≤ g
 held_found n p g c o lp w = let u : c.held_at_start p p ≡ c.held p = w.own in let v : c.held_at_start p p ≤ g = w.at_least p lp in omega (arith, u, v)
 
--- a read has read its whole column
+-- a read that has read its whole column goes on to write g, its greatest code, to the row
 pub read_chosen : (n V p : ℕ) (c : Coded) (g : ℕ) (f : ℕ → Phase) (parts : ℕ → Seen) → p < n → f p ≡ WillRead Read n g → c.limit (c.rows p) ≡ true → Invariant n V c f parts → Invariant n V c (put p (Holds Read 0 g) f) parts
 read_chosen n V p c g f parts lp is room h =
     let w : KnowsColumn n c p Read n g = subst (Works n c p parts) is (h.works p lp) in
@@ -144,7 +147,7 @@ read_chosen n V p c g f parts lp is room h =
     (record { held = held_found n p g c Read lp w; floor = floor_found n p g c Read w; known = found n n g c (omega (arith, lp)) refl w.heard; took = w.free; room = room }))
     (same_codes n V p c f parts lp h)
 
--- an operation is refused once it has read its column
+-- what is known once p's operation has been refused
 abbrev pub closed : ℕ → Coded → Coded
 closed p c = record c { writing = put p false c.writing }
 
@@ -153,7 +156,7 @@ refused n V p c o j g f parts lp is h =
     invariant_after n V p c (closed p c) (WillRead o j g) Rests f parts parts lp is h (in_place n V p c (closed p c) (WillRead o j g) Rests parts (λ b lb e. e) (λ t. t) tt)
     (record { top = h.top; known = h.known p lp; below = h.below p; none = h.later p; others = λ q ne. record { held = λ a la. omega arith; own = refl; held_at_start = λ a. refl; floor = refl; value = refl; count = refl; code = λ k. refl; writing = sym (put_other p q false c.writing ne); limit = refl; rows = refl; known = λ y k. k } })
 
--- p's write takes code z
+-- what is known once p's write has taken code z
 abbrev pub took_code : ℕ → ℕ → Coded → Coded
 took_code p z c = record c { code = put p (put (c.count p) (Some z) (c.code p)) c.code }
 
@@ -184,7 +187,8 @@ known_took p z c free y h = elim h [
   )
 ]
 
--- a write of v has read its whole column, and g isn't of the last tag
+-- a write that has read its whole column takes a code z above its greatest code g, and goes on to
+-- write z to its row
 pub write_chosen : (n V p : ℕ) (c : Coded) (v g z : ℕ) (f : ℕ → Phase) (parts : ℕ → Seen) → p < n → f p ≡ WillRead (Write v) n g → g < z → writer_of n V z ≡ p → c.limit (c.rows p) ≡ true → Invariant n V c f parts
     → Invariant n V (took_code p z c) (put p (Holds (Write v) 0 z) f) parts
 write_chosen n V p c v g z f parts lp is above names room h =
@@ -213,7 +217,7 @@ write_chosen n V p c v g z f parts lp is above names room h =
     some_same : (x y : ℕ) → (let s : Option ℕ = Some x in s) ≡ Some y → x ≡ y
     some_same x y e = cc
 
--- no other write has taken this code
+-- no write has taken such a code z before
 pub code_new : (n V p : ℕ) (c : Coded) (v g z : ℕ) (f : ℕ → Phase) (parts : ℕ → Seen) → p < n → f p ≡ WillRead (Write v) n g → g < z → writer_of n V z ≡ p → Invariant n V c f parts
     → (q k : ℕ) → c.code q k ≡ Some z → ⊥
 code_new n V p c v g z f parts lp is above names h q k e =

@@ -12,15 +12,17 @@ use Rattle.frames.proofs.Pointwise.{put, put_same, put_other, put_all}
 use Rattle.matrix.proofs.Codes.{Coded, Known, greatest_so_far_known, writer_of, cells_apart}
 use Rattle.matrix.proofs.Phases.{Phase, Rests, WillRead, Looks, Holds, Puts, row_last, row_writing, row_count, PartShows, InRow, Open, Took, KnowsColumn, Looking, WritesRow, Works, Invariant, Later, later_same, More, more_same, works_later}
 
--- the codes that p's writes have taken name p, and p has written each to its row, or writes it
+-- the codes that p's writes have taken name p, and each is at most the code that p holds, or is
+-- being written to p's row
 abbrev pub TakenBy : ℕ → ℕ → Coded → ℕ → Phase → Type 0
 TakenBy n V c p x = (k y : ℕ) → c.code p k ≡ Some y → (writer_of n V y ≡ p) × ((y ≤ c.held p) ⊎ InRow x y)
 
--- a process that is to read its column writes no code to its row
+-- while p is to read its column, all its codes are at most what it holds, so `TakenBy` holds in any
+-- phase x
 pub all_held : (n V p : ℕ) (c : Coded) (o : Op) (j g : ℕ) (x : Phase) → TakenBy n V c p (WillRead o j g) → TakenBy n V c p x
 all_held n V p c o j g x t k y e = let u = t k y e in (u.0, elim (u.1) [ inl r ↦ inl r | inr r ↦ absurd r ])
 
--- a part shows the same of its writes
+-- s and t show the same of a part's writes
 pub record Alike (s t : Seen) : Type 0 where
   pub last : t.last ≡ s.last
   pub writing : t.writing ≡ s.writing
@@ -29,8 +31,8 @@ pub record Alike (s t : Seen) : Type 0 where
 alike_same : (s : Seen) → Alike s s
 alike_same s = record { last = refl; writing = refl; count = refl }
 
--- Process p goes from phase z to phase x. Its row, its codes and its work are as x says, and other
--- rows keep theirs.
+-- Process p goes from phase z to phase x. Its row, its codes and its work are then as x says, and
+-- other rows are as they were.
 pub record Moves (n V p : ℕ) (c d : Coded) (z x : Phase) (parts to : ℕ → Seen) : Type 0 where
   pub row : (b : ℕ) → b < n → PartShows (c.held p) (c.rows p) z b (parts (p * n + b)) → PartShows (d.held p) (d.rows p) x b (to (p * n + b))
   pub apart : (a b : ℕ) → a < n → b < n → (a ≡ p → ⊥) → Alike (parts (a * n + b)) (to (a * n + b))
@@ -38,7 +40,7 @@ pub record Moves (n V p : ℕ) (c d : Coded) (z x : Phase) (parts to : ℕ → S
   pub more : (q a : ℕ) → q < n → a < n → (q ≡ p → ⊥) → More d q a (parts (a * n + q)) (to (a * n + q))
   pub works : Works n d p to x
 
--- p goes from z to x, and no part changes
+-- p goes from phase z to phase x, and no part changes
 pub in_place : (n V p : ℕ) (c d : Coded) (z x : Phase) (parts : ℕ → Seen) → ((b : ℕ) → b < n → PartShows (c.held p) (c.rows p) z b (parts (p * n + b)) → PartShows (d.held p) (d.rows p) x b (parts (p * n + b)))
     → (TakenBy n V c p z → TakenBy n V d p x) → Works n d p parts x → Moves n V p c d z x parts parts
 in_place n V p c d z x parts row taken works = record { row = row; apart = λ a b la lb ne. alike_same (parts (a * n + b)); taken = taken; more = λ q a lq la ne. more_same d q a (parts (a * n + q)); works = works }
@@ -174,7 +176,7 @@ column_given n V p c o j g x f parts lp is h good =
       | inr m ↦ l.overlaps x m
     ]
 
--- what was last written to a row, once part j is written too
+-- what was last written to a part other than j stays the same once part j is written
 one_more : (h j x b : ℕ) → (b ≡ j → ⊥) → (if nat_lt b j then x else h) ≡ (if nat_lt b (j + 1) then x else h)
 one_more h j x b ne = go (nat_lt b j) refl (nat_lt b (j + 1)) refl
   where
@@ -239,7 +241,7 @@ row_asked n V p c o j x f parts lp lj is h =
             let v : c.held a ≡ c.held p = ap c.held row in
             inr (omega (arith, low, u, v, same), subst (Known c) same w.known)
 
--- the write of x to part j has returned
+-- process p's write of x to part j of its row returns
 pub row_given : (n V p : ℕ) (c : Coded) (o : Op) (j x : ℕ) (f : ℕ → Phase) (parts : ℕ → Seen) → p < n → j < n → f p ≡ Puts o j x → Invariant n V c f parts
     → Invariant n V c (put p (Holds o (j + 1) x) f) (put (p * n + j) (sees (Some (Wrote 0)) (parts (p * n + j))) parts)
 row_given n V p c o j x f parts lp lj is h =

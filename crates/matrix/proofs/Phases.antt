@@ -25,7 +25,7 @@ row_last h Rests b = h
 row_last h (WillRead o j g) b = h
 row_last h (Looks o j g) b = h
 
--- what is being written to part b of its row
+-- what is being written to part b of the row of a process in this phase
 abbrev pub row_writing : Phase → ℕ → Option ℕ
 row_writing (Puts o j x) b = if b == j then Some x else None
 row_writing Rests b = None
@@ -33,7 +33,8 @@ row_writing (WillRead o j g) b = None
 row_writing (Looks o j g) b = None
 row_writing (Holds o j x) b = None
 
--- how many writes have been invoked on part b of its row, if m have been on each before
+-- how many writes have been invoked on part b of the row of a process in this phase, if m had been
+-- on each part before its operation
 abbrev pub row_count : ℕ → Phase → ℕ → ℕ
 row_count m (Holds o j x) b = if nat_lt b j then m + 1 else m
 row_count m (Puts o j x) b = if nat_lt b (j + 1) then m + 1 else m
@@ -41,11 +42,11 @@ row_count m Rests b = m
 row_count m (WillRead o j g) b = m
 row_count m (Looks o j g) b = m
 
--- what part b of its row shows
+-- s is what part b of the row of a process in this phase shows
 abbrev pub PartShows : ℕ → ℕ → Phase → ℕ → Seen → Type 0
 PartShows h m x b s = (s.last ≡ row_last h x b) × ((s.writing ≡ row_writing x b) × (length (s.overlaps 0) ≡ row_count m x b))
 
--- the process writes x to its row
+-- a process in this phase is writing this code to its row
 abbrev pub InRow : Phase → ℕ → Type 0
 InRow (Holds o j x) y = x ≡ y
 InRow (Puts o j x) y = x ≡ y
@@ -53,12 +54,14 @@ InRow Rests y = ⊥
 InRow (WillRead o j g) y = ⊥
 InRow (Looks o j g) y = ⊥
 
--- a write in progress has no code yet
+-- p's operation o is pending: if it is a write of v, p is in that write, which has no code yet;
+-- otherwise p is in no write
 abbrev pub Open : Coded → ℕ → Op → Type 0
 Open c p (Write v) = (c.code p (c.count p) ≡ None) × (c.value p ≡ v) × (c.writing p ≡ true)
 Open c p Read = c.writing p ≡ false
 
--- a write in progress has taken code x
+-- p's operation o is pending: if it is a write, p is in a write that has taken code x; otherwise p
+-- is in no write
 abbrev pub Took : Coded → ℕ → Op → ℕ → Type 0
 Took c p (Write v) x = (c.code p (c.count p) ≡ Some x) × (c.writing p ≡ true)
 Took c p Read x = c.writing p ≡ false
@@ -78,7 +81,8 @@ pub record Looking (n : ℕ) (c : Coded) (p j : ℕ) (s : Seen) : Type 0 where
   pub fresh : (c.held_at_start p j ≤ s.fresh 1) × Known c (s.fresh 1)
   pub overlaps : (y : ℕ) → IsTrue (among y (s.overlaps 1)) → (c.held_at_start p j ≤ y) × Known c y
 
--- p writes x to its row
+-- p may write x to its row: x is known, no lower than what p holds and than its floor, and the row
+-- takes one more write
 pub record WritesRow (c : Coded) (p : ℕ) (o : Op) (x : ℕ) : Type 0 where
   pub held : c.held p ≤ x
   pub floor : c.floor p ≤ x
@@ -86,6 +90,7 @@ pub record WritesRow (c : Coded) (p : ℕ) (o : Op) (x : ℕ) : Type 0 where
   pub took : Took c p o x
   pub room : c.limit (c.rows p) ≡ true
 
+-- what holds of process p's operation in this phase
 abbrev pub Works : ℕ → Coded → ℕ → (ℕ → Seen) → Phase → Type 0
 Works n c p parts Rests = ⊤
 Works n c p parts (WillRead o j g) = KnowsColumn n c p o j g
@@ -103,8 +108,8 @@ pub record Invariant (n V : ℕ) (c : Coded) (f : ℕ → Phase) (parts : ℕ �
   pub later : (q k : ℕ) → c.count q < k → c.code q k ≡ None
   pub works : (p : ℕ) → p < n → Works n c p parts (f p)
 
--- what others do leaves what process q relies on: what it took itself is the same, all rows have
--- risen, and known codes stay known
+-- what others do from c to d leaves what process q relies on: what is known of q itself is the
+-- same, no process holds a lower code, and known codes stay known
 pub record Later (n q : ℕ) (c d : Coded) : Type 0 where
   pub held : (a : ℕ) → a < n → c.held a ≤ d.held a
   pub own : c.held q ≡ d.held q
@@ -124,7 +129,8 @@ later_same n q c = record { held = λ a la. omega arith; own = refl; held_at_sta
 pub later_current : (n q : ℕ) (c d : Coded) → Later n q c d → c.code q (c.count q) ≡ d.code q (d.count q)
 later_current n q c d l = l.code (c.count q) ∙ ap (d.code q) l.count
 
--- a part of q's column shows the same to q's read, and at most codes more that are no lower
+-- from s to t, q's read of part a of its column keeps its fresh value, and further writes that
+-- overlap it are of known codes, no lower than what process a held when q's operation began
 pub record More (c : Coded) (q a : ℕ) (s t : Seen) : Type 0 where
   pub fresh : s.fresh 1 ≡ t.fresh 1
   pub overlaps : (y : ℕ) → IsTrue (among y (t.overlaps 1)) → IsTrue (among y (s.overlaps 1)) ⊎ ((c.held_at_start q a ≤ y) × Known c y)

@@ -66,7 +66,8 @@ known_is_issued values c final_codes x s h k = elim k [
 some_same : (x y : ℕ) → (let s : Option ℕ = Some x in s) ≡ Some y → x ≡ y
 some_same x y e = cc
 
--- a code is taken
+-- when a write takes a code, c becomes d: d is consistent too, final codes of d are final codes of
+-- c, and a ranking that agrees with c agrees with d
 module _ (values : ℕ) (c d : Coded) (t : Fresh values c d) where
   took_consistent : AreConsistent c → AreConsistent d
   took_consistent s = subst AreConsistent (sym t.after) (record {
@@ -139,7 +140,7 @@ takes_agrees : (values : ℕ) (c d : Coded) (final_codes : CodeTable) (r : Ranki
 takes_agrees values c d final_codes r (inl e) a = subst (λ z. RanksAgree values z final_codes r) (sym e) a
 takes_agrees values c d final_codes r (inr t) a = took_agrees values c d t final_codes r a
 
--- p's write, if it was in one, ends
+-- from c to z, p's write ends if p was in one, and the other processes' writes go on
 record EndsWrite (p : ℕ) (c z : Coded) : Type 0 where
   code : (q k : ℕ) → z.code q k ≡ c.code q k
   count : (q : ℕ) → z.count q ≡ c.count q
@@ -181,14 +182,15 @@ read_ends_write p c = record {
   value = λ q ne. refl;
 }
 
--- a process that is in a write after p's is over was in one before
+-- a process that is in a write once p's write is over is another one, and was in a write before
 still_writes : (p q : ℕ) (w : ℕ → Bool) → put p false w q ≡ true → (q ≡ p → ⊥) × (w q ≡ true)
 still_writes p q w e = elim (cases_eq q p) [
   | inl i ↦ absurd (let f : false ≡ true = sym (put_same p false w) ∙ ap (put p false w) (sym i) ∙ e in cc)
   | inr ne ↦ (ne, sym (put_other p q false w ne) ∙ e)
 ]
 
--- p has no write after its own is over, and the others are as they were
+-- if processes in no write have no rank, this still holds once p's write is over and p's rank is
+-- removed
 rest_put : (p : ℕ) (m : ℕ → Option ℕ) (w : ℕ → Bool) → ((q : ℕ) → w q ≡ false → m q ≡ None) → (q : ℕ) → put p false w q ≡ false → put p None m q ≡ None
 rest_put p m w h q e = elim (cases_eq q p) as (λ _. put p None m q ≡ None) [
   | inl i ↦ ap (put p None m) i ∙ put_same p None m
@@ -210,8 +212,8 @@ rest_same p m w none h q e = elim (cases_eq q p) [
 same_put : (p : ℕ) (x y : ℕ) (f g : ℕ → ℕ) → x ≡ y → ((q : ℕ) → f q ≡ g q) → (q : ℕ) → put p x f q ≡ put p y g q
 same_put p x y f g e h q = elim (q == p) as (λ b. (if b then x else f q) ≡ (if b then y else g q)) [ true ↦ e | false ↦ h q ]
 
--- an event: if what is known before it is consistent, so is what is known after it; the final codes
--- and the ranking of what is known after it serve for what is known before it
+-- event e leads from c to z: z is consistent; final codes of z are final codes of c; and with some
+-- rank for e, a ranking that agrees with c becomes one that agrees with z
 record EventIs (values : ℕ) (e : Event) (c z : Coded) : Type 0 where
   consistent : AreConsistent z
   final : (final_codes : CodeTable) → AreFinalCodes values z final_codes → AreFinalCodes values c final_codes
@@ -312,12 +314,12 @@ module _ (values p v : ℕ) (c : Coded) (s : AreConsistent c) where
       same : (q : ℕ) → (q ≡ p → ⊥) → z.count q ≡ c.count q
       same q ne = put_other p q (c.count p + 1) c.count ne
 
-  -- what was issued is still issued
+  -- codes that were issued are still issued
   issued_more : (final_codes : CodeTable) (x : ℕ) → IsIssued c final_codes x → IsIssued z final_codes x
   issued_more final_codes x (inl e) = inl e
   issued_more final_codes x (inr k) = inr (k.0, (k.1.0, (let w = fewer k.0 in let l : k.1.0 ≤ c.count k.0 = k.1.1.0 in omega (arith, w, l), k.1.1.1)))
 
-  -- only the new write is also issued
+  -- besides the codes issued before, only that of the new write is issued
   issued_else : (final_codes : CodeTable) (x : ℕ) → (final_codes p (c.count p + 1) ≡ Some x → ⊥) → IsIssued z final_codes x → IsIssued c final_codes x
   issued_else final_codes x ne (inl e) = inl e
   issued_else final_codes x ne (inr k) = inr (k.0, (k.1.0, (low, k.1.1.1)))
@@ -410,7 +412,8 @@ event_is values (Void p reason) c z s h = subst (EventIs values (Void p reason) 
 event_is values (Stop p) c z s h = subst (EventIs values (Stop p) c) (sym h) (record { consistent = s; final = λ final_codes g. g; ranks = λ final_codes g r a. (None, (tt, a)) })
 event_is values (Chosen p bit v) c z s h = subst (EventIs values (Chosen p bit v) c) (sym h) (record { consistent = s; final = λ final_codes g. g; ranks = λ final_codes g r a. (None, (tt, a)) })
 
--- an event, or none, at step i
+-- step i has event e, or none, and leads from c to z: z is consistent; final codes of z are final
+-- codes of c; and ranks for the events after it give ranks for them and e
 record StepIs (values i : ℕ) (e : Option Event) (c z : Coded) : Type 0 where
   consistent : AreConsistent z
   final : (final_codes : CodeTable) → AreFinalCodes values z final_codes → AreFinalCodes values c final_codes
@@ -455,7 +458,8 @@ ranks_from_codes values i c (e ∷ es) s h =
           r (takes_agrees values c t.taken rest.final_codes r t.takes a));
     }
 
--- from the first configuration on
+-- if steps from the first configuration on change codes as `Steps` says, their operations have
+-- ranks
 pub ranked_from_first : (limit : ℕ → Bool) (values v : ℕ) (es : List StepEvents) → v < values → v % values ≡ v → Allowed (Steps values) (uncoded limit v) es → Ranked (at_first v v) (indexed 0 es)
 ranked_from_first limit values v es lt small h =
     let x = ranks_from_codes values 0 (uncoded limit v) es (record { later = λ q k l. refl; low = omega arith; apart = λ q k r l x e f. absurd (let g : None ≡ Some x = e in cc) }) h in

@@ -33,8 +33,8 @@ pub record Writes : Type 0 where
   pub last : ℕ
   pub writing : Option ℕ
 
--- what it shows of one process's last read: the value fresh at its invocation, and the values of
--- the writes that overlap it
+-- what a history shows of one process's last read: the value fresh at its invocation, and the
+-- values of the writes that overlap it
 pub record Reader : Type 0 where
   pub fresh : ℕ
   pub overlaps : List ℕ
@@ -66,6 +66,8 @@ pub record InLow (v : ℕ) (now : Option ℕ) (own high low : Writes) : Type 0 w
   pub high_idle : high.writing ≡ None
   pub here : low.writing ≡ now
 
+-- what each task of the writer says of the writes of the register, of the high bit and of the low
+-- bit
 abbrev pub WriterIn : TwoBitsTask → Writes → Writes → Writes → Type 0
 WriterIn (WriteHigh v) own high low = InHigh v own high low
 WriterIn (WriteLow v) own high low = InLow v (Some (low_of v)) own high low
@@ -77,13 +79,15 @@ abbrev pub WriterSays : Option (Doing TwoBitsTask) → Writes → Writes → Wri
 WriterSays None own high low = Still own high low
 WriterSays (Some n) own high low = WriterIn n.task own high low
 
--- no write was in progress since the read's invocation, so its read of a bit overlaps none either
+-- no write has been in progress since the read's invocation, so its read of a bit overlaps none
+-- either
 pub record Alone (own : Writes) (mine part : Reader) (bit_of : ℕ → ℕ) : Type 0 where
   pub writing : own.writing ≡ None
   pub last : own.last ≡ mine.fresh
   pub overlaps : part.overlaps ≡ []
   pub fresh : part.fresh ≡ bit_of mine.fresh
 
+-- what each task of a reader says of its read, if no write overlaps the read
 abbrev pub ReaderIn : TwoBitsTask → Writes → Reader → Reader → Reader → Type 0
 ReaderIn (WriteHigh v) own mine high low = Unit {0}
 ReaderIn (WriteLow v) own mine high low = Unit {0}
@@ -95,13 +99,15 @@ abbrev pub ReaderSays : Option (Doing TwoBitsTask) → Writes → Reader → Rea
 ReaderSays None own mine high low = Unit {0}
 ReaderSays (Some n) own mine high low = ReaderIn n.task own mine high low
 
--- the same of reader r, in view j
+-- in view j: what a task of reader r says of r's read, if no write overlaps the read
 abbrev pub ReaderAt : Seen → View TwoBitsTask → Option (Doing TwoBitsTask) → ℕ → Type 0
 ReaderAt u j task r = ReaderSays task (writes u) (reader r u) (reader r (j.parts 0)) (reader r (j.parts 1))
 
+-- in view j: what the writer's task says of the writes of the register and of both bits
 abbrev pub WriterAt : Seen → View TwoBitsTask → Option (Doing TwoBitsTask) → Type 0
 WriterAt u j task = WriterSays task (writes u) (writes (j.parts 0)) (writes (j.parts 1))
 
+-- the invariant: what the tasks of the writer and of all readers say
 pub record TwoBitsInv (u : Seen) (j : View TwoBitsTask) : Type 0 where
   pub writer : WriterAt u j (j.tasks 0)
   pub readers : (r : ℕ) → 1 ≤ r → ReaderAt u j (j.tasks r) r
@@ -120,7 +126,7 @@ by_read Q (Value x) answers on q = q x
 by_read Q Written answers on q = absurd answers
 by_read Q (Spent layer) answers on q = absurd on
 
--- while no write is in progress, the writer is idle
+-- while no write is in progress, both bits are idle, and hold the bits of the value written last
 still : (task : Option (Doing TwoBitsTask)) (own high low : Writes) → WriterSays task own high low → own.writing ≡ None → Still own high low
 still None own high low h e = h
 still (Some n) own high low h e = in_task n.task h
@@ -131,7 +137,7 @@ still (Some n) own high low h e = in_task n.task h
     in_task (ReadHigh who) h = absurd h
     in_task (ReadLow who x) h = absurd h
 
--- a read that a write overlaps may give any value
+-- if a write overlaps a read, what the reader's task says holds, whatever the bits show
 overlapped : (task : Option (Doing TwoBitsTask)) (own : Writes) (mine high low : Reader) → (mine.overlaps ≡ [] → ⊥) → ReaderSays task own mine high low
 overlapped None own mine high low busy = tt
 overlapped (Some n) own mine high low busy = in_task n.task
@@ -142,7 +148,8 @@ overlapped (Some n) own mine high low busy = in_task n.task
     in_task (ReadHigh who) = λ o. absurd (busy o)
     in_task (ReadLow who x) = λ o. absurd (busy o)
 
--- while a write is in progress, it overlaps every pending read
+-- while a write is in progress, it overlaps every pending read, so what a reader's task says keeps
+-- holding, whatever the bits then show
 busy : (v : ℕ) (task : Option (Doing TwoBitsTask)) (own to : Writes) (mine high low high' low' : Reader) → own.writing ≡ Some v → ReaderSays task own mine high low → ReaderSays task to mine high' low'
 busy v None own to mine high low high' low' w h = tt
 busy v (Some n) own to mine high low high' low' w h = in_task n.task h
@@ -156,11 +163,11 @@ busy v (Some n) own to mine high low high' low' w h = in_task n.task h
     in_task (ReadHigh who) h = λ o. absurd (alone high high_of (h o))
     in_task (ReadLow who x) h = λ o. absurd (alone low low_of (h o).1)
 
--- a read by p changes nothing for reader r
+-- the invocation of a read by p changes nothing of another process's last read
 other_reader : (p r : ℕ) (s : Seen) → (r ≡ p → ⊥) → reader r s ≡ reader r (sees (Some (Invoke p Read)) s)
 other_reader p r s ne = λ i. record { fresh = sym (put_other p r s.last s.fresh ne) i; overlaps = sym (put_other p r (in_progress s.writing) s.overlaps ne) i }
 
--- what two bits give is the value
+-- the high and the low bit of a value give the value again
 whole : (v : ℕ) → 2 * high_of v + low_of v ≡ v
 whole v = by_test (nat_le 2 v) refl
   where
@@ -195,7 +202,7 @@ module _ (processes : ℕ) where
       let idle : WriterAt z j None = record { writing = refl; high_last = h.high_last ∙ ap high_of last; low_last = low ∙ ap low_of last; high_idle = h.high_idle; low_idle = h.here } in
       (z, (oe, set_writer z j p None zp idle (λ r l. busy v (j.tasks r) (writes u) (writes z) (reader r u) (reader r (j.parts 0)) (reader r (j.parts 1)) (reader r (j.parts 0)) (reader r (j.parts 1)) h.writing (rs r l))))
 
-  -- a write that has written the high bit
+  -- the rest of a write that has written the high bit keeps the invariant
   writes_low : (v p : ℕ) (op : Op) (Out : Option Event → Seen → Type 0) (u : Seen) (j : View TwoBitsTask) → p ≡ 0 → InLow v None (writes u) (writes (j.parts 0)) (writes (j.parts 1))
       → ((r : ℕ) → 1 ≤ r → ReaderAt u j (j.tasks r) r) → Out None u → Out (Some (Wrote p)) (sees (Some (Wrote p)) u) → Runs t two_bits_watch p op Out (write_low v) j
   writes_low v p op Out u j zp h rs on oe =
@@ -230,11 +237,11 @@ module _ (processes : ℕ) where
             (writes_low v p (Write v) Out z end zp done now on oe),
       )
 
-  -- what a read of a bit gives, if no write of the bit overlaps it
+  -- a read of a bit that no write of the bit overlaps gives the fresh value
   bit_given : (p x : ℕ) (s : Seen) → IsFreshAlone (record { reader = p; value = x; fresh = s.fresh p; overlaps = s.overlaps p }) → s.overlaps p ≡ [] → x ≡ s.fresh p
   bit_given p x s g o = fresh_value (record { reader = p; value = x; fresh = s.fresh p; overlaps = s.overlaps p }) (g o)
 
-  -- the end of a read that got these two bits
+  -- a read that got these two bits ends, and keeps the invariant
   read_ends : (p high low : ℕ) (op : Op) (Out : Option Event → Seen → Type 0) (u : Seen) (j : View TwoBitsTask) → 1 ≤ p → WriterAt u j (j.tasks 0) → ((r : ℕ) → 1 ≤ r → (r ≡ p → ⊥) → ReaderAt u j (j.tasks r) r)
       → ReaderAt u j (Some (record { op = op; task = ReadLow p high })) p → IsFreshAlone (record { reader = p; value = low; fresh = (j.parts 1).fresh p; overlaps = (j.parts 1).overlaps p })
       → ((x : ℕ) → IsFreshAlone (record { reader = p; value = x; fresh = u.fresh p; overlaps = u.overlaps p }) → Out (Some (Got p x)) u)
@@ -245,7 +252,7 @@ module _ (processes : ℕ) where
       (let f = me o in ap (λ b. 2 * b + low) f.0 ∙ ap (λ b. 2 * high_of (u.fresh p) + b) (bit_given p low (j.parts 1) good f.1.overlaps ∙ f.1.fresh) ∙ whole (u.fresh p)) in
       (u, (oe x (λ o. is_fresh (record { reader = p; value = x; fresh = u.fresh p; overlaps = u.overlaps p }) (right o)), set_reader u j p None lo wr rs tt))
 
-  -- a read that got this high bit
+  -- the rest of a read that got this high bit keeps the invariant
   reads_low : (p high : ℕ) (op : Op) (Out : Option Event → Seen → Type 0) (u : Seen) (j : View TwoBitsTask) → 1 ≤ p → WriterAt u j (j.tasks 0) → ((r : ℕ) → 1 ≤ r → (r ≡ p → ⊥) → ReaderAt u j (j.tasks r) r)
       → ReaderAt u j (Some (record { op = op; task = ReadHigh p })) p → IsFreshAlone (record { reader = p; value = high; fresh = (j.parts 0).fresh p; overlaps = (j.parts 0).overlaps p })
       → Out None u → ((x : ℕ) → IsFreshAlone (record { reader = p; value = x; fresh = u.fresh p; overlaps = u.overlaps p }) → Out (Some (Got p x)) u)
@@ -377,6 +384,8 @@ module _ (processes : ℕ) where
     readers = λ r l. subst (λ y. ReaderAt (opening v) j y r) (sym (free r)) tt;
   }
 
+  -- the invariant holds at first, every step keeps it, and a returned read that overlaps no write
+  -- is fresh
   pub two_bits_kept : IsKept t (TwoBitsMayBeAt processes) two_bits_watch opening (IsGoodStep IsFreshAlone)
   two_bits_kept = record {
     initial = λ v l j words free parts. at_first v j free (parts 0 (omega arith)) (parts 1 (omega arith));

@@ -23,8 +23,8 @@ high_of v = if nat_le 2 v then 1 else 0
 abbrev pub low_of : ℕ → ℕ
 low_of v = if nat_le 2 v then v - 2 else v
 
--- the rest of an operation after the read of a bit: with a value it goes on; it passes on any other
--- outcome
+-- the rest of an operation after the read of a bit: it goes on with the value that the read gave,
+-- and ends with any other outcome
 abbrev pub with_bit : (ℕ → Program TwoBitsTask) → Outcome → Program TwoBitsTask
 with_bit go (Value x) = go x
 with_bit go Written = Ends Written

@@ -138,7 +138,8 @@ impl Construction for TwoBitsRules {
         Ask { part, who, op }
     }
 
-    /// The frame's first number is the bit's, its second the high bit that a read has got.
+    /// In the frame, `i` is 0 for the high bit and 1 for the low bit; `x` is the high bit that a
+    /// read has got, or 0.
     fn frame(&self, task: TwoBitsTask) -> Frame {
         let (op, i, x) = match task {
             TwoBitsTask::WriteHigh(v) => (Op::Write(v), 0, 0),

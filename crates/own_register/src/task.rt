@@ -1,4 +1,4 @@
-//! The tasks of two bits: the points of its programs at which one of the bits is written or read.
+//! The tasks of two bits: the points of their programs at which one of the bits is written or read.
 
 use layers::prelude::LayerName;
 

@@ -5,13 +5,13 @@ use Rattle.std.proofs.lemmas.List.{map-append, map-set, replicate_more}
 use Rattle.frames.specs.declared.types.Op.{Op}
 use Rattle.question_file.specs.Asked.{lists_of, no_lists}
 
--- one more process
+-- one more vector without operations makes the empty lists those of n + 1 processes
 pub one_more : (all : List (Vec Op)) (v : Vec Op) (n : ℕ) → v.items ≡ [] → lists_of all ≡ no_lists n → lists_of (all ++ v ∷ []) ≡ no_lists (n + 1)
 one_more all v n empty so_far =
     map-append (λ (w : Vec Op). w.items) all (v ∷ [])
     ∙ ap₂ (λ (xs : List (List Op)) (x : List Op). xs ++ x ∷ []) so_far empty
     ∙ replicate_more n []
 
--- the operations of one process are replaced
+-- replacing vector p replaces list p
 pub put_list : (all : List (Vec Op)) (p : ℕ) (v : Vec Op) → lists_of (set all p v) ≡ set (lists_of all) p v.items
 put_list all p v = map-set (λ (w : Vec Op). w.items) all p v

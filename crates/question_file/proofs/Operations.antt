@@ -30,7 +30,7 @@ module _ (front : List Op) (others left : List (List ℕ)) where
   no_one false true None e = refl
   no_one false false v e = refl
 
--- one operation, and then those that follow
+-- if the words begin with operation o, they spell o and then what the words after it spell
 pub goes_on : (front : List Op) (ws : List (List ℕ)) (o : Op) → is_end ws ≡ false → next_operation ws ≡ Some o
     → operations_from front ws ≡ operations_from (front ++ o ∷ []) (after_operation ws)
 unfolding operations_from
@@ -43,7 +43,7 @@ goes_on front (w ∷ []) o some e = by (bytes_eq w (codes "r")) (bytes_eq w (cod
     by false false e = absurd cc
 goes_on front (w ∷ v ∷ ws) o some e = one front (v ∷ ws) ws (bytes_eq w (codes "r")) (bytes_eq w (codes "w")) (number v) o e
 
--- no operation
+-- words that begin with no operation spell none
 pub fails : (front : List Op) (ws : List (List ℕ)) → is_end ws ≡ false → next_operation ws ≡ None → operations_from front ws ≡ None
 unfolding operations_from
 fails front [] some e = absurd cc
@@ -54,7 +54,7 @@ fails front (w ∷ []) some e = by (bytes_eq w (codes "r")) (bytes_eq w (codes "
     by false x e = refl
 fails front (w ∷ v ∷ ws) some e = no_one front (v ∷ ws) ws (bytes_eq w (codes "r")) (bytes_eq w (codes "w")) (number v) e
 
--- no words are left
+-- if no words are left, no operations follow those at the front
 pub ends : (front : List Op) (ws : List (List ℕ)) → is_end ws ≡ true → operations_from front ws ≡ Some front
 unfolding operations_from
 ends front [] e = refl

@@ -8,7 +8,7 @@ use Rattle.question_file.specs.Faults.{question_fault}
 use Rattle.question_file.specs.Asked.{Asked}
 use Rattle.question_file.specs.Reading.{last_line, read_from, read_on, with_line}
 
--- a line that has a line end, and then those that follow
+-- a line that has a line end is read, and then those that follow it
 pub line_more : (n : ℕ) (read : Option Asked) (ls : List (List ℕ)) → is_end (after_next ls) ≡ false
     → read_from n read ls ≡ read_on n (with_line read (next ls)) (λ more. read_from (n + 1) more (after_next ls))
 unfolding read_from
@@ -16,17 +16,17 @@ line_more n read [] more = absurd cc
 line_more n read (line ∷ []) more = absurd cc
 line_more n read (line ∷ other ∷ others) more = refl
 
--- a line that says something, or nothing
+-- after a line without a fault, the lines that follow it are read
 pub line_said : (n : ℕ) (read more : Option Asked) (ls : List (List ℕ)) → is_end (after_next ls) ≡ false → with_line read (next ls) ≡ Ok more
     → read_from n read ls ≡ read_from (n + 1) more (after_next ls)
 line_said n read more ls not_last e = line_more n read ls not_last ∙ ap (λ (r : Result (Option Asked) QuestionFaultKind). read_on n r (λ m. read_from (n + 1) m (after_next ls))) e
 
--- a line that has a fault
+-- if a line has a fault, the lines from it on are read as this fault
 pub line_faulty : (n : ℕ) (read : Option Asked) (k : QuestionFaultKind) (ls : List (List ℕ)) → is_end (after_next ls) ≡ false → with_line read (next ls) ≡ Err k
     → read_from n read ls ≡ Err (question_fault k n)
 line_faulty n read k ls not_last e = line_more n read ls not_last ∙ ap (λ (r : Result (Option Asked) QuestionFaultKind). read_on n r (λ m. read_from (n + 1) m (after_next ls))) e
 
--- the text after the last line end
+-- the text after the last line end is read as `last_line` says
 pub at_end : (n : ℕ) (read : Option Asked) (ls : List (List ℕ)) → is_end ls ≡ false → is_end (after_next ls) ≡ true
     → read_from n read ls ≡ last_line n read (next ls)
 unfolding read_from

@@ -24,7 +24,7 @@ next_operation ws =
     else (if bytes_eq (next ws) (codes "w") then option_map (λ v. Write v) (number (next (after_next ws)))
     else None)
 
--- the words after that operation
+-- the words after the operation at the front of these words
 abbrev pub after_operation : List (List ℕ) → List (List ℕ)
 after_operation ws = if bytes_eq (next ws) (codes "r") then after_next ws else after_next (after_next ws)
 
@@ -89,8 +89,9 @@ with_most a ws = do
   n ← one_number ws
   if (is_none a.most && nat_le 1 n) && nat_le n 16777216 then Some (record a { most = Some n }) else None
 
--- A call takes a line with which what is asked is `read`, or which is faulty if that is `None`. It
--- leaves `new`, or has the fault `bad` of a faulty line, or memory ran out.
+-- The result of a call that takes a line; `read` is what is then asked, or `None` if the line is
+-- faulty. If the call succeeds, what is asked is `new`, and that is `read`; if it fails, memory ran
+-- out, or the line is faulty and the fault is `bad`.
 pub record Takes (bad : QuestionFaultKind) (read : Option Asked) (new : Asked) (result : Result ⊤ QuestionFaultKind) : Type 0 where
   pub taken : OnOk result (read ≡ Some new)
   pub kind : IfErr result (λ k. k ≢ out_of_memory_kind → k ≡ bad)
@@ -114,6 +115,7 @@ abbrev pub tower_of_file : Result File FileFault → Result TowerSpec QuestionFa
 tower_of_file (Ok f) = Ok f.spec
 tower_of_file (Err e) = Err (Shared e.kind)
 
--- the tower of a line, or the line's fault: those of the tower file that has it as its tower's line
+-- the tower of a line, or the line's fault: those of the tower file that has the line as its
+-- tower's
 abbrev pub tower_in : List ℕ → Result TowerSpec QuestionFaultKind
 tower_in line = tower_of_file (file_reading (tower_file_of line))

@@ -17,12 +17,12 @@ abbrev pub is_comment : List ℕ → Bool
 is_comment [] = true
 is_comment (b ∷ bs) = b == 35
 
--- what the line of a tower says
+-- what the lines so far say, the last of which is the tower's; or that line's fault
 abbrev pub begun : Result TowerSpec QuestionFaultKind → Result (Option Asked) QuestionFaultKind
 begun (Ok t) = Ok (Some (asked_of t))
 begun (Err k) = Err k
 
--- what lines say of which one gives a tower: what is asked, or a fault
+-- what the lines so far say, one of which gave a tower; or the fault of the last
 abbrev pub gone_on : Result Asked QuestionFaultKind → Result (Option Asked) QuestionFaultKind
 gone_on (Ok a) = Ok (Some a)
 gone_on (Err k) = Err k

@@ -42,23 +42,28 @@ pub record Within (m r v : ℕ) (u : Seen) (parts : ℕ → Seen) : Type 0 where
   pub last : (k : ℕ) → k + 1 < r → (parts k).last ≡ v
   pub quiet : (k : ℕ) → k < m → (k ≡ r - 1 → ⊥) → (parts k).writing ≡ None
 
+-- no write is in progress, no copy is being written, and all copies hold the value written last
 pub record Still (m : ℕ) (u : Seen) (parts : ℕ → Seen) : Type 0 where
   pub writing : u.writing ≡ None
   pub last : (k : ℕ) → k < m → (parts k).last ≡ u.last
   pub quiet : (k : ℕ) → k < m → (parts k).writing ≡ None
 
+-- what each task of the writer says of the register and of the copies
 abbrev pub CopierAt : ℕ → CopiesTask → Seen → (ℕ → Seen) → Type 0
 CopierAt m (Writing v r) u parts = Within m r v u parts
 CopierAt m (Reading r) u parts = ⊥
 
+-- what the writer's task says; if it has none, all copies are idle and hold the value written last
 abbrev pub CopierSays : ℕ → Option (TaskInProgress CopiesTask) → Seen → (ℕ → Seen) → Type 0
 CopierSays m None u parts = Still m u parts
 CopierSays m (Some n) u parts = CopierAt m n.task u parts
 
--- a read that overlaps no write overlaps no write of its copy
+-- if a reader's last read overlaps no write, it overlaps no write of the reader's copy, the fresh
+-- value is the same on both, and no write is in progress
 abbrev pub Alone : ℕ → Seen → (ℕ → Seen) → Type 0
 Alone m u parts = (r : ℕ) → 1 ≤ r → r ≤ m → u.overlaps r ≡ [] → ((parts (r - 1)).overlaps 1 ≡ []) × (((parts (r - 1)).fresh 1 ≡ u.fresh r) × (u.writing ≡ None))
 
+-- the invariant: reads that no write overlaps, and what the writer's task says
 pub record CopiesInv (m : ℕ) (u : Seen) (j : View CopiesTask) : Type 0 where
   pub alone : Alone m u j.parts
   pub copier : CopierSays m (j.tasks 0) u j.parts
@@ -66,13 +71,15 @@ pub record CopiesInv (m : ℕ) (u : Seen) (j : View CopiesTask) : Type 0 where
 abbrev pub copies_watch : ℕ → Watch CopiesTask Seen
 copies_watch m = record { Good = IsFreshAlone; Inv = CopiesInv m }
 
--- while a write is in progress, every read overlaps it
+-- while a write is in progress, every last read overlaps it, so `Alone` holds whatever the copies
+-- show
 alone_none : (m v : ℕ) (u z : Seen) (parts to : ℕ → Seen) → u.writing ≡ Some v → Alone m u parts → ((r : ℕ) → z.overlaps r ≡ u.overlaps r) → Alone m z to
 alone_none m v u z parts to e h o r lo hi k =
     let n : u.writing ≡ None = (h r lo hi (sym (o r) ∙ k)).1.1 in
     let f : ⊥ = cc in
     absurd f
 
+-- while no write is in progress, no copy is being written, and all hold the value written last
 writer_still : (m : ℕ) (task : Option (TaskInProgress CopiesTask)) (u : Seen) (parts : ℕ → Seen) → CopierSays m task u parts → u.writing ≡ None → Still m u parts
 writer_still m None u parts h e = h
 writer_still m (Some n) u parts h e = at n.task h
@@ -81,6 +88,7 @@ writer_still m (Some n) u parts h e = at n.task h
     at (Writing v r) h = let q : u.writing ≡ Some v = h.writing in let f : ⊥ = cc in absurd f
     at (Reading r) h = absurd h
 
+-- what the writer's task says depends only on the values written last and being written
 copier_same : (m : ℕ) (task : Option (TaskInProgress CopiesTask)) (u z : Seen) (parts to : ℕ → Seen) → u.last ≡ z.last → u.writing ≡ z.writing → ((k : ℕ) → (parts k).last ≡ (to k).last) → ((k : ℕ) → (parts k).writing ≡ (to k).writing)
     → CopierSays m task u parts → CopierSays m task z to
 copier_same m None u z parts to ul uw l w h = record { writing = sym uw ∙ h.writing; last = λ k lk. sym (l k) ∙ h.last k lk ∙ ul; quiet = λ k lk. sym (w k) ∙ h.quiet k lk }
@@ -161,6 +169,7 @@ module _ (m values : ℕ) where
       (λ r lo hi k. (let f : ⊥ = cc in absurd f))
       (good_begun IsFreshAlone p (Write v) None u refl tt) (good_begun IsFreshAlone p (Write v) (Some (Wrote p)) u refl tt)
 
+  -- if a read that overlaps no write gives what its copy's read gave, this is the fresh value
   gives : (r x : ℕ) (u s : Seen) → (u.overlaps r ≡ [] → (s.overlaps 1 ≡ []) × ((s.fresh 1 ≡ u.fresh r) × (u.writing ≡ None)))
       → IsFreshAlone (record { reader = 1; value = x; fresh = s.fresh 1; overlaps = s.overlaps 1 }) → IsFreshAlone (record { reader = r; value = x; fresh = u.fresh r; overlaps = u.overlaps r })
   gives r x u s a g o =
@@ -265,6 +274,8 @@ module _ (m values : ℕ) where
   go_ends u j p (Write x) (Reading r) chosen o h mine st ans pass good = absurd st
   go_ends u j p Read (Writing v r) chosen o h mine st ans pass good = absurd st
 
+  -- the invariant holds at first, every step keeps it, and a returned read that overlaps no write
+  -- is fresh
   pub copies_kept : IsKept t (CopiesMayBeAt m values) w opening (IsGoodStep IsFreshAlone)
   copies_kept = record {
     initial = λ v l j ew et ep. record {

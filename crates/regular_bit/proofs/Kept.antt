@@ -35,15 +35,16 @@ abbrev pub WordSays : ℕ → Option ℕ → ℕ → Type 0
 WordSays word None last = word ≡ last
 WordSays word (Some v) last = (word ≡ v) × ((v ≡ last → ⊥) × v < 2)
 
--- a read now overlaps no write of the register below, or it overlaps a write of a value other than
--- the fresh one
+-- a read overlaps no write below, none is in progress, and its fresh value is the one written last;
+-- or it overlaps a write of a value other than the fresh one
 abbrev pub HasOther : ℕ → List ℕ → ℕ → Option ℕ → Type 0
 HasOther fresh overlaps last writing =
     ((overlaps ≡ []) × ((fresh ≡ last) × (writing ≡ None)))
     ⊎ ((x : ℕ) × (IsTrue (among x overlaps) × ((x ≡ fresh → ⊥) × x < 2)))
 
--- u is what the history of the regular bit shows, and s what that of the register below shows: they
--- agree
+-- what the bit's history shows, u, and what the history below shows, s, agree: the values written
+-- last and being written and the fresh values are the same, and a read overlaps on the bit each
+-- value that it overlaps below
 pub record Agree (u s : Seen) (word : ℕ) : Type 0 where
   pub last : u.last ≡ s.last
   pub writing : u.writing ≡ s.writing
@@ -170,6 +171,7 @@ agree_got p u s word x a l g =
       ]
     ]
 
+-- the invariant: both histories agree, and while the writer is idle no write below is in progress
 pub record RegularInv (u : Seen) (j : View RegularTask) : Type 0 where
   pub agree : Agree u (j.parts 0) (j.words 0)
   pub idle : j.tasks 0 ≡ None → (j.parts 0).writing ≡ None
@@ -304,6 +306,7 @@ module _ (processes : ℕ) where
         idle = λ k. ap (λ s. s.writing) ep;
       }
 
+  -- the invariant holds at first, every step keeps it, and no returned read is stray
   pub regular_kept : IsKept t (RegularMayBeAt processes) regular_watch opening (IsGoodStep IsNotStray)
   regular_kept = record {
     initial = λ v l j ew et ep. at_first v l j (ew 0 (omega arith)) (ep 0 (omega arith));

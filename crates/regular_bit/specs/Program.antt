@@ -1,6 +1,6 @@
 -- A regular bit over a register of two values (Lamport 1986, a regular bit from a safe one; Herlihy
--- and Shavit, chapter 4). In a word of memory of its own, the bit keeps the value written last. It
--- is this project's own choice that a write sets this word as it begins.
+-- and Shavit, chapter 4). The bit's own word of memory holds the value of the last write that
+-- began. That a write sets this word as it begins is this project's own choice.
 use Rattle.std.specs.Prelude.{◌≡◌, ℕ, ◌<◌, ◌≤◌, ◌==◌, if◌then◌else◌}
 use Rattle.frames.specs.declared.types.Op.{Op}
 use Rattle.frames.specs.declared.types.Op.TheVariants as op

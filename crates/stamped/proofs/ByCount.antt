@@ -49,10 +49,14 @@ pub record Two : Type 0 where
   pub seen : Seen
   pub counted : Counted
 
+-- the write in progress is the last that began, and all earlier ones have returned; without one,
+-- all have
 abbrev pub TieWrites : Counted → Option ℕ → Type 0
 TieWrites c None = c.done ≡ c.begun
 TieWrites c (Some v) = (v ≡ c.value c.begun) × (c.begun ≡ c.done + 1)
 
+-- s, what a history shows, and c, its writes by number, are of the same writes, of which there are
+-- at most `last`
 pub record Tie (last : ℕ) (s : Seen) (c : Counted) : Type 0 where
   pub latest : s.last ≡ c.value c.done
   pub writing : TieWrites c s.writing
@@ -125,7 +129,7 @@ tie_not_stray last y n s c t lo hi e = elim (cases_eq n c.low) [
   | inr ne ↦ not_stray (record { reader = 1; value = y; fresh = s.fresh 1; overlaps = s.overlaps 1 }) (inr (subst (λ x. IsTrue (among x (s.overlaps 1))) e (t.overlaps n (omega (arith, lo, ne)) hi)))
 ]
 
--- whether there is a stamp after k writes
+-- whether a stamp is left after k writes
 abbrev pub under : ℕ → ℕ → Bool
 under last k = nat_lt k last
 
@@ -136,10 +140,12 @@ under_last k last e = go (nat_lt k last) refl
     go true f = absurd (let p = ltb-true k last f in omega (arith, p, e))
     go false f = refl
 
--- what one step says and leaves
+-- a step with events e refuses just the writes without a stamp left, and returns no stray read; z
+-- is what is shown after it
 abbrev pub Shows : ℕ → Seen → StepEvents → Seen → Type 0
 Shows last s e z = IsAdmitted IsNotStray (by_count (under last)) s e × (z ≡ after_step e s)
 
+-- the same of what is shown, when also the numbers of writes are known
 abbrev pub ShowsTwo : ℕ → Two → StepEvents → Two → Type 0
 ShowsTwo last u e z = Shows last u.seen e z.seen
 
@@ -150,7 +156,7 @@ shows_begun last p o end s f t g = (record { first = refl; taken = λ e. t; refu
 shows_refused : (last p : ℕ) (o : Op) (layer : Layer) (s : Seen) → refuses_if (under last) o s → Shows last s (in_order (Some (Invoke p o)) (Some (Refused p layer))) s
 shows_refused last p o layer s r = (record { first = refl; taken = λ e. absurd (cc e); refused = λ e. r; reads = tt }, refl)
 
--- an end of a pending operation
+-- the event, if there is one, is the return of an operation
 abbrev IsEnd : Option Event → Type 0
 IsEnd None = ⊤
 IsEnd (Some (Got p x)) = ⊤
@@ -161,6 +167,7 @@ IsEnd (Some (Void p r)) = ⊥
 IsEnd (Some (Stop p)) = ⊥
 IsEnd (Some (Chosen p b v)) = ⊥
 
+-- a return refuses nothing, and invokes nothing
 end_fine : (last : ℕ) (end : Option Event) (s : Seen) → IsEnd end → (refuses end ≡ false) × OnInvoke (takes_if (under last)) end s
 end_fine last None s h = (refl, tt)
 end_fine last (Some (Got p x)) s h = (refl, tt)
@@ -179,6 +186,8 @@ shows_gone last p (Some x) end s h g =
     let k = end_fine last end s h in
     (record { first = refl; taken = λ e. tt; refused = λ e. absurd (let z : true ≡ false = sym e ∙ k.0 in cc); reads = g }, sym (gone_seen p (Some x) end s k.0))
 
+-- the invariant: the stamps are numbers of writes that the history shows, and while the writer is
+-- idle no write is in progress
 pub record LimitedInv (V last : ℕ) (u : Two) (j : View StampedTask) : Type 0 where
   pub stamps : Stamps V u.counted (j.parts 0) (j.words 0) (j.words 1)
   pub tie : Tie last u.seen u.counted
@@ -194,7 +203,7 @@ module _ (V last : ℕ) where
   abbrev w : Watch StampedTask Two
   w = limited_watch V last
 
-  -- what follows after the read of the register below has ended
+  -- the rest of a read, once the read below has given x, keeps the invariant
   runs_taken : (x : ℕ) (op : Op) (Out : Option Event → Two → Type 0) (u : Two) (j : View StampedTask) → LimitedInv V last u (record j { tasks = put 1 None j.tasks }) → Since V u.counted x
       → ((y : ℕ) (z : Two) → z.seen ≡ u.seen → AllByRecursion IsNotStray (got (Some (Got 1 y)) u.seen) → Out (Some (Got 1 y)) z) → Runs t w 1 op Out (stamped_rest V Reading (Value x)) j
   runs_taken x op Out u j h y og =
@@ -325,6 +334,8 @@ module _ (V last : ℕ) where
         idle = λ k. (ap (λ s. s.writing) ep, refl);
       }
 
+  -- the invariant holds at first, every step keeps it, and refuses and returns only what `Shows`
+  -- allows
   pub limited_kept : IsKept t (StampedMayBeAt V last) w two_first (ShowsTwo last)
   limited_kept = record {
     initial = λ v l j ew et ep. at_first v l j (ew 0 (omega arith)) (ew 1 (omega arith)) (ep 0 (omega arith));
@@ -337,6 +348,7 @@ module _ (V last : ℕ) where
     goes = λ u j p n chosen o h mine s ans pass good. go_ends u j p n.op n.task chosen o h s ans pass good;
   }
 
+-- steps that are as `ShowsTwo` says are as `Shows` says
 shown_alone : (last : ℕ) (u : Two) (es : List StepEvents) → Allowed (ShowsTwo last) u es → Allowed (Shows last) u.seen es
 shown_alone last u [] h = tt
 shown_alone last u (e ∷ es) h = (h.0.seen, (h.1.0, shown_alone last h.0 es h.1.1))

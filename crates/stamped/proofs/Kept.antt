@@ -43,15 +43,18 @@ use Rattle.stamped.specs.Program.{stamped_program, stamped_rest, stamped_table, 
 abbrev pub code_of : ℕ → Counted → ℕ → ℕ
 code_of V c n = n * V + c.value n
 
--- y is the code of a write whose value the read may return
+-- y is the code of a write whose value the reader's last read may return
 abbrev pub Since : ℕ → Counted → ℕ → Type 0
 Since V c y = (n : ℕ) × ((c.low ≤ n) × ((n ≤ c.begun) × (y ≡ code_of V c n)))
 
+-- the write below that is in progress writes the code of the last write begun; without one, all
+-- writes have returned
 abbrev pub WriteSays : ℕ → Counted → Option ℕ → Type 0
 WriteSays V c None = c.done ≡ c.begun
 WriteSays V c (Some y) = y ≡ code_of V c c.begun
 
--- the writes' numbers are their stamps
+-- what the register below and both words show, in codes of the writes numbered in c, whose numbers
+-- are their stamps
 pub record Stamps (V : ℕ) (c : Counted) (s : Seen) (stamp best : ℕ) : Type 0 where
   pub small : (n : ℕ) → n ≤ c.begun → c.value n < V
   pub stamped : stamp ≡ c.begun
@@ -64,13 +67,15 @@ pub record Stamps (V : ℕ) (c : Counted) (s : Seen) (stamp best : ℕ) : Type 0
   pub fresh : s.fresh 1 ≡ code_of V c c.low
   pub overlaps : (y : ℕ) → IsTrue (among y (s.overlaps 1)) → Since V c y
 
+-- the numbered writes once a write of v has begun
 abbrev pub after_write : ℕ → Counted → Counted
 after_write v c = record c { value = put (c.begun + 1) v c.value; begun = (c.begun + 1) }
 
+-- the codes of earlier writes stay the same when one more write begins
 same_code : (V v n : ℕ) (c : Counted) → n ≤ c.begun → code_of V c n ≡ code_of V (after_write v c) n
 same_code V v n c l = ap (λ x. n * V + x) (sym (put_other (c.begun + 1) n v c.value (λ e. omega (arith, e, l))))
 
--- at first the code is the initial value, with stamp 0
+-- `Stamps` holds at first: the initial value is its own code, with stamp 0
 pub stamps_first : (V v : ℕ) (s : Seen) (stamp best : ℕ) → v < V → s ≡ opening v → stamp ≡ 0 → best ≡ v → Stamps V (uncounted v) s stamp best
 stamps_first V v s stamp best l opened zero same =
     let zero_code : v ≡ code_of V (uncounted v) 0 = omega arith in
@@ -142,7 +147,7 @@ stamps_wrote V q c s stamp best h =
       overlaps = λ y m. h.overlaps y m;
     }
 
--- a read has given the greatest code so far, which is that of write n
+-- if a read returns the value of write n, whose code is now `best`, n becomes the floor
 pub stamps_floor : (V n : ℕ) (c : Counted) (s : Seen) (stamp best most : ℕ) → Stamps V c s stamp best → n ≤ c.begun → most ≡ code_of V c n → Stamps V (record c { floor = n }) s stamp most
 stamps_floor V n c s stamp best most h few is = record {
   small = h.small;
@@ -183,7 +188,7 @@ stamps_read V c s stamp best h = record {
   overlaps = λ y m. (c.begun, (h.done, (omega arith, begun_since V c s.writing y h.writing m)));
 }
 
--- the register below gives the code of a write that the read may return
+-- if the read below isn't stray, it gives the code of a write whose value the read may return
 pub read_since : (V x : ℕ) (c : Counted) (s : Seen) (stamp best : ℕ) → Stamps V c s stamp best → IsNotStray (record { reader = 1; value = x; fresh = s.fresh 1; overlaps = s.overlaps 1 }) → Since V c x
 read_since V x c s stamp best h g =
     let y : Returned = record { reader = 1; value = x; fresh = s.fresh 1; overlaps = s.overlaps 1 } in
@@ -197,7 +202,8 @@ read_since V x c s stamp best h g =
 code_less : (V n m a b : ℕ) → n < m → a < V → n * V + a ≤ m * V + b
 code_less V n m a b l la = let e : suc n * V ≤ m * V = mul-le-mul_right V (omega (arith, l)) in omega (arith, e, suc-mul n V, la)
 
--- the greater code is that of the write with the greater number
+-- the greater of `best` and a code x that the read may give is that of a write n that the read may
+-- return, no earlier than the write that the read before returned
 pub greater : (V x : ℕ) (c : Counted) (s : Seen) (stamp best : ℕ) → Stamps V c s stamp best → Since V c x
     → (n : ℕ) × ((c.low ≤ n) × ((n ≤ c.begun) × ((c.floor ≤ n) × (max best x ≡ code_of V c n))))
 greater V x c s stamp best h y =
@@ -219,6 +225,8 @@ greater V x c s stamp best h y =
           (c.floor, (omega (arith, ge, ln), (fb, (omega arith, omega (arith, le, be, xe)))))
     ]
 
+-- the invariant: what is shown of codes and stamps, and while the writer is idle no write below is
+-- in progress
 pub record StampedInv (V : ℕ) (c : Counted) (j : View StampedTask) : Type 0 where
   pub stamps : Stamps V c (j.parts 0) (j.words 0) (j.words 1)
   pub idle : j.tasks 0 ≡ None → (j.parts 0).writing ≡ None
@@ -237,7 +245,7 @@ module _ (V last : ℕ) where
   abbrev w : Watch StampedTask Counted
   w = stamped_watch V
 
-  -- what follows after the read of the register below has ended
+  -- the rest of a read, once the read below has given x, keeps the invariant
   runs_taken : (x : ℕ) (op : Op) (Out : Option Event → Counted → Type 0) (c : Counted) (j : View StampedTask) → StampedInv V c (record j { tasks = put 1 None j.tasks }) → Since V c x
       → ((y : ℕ) (z : Counted) → Counts (Some (Got 1 y)) c z → Out (Some (Got 1 y)) z) → Runs t w 1 op Out (stamped_rest V Reading (Value x)) j
   runs_taken x op Out c j h y og =
@@ -345,6 +353,8 @@ module _ (V last : ℕ) where
   at_first : (v : ℕ) → v < V → (j : View StampedTask) → j.words 0 ≡ 0 → j.words 1 ≡ v → j.parts 0 ≡ opening v → StampedInv V (uncounted v) j
   at_first v l j e0 e1 ep = record { stamps = stamps_first V v (j.parts 0) (j.words 0) (j.words 1) l ep e0 e1; idle = λ k. ap (λ s. s.writing) ep }
 
+  -- the invariant holds at first, and each step keeps it and numbers its operations as
+  -- `NumberedStep` says
   pub stamped_kept : IsKept t (StampedMayBeAt V last) w uncounted NumberedStep
   stamped_kept = record {
     initial = λ v l j ew et ep. at_first v l j (ew 0 (omega arith)) (ew 1 (omega arith)) (ep 0 (omega arith));

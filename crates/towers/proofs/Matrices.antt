@@ -1,5 +1,5 @@
--- A matrix over stamped registers over a regular register is atomic for many processes, and none of
--- its rows is refused in its midst.
+-- A matrix over stamped registers over a regular register is atomic for many processes, and refuses
+-- no operation while it writes its row.
 use Rattle.std.proofs.Common.{ℕ}
 use Rattle.safe_bit.specs.Memory.{Memory}
 use Rattle.frames.specs.declared.types.Op.{Op}

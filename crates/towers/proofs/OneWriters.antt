@@ -1,4 +1,4 @@
--- Towers with one writer.
+-- A safe bit has one writer: process 0 alone writes, and process 1 alone reads.
 use Rattle.std.proofs.Common.{◌≡◌, ℕ, true, arith}
 use Rattle.std.proofs.lemmas.Bool.Decides.{nat_tests}
 use Rattle.frames.specs.declared.types.Op.{Op}

@@ -1,7 +1,7 @@
 //! The laws of five towers (copies, regular bit, unary number, stamped register and matrix), on
-//! every schedule, and a law of all six: they report their actions. A read is stray if it gives
-//! neither the value written last before it (the initial value, if none was) nor the value of a
-//! write that overlaps it.
+//! every schedule: what their reads give, and that they report their actions. A read is stray if it
+//! gives neither the value written last before it (the initial value, if none was) nor the value of
+//! a write that overlaps it.
 
 ghost use Rattle.frames.specs.correctness.Ranks.{IsAtomicForMany};
 ghost use Rattle.frames.specs.correctness.Regularity.{NeverStray};
@@ -75,8 +75,8 @@ pub fn matrix_over_stamped<S: Register>(register: &Matrix<Stamped<S>>)
     ensures rows { RefusesNoRow (⟦<Matrix<Stamped<S>> as Behaves>⟧.behaviour register.now) }
 {}
 
-/// A matrix tower is atomic for many processes, and none of its rows is refused in its midst, as
-/// `matrix_over_stamped` says.
+/// A matrix tower is atomic for many processes, and no operation is refused while it writes its
+/// row, as `matrix_over_stamped` says.
 pub fn matrix_is_atomic(register: &MatrixTower)
     ensures atomic { IsAtomicForMany (⟦<MatrixTower as Behaves>⟧.behaviour register.now) }
     ensures rows { RefusesNoRow (⟦<MatrixTower as Behaves>⟧.behaviour register.now) }

@@ -28,16 +28,19 @@ pub record Beacon (top p k : ℕ) (A : ℕ → Type 0) (parts : ℕ → Seen) : 
   pub lit : IsLit (parts k)
   pub below : (i : ℕ) → p ≤ i → i < k → MayShow (parts i) → A i
 
+-- what a bit shows after a write of 1 to it has begun
 abbrev pub raised : Seen → Seen
 raised s = sees (Some (Invoke 0 (Write 1))) s
 
+-- what a bit shows after a write of 0 to it has begun
 abbrev pub lowered : Seen → Seen
 lowered s = sees (Some (Invoke 0 (Write 0))) s
 
+-- what a bit shows after the write to it has returned
 abbrev pub written : Seen → Seen
 written s = sees (Some (Wrote 0)) s
 
--- the write of 1 to a bit whose index is allowed begins
+-- bit k stays the beacon when a write of 1 begins to a bit whose index is allowed
 pub beacon_raise : (top p k x : ℕ) (A : ℕ → Type 0) (parts : ℕ → Seen) → Beacon top p k A parts → A x → Beacon top p k A (put x (raised (parts x)) parts)
 beacon_raise top p k x A parts b ax = record {
   low = b.low;
@@ -49,7 +52,7 @@ beacon_raise top p k x A parts b ax = record {
   below = put_all (λ i s. p ≤ i → i < k → MayShow s → A i) x (raised (parts x)) parts (λ l h m. ax) (λ i ne. b.below i);
 }
 
--- the write of 1 to a bit whose index is allowed ends
+-- bit k stays the beacon when a write of 1 ends to a bit whose index is allowed
 pub beacon_raised : (top p k x : ℕ) (A : ℕ → Type 0) (parts : ℕ → Seen) → Beacon top p k A parts → (parts x).writing ≡ Some 1 → A x → Beacon top p k A (put x (written (parts x)) parts)
 beacon_raised top p k x A parts b w ax = record {
   low = b.low;
@@ -67,7 +70,7 @@ no_one A e = let n : ⊥ = cc in absurd n
 may_lower : (s : Seen) → MayShow (lowered s) → MayShow s
 may_lower s m = elim m [ inl e ↦ inl e | inr e ↦ no_one (MayShow s) e ]
 
--- a write of 0 to a bit other than the beacon begins
+-- bit k stays the beacon when a write of 0 to another bit begins
 pub beacon_lower : (top p k i : ℕ) (A : ℕ → Type 0) (parts : ℕ → Seen) → Beacon top p k A parts → (k ≡ i → ⊥) → Beacon top p k A (put i (lowered (parts i)) parts)
 beacon_lower top p k i A parts b ne = record {
   low = b.low;
@@ -102,7 +105,7 @@ beacon_jump top p i x A parts b l high ax one quiet none = record {
           | inr ge ↦ (let gt : i < y = omega (arith, ge, n) in absurd (none y gt hi m))
         ]
 
--- a write of 0 to a bit other than the beacon ends
+-- bit k stays the beacon when a write of 0 ends, which is to another bit, since bit k is lit
 pub beacon_lowered : (top p k i : ℕ) (A : ℕ → Type 0) (parts : ℕ → Seen) → Beacon top p k A parts → (parts i).writing ≡ Some 0 → Beacon top p k A (put i (written (parts i)) parts)
 beacon_lowered top p k i A parts b w = record {
   low = b.low;
@@ -128,7 +131,7 @@ beacon_lowered top p k i A parts b w = record {
 pub beacon_more : (top p k : ℕ) (A B : ℕ → Type 0) (parts : ℕ → Seen) → ((i : ℕ) → A i → B i) → Beacon top p k A parts → Beacon top p k B parts
 beacon_more top p k A B parts f b = record { low = b.low; high = b.high; allowed = f k b.allowed; lit = b.lit; below = λ i l h m. f i (b.below i l h m) }
 
--- a read of a bit begins
+-- bit k stays the beacon when a read of a bit begins
 pub beacon_read : (top p k i q : ℕ) (A : ℕ → Type 0) (parts : ℕ → Seen) → Beacon top p k A parts → Beacon top p k A (put i (sees (Some (Invoke q Read)) (parts i)) parts)
 beacon_read top p k i q A parts b = record {
   low = b.low;
@@ -140,11 +143,12 @@ beacon_read top p k i q A parts b = record {
   below = put_all (λ y s. p ≤ y → y < k → MayShow s → A y) i (sees (Some (Invoke q Read)) (parts i)) parts (b.below i) (λ y n. b.below y);
 }
 
--- the values that read r of the number may give: its fresh value, and the values of the writes that
--- it overlaps; and the values that a read may give if it is invoked now
+-- y is a value that process r's last read of the number may give: its fresh value, or the value of
+-- a write that overlaps it
 abbrev pub MayGive : ℕ → Seen → ℕ → Type 0
 MayGive r u y = (y ≡ u.fresh r) ⊎ IsTrue (among y (u.overlaps r))
 
+-- y is a value that a read of the number may give if it is invoked now
 abbrev pub MayGiveNow : Seen → ℕ → Type 0
 MayGiveNow u y = (y ≡ u.last) ⊎ (u.writing ≡ Some y)
 
@@ -160,6 +164,8 @@ pub record Looks (top r i left k : ℕ) (u : Seen) (parts : ℕ → Seen) : Type
   pub fresh_one : (parts i).fresh r ≡ 1 → MayGive r u i
   pub over_one : IsTrue (among 1 ((parts i).overlaps r)) → MayGive r u i
 
+-- process r's read of bit i keeps its beacon when a write of x begins, and with it the write of 1
+-- to bit x
 pub looking_begin : (top r i left k p x : ℕ) (u : Seen) (parts : ℕ → Seen) → Looks top r i left k u parts
     → Looks top r i left k (sees (Some (Invoke p (Write x))) u) (put x (raised (parts x)) parts)
 looking_begin top r i left k p x u parts l =
@@ -176,7 +182,7 @@ looking_begin top r i left k p x u parts l =
           (λ y ne e f. more i (l.over_one (subst (λ y. IsTrue (among 1 ((parts y).overlaps r))) e f))) i refl;
     }
 
--- a write of a bit ends
+-- process r's read of bit i keeps its beacon when a write of bit d ends, if bit k stays a beacon
 pub looking_written : (top r i left k d : ℕ) (u : Seen) (parts : ℕ → Seen) → Looks top r i left k u parts → Beacon top i k (MayGive r u) (put d (written (parts d)) parts)
     → Looks top r i left k u (put d (written (parts d)) parts)
 looking_written top r i left k d u parts l b = record {
@@ -188,7 +194,8 @@ looking_written top r i left k d u parts l b = record {
   over_one = λ m. l.over_one (subst IsTrue (same_at (λ z. among 1 (z.overlaps r)) i d (written (parts d)) parts refl) m);
 }
 
--- a write of 0 to bit d begins, and then k or a higher bit is the beacon
+-- process r's read of bit i has beacon z after a write of 0 to bit d begins, if z is then a beacon,
+-- and is i only if i was the beacon before
 pub looking_lower : (top r i left k z d : ℕ) (u : Seen) (parts : ℕ → Seen) → Looks top r i left k u parts → Beacon top i z (MayGive r u) (put d (lowered (parts d)) parts)
     → (z ≡ i → (k ≡ i) × (i ≡ d → ⊥)) → Looks top r i left z u (put d (lowered (parts d)) parts)
 looking_lower top r i left k z d u parts l b which = record {
@@ -201,7 +208,7 @@ looking_lower top r i left k z d u parts l b which = record {
   over_one = λ m. l.over_one (subst IsTrue (same_at (λ z. among 1 (z.overlaps r)) i d (lowered (parts d)) parts refl) m);
 }
 
--- another process begins to read bit d
+-- process r's read of bit i keeps its beacon when another process begins to read bit d
 pub looking_other : (top r i left k d q : ℕ) (u v : Seen) (parts : ℕ → Seen) → (r ≡ q → ⊥) → u.fresh r ≡ v.fresh r → u.overlaps r ≡ v.overlaps r → Looks top r i left k u parts
     → Looks top r i left k v (put d (sees (Some (Invoke q Read)) (parts d)) parts)
 looking_other top r i left k d q u v parts ne ef eo l =
@@ -231,7 +238,8 @@ no_zero : (w : Option ℕ) → (w ≡ None) ⊎ (w ≡ Some 1) → IsTrue (among
 no_zero w (inl e) h = let k = subst (λ w. IsTrue (among 0 (in_progress w))) e h in cc
 no_zero w (inr e) h = let k = subst (λ w. IsTrue (among 0 (in_progress w))) e h in cc
 
--- process r itself begins to read bit i
+-- process r's read of bit i has beacon k when it begins, if k is the beacon of the scan from bit i
+-- on
 pub looking_mine : (top r i left k : ℕ) (u : Seen) (parts : ℕ → Seen) → i + left ≡ top → Beacon top i k (MayGive r u) parts
     → Looks top r i left k u (put i (sees (Some (Invoke r Read)) (parts i)) parts)
 looking_mine top r i left k u parts room b =
@@ -253,12 +261,15 @@ looking_mine top r i left k u parts room b =
       over_one = λ f. shows (inr (one_of (parts i).writing (subst (λ o. IsTrue (among 1 o)) so (subst (λ z. IsTrue (among 1 (z.overlaps r))) me f))));
     }
 
+-- if the read of bit i gives 1 and isn't stray, i is a value that the read of the number may give
 pub looked_one : (top r i left k : ℕ) (u : Seen) (parts : ℕ → Seen) → Looks top r i left k u parts
     → IsNotStray (record { reader = r; value = 1; fresh = (parts i).fresh r; overlaps = (parts i).overlaps r }) → MayGive r u i
 looked_one top r i left k u parts l g =
     let x : Returned = record { reader = r; value = 1; fresh = (parts i).fresh r; overlaps = (parts i).overlaps r } in
     elim (not_stray_is x g) [ inl e ↦ l.fresh_one (sym e) | inr m ↦ l.over_one m ]
 
+-- if the read of bit i gives 0 and isn't stray, bit k is the beacon of the scan from the next bit
+-- on
 pub looked_zero : (top r i left k : ℕ) (u : Seen) (parts : ℕ → Seen) → Looks top r i left k u parts
     → IsNotStray (record { reader = r; value = 0; fresh = (parts i).fresh r; overlaps = (parts i).overlaps r }) → Beacon top (suc i) k (MayGive r u) parts
 looked_zero top r i left k u parts l g =

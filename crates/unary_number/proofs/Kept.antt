@@ -1,5 +1,4 @@
--- A unary number built on a regular bit is regular, and a scan that reads the last bit reads 1
--- there.
+-- A unary number built on a regular bit is regular, whatever a scan would give that finds no 1.
 use Rattle.std.proofs.Common.{eq-eqb, ◌+◌, ◌-◌, ◌≡◌, ℕ, zero, suc, Bool, true, false, Option, Some, None, ◌<◌, ◌≤◌, ◌==◌, IsTrue, refl, sym, ap, ◌∙◌, subst, arith, [], inl, inr}
 use Rattle.std.specs.Prelude.{if◌then◌else◌}
 use Rattle.std.specs.List.{AllByRecursion}
@@ -32,6 +31,7 @@ use Rattle.unary_number.specs.Program.{unary_table_with, unary_program, unary_re
 use Rattle.unary_number.proofs.Beacons.{Beacon, raised, lowered, written, MayGive, MayGiveNow, Looks, beacon_more, beacon_read, looking_other, looking_mine, looked_one, looked_zero}
 use Rattle.unary_number.proofs.Phases.{lights_for, lights_put, Idle, Rising, Cleared, Falling, WriterAt, WriterSays, ReaderAt, ReaderSays, Lights, reader_map, lights_begin, lights_raised, lights_lower, lights_lowered, lights_end, idle_end, rising_begin, rising_end, falling_begin, falling_end}
 
+-- the invariant: each read in progress has a beacon, and what the writer's task says holds
 pub record UnaryInv (top : ℕ) (u : Seen) (j : View UnaryTask) : Type 0 where
   pub lights : Lights top 0 u j.tasks j.parts
   pub writer : WriterSays top (j.tasks 0) u j.parts
@@ -69,7 +69,7 @@ looking_known top r i left k u v parts ef eo l =
 in_it : (w : Option ℕ) (x : ℕ) → w ≡ Some x → IsTrue (among x (in_progress w))
 in_it w x e = subst (λ z. IsTrue (among x (in_progress z))) (sym e) (among_here x [])
 
--- p invokes a read of the number
+-- `Lights` holds after p invokes a read of the number
 lights_invoke : (top p : ℕ) (u : Seen) (tasks : ℕ → Option (TaskInProgress UnaryTask)) (parts : ℕ → Seen) → Lights top p u tasks parts → Lights top p (sees (Some (Invoke p Read)) u) tasks parts
 lights_invoke top p u tasks parts l =
     let v : Seen = sees (Some (Invoke p Read)) u in
@@ -89,7 +89,7 @@ beacon_invoke top p k u parts b =
       | inr e ↦ inr (subst (λ o. IsTrue (among y o)) (sym (put_same p (in_progress u.writing) u.overlaps)) (in_it u.writing y e))
     ]) b
 
--- p begins to read a bit
+-- `Lights` holds after p begins to read a bit
 lights_look : (top p i : ℕ) (u : Seen) (tasks : ℕ → Option (TaskInProgress UnaryTask)) (parts : ℕ → Seen) → Lights top p u tasks parts → Lights top p u tasks (put i (sees (Some (Invoke p Read)) (parts i)) parts)
 lights_look top p i u tasks parts l = record {
   overlap = l.overlap;
@@ -195,7 +195,7 @@ module _ (not_found : Outcome) (values processes : ℕ) (two : 2 ≤ values) whe
         ] ans pass,
       )
 
-  -- the bit was read as v
+  -- the rest of a scan, once bit i was read as v, keeps the invariant
   runs_found : (i left k p v : ℕ) (op : Op) (Out : Option Event → Seen → Type 0) (u : Seen) (j : View UnaryTask) (on : Program UnaryTask) → (p ≡ 0 → ⊥) → v < 2 → Looks top p i left k u j.parts
       → Lights top p u j.tasks j.parts → WriterSays top (j.tasks 0) u j.parts → IsNotStray (record { reader = p; value = v; fresh = (j.parts i).fresh p; overlaps = (j.parts i).overlaps p })
       → ((x : ℕ) → MayGive p u x → Out (Some (Got p x)) u) → (Beacon top (suc i) k (MayGive p u) j.parts → Runs t w p op Out on j) → Runs t w p op Out (after_look i on (Value v)) j
@@ -218,7 +218,8 @@ module _ (not_found : Outcome) (values processes : ℕ) (two : 2 ≤ values) whe
           let is : v ≡ 0 = omega (arith, lv, ne) in
           more (looked_zero top p i left k u j.parts look (subst (λ x. IsNotStray (record { reader = p; value = x; fresh = (j.parts i).fresh p; overlaps = (j.parts i).overlaps p })) is good))
 
-  -- before a read of a bit: the read is invoked, and ends at once or later
+  -- a scan from its read of bit i on keeps the invariant: the read is invoked, and ends at once or
+  -- later
   runs_look : (i left k p : ℕ) (op : Op) (Out : Option Event → Seen → Type 0) (u : Seen) (j : View UnaryTask) (on : Program UnaryTask) → (p ≡ 0 → ⊥) → i + left ≡ top → Beacon top i k (MayGive p u) j.parts
       → Lights top p u j.tasks j.parts → WriterSays top (j.tasks 0) u j.parts → Out None u → ((x : ℕ) → MayGive p u x → Out (Some (Got p x)) u)
       → ((z : View UnaryTask) → Beacon top (suc i) k (MayGive p u) z.parts → Lights top p u z.tasks z.parts → WriterSays top (z.tasks 0) u z.parts → Runs t w p op Out on z)
@@ -275,7 +276,7 @@ module _ (not_found : Outcome) (values processes : ℕ) (two : 2 ≤ values) whe
       (good_begun IsNotStray p Read None u refl tt)
       (λ x m. good_begun IsNotStray p Read (Some (Got p x)) u refl (not_stray_give p v x m, tt))
 
-  -- an operation of the writer on a bit has ended
+  -- the rest of a write, once the writer's operation on a bit has ended, keeps the invariant
   writer_ends : (u : Seen) (j : View UnaryTask) (p : ℕ) (op : Op) (task : UnaryTask) (chosen : Option (ℕ × Bool)) (o : Outcome) → UnaryInv top u j → p ≡ 0 → WriterAt top task u j.parts
       → Answers 2 (t.asks task).op o → IsNotSpent o
       → Runs t w p op (λ e. IsGoodStep IsNotStray u (in_order (chosen_of p chosen) e)) (unary_rest not_found task o)
@@ -298,7 +299,7 @@ module _ (not_found : Outcome) (values processes : ℕ) (two : 2 ≤ values) whe
       (good_gone IsNotStray p chosen None u refl tt) (good_gone IsNotStray p chosen (Some (Wrote p)) u refl tt)
   writer_ends u j p op (Looking q i left) chosen o h zp wr ans pass = absurd wr
 
-  -- a reader's read of a bit has ended
+  -- the rest of a read, once the reader's pending read of bit i has ended, keeps the invariant
   look_ends : (u : Seen) (j : View UnaryTask) (p i left k v : ℕ) (op : Op) (chosen : Option (ℕ × Bool)) → UnaryInv top u j → (p ≡ 0 → ⊥) → Looks top p i left k u j.parts → v < 2
       → IsNotStray (record { reader = p; value = v; fresh = (j.parts i).fresh p; overlaps = (j.parts i).overlaps p })
       → Runs t w p op (λ e. IsGoodStep IsNotStray u (in_order (chosen_of p chosen) e)) (unary_rest not_found (Looking p i left) (Value v)) j
@@ -373,6 +374,7 @@ module _ (not_found : Outcome) (values processes : ℕ) (two : 2 ≤ values) whe
         });
       }
 
+  -- the invariant holds at first, every step keeps it, and no returned read is stray
   pub unary_kept : IsKept t (UnaryMayBeAt values processes) w opening (IsGoodStep IsNotStray)
   unary_kept = record {
     initial = λ v l j ew et ep. at_first v l j et ep;

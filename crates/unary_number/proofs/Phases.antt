@@ -20,6 +20,7 @@ pub record Idle (top : ℕ) (u : Seen) (parts : ℕ → Seen) : Type 0 where
   pub zeros : (i : ℕ) → i < u.last → (parts i).last ≡ 1 → ⊥
   pub quiet : (i : ℕ) → i ≤ top → (parts i).writing ≡ None
 
+-- a write of x is in progress, and is setting bit x to 1
 pub record Rising (top x : ℕ) (u : Seen) (parts : ℕ → Seen) : Type 0 where
   pub writing : u.writing ≡ Some x
   pub small : x ≤ top
@@ -35,6 +36,8 @@ pub record Cleared (top i x : ℕ) (u : Seen) (parts : ℕ → Seen) : Type 0 wh
   pub zeros : (k : ℕ) → i ≤ k → k < x → (parts k).last ≡ 1 → ⊥
   pub quiet : (k : ℕ) → k ≤ top → (parts k).writing ≡ None
 
+-- a write of x is in progress, and is clearing bit i: bit x is 1, and the bits from i + 1 to x - 1
+-- are 0
 pub record Falling (top i x : ℕ) (u : Seen) (parts : ℕ → Seen) : Type 0 where
   pub writing : u.writing ≡ Some x
   pub small : x ≤ top
@@ -44,6 +47,7 @@ pub record Falling (top i x : ℕ) (u : Seen) (parts : ℕ → Seen) : Type 0 wh
   pub here : (parts i).writing ≡ Some 0
   pub quiet : (k : ℕ) → k ≤ top → (k ≡ i → ⊥) → (parts k).writing ≡ None
 
+-- what each task of the writer says of the number and of the bits
 abbrev pub WriterAt : ℕ → UnaryTask → Seen → (ℕ → Seen) → Type 0
 WriterAt top (Setting x) u parts = Rising top x u parts
 WriterAt top (Clearing x i) u parts = Falling top i x u parts
@@ -53,6 +57,7 @@ abbrev pub WriterSays : ℕ → Option (TaskInProgress UnaryTask) → Seen → (
 WriterSays top None u parts = Idle top u parts
 WriterSays top (Some n) u parts = WriterAt top n.task u parts
 
+-- what each task of reader r says: the scan's read of a bit has a beacon
 abbrev pub ReaderAt : ℕ → ℕ → UnaryTask → Seen → (ℕ → Seen) → Type 0
 ReaderAt top r (Setting x) u parts = ⊥
 ReaderAt top r (Clearing x i) u parts = ⊥
@@ -69,6 +74,8 @@ pub record Lights (top p : ℕ) (u : Seen) (tasks : ℕ → Option (TaskInProgre
   pub ready : (k : ℕ) × Beacon top 0 k (MayGiveNow u) parts
   pub readers : (r : ℕ) → (r ≡ 0 → ⊥) → (r ≡ p → ⊥) → ReaderSays top r (tasks r) u parts
 
+-- what a reader's task says still holds, if its read of a bit still has a beacon, the same or
+-- another
 pub reader_map : (top r : ℕ) (u v : Seen) (parts to : ℕ → Seen) → ((i left k : ℕ) → Looks top r i left k u parts → (z : ℕ) × Looks top r i left z v to)
     → (task : Option (TaskInProgress UnaryTask)) → ReaderSays top r task u parts → ReaderSays top r task v to
 reader_map top r u v parts to f None h = tt
@@ -82,6 +89,7 @@ reader_map top r u v parts to f (Some n) h = at n.task h
 same_some : (x y : ℕ) → (let s : Option ℕ = Some x in s) ≡ Some y → x ≡ y
 same_some x y e = cc
 
+-- `Lights` holds after a write of x begins, and with it the write of 1 to bit x
 pub lights_begin : (top p x : ℕ) (u : Seen) (tasks : ℕ → Option (TaskInProgress UnaryTask)) (parts : ℕ → Seen) → Lights top p u tasks parts → u.writing ≡ None
     → Lights top p (sees (Some (Invoke p (Write x))) u) tasks (put x (raised (parts x)) parts)
 lights_begin top p x u tasks parts l idle =
@@ -96,6 +104,7 @@ lights_begin top p x u tasks parts l idle =
       readers = λ r z ne. reader_map top r u v parts (put x (raised (parts x)) parts) (λ i left k h. (k, looking_begin top r i left k p x u parts h)) (tasks r) (l.readers r z ne);
     }
 
+-- `Lights` holds after the write of 1 to bit x ends
 pub lights_raised : (top p x : ℕ) (u : Seen) (tasks : ℕ → Option (TaskInProgress UnaryTask)) (parts : ℕ → Seen) → Lights top p u tasks parts → u.writing ≡ Some x → (parts x).writing ≡ Some 1
     → Lights top p u tasks (put x (written (parts x)) parts)
 lights_raised top p x u tasks parts l e w = record {
@@ -125,6 +134,7 @@ beacon_fall top p k i x A u parts c ax b =
       )
     ]
 
+-- `Lights` holds after a write of 0 to bit i begins
 pub lights_lower : (top p i x : ℕ) (u : Seen) (tasks : ℕ → Option (TaskInProgress UnaryTask)) (parts : ℕ → Seen) → Lights top p u tasks parts → Cleared top (suc i) x u parts
     → Lights top p u tasks (put i (lowered (parts i)) parts)
 lights_lower top p i x u tasks parts l c =
@@ -147,6 +157,7 @@ lights_lower top p i x u tasks parts l c =
           ]),
         )
 
+-- `Lights` holds after a write of 0 to bit i ends
 pub lights_lowered : (top p i : ℕ) (u : Seen) (tasks : ℕ → Option (TaskInProgress UnaryTask)) (parts : ℕ → Seen) → Lights top p u tasks parts → (parts i).writing ≡ Some 0
     → Lights top p u tasks (put i (written (parts i)) parts)
 lights_lowered top p i u tasks parts l w = record {
@@ -156,7 +167,7 @@ lights_lowered top p i u tasks parts l w = record {
       (λ y left k h. (k, looking_written top r y left k i u parts h (beacon_lowered top y k i (MayGive r u) parts h.beacon w))) (tasks r) (l.readers r z ne);
 }
 
--- the write of the number returns
+-- `Lights` holds after the write of x returns
 pub lights_end : (top p q x : ℕ) (u : Seen) (tasks : ℕ → Option (TaskInProgress UnaryTask)) (parts : ℕ → Seen) → Lights top p u tasks parts → Cleared top 0 x u parts
     → Lights top p (sees (Some (Wrote q)) u) tasks parts
 lights_end top p q x u tasks parts l c =
@@ -239,7 +250,7 @@ falling_end top i x u parts f =
 pub lights_for : (top p : ℕ) (u : Seen) (tasks : ℕ → Option (TaskInProgress UnaryTask)) (parts : ℕ → Seen) → Lights top 0 u tasks parts → Lights top p u tasks parts
 lights_for top p u tasks parts l = record { overlap = l.overlap; ready = l.ready; readers = λ r z ne. l.readers r z z }
 
--- the step of process p ends
+-- `Lights` holds after p's step ends with task x, or with none, if what this task says holds
 pub lights_put : (top p : ℕ) (u : Seen) (x : Option (TaskInProgress UnaryTask)) (tasks : ℕ → Option (TaskInProgress UnaryTask)) (parts : ℕ → Seen) → Lights top p u tasks parts
     → ((p ≡ 0 → ⊥) → ReaderSays top p x u parts) → Lights top 0 u (put p x tasks) parts
 lights_put top p u x tasks parts l mine = record {

@@ -46,10 +46,11 @@ abbrev Goes : {N : Type 0} → Next N → Type 0
 Goes (Done (Spent layer)) = ⊥
 Goes _ = ⊤
 
--- an event, if there is one, isn't a refusal; and neither of a step's two events is a refusal
+-- an event, if there is one, isn't a refusal
 abbrev IsQuiet : Option Event → Type 0
 IsQuiet e = MatchOption e ⊤ (λ e. is_refusal e ≡ false)
 
+-- neither of a step's two events is a refusal
 abbrev AreQuiet : StepEvents → Type 0
 AreQuiet e = IsQuiet e.first × IsQuiet e.second
 
@@ -100,7 +101,7 @@ module _ {P : Type 0} (b : Behaviour P) (values processes : ℕ) (layer : Layer)
       (after_part (λ o n. advance t b (k o) n) task next m ≡ after_part (λ o n. advance r b (l o) n) task next m)
       × AllFind (ended_after (λ o n. ended_by t b (k o) n) task next m)
 
-  -- both do the same after a write of a bit
+  -- the number and the variant do the same after a write of a bit
   after_write : (task : UnaryTask) (k : Program UnaryTask) (next : Next P) (m : Memory) → ((o : Outcome) → FindsOne values task o) → ((n : Memory) → Alike k k n) → AlikeAfter task (λ o. k) (λ o. k) next m
   after_write task k (Pending p) m says same = (refl, tt)
   after_write task k (Done (Spent l)) m says same = (refl, (says (Spent l), tt))
@@ -115,8 +116,8 @@ module _ {P : Type 0} (b : Behaviour P) (values processes : ℕ) (layer : Layer)
   one_isnt : {A : Type 0} (v : ℕ) → (v == 1) ≡ true → Value v ≡ Value 0 → A
   one_isnt v one e = absurd (let is : v ≡ 1 = eqb-true v 1 one in let no : v ≡ 0 = cc in omega (arith, is, no))
 
-  -- both do the same after a read of a bit, if they do so after a 0; after a 0 in the last bit the
-  -- variant only refuses
+  -- the number and the variant do the same after a read of a bit, if they do so after a 0, and if
+  -- the variant doesn't refuse the scan, as it does after a 0 in the last bit
   after_look_at : (who i left : ℕ) (next : Next P) (m : Memory) → i + left + 1 ≡ values
       → ((n : Memory) → Goes (advance r b (looks_above (Spent layer) who i left) n).next → Alike (looks_above top who i left) (looks_above (Spent layer) who i left) n)
       → Goes (after_part (λ o n. advance r b (after_look i (looks_above (Spent layer) who i left) o) n) (Looking who i left) next m).next
@@ -144,7 +145,7 @@ module _ {P : Type 0} (b : Behaviour P) (values processes : ℕ) (layer : Layer)
   looks (suc left) who i m all goes =
       after_look_at who (suc i) left (asked b (unary_asks (Looking who (suc i) left)) m).next (asked b (unary_asks (Looking who (suc i) left)) m).memory (omega (arith, all)) (λ n. looks left who (suc i) n (omega (arith, all))) goes
 
-  -- both do the same as an operation begins, and as it goes on
+  -- the number and the variant do the same as an operation begins, if the variant refuses nothing
   begins : (who : ℕ) (o : Op) (m : Memory) → Goes (advance r b (unary_program (Spent layer) values who o) m).next
       → Alike (unary_program top values who o) (unary_program (Spent layer) values who o) m
   begins who (op.Write x) m goes = after_write (Setting x) (clears_below x x) (asked b (unary_asks (Setting x)) m).next (asked b (unary_asks (Setting x)) m).memory (λ o. tt) (λ n. clears x x n)
@@ -152,6 +153,7 @@ module _ {P : Type 0} (b : Behaviour P) (values processes : ℕ) (layer : Layer)
       after_look_at who 0 (values - 1) (asked b (unary_asks (Looking who 0 (values - 1))) m).next (asked b (unary_asks (Looking who 0 (values - 1))) m).memory (omega (arith, some))
       (λ n. looks (values - 1) who 0 n (omega (arith, some))) goes
 
+  -- the number and the variant do the same as an operation goes on, if the variant refuses nothing
   goes_on : (who : ℕ) (o : Op) (task : UnaryTask) (next : Next P) (m : Memory) → UnaryMayBeAt values processes who o task → Goes (after_part (λ o n. advance r b (unary_rest (Spent layer) task o) n) task next m).next
       → AlikeAfter task (unary_rest top task) (unary_rest (Spent layer) task) next m
   goes_on who (op.Write w) (Setting x) next m at_task goes = after_write (Setting x) (clears_below x x) next m (λ o. tt) (λ n. clears x x n)
@@ -172,7 +174,7 @@ module _ {P : Type 0} (b : Behaviour P) (values processes : ℕ) (layer : Layer)
     abbrev IsReachedBy : ℕ → Option (Running N) → Type 0
     IsReachedBy p running = IsReached (LayerReaches r (UnaryMayBeAt values processes) Reaches) p running
 
-    -- both do the same in a step
+    -- the number and the variant do the same in a step, in which no read of the last bit gives 0
     abbrev AlikeIn : Bool → Step → Option (Running N) → Memory → Type 0
     AlikeIn has_stopped s running m = (acting_unless has_stopped L s running m ≡ acting_unless has_stopped R s running m) × AllFind (ended_unless t b has_stopped s running m)
 
@@ -200,8 +202,8 @@ module _ {P : Type 0} (b : Behaviour P) (values processes : ℕ) (layer : Layer)
           let same = acts s (is_stopped (process_of s) c) (running_at (process_of s) c) c.memory (well.reached (process_of s)) quiet in
           (ap (λ (a : Acted N). put_acted (process_of s) a (with_stop_mark s c)) same.0, same.1)
 
-      -- after steps in which the variant refuses nothing, the number is in the variant's
-      -- configuration
+      -- if the variant refuses nothing in some steps and then in s, no read of the last bit gives 0
+      -- in the number's step s
       runs_alike : (steps : List Step) (s : Step) (index : ℕ) (c : Alone N) → Well c → AllFit R steps → list_any (λ e. is_refusal e.1) (indexed index (history R c (steps ++ s ∷ []))) ≡ false
           → AllFind (ended_in t b (replayed L c steps) s)
       runs_alike [] s index c well fits none = (steps_alike c s well (quiet_step index (events_of R c s) [] none).0).1

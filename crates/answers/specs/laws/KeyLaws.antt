@@ -28,7 +28,7 @@ use Rattle.answers.specs.laws.Packed.{same_cells, same_list, same_packed, same_p
 use Rattle.answers.specs.laws.StateLaws.{SameState, state_decides, state_eq}
 
 module _ {P : Type 0} (b : Behaviour P) (running run : List (Option (Running P))) (stopped stop : List Bool) (answers given : List (List Outcome)) where
-  -- process k has the same frames, stop mark and outcomes in both
+  -- process k has the same frames, stop mark and outcomes in both states
   record IsSameAt (k : ℕ) : Type 0 where
     pub stack : stack_of b (slice_index_or running k None) ≡ stack_of b (slice_index_or run k None)
     pub mark : slice_index_or stopped k false ≡ slice_index_or stop k false

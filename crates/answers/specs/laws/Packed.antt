@@ -17,7 +17,7 @@ use Rattle.answers.specs.Packing.{half_bytes, number_bytes, packed, by_gaps, cel
 parts : {X : Type 0} {x y : X} {xs ys : List X} → x ∷ xs ≡ y ∷ ys → (x ≡ y) × (xs ≡ ys)
 parts h = (cc, cc)
 
--- numbers
+-- numbers with equal remainders and quotients by 256 are equal
 same_by_256 : (n m : ℕ) → n % 256 ≡ m % 256 → n / 256 ≡ m / 256 → n ≡ m
 same_by_256 n m a b = omega (arith, a, b)
 
@@ -39,7 +39,7 @@ same_halves n m r s h =
     let b = same_half (n / 4294967296) (m / 4294967296) r s a.1 in
     (same_by_halves n m a.0 b.0, b.1)
 
--- by the tests whether a number is small and whether two bytes are enough
+-- the bytes of number n, given whether one byte is enough (t) and whether two are (u)
 abbrev bytes_by : Bool → Bool → ℕ → List ℕ
 bytes_by t u n = if t then n ∷ [] else if u then (192 + n / 256) ∷ n % 256 ∷ [] else 255 ∷ half_bytes (n % 4294967296) ++ half_bytes (n / 4294967296)
 
@@ -76,7 +76,7 @@ same_packed [] (m ∷ ms) h = absurd (some_bytes (nat_lt m 192) (nat_lt m 16128)
 same_packed (n ∷ ns) [] h = absurd (some_bytes (nat_lt n 192) (nat_lt n 16128) n (packed ns) h)
 same_packed (n ∷ ns) (m ∷ ms) h = let p = same_number n m (packed ns) (packed ms) h in λ i. p.0 i ∷ same_packed ns ms p.1 i
 
--- lists with gaps
+-- one more zero before n zeros gives the same list as one after them
 one_zero : (n : ℕ) (xs : List ℕ) → replicate (suc n) 0 ++ xs ≡ replicate n 0 ++ 0 ∷ xs
 one_zero zero xs = refl
 one_zero (suc n) xs = ap (λ l. 0 ∷ l) (one_zero n xs)
@@ -84,11 +84,11 @@ one_zero (suc n) xs = ap (λ l. 0 ∷ l) (one_zero n xs)
 zeros_before : (n : ℕ) (xs : List ℕ) → replicate (n + 1) 0 ++ xs ≡ replicate n 0 ++ 0 ∷ xs
 zeros_before n xs = ap (λ k. replicate k 0 ++ xs) (add-one n) ∙ one_zero n xs
 
--- by the tests whether the first number is 0 and whether it is 1
+-- the numbers for x ∷ xs after n zeros, given whether x is 0 (t) and whether it is 1 (u)
 abbrev gaps_by : Bool → Bool → ℕ → ℕ → List ℕ → List ℕ
 gaps_by t u n x xs = if t then by_gaps (n + 1) xs else if u then 2 * n ∷ by_gaps 0 xs else (2 * n + 1) ∷ x ∷ by_gaps 0 xs
 
--- n zeros before xs, and m before ys, are equal if what is written of them is
+-- n zeros before xs are the same list as m zeros before ys, and r is s
 abbrev AreSame : List ℕ → List ℕ → ℕ → ℕ → List ℕ → List ℕ → Type 0
 AreSame xs ys n m r s = (replicate n 0 ++ xs ≡ replicate m 0 ++ ys) × (r ≡ s)
 
@@ -104,7 +104,7 @@ is_zero x h = (Decides-eqb x 0).0 h
 is_one : (x : ℕ) → (x == 1) ≡ true → x ≡ 1
 is_one x h = (Decides-eqb x 1).0 h
 
--- an empty list against ys
+-- if the numbers for n zeros and for m zeros before ys are the same, the lists are
 gaps_none : (ys : List ℕ) (n m : ℕ) (r s : List ℕ) → n ≡ m + length ys → 2 * n ∷ r ≡ by_gaps m ys ++ s → AreSame [] ys n m r s
 gaps_none [] n m r s len h = let p = parts h in let e : n ≡ m = omega (arith, p.0) in ((λ i. replicate (e i) 0 ++ []), p.1)
 gaps_none (y ∷ ys) n m r s len h = by (y == 0) (y == 1) refl h (λ k g. gaps_none ys n (m + 1) r s k g)
@@ -115,7 +115,7 @@ gaps_none (y ∷ ys) n m r s len h = by (y == 0) (y == 1) refl h (λ k g. gaps_n
     by false true e g later = let p = parts g in absurd (omega (arith, p.0, len))
     by false false e g later = let p = parts g in absurd (omega (arith, p.0, len))
 
--- a list that begins with a 1 against ys
+-- if the numbers for two lists are the same, the lists are: a list that begins with a 1, and any ys
 gaps_one : (x : ℕ) (xs : List ℕ) → x ≡ 1 → ((ys : List ℕ) (n m : ℕ) (r s : List ℕ) → n + length xs ≡ m + length ys → by_gaps n xs ++ r ≡ by_gaps m ys ++ s → AreSame xs ys n m r s)
     → (ys : List ℕ) (n m : ℕ) (r s : List ℕ) → n + length (x ∷ xs) ≡ m + length ys → gaps_by false true n x xs ++ r ≡ by_gaps m ys ++ s → AreSame (x ∷ xs) ys n m r s
 gaps_one x xs is rest [] n m r s len h = let p = parts h in absurd (omega (arith, p.0, len))
@@ -132,7 +132,8 @@ gaps_one x xs is rest (y ∷ ys) n m r s len h = by (y == 0) (y == 1) refl refl 
         ((λ i. replicate (k i) 0 ++ (is ∙ sym (is_one y f)) i ∷ q.0 i), q.1)
     by false false e f g later = let p = parts g in absurd (omega (arith, p.0))
 
--- a list that begins with a greater number against ys
+-- if the numbers for two lists are the same, the lists are: one that begins with 2 or more, and any
+-- ys
 gaps_greater : (x : ℕ) (xs : List ℕ) → ((ys : List ℕ) (n m : ℕ) (r s : List ℕ) → n + length xs ≡ m + length ys → by_gaps n xs ++ r ≡ by_gaps m ys ++ s → AreSame xs ys n m r s)
     → (ys : List ℕ) (n m : ℕ) (r s : List ℕ) → n + length (x ∷ xs) ≡ m + length ys → gaps_by false false n x xs ++ r ≡ by_gaps m ys ++ s → AreSame (x ∷ xs) ys n m r s
 gaps_greater x xs rest [] n m r s len h = let p = parts h in absurd (omega (arith, p.0, len))
@@ -164,7 +165,7 @@ same_gaps (x ∷ xs) ys n m r s len h = by (x == 0) (x == 1) refl refl h (λ zs 
 pub same_list : (xs ys r s : List ℕ) → length xs ≡ length ys → by_gaps 0 xs ++ r ≡ by_gaps 0 ys ++ s → (xs ≡ ys) × (r ≡ s)
 same_list xs ys r s len h = same_gaps xs ys 0 0 r s (ap (λ n. 0 + n) len) h
 
--- cells
+-- the value that is being written to a cell, given half its number in `writing_code`
 abbrev writing_of : ℕ → Option Bool
 writing_of n = if n == 0 then None else if n == 1 then Some false else Some true
 
@@ -203,7 +204,7 @@ same_cells (x ∷ xs) (y ∷ ys) h =
     let e : x ≡ y = sym (decoded x) ∙ (ap cell_of p.0 ∙ decoded y) in
     λ i. e i ∷ same_cells xs ys p.1 i
 
--- frames
+-- operations with the same number are equal
 same_op : (a b : Op) → op_code a ≡ op_code b → a ≡ b
 same_op op.Read op.Read h = refl
 same_op op.Read (op.Write w) h = absurd (omega (arith, h))
@@ -258,7 +259,7 @@ same_frames (f ∷ fs) (g ∷ gs) r s len h =
     let q = same_frames fs gs r s (omega (arith, len)) p.1 in
     ((λ i. p.0 i ∷ q.0 i), q.1)
 
--- outcomes
+-- outcomes with the same number are equal
 same_outcome : (a b : Outcome) → outcome_code a ≡ outcome_code b → a ≡ b
 same_outcome Written Written h = refl
 same_outcome Written (Spent spent.Stamped) h = absurd (omega (arith, h))
@@ -286,7 +287,7 @@ same_codes (o ∷ os) (u ∷ us) r s len h =
     let q = same_codes os us r s (omega (arith, len)) p.1 in
     ((λ i. same_outcome o u p.0 i ∷ q.0 i), q.1)
 
--- stop marks
+-- a number for a stack's length and a stop mark determines both
 same_stop : (t u : Bool) (n m : ℕ) → 2 * n + (if t then 1 else 0) ≡ 2 * m + (if u then 1 else 0) → (n ≡ m) × (t ≡ u)
 same_stop true true n m h = (omega (arith, h), refl)
 same_stop true false n m h = absurd (omega (arith, h))

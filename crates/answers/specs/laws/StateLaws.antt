@@ -60,7 +60,7 @@ pub record SameState {R P : Type 0} (E : R → R → Bool) (a b : StateOf R P) :
   pub answers : a.answers ≡ b.answers
   pub configuration : SameConfiguration E a.configuration b.configuration
 
--- the same configuration, with no register
+-- the configuration without its register
 abbrev without_register : {R P : Type 0} → Configuration R P → Configuration (Unit {0}) P
 without_register c = record { register = tt; memory = c.memory; running = c.running; stopped = c.stopped }
 
@@ -91,7 +91,7 @@ module _ {R P : Type 0} (E : R → R → Bool) (F : P → P → Bool) where
     pub state_equivalence : IsEquivalence E → IsEquivalence state_eq
     state_equivalence e = equiv (state_per (partial_equiv_from_equiv e)) (λ a. (state_decides a a).1 (same_itself e a))
 
-    -- equal states without their registers are the same
+    -- equal configurations without their registers are the same
     alone : {x y : Configuration R P} → SameConfiguration E x y → without_register x ≡ without_register y
     alone e i = record { register = tt; memory = e.memory i; running = e.running i; stopped = e.stopped i }
 
@@ -132,7 +132,8 @@ module _ {R P : Type 0} (E : R → R → Bool) (F : P → P → Bool) where
           subst (λ (t : Bool). (w : StateOf R P) × (((if t then Some (advanced b y s) else None) ≡ Some w) × (state_eq z w ≡ true))) test
           (by_test b x y s (fits_step b s && is_enabled x.configuration s) z same h)
 
-      -- equal states move alike
+      -- if a label leads from one of two equal states to z, it leads from the other to a state
+      -- equal to z
       pub moved_alike : (q : Question) (x y : StateOf R P) → state_eq x y ≡ true → (l : ℕ) (z : StateOf R P)
           → moved (is x.configuration.register) q x l ≡ Some z → (w : StateOf R P) × ((moved (is y.configuration.register) q y l ≡ Some w) × (state_eq z w ≡ true))
       moved_alike q x y h l z m =
