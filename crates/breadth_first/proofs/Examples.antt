@@ -15,7 +15,7 @@ abbrev move : ℕ → ℕ → Option ℕ
 move zero l = Some 1
 move (suc n) l = None
 
--- its search from 0
+-- the nodes that its search from 0 finds, and their marks
 abbrev keys : List ℕ
 keys = 0 ∷ 1 ∷ []
 
@@ -26,7 +26,7 @@ marks = mark_of_start ∷ record { parent = 0; label = 0; depth = 1 } ∷ []
 Moves-holds : Moves 1 move 0 1
 Moves-holds = (0, (omega arith, refl))
 
--- no label leads on from 1
+-- no label leads from 1 to 2
 Moves-fails : Moves 1 move 1 2 → ⊥
 Moves-fails h = none-some 2 h.1.1
 
@@ -34,7 +34,7 @@ Moves-fails h = none-some 2 h.1.1
 Reaches-holds : Reaches 1 move 0 1 1
 Reaches-holds = (0, (refl, (0, (omega arith, refl))))
 
--- two moves lead nowhere from 0
+-- two moves don't lead from 0 to 1
 Reaches-fails : Reaches 1 move 0 2 1 → ⊥
 Reaches-fails h = from h.0 h.1.0 h.1.1.1.1
   where
@@ -51,7 +51,7 @@ two_made (suc (suc i)) k lt s = absurd (none-some k s)
 path_to-holds : (nodes : List ℕ) × IsTrail 1 move nodes marks
 path_to-holds = (keys, record { marked = refl; first = refl; made = two_made })
 
--- a start that is one move deep is that of no nodes
+-- a mark of depth 1 can't be the first on a trail of any nodes
 path_to-fails : ((nodes : List ℕ) × IsTrail 1 move nodes (record { parent = 0; label = 0; depth = 1 } ∷ [])) → ⊥
 path_to-fails h = let deep : 1 ≡ 0 = h.1.first in absurd (omega (arith, deep))
 

@@ -86,17 +86,17 @@ module _ {N : Type 0} (labels : ℕ) (move : N → ℕ → Option N) where
         let e : depth_at (marks ++ m ∷ []) (length keys) ≡ m.depth = depth_added marks m (length keys) len in
         record { index = length keys; key = y; stored = added keys y; same = laws.refl y; within = omega arith }
 
-    -- a node that is there is found, no deeper than one more than the node whose moves are followed
+    -- a node that is there is found, at most one deeper than the node at `at`
     pub found_there : (keys : List N) (marks : List Mark) (at : ℕ) (y : N) → IsExpanding labels move eq keys marks at → at < length keys
         → list_any (eq y) keys ≡ true → IsFound labels move eq keys marks y (depth_at marks at + 1)
     found_there keys marks at y s lt h =
         let p = place_of (eq y) keys h in
         record { index = p.0; key = p.1.0; stored = p.1.1.0; same = p.1.1.1; within = s.near p.0 lt (slice_get_within keys p.0 p.1.0 p.1.1.0) }
 
-    -- a node is added, made from the node at `at`
+    -- the node y is added with the mark m: it is made from the node x, at the index m.parent
     module _ (keys : List N) (marks : List Mark) (m : Mark) (y x : N) (s : IsExpanding labels move eq keys marks m.parent)
         (at : slice_get keys m.parent ≡ Some x) (deep : m.depth ≡ depth_at marks m.parent + 1) where
-      -- an index is an old one, whose depth stays, or the new one, which is one deeper than `at`
+      -- an index is an old one, whose depth stays, or the new one, one deeper than m.parent
       abbrev Place : ℕ → Type 0
       Place j = ((j < length keys) × (depth_at (marks ++ m ∷ []) j ≡ depth_at marks j))
           ⊎ ((j ≡ length keys) × (depth_at (marks ++ m ∷ []) j ≡ depth_at marks m.parent + 1))
@@ -207,7 +207,7 @@ module _ {N : Type 0} (labels : ℕ) (move : N → ℕ → Option N) where
         last : (k : N) → k ≡ y → Reaches labels move start (depth_at marks at) x → (n : ℕ) × Reaches labels move start n k
         last k e r = (suc (depth_at marks at), (x, (r, (l, (lt, moves ∙ ap Some (sym e))))))
 
-    -- what one node makes too many
+    -- if no node is allowed, the start alone is too many
     pub none_allowed : (start : N) (most : ℕ) → most ≤ 0 → AreTooMany labels move eq start most
     none_allowed start most none = record {
       nodes = start ∷ [];
@@ -232,7 +232,7 @@ module _ {N : Type 0} (labels : ℕ) (move : N → ℕ → Option N) where
         low : (j : ℕ) → j ≡ 0 → depth_at (mark_of_start ∷ []) j ≤ depth_at (mark_of_start ∷ []) 0 + 1
         low j e = let a : depth_at (mark_of_start ∷ []) j ≡ depth_at (mark_of_start ∷ []) 0 = ap (depth_at (mark_of_start ∷ [])) e in omega (arith, a)
 
-    -- a node is noted, or an equal one was there
+    -- a move to y is followed: y is noted, unless an equal node was there
     module _ (keys : List N) (marks : List Mark) (at l d : ℕ) (x y : N) (s : IsExpanding labels move eq keys marks at) where
       pub followed_there : slice_get keys at ≡ Some x → move x l ≡ Some y → list_any (eq y) keys ≡ true
           → IsFollowed labels move eq keys marks keys marks at l

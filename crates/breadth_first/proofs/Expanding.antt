@@ -41,7 +41,7 @@ module _ {N K : Type 0} (g : Shape N K) (eq : N → N → Bool) (Holds : N → T
             discovered = λ y i lt mv. discovered_more g.labels g.move eq s.nodes t.new_nodes marks new_marks at l f (slice_get_within s.nodes at x s.here) old x y i lt there mv;
           }
 
-      -- a label that leads from x as one before it does need not be followed
+      -- a label whose move from x is that of an earlier label needn't be followed
       pub labels_again : (j : ℕ) → j < l → g.move x l ≡ g.move x j → IsExpandingLabels keys goals marks queue (l + 1)
       labels_again j lt same = record {
         nodes = s.nodes;

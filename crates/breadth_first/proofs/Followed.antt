@@ -5,7 +5,7 @@ use Rattle.std.proofs.lemmas.Option.{slice_get_cases}
 use Rattle.breadth_first.specs.declared.mark.Mark.{Mark}
 use Rattle.breadth_first.specs.Paths.{depth_at, IsFound, IsFollowed}
 
--- a list whose items stay has the same item there
+-- if each item of xs is still in ys, at its index, then what ys has at an index of xs, xs has there
 pub grown_same : {X : Type 0} (xs ys : List X) (at : ℕ) (x : X) → ((i : ℕ) (x : X) → slice_get xs i ≡ Some x → slice_get ys i ≡ Some x)
     → at < length xs → slice_get ys at ≡ Some x → slice_get xs at ≡ Some x
 grown_same xs ys at x grown lt h = elim ((slice_get_cases xs at).1) [

@@ -19,13 +19,13 @@ front [] (suc n) x rest h = cc
 front (y ∷ ys) zero x rest h = (cc, cc)
 front (y ∷ ys) (suc n) x rest h = front ys n x rest h
 
--- a list that has no first item
+-- a list that stays the same without its first item is empty
 none_in : {X : Type 0} (xs : List X) → xs ≡ drop 1 xs → length xs ≡ 0
 none_in [] h = refl
 none_in (x ∷ xs) h = let e : length (x ∷ xs) ≡ length xs = ap length h in absurd (omega (arith, e))
 
 module _ {N K : Type 0} (g : Shape N K) (eq : N → N → Bool) (eq_key : K → K → Bool) (Holds : N → Type 0) where
-  -- nodes equal y are there exactly if their keys are
+  -- a node equal to y is among the nodes exactly if a key equal to y's is among their keys
   pub any_key : (same : (x y : N) → Holds x → Holds y → eq_key (g.key x) (g.key y) ≡ eq x y) (y : N) (nodes : List N) → Holds y
       → ((i : ℕ) (x : N) → slice_get nodes i ≡ Some x → Holds x) → list_any (eq_key (g.key y)) (map g.key nodes) ≡ list_any (eq y) nodes
   any_key same y [] h all = refl
@@ -145,7 +145,7 @@ module _ {N K : Type 0} (g : Shape N K) (eq : N → N → Bool) (eq_key : K → 
         let left : length queue ≡ length s.nodes - at = ap length s.searching.waiting ∙ length-drop at s.nodes in
         searched_all laws alike (omega (arith, none, left))
 
-    -- and so it is once as many nodes are expanded as are allowed
+    -- once as many nodes are expanded as there are keys, all is found
     pub searched_full : (laws : IsEquivalence eq)
         (alike : (x y : N) → eq x y ≡ true → (l : ℕ) (z : N) → g.move x l ≡ Some z → (w : N) × ((g.move y l ≡ Some w) × (eq z w ≡ true)))
         → length keys ≤ at → IsWholeSearch g eq Holds keys goals marks

@@ -11,7 +11,7 @@ use Rattle.std.proofs.lemmas.Map.Made.{length-le_from_is_member}
 
 module _ {N : Type 0} (labels : ℕ) (move : N → ℕ → Option N) (eq : N → N → Bool) (laws : IsEquivalence eq)
     (alike : (x y : N) → eq x y ≡ true → (l : ℕ) (z : N) → move x l ≡ Some z → (w : N) × ((move y l ≡ Some w) × (eq z w ≡ true))) where
-  -- what a search keeps
+  -- a search that has expanded no node: `start` is the first of its nodes, which are at most `most`
   pub record HasBegun (start : N) (keys : List N) (marks : List Mark) (most : ℕ) : Type 0 where
     pub expanding : IsExpanding labels move eq keys marks 0
     pub first : slice_get keys 0 ≡ Some start
@@ -31,7 +31,7 @@ module _ {N : Type 0} (labels : ℕ) (move : N → ℕ → Option N) (eq : N →
         fits = omega (arith, ap length k, ap length e, a.1.1.1);
       }
 
-  -- once all is found among at most `most` nodes, more aren't reachable
+  -- if all that is reachable is found, in at most `most` nodes, no more than `most` are reachable
   pub no_more : (start : N) (keys : List N) (marks : List Mark) (most : ℕ) → IsAllReached labels move eq start keys marks → length keys ≤ most
       → AreTooMany labels move eq start most → ⊥
   no_more start keys marks most all fits t =

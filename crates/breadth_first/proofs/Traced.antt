@@ -7,7 +7,8 @@ use Rattle.breadth_first.specs.declared.mark.Mark.{Mark}
 use Rattle.breadth_first.specs.Paths.{noted_mark, depth_at, IsTrail, LeadsBy}
 
 module _ {N : Type 0} (labels : ℕ) (move : N → ℕ → Option N) (keys : List N) (marks : List Mark) where
-  -- the marks on the way back from the node at `index` to the one at `at`, the last first
+  -- `path` has the marks on the way back from the node at `index` to the one at `at`, the last mark
+  -- first; `made` is how many there are
   pub record IsTraced (index at made : ℕ) (path : List Mark) : Type 0 where
     pub there : at < length keys
     pub depth : depth_at marks at + made ≡ depth_at marks index
@@ -54,7 +55,7 @@ module _ {N : Type 0} (labels : ℕ) (move : N → ℕ → Option N) (keys : Lis
       | inr b ↦ absurd (omega (arith, lt, b.0))
     ]
 
-    -- all the way back
+    -- a way back with as many marks as the node is deep ends at the start
     pub traced_all : (index at made : ℕ) (path : List Mark) → IsTraced index at made path → depth_at marks index ≤ made
         → (start key : N) → slice_get keys 0 ≡ Some start → slice_get keys index ≡ Some key → LeadsBy labels move keys start (reverse path) key
     traced_all index at made path d all start key s k =

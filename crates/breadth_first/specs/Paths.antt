@@ -3,11 +3,11 @@ use Rattle.std.specs.Prelude.{◌≡◌, ℕ, zero, suc, ◌+◌, ◌<◌, ◌�
 use Rattle.std.specs.List.{IsDistinct}
 use Rattle.breadth_first.specs.declared.mark.Mark.{Mark}
 
--- no mark
+-- the mark of the start, from which no move is needed
 abbrev pub mark_of_start : Mark
 mark_of_start = record { parent = 0; label = 0; depth = 0 }
 
--- the mark at index i
+-- the mark at index i; that of the start if there is none
 abbrev pub noted_mark : List Mark → ℕ → Mark
 noted_mark marks i = slice_index_or marks i mark_of_start
 
@@ -55,7 +55,7 @@ module _ {N : Type 0} (labels : ℕ) (move : N → ℕ → Option N) where
       pub same : eq y key ≡ true
       pub within : depth_at marks index ≤ d
 
-    -- the moves from the nodes before index `at` are followed; those from the node there may be
+    -- all moves from the nodes before index `at` are followed, and maybe some from the node at it
     pub record IsExpanding (keys : List N) (marks : List Mark) (at : ℕ) : Type 0 where
       pub trail : IsTrail keys marks
       pub distinct : IsDistinct eq keys
@@ -64,7 +64,7 @@ module _ {N : Type 0} (labels : ℕ) (move : N → ℕ → Option N) where
       pub expanded : (i : ℕ) (k : N) → i < at → slice_get keys i ≡ Some k → (y : N) → Moves k y
           → IsFound keys marks y (depth_at marks i + 1)
 
-    -- one label's move from the node at `at` is followed
+    -- the move by the label l from the node at index `at` is followed: nodes and marks after it
     pub record IsFollowed (keys : List N) (marks : List Mark) (new_keys : List N) (new_marks : List Mark) (at l : ℕ) : Type 0 where
       pub expanding : IsExpanding new_keys new_marks at
       pub grown : (i : ℕ) (x : N) → slice_get keys i ≡ Some x → slice_get new_keys i ≡ Some x

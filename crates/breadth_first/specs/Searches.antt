@@ -49,13 +49,14 @@ module _ {N K : Type 0} (g : Shape N K) where
       pub here : slice_get nodes at ≡ Some x
       pub searching : IsSearching nodes keys goals marks queue (at + 1) at
 
-    -- one label's move from the node at `at` is followed
+    -- the move by the label l from the node at index `at` is followed: the search after it,
+    -- with keys, goals and queue (`IsFollowed` is of nodes and marks alone)
     pub record IsStepped (nodes : List N) (marks : List Mark) (new_keys : List K) (new_goals : List Bool) (new_marks : List Mark) (new_queue : List N) (at l : ℕ) : Type 0 where
       pub new_nodes : List N
       pub searching : IsSearching new_nodes new_keys new_goals new_marks new_queue (at + 1) at
       pub followed : IsFollowed g.labels g.move eq nodes marks new_nodes new_marks at l
 
-    -- all nodes that are reachable: their keys, which are goals, and how each was discovered
+    -- all nodes that are reachable: their keys, whether each is a goal, and how it was discovered
     pub record IsWholeSearch (keys : List K) (goals : List Bool) (marks : List Mark) : Type 0 where
       pub nodes : List N
       pub kept : AreKeysOf nodes keys goals

@@ -64,7 +64,7 @@ pub trait Graph {
     ghost holds_after: { (g : Self) (x y : Self.Node) (l : ℕ) → Holds g x
         → (shape g).move x l ≡ Some y → Holds g y };
 
-    // Keys are equal exactly if their nodes are.
+    // Keys of nodes of which `Holds` holds are equal exactly if the nodes are.
     ghost same_key: { (g : Self) (x y : Self.Node) → Holds g x → Holds g y
         → Self.Key.eq ((shape g).key x) ((shape g).key y) ≡ Self.Node.eq x y };
 }

@@ -31,8 +31,8 @@ struct Search<N: Drop, K: Eq + Hash + Drop> {
     queue: VecDeque<N>,
 }
 
-/// All nodes that are reachable from the start, each by a shortest path, if they are at most `most`.
-/// `TooMany` if they are more; `Memory` if memory runs out.
+/// All nodes that are reachable from the start, each by a shortest path, if there are at most
+/// `most`. `TooMany` if there are more; `Memory` if memory runs out.
 pub fn reach<G: Graph>(
     alloc: Global,
     graph: &G,
@@ -148,7 +148,7 @@ fn discover<G: Graph>(
 }
 
 impl<N: Drop, K: Eq + Hash + Drop> Search<N, K> {
-    /// Adds a node to the queue, with its goal and its mark.
+    /// Adds a node to the queue, and notes its mark and whether it is a goal.
     fn add(&mut self, node: N, goal: bool, mark: Mark) -> Result<(), Unreached>
         ensures keys { self.new.reached.keys ≡ self.old.reached.keys }
         ensures goals { OnOk result
@@ -172,7 +172,7 @@ impl<N: Drop, K: Eq + Hash + Drop> Search<N, K> {
 }
 
 /// Follows the move by one label from `node`, which is the one at index `at`. Returns whether the
-/// next label leads to the same node.
+/// next label is known to lead to the same node.
 fn follow<G: Graph>(
     graph: &G,
     search: &mut Search<G::Node, G::Key>,

@@ -6,7 +6,8 @@ use Rattle.frames.specs.declared.types.StepEvents.{StepEvents}
 use Rattle.checkpoints.specs.declared.mark.Mark.{Mark}
 use Rattle.checkpoints.specs.Reports.{events_with, left_after, reported_events, ReportsOne, IsStepAdded}
 
--- marks and events give the events of these steps alone, whatever events follow
+-- whatever steps, marks and events follow, these steps have the events that `marks` and `events`
+-- give, and the steps that follow have those that theirs give
 abbrev pub AreFirst : List Step → List Mark → List Event → Type 0
 AreFirst steps marks events = (ss : List Step) (ms : List Mark) (es : List Event) → reported_events (steps ++ ss) (marks ++ ms) (events ++ es) ≡ reported_events steps marks events ++ reported_events ss ms es
 
@@ -39,6 +40,7 @@ module _ (steps : List Step) (marks : List Mark) (events : List Event) (s : Step
   pub one_reported : AreMarksOf (steps ++ s ∷ []) (marks ++ mark ∷ []) (events ++ kept) (so_far ++ one ∷ [])
   one_reported = record { reports = more_reported; kept = more_kept }
 
+-- the marks and events of these steps, with those of one more step, are those of all these steps
 pub reported_more : (steps made : List Step) (marks more : List Mark) (events later : List Event) (s : Step) (one : StepEvents) → AreFirst steps marks events → made ≡ steps ++ s ∷ []
     → IsStepAdded s one marks more events later → AreMarksOf made more later (reported_events steps marks events ++ one ∷ [])
 reported_more steps made marks more events later s one is is_made added =
@@ -46,7 +48,7 @@ reported_more steps made marks more events later s one is is_made added =
     subst (λ l. AreMarksOf l more later all) (sym is_made) (subst (λ l. AreMarksOf (steps ++ s ∷ []) l later all) (sym added.marked)
     (subst (λ l. AreMarksOf (steps ++ s ∷ []) (marks ++ added.mark ∷ []) l all) (sym added.added) (one_reported steps marks events s added.mark added.kept one is added.reports)))
 
--- the events of the first steps are the first events
+-- the events of the first n steps are the first n items of the events of all steps
 pub front_reported : (n : ℕ) (steps : List Step) (marks : List Mark) (events : List Event) → reported_events (take n steps) marks events ≡ take n (reported_events steps marks events)
 front_reported zero steps marks events = refl
 front_reported (suc n) [] marks events = refl

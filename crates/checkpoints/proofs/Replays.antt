@@ -10,7 +10,7 @@ use Rattle.frames.specs.Behaviour.{Behaviour}
 use Rattle.frames.specs.Configuration.{Configuration, fits_step, stepped, events_of, replayed, history}
 use Rattle.frames.specs.Recorded.{AllFit}
 
--- the steps of the items from index i on begin with item of the item at i
+-- the steps of the items from index i on are the step of the item at i, then those from i + 1 on
 pub left_at : {S : Type 0} (step_in : S → Step) (items : List S) (i : ℕ) (item : S) → i < length items → item ≡ get_or items i item
     → map step_in (drop i items) ≡ step_in item ∷ map step_in (drop (i + 1) items)
 left_at step_in items i item within is =
@@ -19,7 +19,7 @@ left_at step_in items i item within is =
     ∙ ap (λ s. step_in s ∷ map step_in (drop (suc i) items)) (sym is)
     ∙ ap (λ n. step_in item ∷ map step_in (drop n items)) next
 
--- the steps from index i on begin with the one at i
+-- the steps from index i on are the one at i, then those from i + 1 on
 pub next_left : (steps : List Step) (i : ℕ) (step other : Step) → i < length steps → step ≡ get_or steps i other → drop i steps ≡ step ∷ drop (i + 1) steps
 next_left steps i step other within is =
     let next : suc i ≡ i + 1 = omega arith in
@@ -35,7 +35,7 @@ next_made steps i step other within is =
 pub none_left : {S : Type 0} (step_in : S → Step) (items : List S) (i : ℕ) → length items ≤ i → map step_in (drop i items) ≡ []
 none_left step_in items i past = ap (map step_in) (drop_of_length-le items past)
 
--- the first of the steps item are left
+-- the steps that are left are `step`, then `rest`
 module _ (step : Step) (left rest : List Step) (first : left ≡ step ∷ rest) where
   pub step_fits : {P : Type 0} (b : Behaviour P) → AllFit b left → fits_step b step ≡ true
   step_fits b all = All-head (λ s. fits_step b s ≡ true) step rest (subst (AllFit b) first all)
@@ -46,7 +46,7 @@ module _ (step : Step) (left rest : List Step) (first : left ≡ step ∷ rest) 
   pub step_kept : (steps more : List Step) → more ≡ steps ++ step ∷ [] → more ++ rest ≡ steps ++ left
   step_kept steps more is_more = ap (λ l. l ++ rest) is_more ∙ append_assoc steps (step ∷ []) rest ∙ sym (ap (λ l. steps ++ l) first)
 
--- the first of the steps that are left is made, from c to d
+-- the steps that are left are `step`, which leads from c to d, then `rest`
 module _ {R P : Type 0} (b : Behaviour P) (c d : Configuration R P) (step : Step) (left rest : List Step) (first : left ≡ step ∷ rest) where
   pub step_replayed : d ≡ stepped b c step → replayed b d rest ≡ replayed b c left
   step_replayed after = ap (λ e. replayed b e rest) after ∙ sym (ap (replayed b c) first)
@@ -59,14 +59,14 @@ module _ {R P : Type 0} (b : Behaviour P) (c d : Configuration R P) (step : Step
       ∙ sym (ap (λ l. reported ++ history b c l) first)
 
 -- a replay of the steps `whole` from `entry` has reached `now` with the events `reported`; the steps
--- `left` are still to be made, and give from `now` the rest of what the whole gives
+-- `left` are still to be made: from `now` they lead to the end of `whole`, with its other events
 pub record IsUnderWay {R P : Type 0} (is : R → Behaviour P) (entry now : Configuration R P) (whole left : List Step) (reported : List StepEvents) : Type 0 where
   pub register : now.register ≡ entry.register
   pub fit : AllFit (is entry.register) left
   pub config : replayed (is entry.register) now left ≡ replayed (is entry.register) entry whole
   pub events : reported ++ history (is entry.register) now left ≡ history (is entry.register) entry whole
 
--- the first of the steps that are left is made by the register of c, from c to d
+-- a replay that is under way stays so when c's register makes the next step, from c to d
 pub goes_on : {R P : Type 0} (is : R → Behaviour P) (entry c d : Configuration R P) (step : Step) (whole left rest : List Step) (reported more : List StepEvents) (one : StepEvents)
     → left ≡ step ∷ rest → d ≡ stepped (is c.register) c step → one ≡ events_of (is c.register) c step → more ≡ reported ++ one ∷ []
     → IsUnderWay is entry c whole left reported → IsUnderWay is entry d whole rest more
@@ -81,7 +81,8 @@ goes_on is entry c d step whole left rest reported more one first after events i
       events = step_reported b c d step left rest first goes reported more one reports is_more ∙ so_far.events;
     }
 
--- steps give the same from equal configurations, and if each of them is mapped to itself
+-- whatever `give` makes of a configuration and steps, it makes the same of an equal configuration,
+-- also if each step is first mapped to itself
 pub from_same : {R P T : Type 0} (is : R → Behaviour P) (give : Behaviour P → Configuration R P → List Step → T) (c d : Configuration R P) (steps : List Step) → c ≡ d
     → give (is c.register) c (map (λ s. s) steps) ≡ give (is d.register) d steps
 from_same is give c d steps same = ap (λ e. give (is e.register) e (map (λ s. s) steps)) same ∙ ap (give (is d.register) d) (map-id steps)

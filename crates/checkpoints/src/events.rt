@@ -14,7 +14,7 @@ use frames::types::{Event, Step, StepEvents};
 use std::alloc::{AllocError, Global};
 use std::marker::Model;
 
-/// Memory is reserved for this many events at a time, so at most this many slots stay unused.
+/// Memory is reserved for this many events at a time, so memory for at most this many is unused.
 const MORE_EVENTS: usize = 8;
 
 /// Steps, a mark for each step, and the stored events, in order. A step's mark says which of the
@@ -172,8 +172,8 @@ impl EventWalk<'_> {
         while let Some(reported) = left.next() {
             push_at(all, index, reported.first)?;
             push_at(all, index, reported.second)?;
-            // no memory holds enough steps to overflow the index, so this counts as out of
-            // memory
+            // no memory holds enough steps to overflow the index, so an overflow counts as out
+            // of memory
             let Some(next) = index.checked_add(1) else {
                 all.reserve(usize::MAX)?;
                 unreachable!();

@@ -1,4 +1,4 @@
--- A chart in which runs were found to fit again.
+-- A chart after numbers with which runs were last found to fit are recorded (`IsChecked`).
 use Rattle.std.proofs.Common.{◌≡◌, ◌⊎◌, ℕ, ◌≤◌, length, Bool, true, List, [], ◌∷◌, ◌++◌, map, Option, Some, None, MatchOption, IsSome, inl, inr, refl, sym, ap, subst, ◌∙◌, append_assoc}
 use Rattle.std.specs.Prelude.{⊤}
 use Rattle.std.specs.Option.{option_map}
@@ -19,7 +19,7 @@ use Rattle.cutoff.proofs.Prefixes.{down_after}
 use Rattle.cutoff.proofs.SameBranches.{cut_kept}
 use Rattle.cutoff.proofs.Walks.{by_key}
 
--- the cells and the run of one segment
+-- `checked_segment` changes neither the cells nor the run of a segment, and keeps `IsTrueSegment`
 module _ {R P : Type 0} (number : Option ℕ) where
   slots_checked : (o : Option (SegmentOf (StoredRun R P))) → option_map (λ p. p.slots) (option_map (checked_segment number) o) ≡ option_map (λ p. p.slots) o
   slots_checked None = refl
@@ -52,7 +52,7 @@ module _ {R P : Type 0} (number : Option ℕ) where
       by None t = tt
       by (Some s) t = record { own = t.own; covers = t.covers; id = t.id; link = t.link; checked = given }
 
--- the runs and the branches are the same
+-- if `IsChecked` holds of two tries, their runs and branches are the same
 module _ {R P : Type 0} (old new : TrieOf (StoredRun R P)) (number : Option ℕ) (key : ℕ) (checked : IsChecked old new number key) where
   steps_same : (k : ℕ) → steps_at old k ≡ steps_at new k
   steps_same k = ap (map step_of) (sym (by (checked.each k)))
@@ -142,8 +142,8 @@ module _ {R P : Type 0} (E : R → R → Bool) (is : R → Behaviour P) (alike :
       (subst (λ l. RunsDown E is trie (is start.register) start l (exit_or_start trie start (Some key))) q.is (marked live.0 live.1)) in
       subst (λ l. RunsDown E is trie (is start.register) start l (exit_or_start trie start (Some k))) (ap (λ f. f ++ k ∷ []) same ∙ sym here.to) down
 
--- a chart in which runs on the way to the marked segment were found to fit when its run was
--- installed
+-- the invariant of a chart, after the number of the marked segment's run is recorded at runs on the
+-- way to that segment
 module _ {R P : Type 0} (E : R → R → Bool) (is : R → Behaviour P) (alike : (x y : R) → E x y ≡ true → is x ≡ is y) (next : ℕ) (key : ℕ) (c : Charted R P) (new : TrieOf (StoredRun R P)) (s : StoredRun R P)
     (noted : note_of (segment_at c.trie.segments key) ≡ Some s) (checked : IsChecked c.trie new s.checked key) where
   there : (o : Option (SegmentOf (StoredRun R P))) → note_of o ≡ Some s → IsSome o
@@ -173,7 +173,7 @@ module _ {R P : Type 0} (E : R → R → Bool) (is : R → Behaviour P) (alike :
     fresh_marked = fresh_still was.whole was.marked fresh was.fresh_marked;
   }
 
--- one more run was found to fit
+-- `IsChecked` before any run is passed, and after one more
 module _ {R P : Type 0} where
   pub none_checked : (trie : TrieOf (StoredRun R P)) (number : Option ℕ) (key : ℕ) → IsChecked trie trie number key
   none_checked trie number key = record { branches = refl; limits = refl; unchanged = refl; each = λ k. inl refl }
@@ -219,6 +219,6 @@ module _ {R P : Type 0} where
         still j same (inl e) = inl (same ∙ e)
         still j same (inr e) = inr (e.0, same ∙ e.1)
 
--- a key of a path is one of its keys up to it
+-- a key of a path is among the path's keys down to that key
 pub up_to_itself : (keys : List ℕ) (k : ℕ) → has k keys ≡ true → has k (keys_up_to k keys) ≡ true
 up_to_itself keys k h = let p = parting keys k h in ap (has k) p.to ∙ has-in k p.front []

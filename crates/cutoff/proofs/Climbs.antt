@@ -30,7 +30,7 @@ not_below key k ks h = by (nat_eq key k) refl
     by true e = absurd (true≢false (sym (ap (λ x. x || has key ks) e) ∙ h))
     by false e = sym (ap (λ x. x || has key ks) e) ∙ h
 
--- a run at a key fits if the runs above lead to its entry
+-- a run with the steps of the segment `key` fits it just if the runs above lead to the run's entry
 module _ {R P : Type 0} (E : R → R → Bool) (b : Behaviour P) (trie : TrieOf (StoredRun R P)) (key : ℕ) (run : SegmentRun R P) where
   pub down_parts : (c : Configuration R P) (front back : List ℕ) → has key front ≡ false → FitsDown E b trie key run c (front ++ key ∷ back)
       → (run.steps ≡ steps_at trie key) × FitsDownTo E b trie c front run.entry
@@ -47,7 +47,7 @@ module _ {R P : Type 0} (E : R → R → Bool) (b : Behaviour P) (trie : TrieOf 
   down_whole c (k ∷ front) back lacks steps down =
       inr (not_first key k front lacks, down.0, down_whole (replayed b c (steps_at trie k)) front back (not_below key k front lacks) steps down.1)
 
--- if no run is stored, none leads on
+-- if no run is stored at the last of these keys, stored runs don't fit all of them
 down_noted : {R P : Type 0} (E : R → R → Bool) (b : Behaviour P) (trie : TrieOf (StoredRun R P)) (k : ℕ) (entry c : Configuration R P) (front : List ℕ)
     → note_of (segment_at trie.segments k) ≡ None → FitsDownTo E b trie c (front ++ k ∷ []) entry → ⊥
 down_noted E b trie k entry c [] none d = no_note_no_fit E trie c k none d.0
@@ -60,7 +60,7 @@ climb_noted E b trie k entry c keys at here there none d =
     down_noted E b trie k entry c p.front none
     (subst (λ l. FitsDownTo E b trie c l entry) p.to (subst (λ o. FitsDownTo E b trie c (keys_to keys o) entry) here d))
 
--- one more segment, with the run stored there
+-- if runs down to k lead to `entry`, the run s at k ends there, and those above lead to s's entry
 module _ {R P : Type 0} (E : R → R → Bool) (per : IsPartialEquivalence E) (is : R → Behaviour P) (alike : (x y : R) → E x y ≡ true → is x ≡ is y) (b : Behaviour P)
     (trie : TrieOf (StoredRun R P)) (k : ℕ) (s : StoredRun R P) (noted : note_of (segment_at trie.segments k) ≡ Some s) (true_run : IsRun (is s.run.entry.register) s.run)
     (entry : Configuration R P) where
@@ -74,7 +74,7 @@ module _ {R P : Type 0} (E : R → R → Bool) (per : IsPartialEquivalence E) (i
       let rest = down_before (replayed b c (steps_at trie j)) front (ap is (register_kept b c (steps_at trie j)) ∙ home) d.1 in
       (rest.0, (d.0, rest.1))
 
--- a run's exit is the entry of one that was linked to it
+-- a configuration that `exits` has at a run's number equals that run's exit
 module _ {R P : Type 0} (E : R → R → Bool) (per : IsPartialEquivalence E) (b : Behaviour P) (s : StoredRun R P) (entry : Configuration R P) where
   pub link_same : (h : R) (exits : List (Configuration ⊤ P)) (segment : List Step) → IsStored E h exits segment s → (a : ℕ) → s.id ≡ Some a
       → slice_get exits a ≡ Some (without_register entry) → E entry.register h ≡ true → (without_register entry ≡ without_register s.run.exit) × (E entry.register s.run.entry.register ≡ true)
@@ -93,7 +93,8 @@ pub link_came : {R P : Type 0} (E : R → R → Bool) (h : R) (exits : List (Con
     → (a : ℕ) → s.link ≡ Some a → (slice_get exits a ≡ Some (without_register s.run.entry)) × (E s.run.entry.register h ≡ true)
 link_came E h exits segment s links a linked = (subst (λ o. IsExitOf exits o (without_register s.run.entry)) linked links.link, links.own)
 
--- one step of the climb: a claim about the segments down to one becomes one about those above it
+-- one step up in a climb: if runs down to the segment k lead to `entry`, the run at k ends there,
+-- and those above lead to the entry of the run at k
 module _ {R P : Type 0} (E : R → R → Bool) (per : IsPartialEquivalence E) (is : R → Behaviour P) (alike : (x y : R) → E x y ≡ true → is x ≡ is y)
     (trie : TrieOf (StoredRun R P)) (start entry : Configuration R P) (keys : List ℕ) (k : ℕ) (s : StoredRun R P) (noted : note_of (segment_at trie.segments k) ≡ Some s)
     (true_run : IsRun (is s.run.entry.register) s.run) where
@@ -114,7 +115,7 @@ module _ {R P : Type 0} (E : R → R → Bool) (per : IsPartialEquivalence E) (i
 pub path_once : {T : Type 0} (trie : TrieOf T) → IsCut trie → (i : ℕ) → Once (keys_in trie.branches i)
 path_once trie whole i = Once-from_linked whole.shares.above (keys_in trie.branches i) (whole.shares.linked i)
 
--- at most as many keys as the branch has
+-- the keys down to one of a branch's keys are at most as many as all its keys
 pub few_to : (keys : List ℕ) (last : Option ℕ) → HasClimbedTo keys last → length (keys_to keys last) ≤ length keys
 few_to keys None h = omega arith
 few_to keys (Some k) h =
@@ -144,7 +145,7 @@ past_all keys last at counter end there made reached short past =
 pub shorter : (keys : List ℕ) (k : ℕ) (above : Option ℕ) → IsStepUp keys k above → length (keys_up_to k keys) ≡ length (keys_to keys above) + 1
 shorter keys k above step = ap length step.is ∙ length-append (keys_to keys above) (k ∷ [])
 
--- a run at a key, and the segment above it
+-- `above` is the key right above `key`: what runs down to `above` say of a run at `key`
 module _ {R P : Type 0} (E : R → R → Bool) (per : IsPartialEquivalence E) (is : R → Behaviour P) (alike : (x y : R) → E x y ≡ true → is x ≡ is y)
     (trie : TrieOf (StoredRun R P)) (whole : IsCut trie) (start : Configuration R P) (key : ℕ) (above : Option ℕ)
     (each : (i : ℕ) (front back : List ℕ) → keys_in trie.branches i ≡ front ++ key ∷ back → above ≡ last_of front) where
@@ -169,14 +170,14 @@ module _ {R P : Type 0} (E : R → R → Bool) (per : IsPartialEquivalence E) (i
       down_parts E (is start.register) trie key run start (keys_to (keys_in trie.branches i) above) step.back (lacks_above i step)
       (subst (FitsDown E (is start.register) trie key run start) step.parts fits)
 
--- a run of other steps fits nowhere
+-- a run that fits the segment `key` has that segment's steps
 pub down_steps : {R P : Type 0} (E : R → R → Bool) (b : Behaviour P) (trie : TrieOf (StoredRun R P)) (key : ℕ) (run : SegmentRun R P) (c : Configuration R P) (keys : List ℕ)
     → FitsDown E b trie key run c keys → run.steps ≡ steps_at trie key
 down_steps E b trie key run c [] f = absurd f
 down_steps E b trie key run c (k ∷ ks) (inl f) = f.1.steps ∙ ap (steps_at trie) (sym f.0)
 down_steps E b trie key run c (k ∷ ks) (inr f) = down_steps E b trie key run (replayed b c (steps_at trie k)) ks f.2
 
--- the number of the run right above is that of a run whose exit is this run's entry
+-- the run stored at `above` ends at `entry`, so that run's number is that of a run with this exit
 pub number_came : {R P : Type 0} (E : R → R → Bool) (per : IsPartialEquivalence E) (is : R → Behaviour P) (alike : (x y : R) → E x y ≡ true → is x ≡ is y)
     (trie : TrieOf (StoredRun R P)) (start entry : Configuration R P) (keys : List ℕ) (above : Option ℕ) (next : ℕ) (o : Option (StoredRun R P)) → HasClimbedTo keys above
     → note_named trie above ≡ o → IfSome o (λ s. IsRun (is s.run.entry.register) s.run)

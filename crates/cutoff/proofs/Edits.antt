@@ -1,4 +1,4 @@
--- After an edit, all steps fit and stored runs are true, if they were before.
+-- After an edit, all steps fit and stored runs are linked, if it was so before.
 use Rattle.std.proofs.Common.{◌≡◌, ℕ, zero, suc, ◌<◌, Bool, true, false, nat_eq, nat_le, nat_lt, cond, List, [], ◌∷◌, ◌++◌, length, map, Option, Some, None, Ok, Err, MatchOption, refl, sym, ap, subst}
 use Rattle.std.specs.Prelude.{⊤}
 use Rattle.std.specs.List.{All}
@@ -29,7 +29,7 @@ module _ {X : Type 0} (Q : X → Type 0) where
   all_right [] ys all = all
   all_right (x ∷ xs) ys all = all_right xs ys (All-tail Q x (xs ++ ys) all)
 
--- a command that gave a forest
+-- a command that may be refused gave the forest g, so it wasn't refused, and g is its result
 if_ok : (refused : Bool) (e : Refusal) (f g : Forest) → cond refused (Err e) (Ok f) ≡ Ok g → f ≡ g
 if_ok true e f g h = cc
 if_ok false e f g h = cc
@@ -75,7 +75,7 @@ module _ {P : Type 0} (b : Behaviour P) where
   pub opened_fits : (limits : Limits) (steps : List Step) (f : Forest) → AllFit b steps → opened limits steps ≡ Ok f → StepsFit b f
   opened_fits limits steps f h e = subst (StepsFit b) (if_ok (nat_lt limits.cells (length steps)) Full (opening_forest steps) f e) (opening_fits steps h)
 
--- stored runs that are true
+-- stored runs that are linked (`IsLinked`)
 module _ {R P : Type 0} (E : R → R → Bool) (h : R) (exits : List (Configuration ⊤ P)) where
   pub true_segment-unnoted : (o : Option (SegmentOf (StoredRun R P))) → note_of o ≡ None → IsTrueSegment E h exits o
   true_segment-unnoted None e = tt

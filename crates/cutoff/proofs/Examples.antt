@@ -81,7 +81,7 @@ no_note s e = cc
 other_steps : Read 1 ≡ Write 0 1 → ⊥
 other_steps e = cc
 
--- no run was stored, and one step was replayed for it
+-- the one step of `main` is settled; no run was stored, so this step was replayed
 settled : Settles same safe_behaviour (with_run None) (with_run (Some writing)) start 1 (0 ∷ []) (part ∷ []) 1
 settled =
     (1, 0, refl, record { stored = refl; fits = record { steps = refl; entry = same_as start }; count = refl; work = inr (λ h. h, refl) }, (refl, refl))

@@ -13,11 +13,12 @@ use Rattle.schedule_trie.specs.Trie.{TrieOf, SegmentOf, segment_at, slots_of, no
 use Rattle.cutoff.specs.Fitting.{StoredRun, run_of, RunFits, Fits, steps_at, run_at}
 use Rattle.cutoff.specs.Links.{without_register, IsStored, IsTrueSegment}
 
--- a replay keeps the register, and makes the same of an equal register
+-- a replay keeps the register
 pub register_kept : {R P : Type 0} (b : Behaviour P) (c : Configuration R P) (steps : List Step) → (replayed b c steps).register ≡ c.register
 register_kept b c [] = refl
 register_kept b c (s ∷ steps) = register_kept b (stepped b c s) steps
 
+-- what a replay makes of the rest doesn't depend on the register
 alone_replayed : {R P : Type 0} (b : Behaviour P) (c : Configuration R P) (steps : List Step) → without_register (replayed b c steps) ≡ replayed b (without_register c) steps
 alone_replayed b c [] = refl
 alone_replayed b c (s ∷ steps) = alone_replayed b (stepped b c s) steps
@@ -65,7 +66,7 @@ module _ {R P : Type 0} (E : R → R → Bool) where
       let exit : run.exit ≡ replayed b run.entry segment = true_run.exit ∙ ap (λ x. replayed x run.entry run.steps) same ∙ ap (replayed b run.entry) f.steps in
       subst (λ d. SameConfiguration E d (replayed b c segment)) (sym exit) (replayed_same b run.entry c segment f.entry)
 
-  -- the stored run at a key is true
+  -- if `IsTrueSegment` holds of the segment k, `IsStored` holds of the run stored there
   module _ (h : R) (exits : List (Configuration ⊤ P)) (trie : TrieOf (StoredRun R P)) (k : ℕ) (s : StoredRun R P) where
     pub stored_at : IsTrueSegment E h exits (segment_at trie.segments k) → note_of (segment_at trie.segments k) ≡ Some s → IsStored E h exits (steps_at trie k) s
     stored_at = by (segment_at trie.segments k)
@@ -74,7 +75,7 @@ module _ {R P : Type 0} (E : R → R → Bool) where
         by None t e = cc
         by (Some p) t e = subst (λ n. MatchOption n ⊤ (IsStored E h exits (map step_of p.slots))) e t
 
-  -- if a stored run fits at a key, it is the one noted there
+  -- the run s, which is stored at the key k, fits just if `Fits` holds of k
   pub fits_from_note : (trie : TrieOf (StoredRun R P)) (c : Configuration R P) (k : ℕ) (s : StoredRun R P) → note_of (segment_at trie.segments k) ≡ Some s
       → Fits E trie c k → RunFits E c (steps_at trie k) s.run
   fits_from_note trie c k s e f = subst (λ n. MatchOption (option_map run_of n) ⊥ (RunFits E c (steps_at trie k))) e f

@@ -22,7 +22,7 @@ module _ {R P : Type 0} (E : R → R → Bool) (is : R → Behaviour P) (trie : 
   pub hung_here : (key i : ℕ) → has key (keys_in trie.branches i) ≡ true → IsHung E is trie key key i
   hung_here key i h = record { there = h; below = []; path = sym (append-nil (keys_up_to key (keys_in trie.branches i))); hangs = λ start. tt }
 
-  -- a run with this link is stored at a key
+  -- a true run with this link is stored at the key k
   pub record HasLinked (k : ℕ) (link : Option ℕ) : Type 0 where
     pub stored : StoredRun R P
     pub noted : note_of (segment_at trie.segments k) ≡ Some stored
@@ -53,7 +53,7 @@ module _ {R P : Type 0} (E : R → R → Bool) (is : R → Behaviour P) (trie : 
       }
 
 module _ {R P : Type 0} (E : R → R → Bool) (is : R → Behaviour P) where
-  -- runs still hang if nothing is stored at their keys
+  -- runs still hang from one another if the segments at their keys stay as they are
   pub hang_kept : (trie new : TrieOf (StoredRun R P)) (c : Configuration R P) (keys : List ℕ) → ((j : ℕ) → has j keys ≡ true → segment_at new.segments j ≡ segment_at trie.segments j)
       → Hangs E is trie c keys → Hangs E is new c keys
   hang_kept trie new c [] same h = tt
@@ -68,7 +68,7 @@ module _ {R P : Type 0} (E : R → R → Bool) (is : R → Behaviour P) where
         hang_kept trie new h.0.stored.run.exit ks (λ j g. same j (has-tail j k ks g)) h.1,
       )
 
-  -- true runs that fit are stored down a chain that hangs
+  -- runs that hang from one another, the first at a configuration equal to c, fit from c on
   pub hang_down : IsPartialEquivalence E → ((x y : R) → E x y ≡ true → is x ≡ is y) → (trie : TrieOf (StoredRun R P)) (b : Behaviour P) (c d : Configuration R P) (keys : List ℕ)
       → SameConfiguration E d c → is c.register ≡ b → Hangs E is trie d keys → (end : Configuration R P) × RunsDown E is trie b c keys end
   hang_down per alike trie b c d [] same home h = (d, same)

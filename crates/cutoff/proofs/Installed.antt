@@ -29,7 +29,7 @@ pub alone_same : {R P : Type 0} {E : R → R → Bool} {c d : Configuration R P}
 alone_same s = λ i. record { register = tt; memory = s.memory i; running = s.running i; stopped = s.stopped i }
 
 module _ {R P : Type 0} (E : R → R → Bool) (b : Behaviour P) where
-  -- a run that fits is of the chart's register, and of the segment's steps
+  -- a run that fits begins with a register equal to that of c, and has its segment's steps
   pub down_owns : (trie : TrieOf (StoredRun R P)) (key : ℕ) (run : SegmentRun R P) (c : Configuration R P) (keys : List ℕ) → FitsDown E b trie key run c keys
       → (E run.entry.register c.register ≡ true) × (run.steps ≡ steps_at trie key)
   down_owns trie key run c [] f = absurd f
@@ -49,7 +49,7 @@ module _ {R P : Type 0} (E : R → R → Bool) (b : Behaviour P) where
     runs = λ k. inr tt;
   }
 
--- stored runs are known to fit down to an installed run, if it goes on from those above
+-- an installed run's segment can be marked, if the runs above lead to the run's entry
 module _ {R P : Type 0} (E : R → R → Bool) (per : IsPartialEquivalence E) (is : R → Behaviour P) (alike : (x y : R) → E x y ≡ true → is x ≡ is y) (old new : TrieOf (StoredRun R P))
     (start : Configuration R P) (key : ℕ) (s : StoredRun R P) (whole : IsCut old) (noted : IsNoted old new key (Some s)) (there : IsSome (segment_at old.segments key))
     (true_run : IsRun (is s.run.entry.register) s.run) (covers : s.run.steps ≡ steps_at old key) where

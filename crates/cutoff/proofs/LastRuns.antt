@@ -53,7 +53,7 @@ module _ {R P : Type 0} (E : R → R → Bool) (equal : IsEquivalence E) (is : R
           subst (λ o. RunsTo E is trie start o (keys_in trie.branches i)) (sym e)
           (record { register = equal.refl start.register; memory = refl; running = refl; stopped = refl })
 
--- a settled key can be marked
+-- the segment in which a settle ended can be marked
 pub marked_now : {R P : Type 0} (E : R → R → Bool) (is : R → Behaviour P) (trie new : TrieOf (StoredRun R P)) (start : Configuration R P) (key count n : ℕ) → 0 < count → count ≤ length (slots_of (segment_at trie.segments key))
     → new.branches ≡ trie.branches → ((i m place : ℕ) → IsPlaceIn trie key m place i → SettlesTo E is trie new start key m place i n) → IsMarked E is new start (Some key)
 marked_now E is trie new start key count n some few same settles i h =
@@ -128,7 +128,7 @@ last_settled E is old new name place key count i n o found s stored =
       ap last_part s.last.is ∙ last_of_parts s.last.before (counted_of count s.last.stored) ∙ ap (option_map (counted_of count)) (sym (stored ∙ s.last.noted)),
     )
 
--- a settle keeps or fills each stored run, by the name of the branch
+-- what a settle keeps or fills, with the branch given by its name instead of its index
 pub keeps_named : {R P : Type 0} (E : R → R → Bool) (is : R → Behaviour P) (v : Charted R P) (old new : TrieOf (StoredRun R P)) (start : Configuration R P) (value : ℕ)
     → ◌≡◌ {A = Charted R P} (record { trie = old; start = start; value = value }) v → (name : List ℕ) (place i : ℕ) → index_of (forest old).branches name ≡ Some i
     → KeepsRuns old new (IsFilled E (is start.register) old new start (reached old place (keys_in old.branches i)))

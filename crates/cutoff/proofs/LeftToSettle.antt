@@ -18,7 +18,7 @@ use Rattle.cutoff.specs.Settles.{SettlesTo}
 use Rattle.cutoff.proofs.Prefixes.{down_same, down_more}
 use Rattle.cutoff.proofs.RestWalks.{IsGoing, hanging_settles}
 
--- the keys after the one that others hang from, listed again
+-- `keys`, which a second climb lists, are the keys that hang below `top`
 module _ {R P : Type 0} (E : R → R → Bool) (is : R → Behaviour P) (old trie : TrieOf (StoredRun R P)) (top key i : ℕ) (last : Option ℕ) (keys : List ℕ) (same : trie.branches ≡ old.branches)
     (h : IsHung E is old top key i) (there : has key (keys_in old.branches i) ≡ true) (following : AreKeysAfter trie (Some key) [] (Some top) last keys)
     (stops : (i f : ℕ) → has key (keys_in trie.branches i) ≡ true → Some top ≡ Some f → has f (keys_up_to key (keys_in trie.branches i)) ≡ true → last ≡ Some top) where
@@ -43,14 +43,14 @@ module _ {R P : Type 0} (E : R → R → Bool) (is : R → Behaviour P) (old tri
       append_cancel_left (keys_up_to top path) h.below keys (sym h.path ∙ now ∙ ap (λ o. keys_to path o ++ keys) ends)
 
 module _ {R P : Type 0} (E : R → R → Bool) (is : R → Behaviour P) (old : TrieOf (StoredRun R P)) where
-  -- the next of the runs that hang, and those after it
+  -- of runs that hang from one another, the next one, and those after it, which hang from it
   pub hangs_next : (c : Configuration R P) (all : List ℕ) (index : ℕ) → index < length all → Hangs E is old c (drop index all)
       → (here : HasTrueRun E is old c (get_or all index 0)) × Hangs E is old here.stored.run.exit (drop (index + 1) all)
   hangs_next c all index h hangs =
       let step : suc index ≡ index + 1 = omega arith in
       subst (Hangs E is old c) (drop-cons all index 0 h ∙ ap (λ j. get_or all index 0 ∷ drop j all) step) hangs
 
--- if the run that others hang from stays stored, they are settled
+-- runs that hang are settled if the run that they hang from stays stored
 module _ {R P : Type 0} (E : R → R → Bool) (equal : IsEquivalence E) (per : IsPartialEquivalence E) (is : R → Behaviour P) (alike : (x y : R) → E x y ≡ true → is x ≡ is y)
     (old trie : TrieOf (StoredRun R P)) (start : Configuration R P) (key count i place n : ℕ) (back : List ℕ) where
   pub kept_settles : (top : ℕ) (above : Option ℕ) (h : IsHung E is old top key i) → IsGoing E is old trie start key count (keys_in old.branches i) h.below back place n above
@@ -69,7 +69,7 @@ module _ {R P : Type 0} (E : R → R → Bool) (equal : IsEquivalence E) (per : 
       hanging_settles E equal per is alike old trie start key count i place n (left ++ []) back (Some k) g
       (subst (λ d. Hangs E is old d (left ++ [])) came (subst (Hangs E is old here.stored.run.exit) (sym (append-nil left)) hangs))
 
--- down a part that fits, and on from its last run to those that hang from it
+-- if runs fit down to a segment, so do those that hang from that segment's run
 module _ {R P : Type 0} (E : R → R → Bool) (per : IsPartialEquivalence E) (is : R → Behaviour P) (alike : (x y : R) → E x y ≡ true → is x ≡ is y) (trie : TrieOf (StoredRun R P)) (start : Configuration R P) where
   hung_down : (keys below : List ℕ) (above : Option ℕ) → RunsDown E is trie (is start.register) start keys (exit_or_start trie start above) → Hangs E is trie (exit_or_start trie start above) below
       → RunsDown E is trie (is start.register) start (keys ++ below) (exit_or_start trie start (last_from above below))
@@ -96,7 +96,7 @@ module _ {R P : Type 0} (E : R → R → Bool) (per : IsPartialEquivalence E) (i
       (subst (λ l. RunsDown E is trie (is start.register) start l (exit_or_start trie start (last_from (Some top) h.below))) (sym h.path)
       (hung_down (keys_up_to top keys) h.below (Some top) d (h.hangs start)))
 
-  -- if runs fit down to the segment at which a climb ended, they fit down to the lowest it passed
+  -- if runs fit down to `top`, at which a climb ended, they fit down to `front`, at which it began
   pub known_front : (key top front : ℕ) → ((i : ℕ) → has key (keys_in trie.branches i) ≡ true → has front (keys_in trie.branches i) ≡ true)
       → ((i : ℕ) → has key (keys_in trie.branches i) ≡ true → IsHung E is trie top front i) → IsMarked E is trie start (Some top) → IsKnown E is trie start key (Some front)
   known_front key top front there hung marked = λ i h. (there i h, hung_runs top front i (hung i h) (there i h) (marked i (hung i h).there))

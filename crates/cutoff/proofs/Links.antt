@@ -12,7 +12,7 @@ use Rattle.cutoff.specs.Fitting.{StoredRun, steps_at}
 use Rattle.cutoff.specs.Links.{without_register, IsExitOf, IsGiven, IsStored, IsTrueSegment, IsLinked}
 use Rattle.branch_terms.proofs.Lists.{slice_get-last}
 
--- one more exit
+-- a list's items stay if more follow
 slice_get-more : {X : Type 0} (xs ys : List X) (i : ℕ) (x : X) → slice_get xs i ≡ Some x → slice_get (xs ++ ys) i ≡ Some x
 slice_get-more [] ys i x e = cc
 slice_get-more (y ∷ xs) ys zero x e = e
@@ -53,7 +53,7 @@ module _ {R P : Type 0} (E : R → R → Bool) (h : R) where
   true_segment-with_note exits s None t = tt
   true_segment-with_note exits s (Some p) t = t
 
-  -- a true run is stored at a segment
+  -- if `IsStored` holds of a run that is stored, `IsTrueSegment` still holds of each segment
   pub true_segment-noted : (exits : List (Configuration ⊤ P)) (old new : TrieOf (StoredRun R P)) (k : ℕ) (s : StoredRun R P) → ((j : ℕ) → IsTrueSegment E h exits (segment_at old.segments j))
       → IsNoted old new k (Some s) → IsStored E h exits (steps_at old k) s → (j : ℕ) → IsTrueSegment E h exits (segment_at new.segments j)
   true_segment-noted exits old new k s each noted t j = by (nat_eq j k) refl
@@ -68,11 +68,11 @@ module _ {R P : Type 0} (E : R → R → Bool) (h : R) where
 
   module _ (old new : TrieOf (StoredRun R P)) (k next : ℕ) (above : Option ℕ) (c : Configuration R P) (l : IsLinked E h next above (without_register c) old) (s : StoredRun R P)
       (noted : IsNoted old new k (Some s)) where
-    -- a stored run is stored again, linked to the run reached
+    -- a run of which `IsStored` holds is stored; its exit is then the one that is reached
     pub taken_linked : IsStored E h l.exits (steps_at old k) s → IsLinked E h next s.id (without_register s.run.exit) new
     taken_linked t = record { exits = l.exits; as_many = l.as_many; each = true_segment-noted l.exits old new k s l.each noted t; reached_exit = t.id }
 
-    -- a new run is stored, with the next number or none
+    -- a new run is stored, with the next number or none; its exit is then the one that is reached
     pub new_linked : (after : ℕ) → s.checked ≡ s.id → E s.run.entry.register h ≡ true → s.run.steps ≡ steps_at old k → s.link ≡ above → s.run.entry ≡ c
         → ((s.id ≡ None) × (after ≡ next)) ⊎ ((s.id ≡ Some next) × (after ≡ next + 1)) → IsLinked E h after s.id (without_register s.run.exit) new
     new_linked after checked own covers linked entry (inl none) =
@@ -106,7 +106,7 @@ module _ {R P : Type 0} (E : R → R → Bool) (h : R) where
           reached_exit = came;
         }
 
--- numbers and links are true whatever the run reached, and for an equal register
+-- the numbers and links of stored runs agree with the exits, whatever configuration is reached
 pub linked_none : {R P : Type 0} (E : R → R → Bool) (h : R) (next : ℕ) (above : Option ℕ) (c d : Configuration ⊤ P) (trie : TrieOf (StoredRun R P))
     → IsLinked E h next above c trie → IsLinked E h next None d trie
 linked_none E h next above c d trie l = record { exits = l.exits; as_many = l.as_many; each = l.each; reached_exit = tt }

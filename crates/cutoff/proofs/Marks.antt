@@ -34,7 +34,7 @@ module _ {R P : Type 0} (E : R → R → Bool) (is : R → Behaviour P) (old new
       subst (RunsDown E is new (is start.register) start (keys_to keys (Some k))) (ap (λ ps. exit_or start (option_map run_of (note_of (segment_at ps k)))) (sym same))
       (down_after E is old new steps_same run_same (is start.register) start (keys_to keys (Some k)) (exit_or_start old start (Some k)) d)
 
--- a branch with the same segments as another has the same runs
+-- the marked segment can stay marked after a fork of a whole branch
 module _ {R P : Type 0} (E : R → R → Bool) (is : R → Behaviour P) (old new : TrieOf (StoredRun R P)) (start : Configuration R P) (index : ℕ) (name : List ℕ) (forked : IsForkedWhole old new index name) where
   there : (k i j : ℕ) → IsMarked E is old start (Some k) → has k (keys_in new.branches i) ≡ true → keys_in new.branches i ≡ keys_in old.branches j → RunsTo E is new start (Some k) (keys_in new.branches i)
   there k i j marked h e =
@@ -53,7 +53,7 @@ module _ {R P : Type 0} (E : R → R → Bool) (is : R → Behaviour P) (old new
   marked_whole None marked = tt
   marked_whole (Some k) marked = λ i h. either k i marked h (keys_in-last old.branches made i)
 
--- a branch with a length exists
+-- if the named branch has a length, there is such a branch, and this is how many cells it has
 len_found : {T : Type 0} (trie : TrieOf T) (name : List ℕ) (place : ℕ) → len_of (forest trie) name ≡ Some place
     → (index : ℕ) × ((index_of (forest trie).branches name ≡ Some index) × (place ≡ length (slots_in (forest trie).branches index)))
 len_found trie name place e = by (index_of (forest trie).branches name) refl e

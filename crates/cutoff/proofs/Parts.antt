@@ -56,7 +56,8 @@ module _ {R P : Type 0} where
           none.0 ∙ sym (ap (λ m. parts_of m (map (run_at new) (k ∷ ks))) (eqb-true place 0 e) ∙ parts_none (map (run_at new) (k ∷ ks)))
       by on false e = some on e parts (subst (λ l. Settles E b old new c place l parts n) (ap (λ t. cond t [] (k ∷ reached old (place - length (steps_at old k)) ks)) e) s)
 
--- reading: `runs` are read, of the keys before `index`; the others begin with `rest` cells
+-- the runs at the keys before `index` are read: they are `runs`; the first `rest` steps of the
+-- others are still to be read
 module _ {R P Z : Type 0} (trie : TrieOf (StoredRun R P)) (keys : List ℕ) (index rest : ℕ) (runs : List (Arc (SegmentRun R P) Z × ℕ)) (all : List (RunPart R P))
     (was : all ≡ map part_of runs ++ parts_of rest (map (run_at trie) (drop index keys))) where
   opened : index < length keys → drop index keys ≡ get_or keys index 0 ∷ drop (index + 1) keys

@@ -21,6 +21,6 @@ linked_last : (above : ℕ → Option ℕ) (up : Option ℕ) (front back : List 
 linked_last above up [] back key linked = linked.0
 linked_last above up (k ∷ front) back key linked = linked_last above (Some k) front back key linked.1
 
--- a cut gives the key right above another
+-- the key that `IsCut` gives as the one above `key` is right above it on each branch
 pub above_shared : {T : Type 0} (trie : TrieOf T) (key : ℕ) (whole : IsCut trie) → IsAbove trie key (whole.shares.above key)
 above_shared trie key whole i front back is = linked_last whole.shares.above None front back key (subst (Linked whole.shares.above None) is (whole.shares.linked i))

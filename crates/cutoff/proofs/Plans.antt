@@ -6,7 +6,7 @@ use Rattle.schedule_trie.specs.Trie.{TrieOf, KeyedBranch, keys_in}
 use Rattle.cutoff.specs.Fitting.{StoredRun}
 use Rattle.cutoff.specs.Plans.{Planned, keys_of, Descends, job_of, with_job, Plans}
 
--- the paths that are left
+-- the paths of the branches from i on are that of the branch i, then those of the branches after it
 paths_left : (branches : List KeyedBranch) (i : ℕ) → i < length branches → map keys_of (drop i branches) ≡ keys_in branches i ∷ map keys_of (drop (suc i) branches)
 paths_left [] i h = absurd (omega arith)
 paths_left (s ∷ ss) zero h = refl

@@ -46,7 +46,7 @@ module _ {R P : Type 0} (E : R → R → Bool) (per : IsPartialEquivalence E) (i
     down_more b c (j ∷ ks) home d =
         (d.0, down_more b (replayed b c (steps_at trie j)) ks (ap is (register_kept b c (steps_at trie j)) ∙ home) d.1)
 
-    -- one step up a branch: the runs down to this one, and those after it
+    -- `above` is the key right above k: the runs down to k, by those down to `above`
     module _ (start : Configuration R P) (keys : List ℕ) (above : Option ℕ) (step : IsStepUp keys k above) where
       come_here : exit_or_start trie start (Some k) ≡ s.run.exit
       come_here = ap (λ n. exit_or start (option_map run_of n)) noted

@@ -316,7 +316,7 @@ module _ {R P : Type 0} (E : R → R → Bool) (is : R → Behaviour P) (old tri
             (subst (λ l. RunsDown E is trie (is start.register) start l (exit_or_start trie start above)) (sym (g.path ∙ append-nil g.done)) g.down);
       }
 
--- the walk by the index of the next key, with the keys `more` after those of a list
+-- the walk, if the keys still to go are those of the list `all` from `index` on, and then `more`
 module _ {R P : Type 0} (E : R → R → Bool) (equal : IsEquivalence E) (per : IsPartialEquivalence E) (is : R → Behaviour P) (alike : (x y : R) → E x y ≡ true → is x ≡ is y)
     {old trie : TrieOf (StoredRun R P)} {start : Configuration R P} {key count : ℕ} {keys back : List ℕ} {place n : ℕ} {above : Option ℕ} (all : List ℕ) (index : ℕ) (more : List ℕ)
     (g : IsGoing E is old trie start key count keys (drop index all ++ more) back place n above) where

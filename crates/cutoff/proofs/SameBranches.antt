@@ -105,12 +105,12 @@ module _ {R P : Type 0} (b : Behaviour P) (trie : TrieOf (StoredRun R P)) (name 
 pub look_found : (f g : Forest) (name : List ℕ) (place : ℕ) → look f name place ≡ Ok g → ◌≡◌ {A = Option ℕ} None (index_of f.branches name) → ⊥
 look_found f g name place ok none = let e : on_found None (looked_at f place) ≡ Ok g = ap (λ o. on_found o (looked_at f place)) none ∙ ok in cc
 
--- if nothing more changes, the same is kept or filled
+-- a trie that equals `trie` keeps and fills what `trie` does
 pub keeps_still : {R P : Type 0} (E : R → R → Bool) (b : Behaviour P) (old : TrieOf (StoredRun R P)) (start : Configuration R P) (ks : List ℕ) {trie new : TrieOf (StoredRun R P)} → new ≡ trie
     → KeepsRuns old trie (IsFilled E b old trie start ks) → KeepsRuns old new (IsFilled E b old new start ks)
 keeps_still E b old start ks same = subst (λ t. KeepsRuns old t (IsFilled E b old t start ks)) (sym same)
 
--- what holds for an error that is passed up
+-- P holds of an error that is passed up, if P follows from what holds of that error
 passed_up : {T E : Type 0} {Is : E → Type 0} (r : Result T E) (P : E → Type 0) → ((e : E) → Is e → P e) → IsErrAnd r Is → IfErr r P
 passed_up (Ok x) P f h = absurd h
 passed_up (Err e) P f h = f e h

@@ -20,7 +20,7 @@ noted_still c k s e = record { here = by (segment_at c.segments k) e; others = �
     by (Some p) h = λ i. Some (segment p.slots (h i))
 
 module _ {R P : Type 0} (E : R → R → Bool) (old new : TrieOf (StoredRun R P)) (c : Configuration R P) (k : ℕ) (s : StoredRun R P) (noted : IsNoted old new k (Some s)) where
-  -- a new run, of the segment's steps
+  -- the segment k is settled, if a new run of its steps from c is stored
   pub segment_replayed : IsEquivalence E → s.run.steps ≡ steps_at old k → s.run.entry ≡ c → (Fits E old c k → ⊥) → (n : ℕ) → n ≡ length (steps_at old k)
       → IsSegmentSettled E old new c k s n
   segment_replayed e steps entry misses n all = record {
@@ -39,7 +39,7 @@ module _ {R P : Type 0} (E : R → R → Bool) (old new : TrieOf (StoredRun R P)
       (subst (λ d. E d.register c.register ≡ true) (sym entry) (e.refl c.register)) steps link entry
       (subst (λ n. ((n ≡ None) × (after ≡ next)) ⊎ ((n ≡ Some next) × (after ≡ next + 1))) (sym number) given)
 
-  -- the run that was stored there
+  -- the segment k is settled, if the run that was stored there fits, and is stored again
   module _ (was : StoredRun R P) (at_first : note_of (segment_at old.segments k) ≡ Some was) (d : Configuration R P) (there : d ≡ c) (fits_there : RunFits E d (steps_at old k) was.run)
       (again : s.run ≡ was.run) where
     fits : RunFits E c (steps_at old k) was.run

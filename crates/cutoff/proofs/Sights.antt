@@ -25,7 +25,7 @@ use Rattle.cutoff.proofs.Paths.{fits_on}
 use Rattle.cutoff.proofs.Prefixes.{down_same, runs_come, up_new}
 use Rattle.cutoff.proofs.Walks.{by_key}
 
--- what was found stays the same when a place is added for another key
+-- what was found at each key stays the same when `None` is added to the list
 pub unseen_more : (seen : List (Option Bool)) (k : ℕ) → sight_at (seen ++ None ∷ []) k ≡ sight_at seen k
 unseen_more [] zero = refl
 unseen_more [] (suc k) = refl
@@ -36,7 +36,7 @@ unseen_more (s ∷ seen) (suc k) = unseen_more seen k
 abbrev pub IsUnseen : List (Option Bool) → ℕ → Type 0
 IsUnseen seen k = sight_at seen k ≡ None
 
--- what a plan knows of a key, by the answer that the key is one of the marked ones
+-- what a plan knows of a key, by a test `is` whether the key is one of the marked ones
 pub known_at : (Marked : ℕ → Type 0) (seen : List (Option Bool)) (k : ℕ) (is fits : Bool) → (is ≡ true → Marked k) → ((is ≡ true) × (fits ≡ true)) ⊎ (sight_at seen k ≡ Some fits) → IsKnownAt Marked seen (Some k) fits
 known_at Marked seen k is fits marked (inl known) = inl (marked known.0, known.1)
 known_at Marked seen k is fits marked (inr known) = inr known
@@ -57,7 +57,7 @@ segment_fits b trie (j ∷ js) k h fit =
     (λ e. subst (λ i. AllFit b (steps_at trie i)) (sym e) (all_left (λ s. fits_step b s ≡ true) (steps_at trie j) (map step_of (line (segment_at trie.segments) js)) both))
     (λ r. segment_fits b trie js k r (all_right (λ s. fits_step b s ≡ true) (steps_at trie j) (map step_of (line (segment_at trie.segments) js)) both))
 
--- walks down that end, and the first segment that no run fits
+-- `Descends` of more keys, of keys that stored runs all fit, and of these with one that none fits
 module _ {R P : Type 0} (E : R → R → Bool) (b : Behaviour P) (trie : TrieOf (StoredRun R P)) where
   descends_more : (c end : Configuration R P) (keys more : List ℕ) (m : ℕ) → Descends E b trie c keys (Some m) end → Descends E b trie c (keys ++ more) (Some m) end
   descends_more c end [] more m d = absurd (let e : ◌≡◌ {A = Option ℕ} (Some m) None = d.0 in cc)
@@ -73,7 +73,7 @@ module _ {R P : Type 0} (E : R → R → Bool) (b : Behaviour P) (trie : TrieOf 
   comes_missing per c end [] k d misses = inr ((λ f. misses (fits_alike E per trie c end k (same_symm E per end c d) f)), refl, d)
   comes_missing per c end (j ∷ ks) k d misses = inl (d.0, comes_missing per (replayed b c (steps_at trie j)) end ks k d.1 misses)
 
--- jobs with one more, of a key
+-- jobs with one more, that of the segment k
 module _ {R P : Type 0} (trie : TrieOf (StoredRun R P)) (k : ℕ) (end : Configuration R P) where
   abbrev pub job : Planned R P
   job = record { key = k; entry = end; steps = steps_at trie k }

@@ -70,7 +70,7 @@ module _ {R P : Type 0} where
   noted_slots s None = refl
   noted_slots s (Some p) = refl
 
--- numbers and links are also true for an equal register
+-- stored runs are linked also for a register equal to h
 pub linked_home : {R P : Type 0} (E : R → R → Bool) → IsPartialEquivalence E → (h g : R) (next : ℕ) (above : Option ℕ) (c : Configuration ⊤ P) (trie : TrieOf (StoredRun R P))
     → E h g ≡ true → IsLinked E h next above c trie → IsLinked E g next above c trie
 linked_home {R} {P} E per h g next above c trie e l = record { exits = l.exits; as_many = l.as_many; each = λ k. still (segment_at trie.segments k) (l.each k); reached_exit = l.reached_exit }
@@ -143,7 +143,7 @@ module _ {R P : Type 0} (E : R → R → Bool) (equal : IsEquivalence E) (b : Be
 module _ {R P : Type 0} (E : R → R → Bool) (equal : IsEquivalence E) (per : IsPartialEquivalence E) (is : R → Behaviour P) (alike : (x y : R) → E x y ≡ true → is x ≡ is y)
     (old trie : TrieOf (StoredRun R P)) (start : Configuration R P) (keys ks : List ℕ) (k place rest n : ℕ) (parts : List (RunPart R P))
     (w : IsWalking E (is start.register) old trie start keys (k ∷ ks) place rest n parts) (wanted : rest ≡ 0 → ⊥) where
-  -- what holds when the segment is settled
+  -- what holds before the segment k is settled
   home_same : E (exit_of start parts).register start.register ≡ true
   home_same = subst (λ r. E (exit_of start parts).register r ≡ true) w.home w.same.register
 
@@ -210,7 +210,7 @@ module _ {R P : Type 0} (E : R → R → Bool) (equal : IsEquivalence E) (per : 
     run_here : run_at trie k ≡ run_at old k
     run_here = ap (λ o. option_map run_of (note_of o)) here_same
 
-    -- the same run fits in the trie as it was
+    -- a stored run fits k in `trie` just if one did in `old`
     fits_cut : Fits E old w.at k → Fits E trie (exit_of start parts) k
     fits_cut f = subst (λ o. MatchOption (option_map run_of (note_of o)) ⊥ (RunFits E (exit_of start parts) (map step_of (slots_of o)))) (sym here_same)
         (fits_alike E per old w.at (exit_of start parts) k (same_symm E per (exit_of start parts) w.at w.same) f)

@@ -29,7 +29,7 @@ StepsFit b f = (i : ℕ) → AllFit b (map step_of (slots_in f.branches i))
 -- the invariant of a chart: the initial value is one of the register's values, the branches begin
 -- from the initial configuration, their steps fit the register, they are cut into segments, the
 -- numbers below `next` are those given to runs, and stored runs fit down to the marked segment and
--- to each one whose run has the number `fresh` or a greater one
+-- to each one whose run was last found to fit with the number `fresh` or a greater one
 pub record IsCharted {R P : Type 0} (E : R → R → Bool) (is : R → Behaviour P) (next : ℕ) (fresh mark : Option ℕ) (c : Charted R P) : Type 0 where
   pub within : c.value < (is c.start.register).values
   pub begins : c.start ≡ initial_configuration (is c.start.register) c.start.register c.value

@@ -8,7 +8,7 @@ use Rattle.schedule_trie.specs.Trie.{forest}
 use Rattle.schedule_trie.specs.Edits.{Edit, edited, step_in, IsEdited, WhyRefused}
 use Rattle.cutoff.specs.Charts.{Charted}
 
--- whether a step, if there is one, fits
+-- whether the step fits; true if there is none
 abbrev pub fits_if_any : {P : Type 0} → Behaviour P → Option Step → Bool
 fits_if_any b None = true
 fits_if_any b (Some step) = fits_step b step

@@ -33,7 +33,7 @@ pub record RunFits {R P : Type 0} (E : R → R → Bool) (c : Configuration R P)
   pub entry : SameConfiguration E run.entry c
 
 module _ {R P : Type 0} where
-  -- a stored run, without its number and its link
+  -- a stored run, without the numbers that are stored with it
   abbrev pub run_of : StoredRun R P → SegmentRun R P
   run_of s = s.run
 
@@ -60,8 +60,8 @@ abbrev pub counted : {R P : Type 0} → List (RunPart R P) → ℕ
 counted [] = 0
 counted (part ∷ parts) = part.count + counted parts
 
--- these runs, up to the first that is missing, as far as they have the first `place` of their steps;
--- each with how many of its steps are among these
+-- of these runs, up to the first that is missing, those that have one of the first `place` of all
+-- their steps, in order; each with how many of these `place` steps it has
 abbrev pub parts_of : {R P : Type 0} → ℕ → List (Option (SegmentRun R P)) → List (RunPart R P)
 parts_of place [] = []
 parts_of place (None ∷ runs) = []
@@ -97,8 +97,8 @@ checked_segment number p = segment p.slots (option_map (λ s. record { run = s.r
 abbrev pub IsOnWayTo : {R P : Type 0} → TrieOf (StoredRun R P) → ℕ → ℕ → Type 0
 IsOnWayTo trie key k = (i : ℕ) → has key (keys_in trie.branches i) ≡ true → has k (keys_up_to key (keys_in trie.branches i)) ≡ true
 
--- nothing changes but with which number runs on the way to the segment `key` were last found to
--- fit: it is `number` now, or as before
+-- of runs on the way to the segment `key`, the number with which they were last found to fit may
+-- change, to `number`; nothing else changes
 pub record IsChecked {R P : Type 0} (old new : TrieOf (StoredRun R P)) (number : Option ℕ) (key : ℕ) : Type 0 where
   pub branches : new.branches ≡ old.branches
   pub limits : new.limits ≡ old.limits

@@ -22,7 +22,7 @@ IsGiven next number = MatchOption number ⊤ (λ a. a < next)
 
 -- the stored run s begins with a register equal to h (by E), and has its segment's steps; the item
 -- of `exits` at the run's number, if any, is the run's exit, and the item at the run's link, if
--- any, is the run's entry; `checked` is a number that was given, if it is one
+-- any, is the run's entry; `checked`, if it is a number, was given to a run
 pub record IsStored {R P : Type 0} (E : R → R → Bool) (h : R) (exits : List (Configuration ⊤ P)) (segment : List Step) (s : StoredRun R P) : Type 0 where
   pub own : E s.run.entry.register h ≡ true
   pub covers : s.run.steps ≡ segment

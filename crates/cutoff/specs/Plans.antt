@@ -91,8 +91,8 @@ CanInstall E b c key run = (i : ℕ) → has key (keys_in c.trie.branches i) ≡
 abbrev pub CannotInstall : {R P : Type 0} → (R → R → Bool) → Behaviour P → Charted R P → ℕ → SegmentRun R P → Type 0
 CannotInstall E b c key run = (i : ℕ) → has key (keys_in c.trie.branches i) ≡ true → FitsDown E b c.trie key run c.start (keys_in c.trie.branches i) → ⊥
 
--- `run` is stored in the segment `key`, and nothing else changes, except with which number runs
--- above were last found to fit
+-- `run` is stored in the segment `key`; the number with which runs above were last found to fit may
+-- change; nothing else changes
 pub record IsInstalled {R P : Type 0} (old new : Charted R P) (key : ℕ) (run : SegmentRun R P) : Type 0 where
   pub noted : (s : StoredRun R P) × (mid : TrieOf (StoredRun R P)) × (s.run ≡ run) × IsNoted old.trie mid key (Some s) × IsChecked mid new.trie s.checked key
   pub start : new.start ≡ old.start

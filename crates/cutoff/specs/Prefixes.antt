@@ -64,8 +64,8 @@ module _ {R P : Type 0} (E : R → R → Bool) (is : R → Behaviour P) (trie : 
     IsMarked None = Unit {0}
     IsMarked (Some k) = (i : ℕ) → has k (keys_in trie.branches i) ≡ true → RunsTo (Some k) (keys_in trie.branches i)
 
-    -- each segment is marked whose run was last found to fit with the number `first` or a greater
-    -- one; if `first` is `None`, nothing is required
+    -- `IsMarked` holds of each segment whose run was last found to fit with the number `first` or a
+    -- greater one; if `first` is `None`, nothing is required
     abbrev pub AreFresh : Option ℕ → Type 0
     AreFresh None = Unit {0}
     AreFresh (Some first) = (k a : ℕ) → run_checked (note_of (segment_at trie.segments k)) ≡ Some a → first ≤ a → IsMarked (Some k)

@@ -37,8 +37,8 @@ use std::sync::Arc;
 /// The branches of a schedule on a register, and the configuration before their first steps. Each
 /// segment has a stored run or none. At most one segment is marked: on each branch that has it,
 /// stored runs are known to fit all segments from the first down to it. The same is known of each
-/// segment whose run was last found to fit with the number `fresh` or a greater one: it was stored,
-/// or an install found it to fit, after the last edit.
+/// segment whose run was last found to fit with the number `fresh` or a greater one: after the last
+/// edit, that run was stored, or an install found it to fit.
 #[derive(Drop)]
 pub struct Chart<R: Register> {
     trie: Trie<Stored<R>>,

@@ -1,5 +1,5 @@
-//! After an install: at the runs that its climb passed it is recorded that they fit, so that no
-//! climb before the next other change passes them again.
+//! After an install: records at the runs that its climb passed that they fit, so that no climb has
+//! to pass them again before the next edit.
 
 ghost use Rattle.schedule_trie.specs.Trie.{IsCut};
 ghost use Rattle.cutoff.specs.Fitting.{IsChecked};
@@ -9,9 +9,9 @@ use crate::stored::Stored;
 use frames::register::Register;
 use schedule_trie::trie::{SegKey, Trie};
 
-/// Records at the runs stored above the segment `key`, which were found to fit when the run with
-/// the number `number` was installed in it, that they were. Stops at a run at which the number
-/// `fresh` or a greater one is recorded already. Never allocates.
+/// Records `number`, the number of the run just installed in the segment `key`, at the runs stored
+/// above that segment, which the install found to fit. Stops at a run at which the number `fresh`
+/// or a greater one is recorded already. Never allocates.
 pub(crate) fn check_above<R: Register>(
     trie: &mut Trie<Stored<R>>,
     fresh: Number,

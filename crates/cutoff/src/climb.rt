@@ -1,6 +1,6 @@
 //! A climb up a branch, from one of its segments towards the first. It finds whether stored runs
-//! fit all segments from the first down to the one at which the climb began, and the run stored in
-//! that one ends at a given configuration. It changes nothing.
+//! fit all segments from the first down to the one at which the climb began, and whether the run
+//! stored in that one ends at a given configuration. It changes nothing.
 
 ghost use Rattle.std.specs.Prelude.{◌≡◌, ◌≤◌, ◌+◌, ℕ, None, true, length};
 ghost use Rattle.schedule_trie.specs.Trie.{keys_in, line, IsCut};

@@ -76,7 +76,7 @@ impl Number {
         ensures { Decides result
             ((a : ℕ) × (b : ℕ) × (self ≡ Some a) × (first ≡ Some b) × (b ≤ a)) }
     {
-        // `first` comes first, since it is the same in a whole climb: it is then tested once.
+        // `first` is tested first: it is the same in a whole climb, so that it is tested once.
         first.word != u64::MAX && self.word != u64::MAX && first.word <= self.word
     }
 

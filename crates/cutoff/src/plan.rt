@@ -99,7 +99,7 @@ pub(crate) fn plan_all<R: Register>(
 }
 
 /// Adds a job for the first segment of the branch at `index` that no stored run fits, if there is
-/// such a segment and it has no job yet. `keys` is a list for its use.
+/// such a segment and it has no job yet. Overwrites `keys`, whose memory it reuses.
 fn plan_branch<R: Register>(
     base: &Base<'_, R>,
     index: usize,

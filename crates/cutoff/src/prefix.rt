@@ -42,8 +42,8 @@ struct Top<'a, R: Register> {
     above: Option<SegKey>,
 }
 
-/// Whether stored runs fit down to `top` since it is the first segment of its branches, and its run
-/// begins at the start.
+/// Whether `top` is the first segment of its branches, and its run begins at the start; stored runs
+/// then fit down to it.
 fn begins_at<R: Register>(start: &Config<R>, top: &Top<'_, R>) -> bool
     ensures { result ≡ true → (top.now.above ≡ None)
         × MatchOption (option_copied top.now.stored) ⊥ (λ s.
@@ -56,8 +56,8 @@ fn begins_at<R: Register>(start: &Config<R>, top: &Top<'_, R>) -> bool
     }
 }
 
-/// Adds to `keys` those of the segments from `front` up to `top`, and returns the key of the segment
-/// right above `top`; `None` if `top` is the first segment of its branches.
+/// Adds the keys of the segments from `front` up to `top` to `keys`, and returns the key of the
+/// segment right above `top`; `None` if `top` is the first segment of its branches.
 fn pass<R: Register>(
     trie: &Trie<Stored<R>>,
     front: SegKey,
@@ -116,8 +116,8 @@ fn known_prefix<R: Register>(
 
 /// Climbs from `key` as long as the run of the segment reached hangs from the run right above, and
 /// returns the segment at which the climb ends. Also stops at a segment down to which stored runs
-/// are known to fit. Returns `key` itself if that segment is such a one, has no stored run, or has
-/// a run that hangs from none. Compares only numbers.
+/// are known to fit. Returns the segment `key` itself if stored runs are known to fit down to it,
+/// or if it has no stored run, or a run that hangs from none. Compares only numbers.
 fn hung_from<'a, R: Register>(trie: &'a Trie<Stored<R>>, known: &Known, key: SegKey) -> Top<'a, R>
     requires linked { (start : Configuration R R.Pending)
         × AreLinked R.PartialEq.eq start trie.now }

@@ -53,9 +53,9 @@ pub struct Spot<R: Register> {
     pub replayed: u32,
 }
 
-/// The runs stored in the segments `keys`, in order, as far as these have the first `place` of
-/// their cells; each run comes with how many of its steps are steps of these cells. Stops at a
-/// segment with no stored run.
+/// The runs stored in those of the segments `keys` that have one of the first `place` of all their
+/// cells, in order; each run comes with how many of its steps are steps of these `place` cells.
+/// Stops at a segment with no stored run.
 pub(crate) fn runs_in<R: Register>(
     alloc: Global,
     trie: &Trie<Stored<R>>,

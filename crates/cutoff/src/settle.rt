@@ -56,7 +56,7 @@ pub(crate) fn segment_cells<R: Register>(trie: &Trie<Stored<R>>, key: SegKey) ->
 /// Replays the segment `key`, which no stored run fits at `config`, from `config`, and stores the
 /// new run. `above` is `None`, or the number of a run with the exit `config`. Returns what is now
 /// stored, and how many steps were replayed: all of the segment's. On an error nothing changes.
-// (inlined in its caller, it makes a replayed step dearer)
+// (inlined in its caller, it would make each replayed step slower)
 #[inline(never)]
 pub(crate) fn replay_segment<R: Register>(
     alloc: Global,

@@ -40,7 +40,8 @@ impl<R: Register> Model for Stored<R> {
 }
 
 impl<R: Register> Stored<R> {
-    /// A stored run with the number `id` and the link `link`, either of which may be missing.
+    /// A stored run with the number `id` and the link `link`, either of which may be missing;
+    /// `checked` is `id` too.
     pub(crate) fn new(run: Arc<Run<R>>, id: Number, link: Number) -> Stored<R>
         ensures run { result.run ≡ arc_value run }
         ensures id { result.id ≡ id }
@@ -101,7 +102,7 @@ impl<R: Register> Stored<R> {
         run
     }
 
-    /// The same run, number and link.
+    /// The same run, with the same numbers.
     pub(crate) fn copy(&self) -> Result<Stored<R>, AllocError>
         ensures { IfOk result (λ s. s ≡ self.now) }
     {

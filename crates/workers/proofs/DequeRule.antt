@@ -1,4 +1,4 @@
--- Each step keeps the rule of the deque.
+-- Each call on the deque keeps the deque's invariant (`IsDealt`).
 use Rattle.std.proofs.Common.{◌≡◌, ◌≢◌, ℕ, zero, suc, ◌+◌, ◌-◌, ◌<◌, ◌≤◌, ◌⊎◌, ◌∙◌, All, List, [], ◌∷◌, ◌++◌, length, set, sym, refl, ap, subst, ⊎_elim, arith, rules, add-one, length-append}
 use Rattle.std.proofs.lemmas.Bool.Decides.{nat_tests}
 use Rattle.std.proofs.lemmas.List.{map-append}
@@ -94,6 +94,7 @@ module _ {J : Type 0} where
   starts_known zero u e = let is : hand 8 [] [] ≡ u = cc in subst (KnowsJobs []) is (record { dealt = λ _. refl; idle = λ _. refl })
   starts_known (suc j) u e = absurd (some-ne-none u (sym e))
 
+  -- at first no job is dealt, the deque is empty, and one hand has every part
   pub starts : IsDealt {J = J} [] (hand 8 [] [] ∷ [])
   starts = record {
     jobs = [];
@@ -127,6 +128,7 @@ module _ {J : Type 0} where
       let P : Numbered J → Type 0 = λ item. IsJobAt jobs item.index item.job in
       let rest = each_of jobs xs ys (All-tail P x (xs ++ ys) each) in (All-cons P x xs (each 0 x (omega arith)) rest.0, rest.1)
 
+  -- a hand with every part deals a job: puts it into the deque
   pub deals : (port : ℕ) (v : Hand J) (item : Numbered J) → v.parts ≡ 8 → item.index ≡ length v.jobs → Pushes IsDealt port v (item ∷ []) (λ w. w ≡ hand v.parts (v.jobs ++ item.job ∷ []) v.taken)
   deals port v item all next items views h at =
       let jobs : List J = v.jobs ++ item.job ∷ [] in
@@ -156,6 +158,7 @@ module _ {J : Type 0} where
   pub deals_next : (port : ℕ) (v : Hand J) (jobs : List J) (item : Numbered J) → v ≡ hand 8 jobs [] → item.index ≡ length jobs → Pushes IsDealt port v (item ∷ []) (λ w. w ≡ hand v.parts (v.jobs ++ item.job ∷ []) v.taken)
   deals_next port v jobs item is next = deals port v item (ap (λ (u : Hand J). u.parts) is) (next ∙ sym (ap (λ (u : Hand J). length u.jobs) is))
 
+  -- a hand with at least one part takes a job
   pub takes : (port : ℕ) (v : Hand J) → 0 < v.parts → Takes IsDealt port v 1 (HasTaken v)
   takes port v part xs items views _ _ h at =
       let w : Hand J = hand v.parts v.jobs (v.taken ++ numbers xs) in
@@ -186,6 +189,7 @@ module _ {J : Type 0} where
         },
       )
 
+  -- a hand with every part that finds the deque empty has taken each job
   pub finds : (port : ℕ) (v : Hand J) → Finds IsDealt port v (HasAllJobs v)
   finds port v views h at all g =
       let same : v.jobs ≡ h.jobs = (h.knows port v at).dealt (omega arith) in
@@ -194,6 +198,7 @@ module _ {J : Type 0} where
       let q : weigh_below g (length v.jobs) ≡ weigh_below g (length h.jobs) = ap (λ (js : List J). weigh_below g (length js)) same in
       omega arith
 
+  -- a hand gives one of its parts to a new hand
   pub hires : (port : ℕ) (v : Hand J) → 1 < v.parts → Forks IsDealt port v (hand (v.parts - 1) v.jobs v.taken) (hand 1 v.jobs [])
   hires port v part items views h at =
       let l : Hand J = hand (v.parts - 1) v.jobs v.taken in
@@ -208,6 +213,7 @@ module _ {J : Type 0} where
             (λ (is : r ≡ u). subst (KnowsJobs h.jobs) is (record { dealt = λ _. same; idle = λ _. refl })) (at_snoc vs r u j e);
       }
 
+  -- a hand gets the parts of another hand, and its taken jobs
   pub comes_back : (port : ℕ) (v : Hand J) (other : ℕ) (u : Hand J) → 0 < v.parts → Merges IsDealt port v other u (hand (v.parts + u.parts) v.jobs (v.taken ++ u.taken)) (hand 0 [] [])
   comes_back port v other u part items views h at apart at' =
       let both : Hand J = hand (v.parts + u.parts) v.jobs (v.taken ++ u.taken) in

@@ -17,6 +17,7 @@ module _ {J : Type 0} where
   pub took_at : (jobs : List J) (v w : Hand J) (x : Numbered J) → v.jobs ≡ jobs → HasTaken v (x ∷ []) w → IsJobAt jobs x.index x.job
   took_at jobs v w x known took = subst (λ (js : List J). IsJobAt js x.index x.job) known (took.each 0 x (omega arith))
 
+  -- once a hand has taken one more job, fewer are left for it to take
   pub nearer : (v w : Hand J) (x : Numbered J) → HasTaken v (x ∷ []) w → length w.jobs - length w.taken < length v.jobs - length v.taken
   nearer v w x took =
       let jobs : length w.jobs ≡ length v.jobs = ap (λ (u : Hand J). length u.jobs) took.hand_is in
@@ -24,8 +25,8 @@ module _ {J : Type 0} where
       let within = took.within in
       omega (arith, length-append v.taken (x.index ∷ []))
 
--- a loop has `left` items to go, which are these; and a vector of this length and capacity has memory
--- reserved for as many more
+-- a loop has these `left` items to go, and a vector with `len` items and this capacity has memory
+-- reserved for `left` more
 pub record IsReserved {A : Type 0} (items : List A) (left len capacity : ℕ) : Type 0 where
   pub count : left ≡ length items
   pub room : len + left ≤ capacity
@@ -68,7 +69,7 @@ module _ {J D : Type 0} (ends : J → D → Type 0) where
   slots_length n taken [] (slot ∷ slots) s = absurd s
   slots_length n taken (job ∷ jobs) [] s = absurd s
 
-  -- an outcome of the job with this number
+  -- an outcome of the job with the number i is an outcome at i
   pub outcome_at : (jobs : List J) (i : ℕ) (job : J) (o : D) → IsJobAt jobs i job → ends job o → IsOutcomeAt ends jobs i o
   outcome_at [] i job o at of = absurd at
   outcome_at (first ∷ jobs) zero job o at of = subst (λ (x : J). ends x o) (sym at) of
@@ -84,7 +85,7 @@ module _ {J D : Type 0} (ends : J → D → Type 0) where
   at_below (j ∷ jobs) zero o at = omega arith
   at_below (j ∷ jobs) (suc i) o at = omega (arith, at_below jobs i o at)
 
-  -- one more is taken, which isn't this job
+  -- one more job is taken, which isn't the job of this slot
   slot_more : (n : ℕ) (taken : List ℕ) (job : J) (slot : Option D) (k : ℕ) → k ≢ n → IsSlot ends n taken job slot → IsSlot ends n (taken ++ k ∷ []) job slot
   slot_more n taken job None k other is = omega (arith, weigh-append (one_at n) taken (k ∷ []), one_elsewhere n k other)
   slot_more n taken job (Some o) k other is = is
@@ -227,14 +228,14 @@ module _ {J K R : Type 0} (named : J → K) (gives : J → R → Type 0) where
   abbrev pub GoesOn : List J → List J → List (Done K R) → Type 0
   GoesOn jobs left all = (later : List (Done K R)) → OneForEach named gives left later → OneForEach named gives jobs (all ++ later)
 
-  -- with the outcome of the next job
+  -- `GoesOn` still holds when the outcome of the next job is added
   pub goes_on : (jobs items left : List J) (job : J) (all more : List (Done K R)) (done : Done K R) → items ≡ job ∷ left → IsDoneOf named gives job done → more ≡ all ++ done ∷ [] → GoesOn jobs items all → GoesOn jobs left more
   goes_on jobs items left job all more done split of added goes later rest =
       let on : OneForEach named gives jobs (all ++ done ∷ later) = goes (done ∷ later) (subst (λ (js : List J). OneForEach named gives js (done ∷ later)) (sym split) (of, rest)) in
       subst (λ (l : List (Done K R)). OneForEach named gives jobs (l ++ later)) (sym added)
       (subst (λ (l : List (Done K R)). OneForEach named gives jobs l) (sym (append_assoc all (done ∷ []) later)) on)
 
-  -- no job is left
+  -- once no job is left, the outcomes are those of all jobs
   pub goes_over : (jobs items : List J) (n : ℕ) (all : List (Done K R)) → n ≡ length items → n ≡ 0 → GoesOn jobs items all → OneForEach named gives jobs all
   goes_over jobs [] n all len none goes = subst (λ (l : List (Done K R)). OneForEach named gives jobs l) (append-nil all) (goes [] tt)
   goes_over jobs (job ∷ items) n all len none goes = absurd (omega arith)

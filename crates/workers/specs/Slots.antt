@@ -10,7 +10,7 @@ abbrev pub with_all : {D : Type 0} → List (Option D) → List (Taken D) → Li
 with_all slots [] = slots
 with_all slots (t ∷ ts) = with_all (slice_set slots t.index (Some t.done)) ts
 
--- of a job and an outcome: whether the outcome is one of this job
+-- `ends job done` says that `done` is a possible outcome of `job`
 module _ {J D : Type 0} (ends : J → D → Type 0) where
   -- there is a job with this number in the list, and `done` is an outcome of that job
   abbrev pub IsOutcomeAt : List J → ℕ → D → Type 0

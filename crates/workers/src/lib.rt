@@ -1,5 +1,5 @@
-//! A crew runs jobs: the caller and its thieves (other threads) take the jobs' numbers from one
-//! deque. In particular, a crew can run the jobs of a chart's plan, which are segments to replay.
+//! A crew runs jobs: the caller and its thieves (other threads) take the jobs from one deque. In
+//! particular, a crew can run the jobs of a chart's plan, which are segments to replay.
 #![tactic(auto)]
 
 mod alone;

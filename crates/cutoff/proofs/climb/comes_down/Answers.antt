@@ -88,7 +88,7 @@ loop-preserved g c =
           (stored_at E start.register links.exits trie c.in-Some.key s (links.each c.in-Some.key) noted) a (sym c.link-link.ensures ∙ link));
     }
 
--- down to a fresh run stored runs are known to fit
+-- stored runs are known to fit down to a fresh run
 pub returns-then-is_from : goal.returns-then-is_from
 returns-then-is_from g c = λ i h. (
   (λ e.

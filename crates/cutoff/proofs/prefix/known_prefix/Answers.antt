@@ -34,7 +34,7 @@ loop-init g c = record {
   top = c.requires.top;
 }
 
--- runs fit down to the first segment of its branches if its run begins at the start
+-- runs fit down to a segment that is the first of its branches if its run begins at the start
 first_down : {R P : Type 0} (E : R → R → Bool) (per : IsPartialEquivalence E) (is : R → Behaviour P) (alike : (x y : R) → E x y ≡ true → is x ≡ is y) (trie : TrieOf (StoredRun R P)) (start : Configuration R P) (known : Known)
     → AreKnown E is trie start known → (top : ℕ) (o : Option (StoredRun R P)) (above : Option ℕ) → IsTop trie top o above → above ≡ None
     → MatchOption o ⊥ (λ s. SameConfiguration E s.run.entry start × IsRun (is s.run.entry.register) s.run) → IsMarked E is trie start (Some top)
@@ -66,7 +66,7 @@ returns-then-is_down-clause-known g c =
     known_front g.R.PartialEq.eq g.met.R.PartialEq.laws g.R.Behaves.behaviour g.met.R.Register.alike c.args.trie.now c.args.start.now c.args.first.key c.loop.top.key c.loop.front c.loop.invariant.there c.loop.invariant.hung
     (down_to_top g c)
 
--- the segment right above the one at which the climb ended
+-- the next segment, right above the one at which the climb ended, is on each branch with `first`
 next_there : (g : Over) (c : goal.After-hung_from-top g) (i : ℕ) → has c.args.first.key (keys_in c.args.trie.now.branches i) ≡ true → has c.in-Some.next (keys_in c.args.trie.now.branches i) ≡ true
 next_there g c i h =
     subst (HasClimbedTo (keys_in c.args.trie.now.branches i)) c.in-Some.is (c.in_ok-next.ensures.following.1 i (c.loop.invariant.there i h)).0

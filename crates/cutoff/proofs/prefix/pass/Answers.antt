@@ -8,7 +8,7 @@ use Rattle.cutoff.specs.Prefixes.{AreKeysAfter}
 use Rattle.cutoff.proofs.Climbs.{path_once}
 use Rattle.cutoff.proofs.prefix.pass.Goals as goal
 
--- `front` comes before the keys below it
+-- moving `front` from the end of the keys above to the start of those below keeps the order
 put_before : (up below keys new : List ℕ) (front : ℕ) → keys ≡ up ++ front ∷ [] → new ≡ below ++ front ∷ [] → keys ++ reverse below ≡ up ++ reverse new
 put_before up below keys new front is pushed =
     ap (λ l. l ++ reverse below) is ∙ append_assoc up (front ∷ []) (reverse below) ∙ ap (λ l. up ++ l) (sym (ap reverse pushed ∙ reverse-append below (front ∷ [])))
