@@ -1,5 +1,5 @@
-//! The program `towerbench-answers`: it passes its command-line words and two of its standard
-//! streams on.
+//! The program `towerbench-answers`: it passes its command-line words, its standard output and its
+//! standard error to `answers_tool`.
 #![tactic(auto)]
 
 use std::process::ExitCode;

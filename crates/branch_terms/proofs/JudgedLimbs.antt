@@ -14,7 +14,8 @@ new_if_free ls name taken short formed is =
     let form : is_name name ≡ true = ap (λ b. b && is_well_formed name) (le-leb (length name) 16 short) ∙ formed in
     ap not is ∙ sym (ap (λ b. b && not (list_any (has_name name) ls)) form)
 
--- limb i of a list decides whether it and the limbs after it are lawful, or leaves that to those
+-- Limb l is at index i of a list. If l may not follow the limbs before it, the list isn't lawful;
+-- if l may, the limbs after it decide.
 module _ (ls : List Limb) (i : ℕ) (l : Limb) (less : i < length ls) (at : get_or ls i l ≡ l) where
   next : are_lawful_after (take i ls) (drop i ls) ≡ (is_new_name (take i ls) l.name && (may_share (take i ls) l && are_lawful_after (take (i + 1) ls) (drop (i + 1) ls)))
   next =
@@ -32,14 +33,16 @@ module _ (ls : List Limb) (i : ℕ) (l : Limb) (less : i < length ls) (at : get_
   not_by true false later h = refl
   not_by false may later h = refl
 
+  -- if l may follow, the limbs after it decide whether all limbs are lawful
   pub goes_on : are_lawful_after (take i ls) (drop i ls) ≡ are_lawful_after [] ls → (is_new_name (take i ls) l.name && may_share (take i ls) l) ≡ true
       → are_lawful_after (take (i + 1) ls) (drop (i + 1) ls) ≡ are_lawful_after [] ls
   goes_on whole follows = sym (by (is_new_name (take i ls) l.name) (may_share (take i ls) l) (are_lawful_after (take (i + 1) ls) (drop (i + 1) ls)) follows) ∙ sym next ∙ whole
 
+  -- if l may not follow, not all limbs are lawful
   pub ends_here : are_lawful_after (take i ls) (drop i ls) ≡ are_lawful_after [] ls → (is_new_name (take i ls) l.name && may_share (take i ls) l) ≡ false
       → false ≡ are_lawful_after [] ls
   ends_here whole follows = sym (not_by (is_new_name (take i ls) l.name) (may_share (take i ls) l) (are_lawful_after (take (i + 1) ls) (drop (i + 1) ls)) follows) ∙ sym next ∙ whole
 
--- if no limb is left, all are lawful
+-- if the limbs from index i on decide whether all are lawful, and there are none, all are lawful
 pub all_lawful : (ls : List Limb) (i : ℕ) → length ls ≤ i → are_lawful_after (take i ls) (drop i ls) ≡ are_lawful_after [] ls → true ≡ are_lawful_after [] ls
 all_lawful ls i end whole = sym (ap (are_lawful_after (take i ls)) (drop_all i ls end)) ∙ whole

@@ -14,13 +14,15 @@ use Rattle.branch_terms.proofs.Lists.{by_order, slice_get-last, slice_get_left}
 use Rattle.branch_terms.proofs.LimbLists.{length-numbered}
 use Rattle.std.proofs.lemmas.Option.{slice_get_within}
 
--- the last cell that a limb shares is one of the own cells of the branch that it is from
+-- `from` of limb l is the index of an earlier limb, `stem`; the last cell that l shares is one of
+-- the own cells of the branch of `stem`
 pub record SharesOf (earlier : List Limb) (l : Limb) : Type 0 where
   pub stem : Limb
   pub there : slice_get earlier l.from ≡ Some stem
   pub more : stem.shared < l.shared
   pub within : l.shared ≤ limb_length stem
 
+-- limb l shares no cells, and its `from` is 0
 pub record SharesNone (l : Limb) : Type 0 where
   pub from : l.from ≡ 0
   pub shared : l.shared ≡ 0
@@ -41,7 +43,8 @@ may_share_parts earlier l P h none some = by (nat_eq l.from 0 && nat_eq l.shared
         let r = own_parts (slice_get earlier l.from) l.shared (sym (ap (λ c. c || is_own_of (slice_get earlier l.from) l.shared) e) ∙ h) in
         some (record { stem = r.0; there = r.1; more = r.2; within = r.3 })
 
--- the invariant of a forest that is built from limbs
+-- What holds of a forest f that is built from these limbs: it has a branch for each limb, of the
+-- limb's length, whose own cells no earlier branch has; and each cell's number is below `made`.
 pub record HasGrown (earlier : List Limb) (f : Forest) : Type 0 where
   pub count : length f.branches ≡ length earlier
   pub sizes : (i : ℕ) (p : Limb) → slice_get earlier i ≡ Some p → length (slots_in f.branches i) ≡ limb_length p
@@ -201,15 +204,16 @@ limbs_more earlier f (l ∷ ls) h same lawful =
     ∙ ap (λ m. earlier ++ m ∷ []) (limb_is earlier f l h q.0) in
     limbs_more (earlier ++ l ∷ []) (grown f l) ls (grown_more earlier f l h q.0) next q.1 ∙ append_assoc earlier (l ∷ []) ls
 
--- saving a loaded forest gives the limbs that were loaded
+-- the limbs of the forest that lawful limbs describe are these limbs
 pub limbs_again : (ls : List Limb) → AreLawfulLimbs ls → limbs (forest_of ls) ≡ ls
 limbs_again ls lawful = limbs_more [] no_branches ls grown_none refl lawful
 
--- the number of cells made, and the number of branches
+-- after limbs are added, the number of cells made is greater by the number of their own cells
 grow_made : (f : Forest) (ls : List Limb) → (grow f ls).made ≡ f.made + cells_of ls
 grow_made f [] = omega arith
 grow_made f (l ∷ ls) = grow_made (grown f l) ls ∙ omega arith
 
+-- after limbs are added, the number of branches is greater by the number of limbs
 grow_count : (f : Forest) (ls : List Limb) → length (grow f ls).branches ≡ length f.branches + length ls
 grow_count f [] = omega arith
 grow_count f (l ∷ ls) = grow_count (grown f l) ls ∙ omega (arith, length-append f.branches (branch l.name (slots_on f l) ∷ []))

@@ -46,7 +46,7 @@ slots_in-past [] i h = refl
 slots_in-past (c ∷ bs) zero h = absurd (omega arith)
 slots_in-past (c ∷ bs) (suc i) h = slots_in-past bs i (omega arith)
 
--- `list_any` is true exactly if some branch has the cell
+-- if branch j has the cell, `list_any` finds a branch that has it
 pub any_from : (bs : List Branch) (j x : ℕ) → has_slot x (slots_in bs j) ≡ true → list_any (holds x) bs ≡ true
 any_from [] j x h = absurd (true≢false (sym h))
 any_from (b ∷ bs) zero x h = ap (λ c. c || list_any (holds x) bs) h
@@ -56,10 +56,12 @@ any_from (b ∷ bs) (suc j) x h = by (holds x b) (any_from bs j x h)
     by true r = refl
     by false r = r
 
+-- if no branch has the cell, `list_any` finds none
 pub any_none : (bs : List Branch) (x : ℕ) → ((j : ℕ) → has_slot x (slots_in bs j) ≡ false) → list_any (holds x) bs ≡ false
 any_none [] x h = refl
 any_none (b ∷ bs) x h = ap (λ c. c || list_any (holds x) bs) (h 0) ∙ any_none bs x (λ j. h (suc j))
 
+-- if `list_any` finds a branch that has the cell, some branch j has it
 pub any_which : (bs : List Branch) (x : ℕ) → list_any (holds x) bs ≡ true → (j : ℕ) × (has_slot x (slots_in bs j) ≡ true)
 any_which [] x h = absurd (true≢false (sym h))
 any_which (b ∷ bs) x h = by (any_which bs x) (holds x b) refl
@@ -68,7 +70,7 @@ any_which (b ∷ bs) x h = by (any_which bs x) (holds x b) refl
     by rest true e = (0, e)
     by rest false e = let r = rest (sym (ap (λ c. c || list_any (holds x) bs) e) ∙ h) in (suc r.0, r.1)
 
--- the branch that a search finds is the first that has the cell
+-- if branch p has the cell x, and no branch before it has, a search for x finds p
 pub first_is : (bs : List Branch) (p x : ℕ) → has_slot x (slots_in bs p) ≡ true → ((j : ℕ) → j < p → has_slot x (slots_in bs j) ≡ false)
     → position_or_len (holds x) bs ≡ p
 first_is [] p x h none = absurd (true≢false (sym h))
@@ -95,6 +97,7 @@ first_later b bs x p e r = record { has_it = r.has_it; within = omega (arith, r.
     before zero less = e
     before (suc j) less = r.none_before j (omega arith)
 
+-- if some branch has the cell x, a search for x finds the first one that has it
 pub first_has : (bs : List Branch) (x : ℕ) → list_any (holds x) bs ≡ true → IsFirst bs x (position_or_len (holds x) bs)
 first_has [] x h = absurd (true≢false (sym h))
 first_has (b ∷ bs) x h = by (first_has bs x) (holds x b) refl
@@ -152,7 +155,7 @@ cell_in-numbered n k [] h = absurd (omega arith)
 cell_in-numbered n zero (s ∷ ss) h = omega arith
 cell_in-numbered n (suc k) (s ∷ ss) h = let r = cell_in-numbered (suc n) k ss (omega arith) in omega arith
 
--- a branch's own cell has a new number
+-- a cell after the first n, which are shared, has a new number: one that is at least `made`
 pub cell_in-own : (xs : List Slot) (n made k : ℕ) (steps : List Step) → n ≤ length xs → n ≤ k → k < n + length steps → made ≤ cell_in (take n xs ++ numbered made steps) k
 cell_in-own xs zero made k steps few more less = cell_in-numbered made k steps (omega arith)
 cell_in-own [] (suc n) made k steps few more less = absurd (omega arith)
@@ -167,7 +170,7 @@ pub steps-numbered : (n : ℕ) (steps : List Step) → map step_of (numbered n s
 steps-numbered n [] = refl
 steps-numbered n (s ∷ ss) = ap (λ l. s ∷ l) (steps-numbered (suc n) ss)
 
--- each number that is given is below n plus the number of steps
+-- each number of a cell of `numbered n steps` is below n plus the number of steps
 pub numbered_below : (n : ℕ) (steps : List Step) (x : ℕ) → has_slot x (numbered n steps) ≡ true → x < n + length steps
 numbered_below n [] x h = absurd (true≢false (sym h))
 numbered_below n (s ∷ ss) x h =

@@ -17,17 +17,17 @@ use Rattle.branch_terms.proofs.Lists.{by_order, cell_in_at, slice_get_some, turn
 use Rattle.branch_terms.proofs.LimbLists.{length-numbered}
 use Rattle.std.proofs.lemmas.Option.{slice_get_within}
 
--- equal steps mean equal numbers of cells
+-- lists of cells with the same steps have the same length
 same_length : (xs ys : List Slot) → map step_of xs ≡ map step_of ys → length xs ≡ length ys
 same_length xs ys e = sym (length-map xs step_of) ∙ ap length e ∙ length-map ys step_of
 
--- a branch that has a cell is one of the branches
+-- if the branch at an index has a cell, there is a branch at that index
 branch_within : (bs : List Branch) (i k : ℕ) → k < length (slots_in bs i) → i < length bs
 branch_within [] i k h = absurd (omega arith)
 branch_within (b ∷ bs) zero k h = omega arith
 branch_within (b ∷ bs) (suc i) k h = let r = branch_within bs i k h in omega arith
 
--- the count of first cells that pass is at least n, if the first n pass
+-- if the first n items pass the test, the longest prefix whose items pass has at least n items
 passes_least : {X : Type 0} (test : X → Bool) (n : ℕ) (xs : List X) → list_all test (take n xs) ≡ true → n ≤ length xs → n ≤ prefix_len test xs
 passes_least test zero xs all few = omega arith
 passes_least test (suc n) [] all few = absurd (omega arith)
@@ -38,13 +38,13 @@ passes_least test (suc n) (x ∷ xs) all few = by (passes_least test n xs) (test
     by rest true h = let r = rest h (omega arith) in omega arith
     by rest false h = absurd (true≢false (sym h))
 
--- new cells are numbered one by one
+-- new cells are numbered one by one: the one at index d has the number `made + d`
 cell_in-numbered : (made d : ℕ) (steps : List Step) → d < length steps → cell_in (numbered made steps) d ≡ made + d
 cell_in-numbered made d [] less = absurd (omega arith)
 cell_in-numbered made zero (s ∷ ss) less = omega arith
 cell_in-numbered made (suc d) (s ∷ ss) less = cell_in-numbered (suc made) d ss (omega arith) ∙ omega arith
 
--- after shared cells, new ones are numbered one by one too
+-- of new cells that follow n shared ones, the one at index `n + d` has the number `made + d`
 cell_in-new : (xs : List Slot) (n made d k : ℕ) (steps : List Step) → n ≤ length xs → d < length steps → k ≡ n + d
     → cell_in (take n xs ++ numbered made steps) k ≡ made + d
 cell_in-new xs zero made d k steps few less place =
@@ -53,23 +53,25 @@ cell_in-new [] (suc n) made d k steps few less place = absurd (omega arith)
 cell_in-new (x ∷ xs) (suc n) made d zero steps few less place = absurd (omega arith)
 cell_in-new (x ∷ xs) (suc n) made d (suc k) steps few less place = cell_in-new xs n made d k steps (omega arith) less (omega arith)
 
--- one of the first cells
+-- a cell among the first n is the same cell in the list of the first n
 cell_in-first : (xs : List Slot) (n k : ℕ) → k < n → cell_in xs k ≡ cell_in (take n xs) k
 cell_in-first xs zero k less = absurd (omega arith)
 cell_in-first [] (suc n) k less = refl
 cell_in-first (x ∷ xs) (suc n) zero less = refl
 cell_in-first (x ∷ xs) (suc n) (suc k) less = cell_in-first xs n k (omega arith)
 
--- two lists of cells that are equal up to each common cell are equal up to places with that cell
+-- two lists of cells that are equal up to each common cell; the cell at index k of the first is the
+-- one at index m of the second
 module _ (xs ys : List Slot) (agree : AreSameUpTo xs ys) (k m : ℕ) (inside : k < length xs) (within : m < length ys)
     (same : cell_in xs k ≡ cell_in ys m) where
+  -- the lists are equal up to this cell
   same_up_to : take (suc k) xs ≡ take (suc m) ys
   same_up_to =
       let s = slice_get_some xs k inside in
       let t = slice_get_some ys m within in
       agree k m s.0 t.0 s.1 t.1 (sym (cell_in_at xs k s.0 s.1) ∙ same ∙ cell_in_at ys m t.0 t.1)
 
-  -- a cell that both have is at the same place in both
+  -- this cell is at the same index in both lists
   same_place : k ≡ m
   same_place =
       let left : length (take (suc k) xs) ≡ suc k = length-take-le (suc k) xs (omega arith) in
@@ -77,20 +79,21 @@ module _ (xs ys : List Slot) (agree : AreSameUpTo xs ys) (k m : ℕ) (inside : k
       let up : length (take (suc k) xs) ≡ length (take (suc m) ys) = ap length same_up_to in
       omega arith
 
--- a branch after others, with each of which it shares all up to each common cell
+-- a branch b after the branches `earlier`: b and each of these are equal up to each common cell
 module _ (earlier : List Branch) (b : Branch) (agree : (j : ℕ) → j < length earlier → AreSameUpTo b.slots (slots_in earlier j)) where
-  -- the number of first cells that it shares, and the first branch that has the last of them
+  -- how many of its first cells b shares with earlier branches
   abbrev common : ℕ
   common = shared_with earlier b.slots
 
+  -- the index of the first earlier branch that has the last shared cell
   abbrev stem : ℕ
   stem = first_with earlier b.slots common
 
-  -- it shares at most the cells that it has
+  -- b has at least as many cells as it shares
   common_few : common ≤ length b.slots
   common_few = prefix_len-le-length (is_in_branches earlier) b.slots
 
-  -- up to a shared cell it has the cells of the first branch that has that one
+  -- up to a shared cell s, b has the same cells as the first earlier branch that has s
   front_of : (k : ℕ) → k < common → (s : Slot) → slice_get b.slots k ≡ Some s
       → take (suc k) b.slots ≡ take (suc k) (slots_in earlier (position_or_len (holds s.cell) earlier))
   front_of k less s here =
@@ -104,7 +107,8 @@ module _ (earlier : List Branch) (b : Branch) (agree : (j : ℕ) → j < length 
       subst (λ n. take (suc k) b.slots ≡ take (suc n) ys) (sym (same_place b.slots ys up k p.0 (omega arith) inside same))
       (same_up_to b.slots ys up k p.0 (omega arith) inside same)
 
-  -- the first k shared cells are those of the first branch that has the last of them
+  -- if the first k cells of b are shared, they are the first k cells of an earlier branch: of the
+  -- first one that has the last of these cells
   front_by : (k : ℕ) → k ≤ common → take k b.slots ≡ take k (slots_in earlier (first_with earlier b.slots k))
   front_by zero few = refl
   front_by (suc k) few =
@@ -113,11 +117,11 @@ module _ (earlier : List Branch) (b : Branch) (agree : (j : ℕ) → j < length 
       subst (λ x. take (suc k) b.slots ≡ take (suc k) (slots_in earlier (position_or_len (holds x) earlier))) (sym (cell_in_at b.slots k s.0 s.1))
       (front_of k (omega arith) s.0 s.1)
 
-  -- the shared cells are the first ones of the branch that it is from
+  -- the shared cells are the first cells of the earlier branch at index `stem`
   front_is : take common b.slots ≡ take common (slots_in earlier stem)
   front_is = front_by common (omega arith)
 
-  -- no earlier branch has a cell after the shared ones
+  -- no earlier branch has any of b's cells after the shared ones
   own_apart : (k j m : ℕ) → common ≤ k → k < length b.slots → m < length (slots_in earlier j) → cell_in b.slots k ≡ cell_in (slots_in earlier j) m → ⊥
   own_apart k j m more inside within same =
       let up : take (suc k) b.slots ≡ take (suc m) (slots_in earlier j) =
@@ -128,45 +132,48 @@ module _ (earlier : List Branch) (b : Branch) (agree : (j : ℕ) → j < length 
       let least = passes_least (is_in_branches earlier) (suc k) b.slots all (omega arith) in
       omega arith
 
--- the front of a forest: its first branches
+-- the forest with these branches; `made` is 0, since `IsRenumbered` ignores it
 abbrev front : List Branch → Forest
 front branches = record { branches = branches; made = 0 }
 
--- one more branch on one side, and its limb on the other
+-- Two sides that are equal except for the numbers of cells: the branches `earlier`, and the forest
+-- g. Branch b is added to the first side, and the limb of b to the second.
 module _ (earlier : List Branch) (b : Branch) (agree : (j : ℕ) → j < length earlier → AreSameUpTo b.slots (slots_in earlier j))
     (once : AreSameUpTo b.slots b.slots)
     (g : Forest) (has_grown : HasGrown (limbs_after [] earlier) g) (kept : IsRenumbered (front earlier) g) where
-  -- the branch's limb, and the cells of its branch
+  -- the limb of b
   abbrev l : Limb
   l = limb_of earlier b
 
+  -- the cells of the limb's branch in g
   abbrev new : List Slot
   new = slots_on g l
 
-  -- the branches including that one, on each side
+  -- the branches of the first side, with b
   abbrev before : List Branch
   before = earlier ++ b ∷ []
 
+  -- the branches of the second side, with the limb's branch
   abbrev after : List Branch
   after = g.branches ++ branch b.name new ∷ []
 
-  -- the branch that the limb is from
+  -- the cells of the branch of g from which the limb's branch starts
   abbrev origin : List Slot
   origin = slots_in g.branches l.from
 
-  -- it has the cells that the limb shares
+  -- there are at least as many of these cells as the limb shares
   enough : l.shared ≤ length origin
   enough = short (limbs_after [] earlier) g l has_grown (limb_may_share earlier b agree)
 
-  -- both sides have the same number of branches, and
-  -- each branch has the same number of cells on both
+  -- both sides have the same number of branches before b and its limb are added
   count : length earlier ≡ length g.branches
   count = sym (length-map earlier name_of) ∙ ap length kept.names ∙ length-map g.branches name_of
 
+  -- each earlier branch has the same number of cells on both sides
   lengths : (i : ℕ) → length (slots_in earlier i) ≡ length (slots_in g.branches i)
   lengths i = same_length (slots_in earlier i) (slots_in g.branches i) (kept.steps i)
 
-  -- the new branch has the same steps
+  -- b and the limb's branch have the same steps
   steps_new : map step_of b.slots ≡ map step_of new
   steps_new =
       let own = drop l.shared b.slots in
@@ -183,7 +190,8 @@ module _ (earlier : List Branch) (b : Branch) (agree : (j : ℕ) → j < length 
   names_more =
       map-append name_of earlier (b ∷ []) ∙ ap (λ ns. ns ++ b.name ∷ []) kept.names ∙ sym (map-append name_of g.branches (branch b.name new ∷ []))
 
-  -- the branches before and after: the earlier ones unchanged, and the last one
+  -- on both sides the earlier branches are unchanged, the last is b or the limb's branch, and none
+  -- follows
   before_front : (i : ℕ) → i < length earlier → slots_in before i ≡ slots_in earlier i
   before_front i less = slots_in-front earlier b i less
 
@@ -210,14 +218,15 @@ module _ (earlier : List Branch) (b : Branch) (agree : (j : ℕ) → j < length 
       (λ e. ap (map step_of) (before_last i e) ∙ steps_new ∙ ap (map step_of) (sym (after_last i e)))
       (λ more. ap (map step_of) (before_past i more ∙ sym (after_past i more)))
 
-  -- a place whose cell is on an earlier branch on both sides, at the same place there
+  -- place k of branch i has an old cell: on both sides the one at place k of the earlier branch j
   record IsOld (i k : ℕ) : Type 0 where
     j : ℕ
     within : k < length (slots_in earlier j)
     left : cell_in (slots_in before i) k ≡ cell_in (slots_in earlier j) k
     right : cell_in (slots_in after i) k ≡ cell_in (slots_in g.branches j) k
 
-  -- a place of the last branch, after the shared ones
+  -- place k of branch i has one of the last branch's own cells, the one at index d of these: on the
+  -- first side the cell of b, on the second a new cell of g
   record IsOwn (i k : ℕ) : Type 0 where
     d : ℕ
     place : k ≡ l.shared + d
@@ -225,7 +234,7 @@ module _ (earlier : List Branch) (b : Branch) (agree : (j : ℕ) → j < length 
     left : cell_in (slots_in before i) k ≡ cell_in b.slots k
     right : cell_in (slots_in after i) k ≡ g.made + d
 
-  -- a place of an earlier branch
+  -- each place of an earlier branch has an old cell
   old_front : (i k : ℕ) → i < length earlier → k < length (slots_in before i) → IsOld i k
   old_front i k less within = record {
     j = i;
@@ -234,7 +243,7 @@ module _ (earlier : List Branch) (b : Branch) (agree : (j : ℕ) → j < length 
     right = ap (λ xs. cell_in xs k) (after_front i less);
   }
 
-  -- a shared place of the last one
+  -- each shared place of the last branch has an old cell
   old_last : (i k : ℕ) → i ≡ length earlier → k < l.shared → IsOld i k
   old_last i k e less =
       let few = common_few earlier b agree in
@@ -250,7 +259,7 @@ module _ (earlier : List Branch) (b : Branch) (agree : (j : ℕ) → j < length 
         right = ap (λ xs. cell_in xs k) (after_last i e) ∙ cell_in-taken origin (numbered g.made l.steps) l.shared k less long;
       }
 
-  -- a place of the last one after these
+  -- each later place of the last branch has one of its own cells
   own_last : (i k d : ℕ) → i ≡ length earlier → k ≡ l.shared + d → k < length b.slots → IsOwn i k
   own_last i k d e place inside =
       let size : length b.slots ≡ l.shared + length l.steps =
@@ -264,7 +273,7 @@ module _ (earlier : List Branch) (b : Branch) (agree : (j : ℕ) → j < length 
         right = ap (λ xs. cell_in xs k) (after_last i e) ∙ cell_in-new origin l.shared g.made d k l.steps enough (omega arith) place;
       }
 
-  -- a place of the last one is shared or after the shared ones
+  -- each place of the last branch has an old cell or one of its own
   last_place : (i k : ℕ) (P : Type 0) → i ≡ length earlier → k < length (slots_in before i) → (IsOld i k → P) → (IsOwn i k → P) → P
   last_place i k P e within old own = by (nat_lt k l.shared) refl
     where
@@ -274,7 +283,7 @@ module _ (earlier : List Branch) (b : Branch) (agree : (j : ℕ) → j < length 
           let more : l.shared ≤ k = grind (arith, nat_tests) in
           own (own_last i k (k - l.shared) e (omega arith) (subst (λ xs. k < length xs) (before_last i e) within))
 
-  -- each place is one of these
+  -- each place of each branch has an old cell or one of the own cells of the last branch
   places : (i k : ℕ) (P : Type 0) → k < length (slots_in before i) → (IsOld i k → P) → (IsOwn i k → P) → P
   places i k P within old own =
       by_order i (length earlier) P
@@ -282,31 +291,32 @@ module _ (earlier : List Branch) (b : Branch) (agree : (j : ℕ) → j < length 
       (λ e. last_place i k P e within old own)
       (λ more. let none : length (slots_in before i) ≡ 0 = ap length (before_past i more) in absurd (omega arith))
 
-  -- a cell of an earlier branch has a number that was given out
+  -- on the second side, the number of an old cell is below the number of cells made
   old_below : (i k : ℕ) → IsOld i k → cell_in (slots_in after i) k < g.made
   old_below i k p =
       let xs = slots_in g.branches p.j in
       subst (λ x. x < g.made) (sym p.right) (has_grown.given p.j (cell_in xs k) (cell_in-has xs k (omega (arith, p.within, lengths p.j))))
 
-  -- at places of earlier branches nothing changes
+  -- two places with old cells have the same cell on one side exactly if they do on the other
   cells_old : (i k j m : ℕ) → IsOld i k → IsOld j m → is_one_cell before i k j m ≡ is_one_cell after i k j m
   cells_old i k j m p q = (λ z. nat_eq (p.left z) (q.left z)) ∙ kept.cells p.j k q.j m p.within q.within ∙ sym (λ z. nat_eq (p.right z) (q.right z))
 
-  -- a cell of its own is on no earlier branch, on both sides
+  -- on neither side does a place with one of the last branch's own cells have the same cell as a
+  -- place with an old cell
   cells_apart : (i k j m : ℕ) → IsOwn i k → IsOld j m → is_one_cell before i k j m ≡ is_one_cell after i k j m
   cells_apart i k j m p q =
       alike (cell_in (slots_in before i) k) (cell_in (slots_in before j) m) (cell_in (slots_in after i) k) (cell_in (slots_in after j) m)
       (λ e. absurd (own_apart earlier b agree k q.j m (omega (arith, p.place)) p.within q.within (sym p.left ∙ e ∙ q.left)))
       (λ e. absurd (omega (arith, e, p.right, old_below j m q)))
 
-  -- two own cells are the same just at the same place, on both sides
+  -- two places with own cells have the same cell only if they are the same place, on both sides
   cells_own : (i k j m : ℕ) → IsOwn i k → IsOwn j m → is_one_cell before i k j m ≡ is_one_cell after i k j m
   cells_own i k j m p q =
       alike (cell_in (slots_in before i) k) (cell_in (slots_in before j) m) (cell_in (slots_in after i) k) (cell_in (slots_in after j) m)
       (λ e. let one = same_place b.slots b.slots once k m p.within q.within (sym p.left ∙ e ∙ q.left) in omega (arith, one, p.place, q.place, p.right, q.right))
       (λ e. let one : k ≡ m = omega (arith, e, p.place, q.place, p.right, q.right) in p.left ∙ ap (cell_in b.slots) one ∙ sym q.left)
 
-  -- two places have the same cell on one side just if they do on the other
+  -- any two places have the same cell on one side exactly if they do on the other
   cells_more : (i k j m : ℕ) → k < length (slots_in before i) → m < length (slots_in before j) → is_one_cell before i k j m ≡ is_one_cell after i k j m
   cells_more i k j m inside within =
       let P = is_one_cell before i k j m ≡ is_one_cell after i k j m in
@@ -316,11 +326,12 @@ module _ (earlier : List Branch) (b : Branch) (agree : (j : ℕ) → j < length 
       ∙ turned (cell_in (slots_in after j) m) (cell_in (slots_in after i) k)))
       (λ p. places j m P within (cells_apart i k j m p) (cells_own i k j m p))
 
-  -- after one more branch, both sides are still equal except for numbers
+  -- with b and its limb, both sides are still equal except for the numbers of cells
   kept_more : IsRenumbered (front before) (grown g l)
   kept_more = record { names = names_more; steps = steps_more; cells = cells_more }
 
--- along the branches: a front of them and the forest of their limbs are equal except for numbers
+-- if the first branches of a forest and the forest g are equal except for the numbers of cells, so
+-- are all its branches and g with the limbs of the others added
 kept_from : (f : Forest) → IsForest f → (earlier rest : List Branch) → f.branches ≡ earlier ++ rest → (g : Forest)
     → HasGrown (limbs_after [] earlier) g → IsRenumbered (front earlier) g → IsRenumbered (front f.branches) (grow g (limbs_after earlier rest))
 kept_from f h earlier [] e g has_grown kept = subst (λ bs. IsRenumbered (front bs) g) (sym (append-nil earlier) ∙ sym e) kept
@@ -340,7 +351,7 @@ kept_from f h earlier (b ∷ bs) e g has_grown kept =
 kept_none : IsRenumbered (front []) no_branches
 kept_none = record { names = refl; steps = λ i. refl; cells = λ i k j m inside within. refl }
 
--- saving and loading keeps a forest, except for the numbers of its cells
+-- the forest of a forest's limbs is that forest, except for the numbers of its cells
 pub limbs_kept : (f : Forest) → IsForest f → IsRenumbered f (forest_of (limbs f))
 limbs_kept f h =
     let r = kept_from f h [] f.branches refl no_branches grown_none kept_none in

@@ -133,7 +133,7 @@ module _ (earlier : List Branch) (b : Branch) (agree : (j : ℕ) → j < length 
   pub limb_may_share : may_share (limbs_after [] earlier) (limb_of earlier b) ≡ true
   limb_may_share = shares_at (shared_with earlier b.slots) refl
 
--- an index that is found
+-- an index that `position` finds is the one that `position_or_len` gives
 position_is : {X : Type 0} (p : X → Bool) (xs : List X) (o : ℕ) → position p xs ≡ Some o → position_or_len p xs ≡ o
 position_is p xs o e = by (nat_lt (position_or_len p xs) (length xs)) refl
   where
@@ -141,7 +141,7 @@ position_is p xs o e = by (nat_lt (position_or_len p xs) (length xs)) refl
     by true f = let found : Some (position_or_len p xs) ≡ Some o = sym (ap (λ c. cond c (Some (position_or_len p xs)) None) f) ∙ e in cc
     by false f = let none : None ≡ Some o = sym (ap (λ c. cond c (Some (position_or_len p xs)) None) f) ∙ e in cc
 
--- the names of limbs
+-- one of these limbs has the name exactly if one of their branches has it
 limb_names : (name : List ℕ) (pre bs : List Branch) → list_any (has_name name) (limbs_after pre bs) ≡ list_any (pointwise nat_eq name) (map name_of bs)
 limb_names name pre [] = refl
 limb_names name pre (b ∷ bs) = ap (λ z. pointwise nat_eq name b.name || z) (limb_names name (pre ++ b ∷ []) bs)

@@ -9,7 +9,7 @@ use Rattle.branch_terms.specs.Forest.{cell_of, cell_in}
 pub by_order : (i n : ℕ) (P : Type 0) → (i < n → P) → (i ≡ n → P) → (n < i → P) → P
 by_order i n P below same above = elim (cases_order i n) [ inl e ↦ same e | inr (inl h) ↦ below h | inr (inr h) ↦ above h ]
 
--- two tests of numbers agree if either equality implies the other
+-- two tests of equality have the same result if each equality implies the other
 pub alike : (a b c d : ℕ) → (a ≡ b → c ≡ d) → (c ≡ d → a ≡ b) → nat_eq a b ≡ nat_eq c d
 alike a b c d there back = by (nat_eq a b) refl
   where
@@ -20,7 +20,7 @@ alike a b c d there back = by (nat_eq a b) refl
 pub turned : (x y : ℕ) → nat_eq x y ≡ nat_eq y x
 turned x y = alike x y y x (λ e. sym e) (λ e. sym e)
 
--- two keys that compare equal are the same, and so are two of None
+-- two optional keys that compare equal are the same
 pub same_key : (a b : Option ℕ) → option_eq nat_eq a b ≡ true → a ≡ b
 same_key None None e = refl
 same_key None (Some k) e = cc
@@ -32,12 +32,13 @@ slice_get_some [] i h = absurd (omega arith)
 slice_get_some (x ∷ xs) zero h = (x, refl)
 slice_get_some (x ∷ xs) (suc i) h = slice_get_some xs i (omega arith)
 
--- an item of two joined lists is one of the first list, or one of the second
+-- an index of the first of two joined lists has that list's item
 pub slice_get_left : {X : Type 0} (xs ys : List X) (i : ℕ) → i < length xs → slice_get (xs ++ ys) i ≡ slice_get xs i
 slice_get_left [] ys i h = absurd (omega arith)
 slice_get_left (x ∷ xs) ys zero h = refl
 slice_get_left (x ∷ xs) ys (suc i) h = slice_get_left xs ys i (omega arith)
 
+-- an index after the first of two joined lists has an item of the second
 pub slice_get_right : {X : Type 0} (xs ys : List X) (i j : ℕ) → length xs + j ≡ i → slice_get (xs ++ ys) i ≡ slice_get ys j
 slice_get_right [] ys i j e = ap (slice_get ys) (omega arith)
 slice_get_right (x ∷ xs) ys zero j e = absurd (omega arith)
@@ -58,6 +59,7 @@ rest_item x xs m i d most less at =
     next : (i : ℕ) → suc i ≡ i + 1
     next i = omega arith
 
+-- the item at index i of a list without its first item is the one at index i + 1 of the list
 pub item_of_rest : {X : Type 0} (all : List X) (i : ℕ) (d : X) → 0 < length all → i < length (take (length all - 1) (drop 1 all)) → d ≡ get_or (take (length all - 1) (drop 1 all)) i d
     → (i + 1 < length all) × (get_or all (i + 1) d ≡ d)
 item_of_rest [] i d some less at = absurd (omega arith)

@@ -36,11 +36,11 @@ use Rattle.clap.specs.declared.parser.matches.MatchedArg.{MatchedArg}
 use Rattle.clap.proofs.CallerLemmas.{default_present, entry_by_id, same_rules_by_id}
 use Rattle.command_line.specs.CommandLine.{IsAskedBy, IsRunInvocation, Says, Explains, option_number, number_rule, workers_rule, cells_rule, branches_rule, default_options, faults_of, file_word, file_rule, options_of, save_path, program, save_rule}
 
--- the parser of a number
+-- the parser of a number from `least` to `most`
 abbrev number : ℕ → ℕ → ValueParser
 number least most = value_parser.Signed (pos least) (pos most)
 
--- what the text after the option of this id is
+-- the option with this id has a text: a number from `least` to `most`, without a minus sign
 abbrev ReadsNumber : Text → ℕ → ℕ → Found → Type 0
 ReadsNumber id least most f = (t : Text) × (one_text f id ≡ Some (without_minus t)) × IsSignedIn (pos least) (pos most) t
 
@@ -51,7 +51,7 @@ first_read P (v ∷ vs) all some = (v, refl, All-get_or P (v ∷ vs) 0 v (omega 
 
 -- an option that takes a number
 module _ (id : Text) (least most : ℕ) (named : 0 < length id) where
-  -- a parse keeps its rules
+  -- what a parse keeps of the option's rule: each argument with its id takes a number in its range
   abbrev KeepsNumber : Command → Type 0
   KeepsNumber c = (j : ℕ) (x : Arg) → j < length (args_of c) → slice_index_or (args_of c) j x ≡ x
       → bytes_eq x.id.now id ≡ true
@@ -184,7 +184,8 @@ each_rule (suc (suc (suc zero))) lt = (refl, refl)
 each_rule (suc (suc (suc (suc zero)))) lt = (refl, refl)
 each_rule (suc (suc (suc (suc (suc k))))) lt = absurd (omega (arith, lt))
 
--- an option: its index, and that its id is neither empty nor that of the help or the version
+-- the option with this id, which takes a number from `least` to `most`: its index among the rules
+-- and its default. Its id isn't empty, and isn't that of the help or the version.
 pub record IsOption (id : Text) (least most : ℕ) : Type 0 where
   pub place : ℕ
   pub default : Text
@@ -232,7 +233,7 @@ module _ (c : Command) (m : ArgMatches) (shape : app_of c ≡ program) (p : IsPa
   no_groups : groups_of c ≡ []
   no_groups = nothing _ (both _ _ plain).0
 
-  -- the arguments have these rules, index by index
+  -- the rules of the arguments, in order, are `all_rules`
   rules_are : map rule_of (args_of c) ≡ all_rules
   rules_are = ap (λ (a : App). a.top.rules) shape
 
@@ -251,7 +252,7 @@ module _ (c : Command) (m : ArgMatches) (shape : app_of c ≡ program) (p : IsPa
       let low : k < length all_rules = rw as_many at lt in
       no_arg_groups (slice_index_or (args_of c) k d) (ap (λ (r : Rule). r.is_simple) (has_rule k d low) ∙ (each_rule k low).0)
 
-  -- `r` is the number that the matches give for the option with this id, if they give one
+  -- if the matches have a text for the option with this id, r is what this text is read as
   abbrev pub Gives : Text → Option ℕ → Type 0
   Gives id r = (t : Text) → one_text (found_of m) id ≡ Some t → ReadsOne ReadsU32 t r
 
@@ -326,12 +327,13 @@ module _ (c : Command) (m : ArgMatches) (shape : app_of c ≡ program) (p : IsPa
     in_range r gives =
         signed_reads ParseIntError ReadsU32 32 least most read.0 r (gives (without_minus read.0) read.1) (λ u x g. g.0) (omega (arith, o.fits)) read.2
 
+    -- the matches always give a number for the option
     pub never : Gives id None → ⊥
     never gives =
         let bad : None ≡ Some (in_range None gives).0 = (in_range None gives).1 in
         cc
 
-    -- it is in its range, and is the one that the words give
+    -- the number that the matches give is the one that the words give, and is in the option's range
     number_given : (words : List Text) (n : ℕ) → HasMatchesOf (app_of c) words m → Gives id (Some n)
         → (n ≡ option_number id words) × (least ≤ n) × (n ≤ most)
     number_given words n has gives =
@@ -385,7 +387,7 @@ fault_explained c words e r shape has h = invocation_explained words (fault_of (
 
 -- ---- no words
 
--- the words are taken, and ask for this FILE, these options and this PATH
+-- the words are accepted, and ask for this FILE, these options and this PATH
 record Asks (words : List Text) (file : Option Text) (options : Options) (save : Option Text) : Type 0 where
   pub taken : faults_of words ≡ []
   pub file_is : file_word words ≡ file
@@ -403,5 +405,6 @@ runs_of words file options save (Help text) asks h = subst (λ ks. IsAmong Displ
 runs_of words file options save (Refused text) asks h = subst (λ ks. IsAmong h.0 ks) asks.taken h.1
 runs_of words file options save Memory asks h = tt
 
+-- without words, the outcome is a run with the default options, or Memory
 pub bare : (words : List Text) (r : Invocation) → words ≡ [] → IsAskedBy words r → IsRunInvocation None default_options None r
 bare words r empty h = runs_of [] None default_options None r asks_bare (subst (λ ws. IsAskedBy ws r) empty h)

@@ -130,7 +130,7 @@ short-join x (y ∷ ys) h =
 no_comment : (b : ℕ) → is_ascii_digit b ≡ true → (b == 35) ≡ false
 no_comment b h = let d = digit_bounds b h in grind (arith, nat_tests, d)
 
--- a text that is neither empty nor a comment
+-- a text that isn't blank: it has a first byte, which isn't `#`
 pub record Speaks (text : List ℕ) : Type 0 where
   pub first : ℕ
   pub others : List ℕ

@@ -50,7 +50,7 @@ branch_again b h =
     let c = and_parts (nat_le 1 (length b)) (nat_le (length b) 16) a.0 in
     ap (λ t. cond t None (cond (nat_le (length b) 16) (Some b) None)) (some_bytes (length b) c.0) ∙ ap (λ t. cond t (Some b) None) c.1
 
--- ---- the words after a command's
+-- ---- the words after a command's first word
 
 one_again : (n : ℕ) → AreSound (Number n ∷ []) → one_number (decimal n ∷ []) ≡ Some n
 one_again n h = rw (number_again n (both (Number n) [] h).0) refl

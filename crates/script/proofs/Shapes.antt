@@ -18,12 +18,13 @@ use Rattle.script.specs.Spelling.{Text, Number, Guard}
 abbrev pub call_with : ℕ → Request → Call
 call_with session request = record { session = session; request = request }
 
--- a text of 1 to 16 bytes, a number of at most 9 digits
+-- whether a text has 1 to 16 bytes, or a number or a guard has at most 9 digits
 abbrev pub is_small : Word → Bool
 is_small (Text t) = nat_le 1 (length t) && nat_le (length t) 16
 is_small (Number n) = nat_lt n (10 ^ 9)
 is_small (Guard n) = nat_lt n (10 ^ 9)
 
+-- the words ws are spelled as this shape has them, and each is within its size
 pub record Shows (ws : List (List ℕ)) (shape : List Word) : Type 0 where
   pub same : ws ≡ map spelled shape
   pub small : list_all is_small shape ≡ true
@@ -41,7 +42,7 @@ pub at_end : (ws : List (List ℕ)) → is_end ws ≡ true → Shows ws []
 at_end [] h = record { same = refl; small = refl }
 at_end (w ∷ ws) h = absurd cc
 
--- words that begin with this text have a shape that begins with it
+-- if the first word is the text v, and the others have this shape, all have v and then this shape
 pub keyword : (ws : List (List ℕ)) (v : List ℕ) (shape : List Word) → is_small (Text v) ≡ true → bytes_eq (next ws) v ≡ true → Shows (after_next ws) shape → Shows ws (Text v ∷ shape)
 keyword [] v shape s e h =
     let bad : is_small (Text []) ≡ true = subst (λ (x : List ℕ). is_small (Text x) ≡ true) (sym (is_word [] v e)) s in

@@ -47,7 +47,8 @@ place_of_shows ws p h =
     subst (λ (q : List ℕ × ℕ). Shows ws (place_words q.0 q.1)) (same_Some (a.1, k.0) p k.2)
     (begins ws a.0 (Text a.1) (Number k.0 ∷ []) a.2 s.0 s.1 (one_shows (after_next ws) k.0 k.1))
 
--- the words of a branch, of a place, and of what is read after them
+-- if `read` reads words of this shape, `placed read` reads a branch's name, a place, and then words
+-- of this shape
 module _ {A : Type 0} (read : List (List ℕ) → Option A) (shape : A → List Word) (reads : (ws : List (List ℕ)) (x : A) → read ws ≡ Some x → Shows ws (shape x)) where
   placed_shows : (ws : List (List ℕ)) (p : List ℕ × ℕ × A) → placed read ws ≡ Some p → Shows ws (Text p.0 ∷ Number p.1 ∷ shape p.2)
   placed_shows ws p h =

@@ -67,7 +67,7 @@ carried_out true session guard command w = without_memory (is_full w) (command_r
 -- the answer to a request and the world after it, given whether memory ran out: a command is
 -- answered by its reply, a look by its page or its refusal, and a fill by `filled` or NoBranch. If
 -- memory ran out, the answer is the refusal Memory, and the world is unchanged; but a full log, and
--- each reason to refuse a look or a fill, come before Memory.
+-- each reason to refuse a look or a fill, take precedence over Memory.
 abbrev pub performed : {P : Type 0} → Bool → ℕ → Request → World P → Answered (World P)
 performed memory session (Act guard command) w = replied session (carried_out memory session guard command w)
 performed memory session (Look query) w = record { world = w; text = look_text memory session (looked_in w query) (shown_text session query w) }

@@ -141,11 +141,11 @@ command_of command_verb.Fork ws = option_map (λ p. command.Fork p.0 p.1 p.2) (p
 command_of command_verb.Detach ws = option_map command.Detach (only_branch ws)
 command_of command_verb.Drop ws = option_map command.Drop (only_branch ws)
 
--- reads the words of a command after its first word; the guard, if it has one, is given
+-- reads the words of a command after its first word; the first argument is its guard, if it has one
 abbrev pub act_of : Option ℕ → CommandVerb → List (List ℕ) → Option Request
 act_of guard v ws = option_map (Act guard) (command_of v ws)
 
--- reads the words of a command with a guard after its first word, given what that word selects
+-- reads the words after the first word of a command that has a guard, given what that word selects
 abbrev pub guarded_by : ℕ → Option Verb → List (List ℕ) → Option Request
 guarded_by edits (Some (verb.Command v)) ws = act_of (Some edits) v ws
 guarded_by edits other ws = None

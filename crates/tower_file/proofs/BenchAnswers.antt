@@ -33,7 +33,8 @@ ok_some : {X : Type 0} (r : Result X FileFault) → IsOk r → (x : X) × (r ≡
 ok_some (Ok x) h = (x, refl)
 ok_some (Err e) h = absurd (true≢false (sym h))
 
--- a call for a part fails as the whole does, if a fault of the part is one of the whole
+-- a call that fails as the part does fails as the whole does, if each fault of the part is a fault
+-- of the whole
 failed_too : {X Y : Type 0} (k : FaultKind) (e : FileFault) (part : Result X FileFault) (whole : Result Y FileFault) → Fails k e part → (part ≡ Err e → whole ≡ Err e) → Fails k e whole
 failed_too NotAscii e part whole h on = on h
 failed_too BadHeader e part whole h on = on h
@@ -55,7 +56,7 @@ module _ {X Y Z : Type 0} (r : Result X FileFault) (e : FileFault) (Is : FileFau
 
 -- ---- lines
 
--- so far these limbs have been read, and the lines from line n on are left
+-- of the lines `all`, these limbs have been read so far; `ls`, the lines from line n on, are left
 pub record IsSoFar (t : TowerSpec) (all : List (List ℕ)) (n : ℕ) (limbs : List Limb) (ls : List (List ℕ)) : Type 0 where
   pub read : limbs_of t n limbs ls ≡ limbs_of t 3 [] all
   pub spelled : limbs_text limbs ++ join_with_byte 10 ls ≡ join_with_byte 10 all
@@ -92,7 +93,7 @@ module _ {t : TowerSpec} {all : List (List ℕ)} {n : ℕ} {limbs : List Limb} {
     lawful = (line_adds t n limbs (next ls) more e).lawful so_far.lawful;
   }
 
-  -- the limbs read up to this line are spelled by a prefix of the lines
+  -- the limbs read up to the end of this line are spelled by a prefix of the lines
   front_read : (more : List Limb) → then_line t n limbs (next ls) ≡ Ok more → SpellsLimbs t all
   front_read more e =
       let g = line_adds t n limbs (next ls) more e in
@@ -104,7 +105,7 @@ module _ {t : TowerSpec} {all : List (List ℕ)} {n : ℕ} {limbs : List Limb} {
         parts = sym (text_goes_on more e);
       }
 
-  -- a call that reads this line fails
+  -- r, the result of a call that reads this line, is the fault e
   module _ {X : Type 0} (r : Result X FileFault) (e : FileFault) (Is : FileFault → Type 0) (failed : IsErr r) (is : IsErrAnd r Is) (same : (x : FileFault) → Is x → x ≡ e) where
     pub fails : (view : X → List Limb) (part : Result (List Limb) FileFault) → then_line t n limbs (next ls) ≡ part → Fails e.kind e part → Gives view r (limbs_of t 3 [] all)
     fails view part said h = hands_on r e Is failed is same view part (limbs_of t 3 [] all) h (λ f. by_said (Err e) (said ∙ f))
@@ -116,14 +117,14 @@ pub fewer : (ls : List (List ℕ)) → is_end (after_next ls) ≡ false → leng
 fewer [] h = absurd (true≢false h)
 fewer (x ∷ xs) h = omega arith
 
--- the bytes after the last line end
+-- after the last line end, the limbs are those that `limbs_at_end` gives for the text that is left
 pub at_end : (t : TowerSpec) (n : ℕ) (limbs : List Limb) (ls : List (List ℕ)) → is_end (after_next ls) ≡ true → limbs_of t n limbs ls ≡ limbs_at_end n limbs (next ls)
 unfolding limbs_of
 at_end t n limbs [] h = refl
 at_end t n limbs (x ∷ []) h = refl
 at_end t n limbs (x ∷ y ∷ xs) h = absurd (true≢false (sym h))
 
--- a line that spells a step isn't a branch's line
+-- a line that spells a step is read by `then_step`, since its first word isn't `branch`
 pub is_then_step : (t : TowerSpec) (n : ℕ) (limbs : List Limb) (text_with_end : List ℕ) (s : Step) → step_of_words (words text_with_end) ≡ Some s → then_line t n limbs text_with_end ≡ then_step t n limbs text_with_end
 is_then_step t n limbs text_with_end s h =
     ap (λ (b : Bool). cond b (then_branch n limbs (after_next (words text_with_end))) (then_step t n limbs text_with_end)) (first_word (words text_with_end) s (codes "branch") refl refl refl refl h)
@@ -135,7 +136,8 @@ bench_lawful t n left limbs lawful read =
     let a = limbs_are t n [] left limbs read in
     and_from (is_lawful_tower t && has_limbs limbs) (are_lawful t limbs) (and_from (is_lawful_tower t) (has_limbs limbs) lawful a.some) (a.lawful refl)
 
--- if the limbs of a prefix are read, a prefix of the bytes spells a bench file
+-- if the first two lines are right, and the lines after them begin with the spelling of limbs, a
+-- prefix of the bytes spells a bench file
 pub spells_front : (bytes : List ℕ) (t : TowerSpec) (left : List (List ℕ)) → first_foreign bytes ≡ None → has_header bench_header (lines bytes) ≡ true → tower_of (after_next (lines bytes)) ≡ Ok t
     → left ≡ after_next (after_next (lines bytes)) → SpellsLimbs t left → SpellsFront bytes
 spells_front bytes t left plain header tower same s =

@@ -16,13 +16,15 @@ use Rattle.tower_file.specs.BenchSpelling.{branch_text, limb_text}
 use Rattle.tower_file.specs.BenchReading.{limb_with_step, put_step}
 use Rattle.words.specs.Steps.{step_text}
 
+-- the line of a step, with its line end
 abbrev pub step_line : Step → List ℕ
 step_line s = text_with_end (step_text s)
 
+-- the lines of limbs
 abbrev pub limbs_text : List Limb → List ℕ
 limbs_text limbs = flat_map limb_text limbs
 
--- a step added to the limb with the last index is added to the last limb
+-- `put_step` adds the step to l, if l is the limb with the last index
 pub put_last : (ls : List Limb) (n : ℕ) (l : Limb) (s : Step) → suc n ≡ length ls → l ≡ slice_index_or ls n l → slice_set ls n (limb_with_step l s) ≡ put_step ls s
 put_last [] n l s e same = absurd (omega arith)
 put_last (k ∷ []) zero l s e same = ap (λ z. limb_with_step z s ∷ []) same

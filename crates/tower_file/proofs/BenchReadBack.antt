@@ -50,7 +50,8 @@ name_bytes (b ∷ bs) h =
     let a = and_parts (is_letter b) (list_all is_letter_or_digit bs) h in
     and_from (is_letter_or_digit b) (list_all is_letter_or_digit bs) (ap (λ c. c || (nat_le 48 b && nat_le b 57)) a.0) a.1
 
--- the name and the numbers of a lawful limb can be written
+-- limb l's name has at most 16 bytes, all lower-case letters or digits, and its numbers have at
+-- most 9 digits
 record IsWritten (l : Limb) : Type 0 where
   pub short_name : nat_le (length l.name) 16 ≡ true
   pub bytes : list_all is_letter_or_digit l.name ≡ true
@@ -120,12 +121,14 @@ step_line_again t n e l s small fit =
     ∙ ap (λ (o : Option Step). ok_or o (fault BadStep n) >>= λ x. Ok (put_step limbs x)) (fitting_again Two t s small fit)
     ∙ ap (λ (x : List Limb). Ok x) (put_step-last e l s)
 
--- ---- the lines of limbs, and nothing after them
+-- ---- the lines of limbs, and the empty text after the last line end
 
+-- the lines of steps, and then these lines
 abbrev pub steps_before : List Step → List (List ℕ) → List (List ℕ)
 steps_before [] rest = rest
 steps_before (s ∷ ss) rest = step_text s ∷ steps_before ss rest
 
+-- the lines of limbs, and the empty text after the last line end
 abbrev pub limb_lines : List Limb → List (List ℕ)
 limb_lines [] = [] ∷ []
 limb_lines (l ∷ ls) = branch_text l ∷ steps_before l.steps (limb_lines ls)
@@ -144,7 +147,7 @@ unfolding limbs_of
 limbs_more t n e l [] h = absurd (true≢false h)
 limbs_more t n e l (k ∷ ls) h = refl
 
--- from these lines, whatever the number of the first, the limbs `all` are read after the limbs e
+-- after the limbs e, these lines give the limbs `all`, whatever the number of the first line is
 abbrev AreRead : TowerSpec → List Limb → List (List ℕ) → List Limb → Type 0
 AreRead t e ls all = (n : ℕ) → limbs_of t n e ls ≡ Ok all
 
@@ -172,7 +175,7 @@ ended_again : (t : TowerSpec) (e : List Limb) → has_limbs e ≡ true → AreRe
 unfolding limbs_of
 ended_again t e some = λ n. ap (λ b. cond b (Ok e) (Err (fault (cut_line e []) n))) some
 
--- a limb that follows others, as it is written
+-- a bench file on tower t can have limb l after the limbs e, and the limbs ls after l
 record IsNext (t : TowerSpec) (e : List Limb) (l : Limb) (ls : List Limb) : Type 0 where
   pub written : IsWritten l
   pub new : is_new_name e l.name ≡ true
@@ -242,6 +245,7 @@ limbs_plain t e (l ∷ ls) small lawful fit =
 
 -- ---- files
 
+-- what makes the bench b lawful, part by part
 record IsParted (b : Bench) : Type 0 where
   pub tower : is_lawful_tower b.spec ≡ true
   pub some : has_limbs b.limbs ≡ true

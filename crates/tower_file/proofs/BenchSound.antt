@@ -29,7 +29,7 @@ use Rattle.tower_file.proofs.BenchLimbs.{limbs_text, put_step_text, put_limb_tex
 
 -- ---- a line
 
--- the words of a branch's line after the first are those of limb l
+-- these are the words after `branch` in the line of limb l's branch, and l has no steps yet
 record IsBranch (ws : List (List ℕ)) (l : Limb) : Type 0 where
   pub spelled : join_with_byte 32 ws ≡ text l.name (l.from ∷ l.shared ∷ [])
   pub some : 0 < length ws

@@ -41,8 +41,8 @@ module _ {F : Type 0} {Spells : List ℕ → F → Type 0} {of_lines : List (Lis
   one_file bytes f g s u = let both = sym (format.again bytes f s) ∙ format.again bytes g u in cc
 
   module _ {X : Type 0} (view : X → F) where
-    -- lines that spell a file have no foreign byte, and a foreign byte takes precedence over a
-    -- fault of the lines
+    -- if r is what the definitions give for the bytes' lines, then `foreign_first bytes r` is what
+    -- they give for the bytes
     reading_of : (bytes : List ℕ) (r : Result X FileFault) → Gives view r (of_lines (lines bytes))
         → Gives view (foreign_first bytes r) (reading_from of_lines (first_foreign bytes) bytes)
     reading_of bytes (Ok x) h = format.again bytes (view x) (from_is None bytes (view x) h)
@@ -69,7 +69,8 @@ module _ {F : Type 0} {Spells : List ℕ → F → Type 0} {of_lines : List (Lis
         let exact = subst (λ (w : Result X FileFault). Gives view w (reading_from of_lines (first_foreign bytes) bytes)) (sym same) (reading_of bytes r given) in
         record { found = found bytes whole exact; only = only bytes whole exact; exact = exact; no_file = spells_none bytes whole exact }
 
--- Memory is reported only if there is no foreign byte
+-- P holds if `fault_in_order` gives Memory, given that P holds if e is Memory and no byte
+-- is foreign
 memory_in_order : (bytes : List ℕ) (P : Type 0) (e : FileFault) (o : Option ℕ) → first_foreign bytes ≡ o → (e.kind ≡ Memory → first_foreign bytes ≡ None → P)
     → (fault_in_order o bytes e).kind ≡ Memory → P
 memory_in_order bytes P e (Some k) foreign h memory = absurd cc

@@ -31,7 +31,7 @@ named_more ls keys more l items named new put grown =
     put ∙ ap (λ b. cond b keys (keys ++ l.name ∷ [])) none ∙ ap (λ ks. ks ++ l.name ∷ []) named
     ∙ sym (map-append limb_name ls (l ∷ [])) ∙ ap (map limb_name) (sym grown)
 
--- a limb with other steps keeps its name
+-- the names stay the same if limb l, at index n, gets other steps
 pub same_names : (ls : List Limb) (n : ℕ) (l : Limb) (ss : List Step) → suc n ≡ length ls → l ≡ slice_index_or ls n l
     → map limb_name (slice_set ls n (record { name = l.name; from = l.from; shared = l.shared; steps = ss })) ≡ map limb_name ls
 same_names [] n l ss e same = absurd (omega arith)

@@ -33,6 +33,7 @@ use Rattle.tower_file.proofs.Texts.{print_is_plain, lines-line}
 
 -- ---- the numbers of lawful files have at most 9 digits
 
+-- tower t has at most MOST_VALUES values and MOST_PROCESSES processes
 pub record IsFew (t : TowerSpec) : Type 0 where
   pub values : values_of t ≤ MOST_VALUES
   pub processes : processes_of t ≤ MOST_PROCESSES
@@ -128,7 +129,7 @@ tower_again (Matrix processes values last_tag last_stamp) h =
 
 -- ---- the steps
 
--- the numbers of a fitting step are short
+-- the numbers of a fitting step have at most 9 digits
 pub step_short : (t : TowerSpec) (s : Step) → IsFew t → fits t s ≡ true → HasShortNumbers s
 step_short t (step.Write p v) small h = (omega (arith, small.processes, process_below t p (op.Write v) h), omega (arith, small.values, value_below t p v h))
 step_short t (step.Read p) small h = omega (arith, small.processes, process_below t p op.Read h)
@@ -151,7 +152,7 @@ pub fitting_again : (v : Version) (t : TowerSpec) (s : Step) → IsFew t → may
 fitting_again v t s small h =
     ap (λ (o : Option Step). option_and_then (λ x. cond (may_have v t x) (Some x) None) o) (step_again s (step_short t s small (fits_tower v t s h))) ∙ ap (λ b. cond b (Some s) None) h
 
--- the lines of steps, and nothing after them
+-- the lines of steps, and the empty text after the last line end
 abbrev step_lines : List Step → List (List ℕ)
 step_lines [] = [] ∷ []
 step_lines (s ∷ ss) = step_text s ∷ step_lines ss

@@ -15,7 +15,7 @@ use Rattle.words.specs.Words.{lines, after_next}
 use Rattle.tower_file.specs.Lines.{fitting_step}
 use Rattle.tower_file.specs.Reading.{◌>>=◌, next_step, steps_of, HasSomeStep}
 
--- the steps that were read before, and then those that are still to be read
+-- the steps `front`, which were read before, and then those that `read` gives; or its fault
 abbrev pub with_front : List Step → Result (List Step) FileFault → Result (List Step) FileFault
 with_front front read = read >>= λ ss. Ok (front ++ ss)
 
@@ -23,7 +23,7 @@ regroup : (front : List Step) (s : Step) (read : Result (List Step) FileFault) �
 regroup front s (Ok ss) = ap (λ (xs : List Step). Ok xs) (sym (append_assoc front (s ∷ []) ss))
 regroup front s (Err f) = refl
 
--- the steps read, given the next line's
+-- the steps of line n and of `others`, the lines after it, given what `next_step` gives for line n
 abbrev with_next : Version → TowerSpec → ℕ → List (List ℕ) → Result (Option Step) FileFault → Result (List Step) FileFault
 with_next v t n others (Err e) = Err e
 with_next v t n others (Ok None) = Ok []
@@ -42,7 +42,7 @@ by_next v t n (l ∷ k ∷ ls) = by_step (fitting_step v t l)
     by_step None = refl
     by_step (Some s) = refl
 
--- if a line has a step, it has a line end, and one line fewer is left after it
+-- if the next line has a step, fewer lines are left after it
 pub more_lines : (v : Version) (t : TowerSpec) (n : ℕ) (ls : List (List ℕ)) (s : Step) → next_step v t n ls ≡ Ok (Some s) → length (after_next ls) < length ls
 more_lines v t n [] s e = absurd cc
 more_lines v t n (l ∷ ls) s e = omega arith
@@ -60,23 +60,24 @@ module _ (v : Version) (t : TowerSpec) (n : ℕ) (front : List Step) (ls : List 
       ∙ ap (λ (r : Result (Option Step) FileFault). with_front front (with_next v t n (after_next ls) r)) (sym e)
       ∙ ap (with_front front) (sym (by_next v t n ls)) ∙ so_far
 
--- there is at most one more line than there are bytes, and after a line is read there aren't more
--- lines than before
+-- fewer than 2^63 bytes have at most 2^63 lines
 pub few_lines : (bytes : List ℕ) (ls : List (List ℕ)) → ls ≡ lines bytes → length bytes < 2 ^ 63 → length ls ≤ 2 ^ 63
 few_lines bytes ls e few = omega (arith, ap length e, length-slice_split (λ b. b == 10) bytes, count_by-le-length (λ b. b == 10) bytes)
 
+-- after a line is read, at most as many lines are left as before
 pub fewer_left : (ls : List (List ℕ)) → length (after_next ls) ≤ length ls
 fewer_left [] = omega arith
 fewer_left (x ∷ xs) = omega arith
 
 -- ---- results that are passed on
 
--- if steps are kept, there is at least one
+-- if `front`, the steps so far, are all steps, and there is at least one, `HasSomeStep` holds
 pub some_step : (total : Result (List Step) FileFault) (front : List Step) → total ≡ Ok front → 0 < length front → HasSomeStep total
 some_step total [] e l = absurd (omega arith)
 some_step total (s ∷ ss) e l = (s, ss, e)
 
 module _ {X : Type 0} (r : Result X FileFault) (e : FileFault) (Is : FileFault → Type 0) (failed : IsErr r) (is : IsErrAnd r Is) (same : (x : FileFault) → Is x → x ≡ e) where
+  -- if e is a BadStep, and the definitions give e, the call has the result that they give
   pub given_fault : (view : X → List Step) (total : Result (List Step) FileFault) (n : ℕ) → e ≡ fault BadStep n → total ≡ Err e → Gives view r total
   given_fault view total n bad t = by r failed is
     where
@@ -84,6 +85,7 @@ module _ {X : Type 0} (r : Result X FileFault) (e : FileFault) (Is : FileFault �
       by (Ok x) f i = absurd i
       by (Err x) f i = subst (λ (y : FileFault). Fails y.kind y total) (sym (same x i ∙ bad)) (t ∙ ap (λ (y : FileFault). Err y) bad)
 
+  -- if P holds whenever e is Memory, the call reports Memory only if P holds
   pub memory_only : (P : Type 0) → (e.kind ≡ Memory → P) → MemoryOnlyIf r P
   memory_only P h = by r failed is
     where
@@ -91,7 +93,7 @@ module _ {X : Type 0} (r : Result X FileFault) (e : FileFault) (Is : FileFault �
       by (Ok x) f i = absurd i
       by (Err x) f i = λ k. h (ap (λ (y : FileFault). y.kind) (sym (same x i)) ∙ k)
 
-  -- a fault other than out of memory
+  -- if the call's fault isn't Memory, the call reports Memory only if P holds, for any P
   pub known_fault : (P : Type 0) → (e.kind ≡ Memory → ⊥) → MemoryOnlyIf r P
   known_fault P known = memory_only P (λ k. absurd (known k))
 

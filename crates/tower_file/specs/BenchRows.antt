@@ -28,6 +28,7 @@ front =
 abbrev with_line_8 : List ℕ → List ℕ
 with_line_8 text = front ++ text_with_end text ++ text_with_end (codes "g 1 1")
 
+-- the first two lines of the file that spells `bench`, and then this text
 abbrev with_line_3 : List ℕ → List ℕ
 with_line_3 text = text_with_end (codes "bench 1") ++ text_with_end (codes "safe 0") ++ text
 

@@ -99,7 +99,7 @@ impl fmt::Display for FileFault {
     }
 }
 
-/// Out of memory.
+/// The fault that memory ran out, which is on line 0.
 pub(crate) const OUT_OF_MEMORY: FileFault = FileFault {
     kind: FaultKind::Memory,
     line: 0,

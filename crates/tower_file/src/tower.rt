@@ -33,12 +33,12 @@ pub enum TowerSpec {
         readers: u32,
         init: u32,
     },
-    /// A stamped register.
+    /// A stamped register, with stamps 0 to `last`.
     Stamped {
         values: u32,
         last: u32,
     },
-    /// A matrix of stamped registers.
+    /// A matrix of stamped registers, with tags 0 to `last_tag` and stamps 0 to `last_stamp`.
     Matrix {
         processes: u32,
         values: u32,

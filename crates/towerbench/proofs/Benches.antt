@@ -25,14 +25,15 @@ is_below a n h = by (nat_lt a n) refl
     by false e = absurd (grind (arith, nat_tests))
 
 module _ {P : Type 0} (t : TowerSpec) (b : Behaviour P) (alike : (s : Step) → fits t s ≡ fits_step b s) where
-  -- limbs of a file fit the register
+  -- the steps of a bench file's limbs fit the register
   pub limbs_fit : (ls : List Limb) → list_all (has_fit t) ls ≡ true → All (λ (l : Limb). AllFit b l.steps) ls
   limbs_fit ls all i d within k e in_limb =
       let l = slice_index_or ls i d in
       let fit : list_all (fits t) l.steps ≡ true = (and_parts _ _ (AllPass-from_list_all (has_fit t) ls all i d within)).1 in
       sym (alike (slice_index_or l.steps k e)) ∙ AllPass-from_list_all (fits t) l.steps fit k e in_limb
 
-  -- a file may have limbs that fit the register and whose numbers are within the limits
+  -- a bench file on tower t can have limbs if their steps fit the register, and their numbers are
+  -- within the limits
   module _ (limits : Limits) (few_branches : limits.branches ≤ 1024) (few_cells : limits.cells ≤ MOST_CELLS_MADE) where
     has : (l : Limb) → l.from < limits.branches → l.shared ≤ limits.cells → AllFit b l.steps → has_fit t l ≡ true
     has l from shared fit =
@@ -53,11 +54,11 @@ pub has_one : (ls : List Limb) → has_limbs ls ≡ true → 0 < length ls
 has_one [] e = absurd (cc)
 has_one (l ∷ ls) e = omega arith
 
--- lawful limbs that fit are a bench file's
+-- a lawful tower and lawful limbs that fit it, at least one, make a lawful bench
 pub lawful_bench : (t : TowerSpec) (ls : List Limb) → is_lawful_tower t ≡ true → 0 < length ls → AreLawfulLimbs ls → list_all (has_fit t) ls ≡ true → IsLawfulBench (bench_of t ls)
 lawful_bench t ls tower some lawful fit = rw (tower, is_one ls some, lawful, fit) refl
 
--- what is lawful in a lawful bench file
+-- what makes a bench lawful, part by part
 module _ (t : TowerSpec) (ls : List Limb) (h : IsLawfulBench (bench_of t ls)) where
   front : (is_lawful_tower t && has_limbs ls) ≡ true
   front = (and_parts (is_lawful_tower t && has_limbs ls) (are_lawful t ls) h).0

@@ -88,12 +88,12 @@ lacking named saves limits before (Run e) h = (h.0, h.1, inl (inl (h.2, refl)))
 lacking named saves limits before Help h = absurd h
 lacking named saves limits before Memory h = absurd h
 
--- what a run leaves, given the bytes that it reports
+-- a run that ended well, and reported these bytes, left the branches that the bytes spell
 pub leaving_by : (file : Option (List ℕ)) (limits : Limits) (b : Bench) (bytes : Vec ℕ Global) (before after : Streams) → opened_bench file ≡ Ok b → EndsOver true limits b before after (Ok bytes)
     → RanLeaving file limits bytes.items before after
 leaving_by file limits b bytes before after is h = record { bench = b; left = h.0; opens = is; leaves = h.1; spells = h.2 }
 
--- if a save failed, the run saves a prefix of the bytes
+-- if writing the bytes to the saver failed, the saver took a prefix of them, as `SavesInto` says
 pub saved_into : (r : Result ⊤ Fault) (file : Option (List ℕ)) (limits : Limits) (before after : Streams) (kept saved : Option (List ℕ)) (bytes : List ℕ)
     → RanLeaving file limits bytes before after → OnErr r (WroteFront kept saved bytes) → IfErr r (λ e. e ≡ fault.Save) → IfErr r (SavesInto file limits before after kept saved)
 saved_into (Ok done) file limits before after kept saved bytes leaving front is = tt

@@ -41,7 +41,7 @@ nothing = streams empty empty
 abbrev one_byte : Streams
 one_byte = streams (Some (33 ∷ [])) empty
 
--- lines are answered by nothing
+-- no line has an answer
 abbrev silent : Answering
 silent lines marks = []
 
@@ -69,7 +69,7 @@ Ran-holds = (bench, (refl, done))
 Ran-fails : Ran None limits one_byte one_byte → ⊥
 Ran-fails h = some_left h.1.1.answered.ended
 
--- a tower file of no steps
+-- a tower file without steps
 AreSound-holds : AreSound false (spelling (file_of One (Safe 0) []))
 AreSound-holds = (file_of One (Safe 0) [], record { lawful = refl; spelled = refl })
 
@@ -114,7 +114,7 @@ FailsOver-fails b before after (inr (inr h)) = cc
 FailsOpen-holds : FailsOpen true None limits nothing nothing fault.Memory
 FailsOpen-holds = (bench, (refl, FailsOver-holds))
 
--- a save that failed isn't a fault of this kind
+-- a run on an opened bench doesn't end with a failed save
 FailsOpen-fails : FailsOpen true None limits nothing nothing fault.Save → ⊥
 FailsOpen-fails h = FailsOver-fails h.0 nothing nothing h.1.1
 
@@ -141,7 +141,7 @@ RanSaving-fails h = no_bench h.0 h.1.left (h.1.spells.spelled) h.2
 SavesInto-holds : SavesInto None limits nothing nothing empty empty fault.Save
 SavesInto-holds = inr (refl, (bench_spelling bench, leaving, ([], (bench_spelling bench, refl), refl)))
 
--- a save failed, although a byte of the script was not read before
+-- a save failed, although a byte of the script was left unread
 SavesInto-fails : SavesInto None limits one_byte one_byte empty empty fault.Save → ⊥
 SavesInto-fails (inl (inl h, kept)) = absurd h.0
 SavesInto-fails (inl (inr h, kept)) = FailsOver-fails h.0 one_byte one_byte h.1.1
@@ -188,7 +188,7 @@ IsPrinted-fails h = let e : 2 ≡ 1 = ap (λ bytes. slice_index_or bytes 0 7) h.
 tool-holds : (ending : Ending) × ProgramEndsBy [] nothing nothing ending × (1 ≡ exit_status ending)
 tool-holds = (Faulted Memory, refl, refl)
 
--- no end has the status 3
+-- however the program ends, its status is not 3
 tool-fails : (ending : Ending) × ProgramEndsBy [] nothing nothing ending × (3 ≡ exit_status ending) → ⊥
 tool-fails h = by h.0 h.2
   where

@@ -14,6 +14,7 @@ use Rattle.pages.specs.Pages.{page_text}
 use Rattle.script.specs.Texts.{answer_text}
 use Rattle.script.specs.Answers.{look_text, shown_text, text_of}
 
+-- if the text of a refusal of a look was added, the answer to the look was added
 pub refused_so : (looked : Result Forest Refusal) (session : ℕ) (r : Refusal) (result : Result ⊤ AllocError) (before after page : List ℕ)
     → IsRefused looked r → OnOk result (after ≡ before ++ answer_text session (No r))
     → OnOk result ((memory : Bool) × (after ≡ before ++ look_text memory session looked page))
@@ -22,6 +23,7 @@ refused_so looked session r (Ok done) before after page (inl e) pushed = (false,
 refused_so (Ok f) session r (Ok done) before after page (inr h) pushed = (true, pushed ∙ ap (λ x. before ++ answer_text session (No x)) h.0)
 refused_so (Err x) session r (Ok done) before after page (inr h) pushed = absurd (let clash : false ≡ true = h.1 in cc)
 
+-- if the text of a look's page or of the refusal Memory was added, the answer to the look was added
 pub shown_so : {P : Type 0} (w : World P) (query : Query) (session : ℕ) (page : Page) (result : Result ⊤ AllocError) (before after : List ℕ)
     → looked_in w query ≡ Ok w.forest → Some page ≡ shown_in w query
     → OnOk result ((after ≡ before ++ page_text session page) ⊎ (after ≡ before ++ answer_text session (No Memory)))

@@ -29,14 +29,17 @@ use Rattle.desk.proofs.Logged.{legal_found}
 use Rattle.script.specs.Answers.{carried_out, without_memory}
 
 module _ {P : Type 0} (w : World P) (query : Query) where
+  -- if a look is answered by a page, it is the page that the look shows in world w
   pub shown : (r : Result Page Refusal) → IsAnswer w query r → IfOk r (λ page. Some page ≡ shown_in w query)
   shown (Ok page) a = a.1
   shown (Err r) a = tt
 
+  -- if a look is answered by a page, the look isn't refused in world w
   pub found : (r : Result Page Refusal) → IsAnswer w query r → OnOk r (looked_in w query ≡ Ok w.forest)
   found (Ok page) a = a.0
   found (Err r) a = tt
 
+  -- if a look is refused, the refusal is the one that is due in world w; or Memory, if none is due
   pub refused : (r : Result Page Refusal) → IsAnswer w query r → IfErr r (IsRefused (looked_in w query))
   refused (Ok page) a = tt
   refused (Err r) a = a
@@ -58,11 +61,13 @@ module _ {R P : Type 0} (is : R → Behaviour P) (first : BookOf R P) (v w : Vie
       let own : CommandResult P = command_result who guard command (world_after opening r.found) in
       (true, ap (λ full. without_memory full own (world_after opening r.found)) room ∙ (λ i. record { world = sym kept i; reply = sym none_left i }))) r.replies)
 
-  -- a look by such a chair is answered from the world after the history that the chair had seen
+  -- a look by a chair that has every share is answered from the world after the history that the
+  -- chair had seen
   pub looked_answers : (query : Query) (answer : Answer) → Looked is first query v w answer → HasAll v.shares → IsAnswer (world_after (opening_of is first) (seen v)) query answer.result
   looked_answers query answer r all = subst (λ (before : List Entry). IsAnswer (world_after (opening_of is first) before) query answer.result) (r.finds.whole all) r.answers.1
 
-  -- a save by such a chair saves the branches of that world
+  -- a save by a chair that has every share saves the branches of the world after the history that
+  -- the chair had seen
   pub saved_limbs : (result : Result Saved Refusal) → SavedFrom is first v w result → HasAll v.shares
       → IfOk result (λ saved. IsSaved (world_after (opening_of is first) (seen v)) saved.limbs)
   saved_limbs result r all = by (length r.found) result (subst (λ (before : List Entry). IsSaving (length r.found) (world_after (opening_of is first) before) result) (r.finds.whole all) r.answers)
@@ -72,19 +77,20 @@ module _ {R P : Type 0} (is : R → Behaviour P) (first : BookOf R P) (v w : Vie
       by n (Ok saved) h = h.1
       by n (Err e) h = tt
 
-  -- a fill by such a chair finds its branch in that world, or is refused because the branch isn't
-  -- there
+  -- a fill by a chair that has every share finds its branch in the world after the history that the
+  -- chair had seen, or is refused as `NeedsBranch` says
   pub filled_answers : (branch : List ℕ) (result : Result Report Refusal) → Filled is first branch v w result → HasAll v.shares
       → NeedsBranch branch (world_after (opening_of is first) (seen v)) result
   filled_answers branch result f all = subst (λ (before : List Entry). NeedsBranch branch (world_after (opening_of is first) before) result) (f.1.finds.whole all) f.1.answers
 
-  -- a look or a fill by such a chair doesn't change what the chair has seen, and no call changes
-  -- its shares
+  -- a look by a chair that has every share doesn't change the history that the chair has seen
   pub looked_sees : (query : Query) (answer : Answer) → Looked is first query v w answer → HasAll v.shares → seen w ≡ seen v
   looked_sees query answer r all = r.sees ∙ r.finds.whole all
 
+  -- a fill doesn't change the chair's shares
   pub filled_shares : (branch : List ℕ) (result : Result Report Refusal) → Filled is first branch v w result → w.shares ≡ v.shares
   filled_shares branch result f = f.2.shares ∙ f.1.shares
 
+  -- a fill by a chair that has every share doesn't change the history that the chair has seen
   pub filled_sees : (branch : List ℕ) (result : Result Report Refusal) → Filled is first branch v w result → HasAll v.shares → seen w ≡ seen v
   filled_sees branch result f all = f.2.whole (subst HasAll (sym f.1.shares) all) ∙ (f.1.sees ∙ f.1.finds.whole all)

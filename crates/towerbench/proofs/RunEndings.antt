@@ -26,7 +26,8 @@ use Rattle.towerbench.specs.Opening.{course_from, course_of, IsDone}
 use Rattle.towerbench.specs.Openings.{Builds, CanOpen, IsOnTower, opening_world}
 use Rattle.towerbench.proofs.Benches.{tower_is}
 
--- a register that behaves as a tower does builds that tower
+-- a register builds a tower if the same steps fit its behaviour, and the course of scripts on it is
+-- the tower's
 pub builds_as : {R P : Type 0} (is : R → Behaviour P) (register : R) (value : ℕ) (b : Behaviour P) (given tower : TowerSpec) → is register ≡ b → tower ≡ given
     → ((s : Step) → fits tower s ≡ fits_step b s) → ((limits : Limits) (ls : List Limb) → course_of tower limits ls ≡ course_from (opening_of_limbs b value limits ls))
     → Builds is register value given

@@ -77,5 +77,6 @@ module _ {P : Type 0} where
       let q = next_line answer_line marks p text in
       then p.world q.world _ (by_line (marks (p.lines + 1)) (p.lines + 1) (read_line text) p.world) (by_lines marks lines q)
 
+  -- the world after a script's lines has the tower and the limits of the world before them
   pub ground_kept : (w : World P) (lines : List (List ℕ)) (marks : Marks) → IsOn w (after_lines answer_line w lines marks).world
   ground_kept w lines marks = by_lines marks lines (beginning w)

@@ -41,8 +41,8 @@ IsLacking named Help = ⊥
 IsLacking named Memory = ⊥
 
 -- A run of the program over the named file, or without a file, ends in this way. It ends well; or
--- the file can't be read, and then nothing was read from the script or written; or the run ends
--- with a fault of its own.
+-- the file can't be read, and then nothing was read from the script or written; or the run or the
+-- save has a fault, as `FailsBy` says.
 abbrev pub WorksOut : Bool → Limits → Bool → Streams → Streams → Ending → Type 0
 WorksOut named limits saves before after Done = (bytes : Option (List ℕ)) × IsRead named bytes × Ran bytes limits before after
 WorksOut named limits saves before after (Refused text) = ⊥

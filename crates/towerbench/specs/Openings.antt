@@ -34,8 +34,8 @@ pub record CanOpen {R P : Type 0} (is : R → Behaviour P) (o : Opening R) : Typ
   pub limits : AreOptionsInRange o.setup.options
   pub builds : Builds is o.register o.value o.setup.bench.spec
 
--- World w is one of tower t: the tower is lawful, the same steps fit both, and the limits on cells
--- and branches are at most the greatest that options can give.
+-- World w is one of tower t: this tower is lawful, the same steps fit it and the register of w, and
+-- the limits on cells and branches are at most the greatest that options can give.
 pub record IsOnTower {P : Type 0} (t : TowerSpec) (w : World P) : Type 0 where
   pub lawful : is_lawful_tower t ≡ true
   pub alike : (s : Step) → fits t s ≡ fits_step w.tower s

@@ -28,7 +28,7 @@ pub fn pages_show_no_stray(bit: &RegularTower, number: &UnaryTower, register: &S
     never_shows_stray(register);
 }
 
-/// A matrix tower is linearizable, in Herlihy and Wing's words: no ranks are in its clause.
+/// A matrix tower is linearizable, in Herlihy and Wing's words. The clause says nothing of ranks.
 pub fn matrix_is_linearizable(register: &MatrixTower)
     ensures { IsLinearizable (⟦<MatrixTower as Behaves>⟧.behaviour register.now) }
 {

@@ -112,8 +112,8 @@ impl<'a, R: Register, W> Seat<'a, R, W> {
 
 impl<R: Register, W: Wait> Seat<'_, R, W> {
     /// Carries out a session's command, if its guard `if_at` allows that, and returns the reply. If
-    /// the chair holds every share, the reply is Memory only if the log isn't full, and the world
-    /// hasn't changed then.
+    /// the chair holds every share, the reply is Memory only if the log isn't full, and after that
+    /// reply the world is unchanged.
     pub(crate) fn act(
         &mut self,
         alloc: Global,

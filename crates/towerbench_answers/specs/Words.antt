@@ -15,20 +15,21 @@ abbrev pub is_option : List ℕ → Bool
 is_option [] = false
 is_option (b ∷ bs) = b == 45
 
--- A single word asks for this: `--help` and `-h` for the help, any other word that begins with `-` for
--- nothing; any other word is a path.
+-- A single word asks for this: `--help` and `-h` ask for the help; any other word that begins with
+-- `-` asks for nothing that the program does; any other word is the path of a question file.
 abbrev pub IsAskedByWord : List ℕ → Asked → Type 0
 IsAskedByWord word (File path) = (path.now ≡ word) × (is_option word ≡ false)
 IsAskedByWord word Help = is_help word ≡ true
 IsAskedByWord word Nothing = (is_option word && not (is_help word)) ≡ true
 
--- The words ask for this: no word for the help, several for nothing.
+-- The words ask for this: no words, for the help; a single word, for what `IsAskedByWord` says;
+-- several words, for nothing that the program does.
 abbrev pub IsAsked : List (List ℕ) → Asked → Type 0
 IsAsked [] asked = asked ≡ Help
 IsAsked (word ∷ []) asked = IsAskedByWord word asked
 IsAsked (word ∷ other ∷ others) asked = asked ≡ Nothing
 
--- whether the words ask for nothing that the program does
+-- whether the words are refused, since they ask for nothing that the program does
 abbrev pub are_refused : List (List ℕ) → Bool
 are_refused [] = false
 are_refused (word ∷ []) = is_option word && not (is_help word)
@@ -40,7 +41,7 @@ is_nothing Nothing = true
 is_nothing Help = false
 is_nothing (File path) = false
 
--- whether the words are refused if the program ends in this way
+-- whether the program ends in this way because its words are refused
 abbrev pub ends_refused : AnswersEnding → Bool
 ends_refused Refused = true
 ends_refused Done = false

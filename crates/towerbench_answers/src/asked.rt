@@ -16,8 +16,9 @@ pub enum Asked<'a> {
     Nothing,
 }
 
-/// What the words ask for. No word, `--help` and `-h` ask for the help; one other word that begins
-/// with `-`, and several words, for nothing; any other word is a path.
+/// What the words ask for. No words, or the one word `--help` or `-h`, ask for the help. Several
+/// words, or any other single word that begins with `-`, ask for nothing. Any other single word is
+/// a path.
 pub fn read_words(words: &[String]) -> Asked<'_>
     ensures asked { spec.IsAsked (map string_bytes words.entry.now) result }
     ensures refused { spec.is_nothing result

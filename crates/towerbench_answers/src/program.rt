@@ -36,7 +36,7 @@ pub fn answers_tool<F: Files + AllocGlobal, W: Write, E: Write>(
     errors: &mut E,
 ) -> u8
     ensures status { result ≤ 2 }
-    // The status is 2 exactly if the words ask for nothing that there is.
+    // The status is 2 exactly if the words ask for nothing that the program does.
     ensures refused { IfOk words (λ ws.
         (result == 2) ≡ are_refused (map string_bytes ws.items)) }
     // If the words are refused or are an error, nothing is written to `writer`.
@@ -101,7 +101,7 @@ fn follow<F: Files + AllocGlobal, W: Write>(
     }
 }
 
-/// How the program ends that has done what its words ask for, or failed to.
+/// How the program ends, given the result of doing what its words ask for.
 fn ended(done: Result<(), AnswersProgramFault>) -> AnswersEnding
     ensures { ends_refused result ≡ false }
 {
@@ -137,7 +137,7 @@ fn answers_of(alloc: Global, bytes: &[u8]) -> Result<Vec<u8>, AnswersProgramFaul
     }
 }
 
-/// Writes all bytes.
+/// Writes all bytes. The fault is Write if a write fails or takes no bytes.
 fn write<W: Write>(writer: &mut W, bytes: &[u8]) -> Result<(), AnswersProgramFault> {
     match write_whole(writer, bytes) {
         Ok(()) => Ok(()),

@@ -6,7 +6,7 @@ use Rattle.branch_terms.specs.Limbs.{may_share, is_own_of}
 use Rattle.branch_terms.proofs.limb.may_share.Goals as goal
 use Rattle.branch_terms.proofs.limb.may_share.Goals.{else-limb-eq0-via-then-limb-eq0+else-limb-eq0-2, else-limb-eq0-via-else-limb-eq0}
 
--- if a limb shares something, the branch that it is from determines the result
+-- unless a limb's `from` and `shared` are both 0, the limb at index `from` decides the result
 stem_has_limb : (earlier : List Limb) (l : Limb) → (l.from ≡ 0 → l.shared ≡ 0 → ⊥)
     → is_own_of (slice_get earlier l.from) l.shared ≡ may_share earlier l
 stem_has_limb earlier l some =

@@ -15,7 +15,7 @@ numbered : (id : Text) (least most : ℕ) (default : Text) (parser : ValueParser
     → parser ≡ value_parser.Signed (pos least) (pos most) → option ≡ number_rule id least most default
 numbered id least most default parser option is range = is ∙ ap (λ number. option_rule id number default) range
 
--- an option that is like one of its own command
+-- an option isn't global if an equal one isn't
 local : {option like : Arg} → option ≡ like → like.global ≡ false → option.global ≡ false
 local same own = ap (λ (a : Arg). a.global) same ∙ own
 

@@ -11,7 +11,7 @@ use Rattle.towerbench.proofs.Replies.{looked_answers, looked_sees, shown, found,
 use Rattle.towerbench.proofs.seat.Seat.look.Given.{Over}
 use Rattle.towerbench.proofs.seat.Seat.look.Goals as goal
 
--- the result is a possible answer to the look
+-- if the chair holds every share, the result is an answer to the look in the seat's world
 answers : (g : Over) (c : goal.After-paged g) → IsAlone c.args.self.now → IsAnswer (world_at g.R.Behaves.behaviour c.args.self.now) c.args.query c.paged.result
 answers g c alone =
     let slip = c.slip-slip.result in
