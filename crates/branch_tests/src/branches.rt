@@ -232,14 +232,14 @@ enum Order {
 }
 
 impl Order {
-    /// The number of the branch that is dropped after `turn` others.
-    fn at(self, turn: u32) -> u32
-        requires { turn < 1023 }
+    /// The number of the branch that is dropped after `count` others.
+    fn at(self, count: u32) -> u32
+        requires { count < 1023 }
     {
         match self {
-            Order::FromTheFirst => turn,
-            Order::FromTheLast => 1022 - turn,
-            Order::EverySeventh => turn * 7 % 1023,
+            Order::FromTheFirst => count,
+            Order::FromTheLast => 1022 - count,
+            Order::EverySeventh => count * 7 % 1023,
         }
     }
 }
@@ -253,8 +253,8 @@ fn branches_and_drops(alloc: Global, order: Order) -> Result<Vec<Edit>, AllocErr
         edits.push((Branch::Main, Change::Fork(number + 1, branch)))?;
         edits.push((branch, Change::Insert(number + 1, GO)))?;
     }
-    for turn in 0..1023 {
-        edits.push((Branch::Other(order.at(turn)), Change::Drop))?;
+    for count in 0..1023 {
+        edits.push((Branch::Other(order.at(count)), Change::Drop))?;
     }
     Ok(edits)
 }

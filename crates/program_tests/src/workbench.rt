@@ -14,7 +14,7 @@ use command_line::Options;
 use std::io;
 use std::io::{ErrorKind, Read, Write};
 
-/// Options without thieves, and with these limits.
+/// Options without workers, and with these limits.
 fn limited(cells: u32, branches: u32) -> Options
     requires cells { 0 < cells × cells ≤ 64 }
     requires branches { 0 < branches × branches ≤ 4 }
@@ -27,7 +27,7 @@ fn limited(cells: u32, branches: u32) -> Options
     }
 }
 
-/// Options without thieves, and with limits that are enough for the scripts here.
+/// Options without workers, and with limits that are enough for the scripts here.
 fn options() -> Options
     ensures { AreOptionsInRange result }
 {
@@ -40,6 +40,7 @@ fn options() -> Options
 struct Slow<'a> {
     bytes: &'a [u8],
     interruptions: u32,
+    /// How many interrupted reads come before the next byte.
     to_come: u32,
     fault: Option<ErrorKind>,
     /// How many reads there were.

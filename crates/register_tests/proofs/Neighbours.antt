@@ -35,7 +35,7 @@ module _ {P : Type 0} (b : Behaviour P) (Holds : Memory → Type 0) (Reaches : �
   neighbours_after at m inner after (inl e) n h f = subst (AreNeighbours b Holds) (sym (subst (λ p. after ≡ with_part p inner m) e f)) (first_after m inner n h)
   neighbours_after at m inner after (inr e) n h f = subst (AreNeighbours b Holds) (sym (subst (λ p. after ≡ with_part p inner m) e f)) (second_after m inner n h)
 
-  -- both are set to a value, in a memory of twice the size
+  -- in a memory with room for two registers, both are neighbours once each is set to a value
   pub neighbours_at_first : (v : ℕ) (m once twice : Memory) → v < b.values → LiesIn origin b.size m → LiesIn b.size b.size m
       → once ≡ with_part origin (b.initial v) m → twice ≡ with_part b.size (b.initial v) once → AreNeighbours b Holds twice
   neighbours_at_first v m once twice low first_lies second_lies e f =
@@ -53,7 +53,7 @@ module _ {P : Type 0} (b : Behaviour P) (Holds : Memory → Type 0) (Reaches : �
       } in
       subst (AreNeighbours b Holds) (sym (subst (λ o. twice ≡ with_part b.size (b.initial v) o) e f)) there
 
-  -- a memory of twice the size
+  -- in a blank memory of twice its size a register lies at the beginning, and another right after it
   pub room_for_two : (size : Place) (m : Memory) → size ≡ b.size → m ≡ blank (2 * size.cell) (2 * size.word) → LiesIn origin b.size m × LiesIn b.size b.size m
   room_for_two size m e f =
       let cells : length m.cells ≡ 2 * b.size.cell = ap (λ n. length n.cells) f ∙ length-replicate (2 * size.cell) no_cell ∙ ap (λ s. 2 * s.cell) e in

@@ -1,7 +1,8 @@
 //! Tests of bench files: they are printed as they were read, or refused for their first fault.
 
 use crate::spelling::{
-    Kind, Refused, Sample, assert_all_same, assert_fault, assert_faults, assert_same, assert_texts,
+    FileKind, Refused, Sample, assert_all_same, assert_fault, assert_faults, assert_same,
+    assert_texts,
 };
 use std::alloc::Global;
 use std::io::Write;
@@ -16,7 +17,7 @@ const THREE_BRANCHES: &[u8] = b"bench 1\nsafe 0\nbranch main 0 0\nr 1\nw 0 1\n\
 /// `THREE_BRANCHES` as a sample. The file has 9 lines; the tower's name has 4 bytes, and the second
 /// line has 7 bytes.
 pub(crate) const SAMPLE: Sample = Sample {
-    file: Kind::Bench,
+    file: FileKind::Bench,
     bytes: THREE_BRANCHES,
     name_end: 8 + 4,
     second_end: 8 + 7,
@@ -56,14 +57,14 @@ fn assert_read(rt: &impl Abort, alloc: Global) -> Result<(), Fail> {
 #[test]
 fn three_branches(rt: HostRuntime) -> Result<(), Fail> {
     assert_read(&rt, rt.alloc())?;
-    assert_same(&rt, Kind::Bench, THREE_BRANCHES)?;
+    assert_same(&rt, FileKind::Bench, THREE_BRANCHES)?;
     laws::one_bench_spelling();
     Ok(())
 }
 
 /// Bench files without a fault: with no steps; with stops; with branches that share no cell, some
 /// cells or all; and with a branch whose name has 16 bytes.
-const READ: [&[u8]; 5] = [
+const GOOD_FILES: [&[u8]; 5] = [
     b"bench 1\nsafe 0\nbranch main 0 0\n",
     b"bench 1\nsafe 0\nbranch main 0 0\nw 0 1\nx 0\nx 1\n",
     b"bench 1\nunary 4 1 0\nbranch a 0 0\nw 0 3\nbranch b 0 0\nw 0 3\nbranch c 1 1\n",
@@ -73,7 +74,7 @@ const READ: [&[u8]; 5] = [
 
 #[test]
 fn printed_again(rt: HostRuntime) -> Result<(), Fail> {
-    assert_all_same(&rt, Kind::Bench, &READ)
+    assert_all_same(&rt, FileKind::Bench, &GOOD_FILES)
 }
 
 /// The bytes of a file with a branch of 100 cells, and `count` branches that share all of these and
@@ -98,7 +99,7 @@ fn count_of_limbs(alloc: Global, bytes: &[u8]) -> Result<usize, FileFault> {
 
 /// Asserts that bytes are a file with 1,000 limbs, and are printed as they were read.
 fn assert_thousand(rt: &(impl Abort + AllocGlobal), bytes: &[u8]) -> Result<(), Fail> {
-    assert_same(rt, Kind::Bench, bytes)?;
+    assert_same(rt, FileKind::Bench, bytes)?;
     assert_eq!(rt; count_of_limbs(rt.alloc(), bytes)?, 1000);
     Ok(())
 }
@@ -108,7 +109,7 @@ fn printed_again_many(rt: HostRuntime) -> Result<(), Fail> {
     let mut bytes = many_branches(rt.alloc(), 999)?;
     assert_thousand(&rt, &bytes)?;
     bytes.extend_from_slice(b"branch b500 0 0\n")?;
-    assert_fault(&rt, Kind::Bench, &bytes, FaultKind::BadBranch, 2102);
+    assert_fault(&rt, FileKind::Bench, &bytes, FaultKind::BadBranch, 2102);
     Ok(())
 }
 
@@ -132,6 +133,7 @@ const LINE_3: [Refused; 2] = [
 /// that it shares with the first.
 const BEFORE_LINE_8: &[u8] = b"bench 1\nsafe 0\nbranch main 0 0\nr 1\nw 0 1\nbranch a 0 1\ng 1 0\n";
 
+/// Faults on line 8, which may begin a branch or be a step.
 const LINE_8: [Refused; 3] = [
     (
         BEFORE_LINE_8,
@@ -158,12 +160,13 @@ const LINE_8: [Refused; 3] = [
 
 #[test]
 fn faults_of_a_line(rt: HostRuntime) -> Result<(), Fail> {
-    assert_faults(&rt, Kind::Bench, &LINE_3)?;
-    assert_same(&rt, Kind::Bench, BEFORE_LINE_8)?;
-    assert_faults(&rt, Kind::Bench, &LINE_8)
+    assert_faults(&rt, FileKind::Bench, &LINE_3)?;
+    assert_same(&rt, FileKind::Bench, BEFORE_LINE_8)?;
+    assert_faults(&rt, FileKind::Bench, &LINE_8)
 }
 
-/// Files whose first fault is neither on line 2 nor in a branch. Most have other faults after it.
+/// Files whose first fault is neither on line 2 nor in a branch. Most have other faults too, which
+/// are checked later.
 const FAULTS_IN_ORDER: [Refused; 2] = [
     (
         b"",
@@ -176,7 +179,7 @@ const FAULTS_IN_ORDER: [Refused; 2] = [
 
 #[test]
 fn faults_in_order(rt: HostRuntime) -> Result<(), Fail> {
-    assert_faults(&rt, Kind::Bench, &FAULTS_IN_ORDER)
+    assert_faults(&rt, FileKind::Bench, &FAULTS_IN_ORDER)
 }
 
 #[test]

@@ -31,7 +31,7 @@ fn make(rt: &impl Abort, config: &mut Config<Safe>, row: &Row) {
 }
 
 /// Makes each step, and asserts that it fits and records these events.
-fn run(rt: &impl Abort, config: &mut Config<Safe>, rows: &[Row]) {
+fn make_all(rt: &impl Abort, config: &mut Config<Safe>, rows: &[Row]) {
     for row in rows {
         make(rt, config, row);
     }
@@ -39,14 +39,14 @@ fn run(rt: &impl Abort, config: &mut Config<Safe>, rows: &[Row]) {
 
 /// Makes steps of a safe bit that is 0 at first, and asserts their events. Returns the
 /// configuration after them.
-fn ran(rt: &impl Abort, alloc: Global, rows: &[Row]) -> Result<Config<Safe>, AllocError> {
+fn config_after(rt: &impl Abort, alloc: Global, rows: &[Row]) -> Result<Config<Safe>, AllocError> {
     let mut config = Config::initial(alloc, Safe, 0)?;
-    run(rt, &mut config, rows);
+    make_all(rt, &mut config, rows);
     Ok(config)
 }
 
 /// Asserts that a write of 1 to the cell has started and hasn't ended.
-fn assert_written(rt: &impl Abort, cell: Cell) {
+fn assert_being_written(rt: &impl Abort, cell: Cell) {
     assert_eq!(rt; cell.writing, Some(true));
 }
 
@@ -91,7 +91,7 @@ fn assert_idle(rt: &impl Abort, alloc: Global, config: &Config<Safe>, p: u32) {
 
 #[test]
 fn overlapped_read(rt: HostRuntime) -> Result<(), Fail> {
-    let config = ran(
+    let config = config_after(
         &rt,
         rt.alloc(),
         &[
@@ -113,7 +113,7 @@ fn overlapped_read(rt: HostRuntime) -> Result<(), Fail> {
 
 #[test]
 fn voids(rt: HostRuntime) -> Result<(), Fail> {
-    let config = ran(
+    let config = config_after(
         &rt,
         rt.alloc(),
         &[
@@ -136,7 +136,7 @@ fn voids(rt: HostRuntime) -> Result<(), Fail> {
 #[test]
 fn stopped_writer(rt: HostRuntime) -> Result<(), Fail> {
     let void = Some(Event::Void(0, Reason::Stopped));
-    let config = ran(
+    let config = config_after(
         &rt,
         rt.alloc(),
         &[
@@ -155,7 +155,7 @@ fn stopped_writer(rt: HostRuntime) -> Result<(), Fail> {
             ),
         ],
     )?;
-    assert_written(&rt, config.store().cell(0));
+    assert_being_written(&rt, config.store().cell(0));
     assert_0_stopped(&rt, &config);
     Ok(())
 }
@@ -165,7 +165,7 @@ fn copy_is_independent(rt: HostRuntime) -> Result<(), Fail> {
     let mut config = Config::initial(rt.alloc(), Safe, 1)?;
     let copy = config.copy(rt.alloc())?;
     assert!(rt; copy == config);
-    run(
+    make_all(
         &rt,
         &mut config,
         &[(Step::Read { p: 1 }, Some(Event::Invoke(1, Op::Read)), None)],
@@ -177,8 +177,8 @@ fn copy_is_independent(rt: HostRuntime) -> Result<(), Fail> {
 
 #[test]
 fn pending_write(rt: HostRuntime) -> Result<(), Fail> {
-    let config = ran(&rt, rt.alloc(), &[WRITE_INVOKED, WRITE_STARTED])?;
-    assert_written(&rt, config.store().cell(0));
+    let config = config_after(&rt, rt.alloc(), &[WRITE_INVOKED, WRITE_STARTED])?;
+    assert_being_written(&rt, config.store().cell(0));
     assert_write_ends_next(&rt, &config);
     assert_idle(&rt, rt.alloc(), &config, 1);
     assert_idle(&rt, rt.alloc(), &config, 2);

@@ -1,5 +1,6 @@
-//! Of the shortest schedules with the same answers, one is listed that is easiest to read: it is
-//! compared with all schedules of its length.
+//! Of the shortest schedules with the same answers, `find` lists one that is easiest to read: with
+//! the fewest hit reads and, among those, the fewest switches, at which the next step is another
+//! process's. It is compared with all schedules of its length.
 
 use answers::find::find;
 use answers::found::Possible;
@@ -129,6 +130,7 @@ impl<R: Register> Beginning<R> {
         true
     }
 
+    /// How many hit reads and switches there are.
     fn cost(&self) -> (usize, usize) {
         (self.hits, self.switches)
     }
@@ -184,7 +186,7 @@ fn add_longer<R: Register>(
     Ok(())
 }
 
-/// All schedules with these answers that are as long as the one listed.
+/// All beginnings as long as the listed schedule, with no outcome that differs from its answers.
 fn all_schedules<R: Register>(
     alloc: Global,
     register: &R,
@@ -205,7 +207,8 @@ fn all_schedules<R: Register>(
     Ok(beginnings)
 }
 
-/// The hit reads and the switches of the schedule listed.
+/// How many hit reads and switches the listed schedule has; `None` if a step of it doesn't fit, or
+/// an operation has another outcome than listed.
 fn listed_cost<R: Register>(
     alloc: Global,
     register: &R,
@@ -224,8 +227,8 @@ fn listed_cost<R: Register>(
     Ok(Some(beginning.cost()))
 }
 
-/// Whether there are fewer hit reads than in `other`, or as many and fewer switches; true if there is
-/// no other.
+/// Whether there are fewer hit reads than in `other`, or as many and fewer switches; true if there
+/// is no other.
 fn is_less(cost: (usize, usize), other: Option<(usize, usize)>) -> bool {
     match other {
         Some((hits, switches)) => cost.0 < hits || (cost.0 == hits && cost.1 < switches),
@@ -258,7 +261,7 @@ fn assert_easiest<R: Register>(
     Ok(())
 }
 
-/// The register is 0, process 0 writes 1, and each process in `readers` makes as many reads.
+/// The register is 0, process 0 writes 1, and process `i + 1` makes `readers[i]` reads.
 fn asked(alloc: Global, readers: &[usize]) -> Result<Question, AllocError> {
     let mut operations = Vec::new(alloc);
     operations.push(Vec::from_slice(alloc, &[Op::Write(1)])?)?;
@@ -277,7 +280,7 @@ fn asked(alloc: Global, readers: &[usize]) -> Result<Question, AllocError> {
     })
 }
 
-/// Two reads while a number is written: that of lesson 5, in which new comes before old.
+/// One write of a unary number and two reads, as in lesson 5: new may come before old.
 #[test]
 fn two_reads_of_a_unary_number(rt: HostRuntime) -> Result<(), Fail> {
     let question = asked(rt.alloc(), &[2])?;

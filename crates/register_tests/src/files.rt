@@ -1,7 +1,7 @@
 //! Tests of tower files: they are printed as they were read, or refused for their first fault.
 
 use crate::spelling::{
-    Kind, Refused, Sample, assert_all_same, assert_fault, assert_faults, assert_same,
+    FileKind, Refused, Sample, assert_all_same, assert_fault, assert_faults, assert_same,
     assert_same_after, assert_texts, fault_of,
 };
 use frames::types::Step;
@@ -17,7 +17,7 @@ const STAMPED_BEST: &[u8] = b"tower 1\nstamped 2 1\nw 0 1\ng 0 0\ng 0 0\ng 0 0\n
 /// `STAMPED_BEST` as a sample. The file has 18 lines; the tower's name has 7 bytes, and the second
 /// line has 12 bytes.
 pub(crate) const SAMPLE: Sample = Sample {
-    file: Kind::Tower,
+    file: FileKind::Tower,
     bytes: STAMPED_BEST,
     name_end: 8 + 7,
     second_end: 8 + 12,
@@ -49,9 +49,9 @@ const FIRST_FAULTS: [Refused; 4] = [
 
 #[test]
 fn first_faults(rt: HostRuntime) -> Result<(), Fail> {
-    assert_faults(&rt, Kind::Tower, &FIRST_FAULTS)?;
+    assert_faults(&rt, FileKind::Tower, &FIRST_FAULTS)?;
     let fitting = b"tower 1\nunary 512 1 0\nw 0 511\n";
-    assert_eq!(rt; fault_of(rt.alloc(), Kind::Tower, fitting), None);
+    assert_eq!(rt; fault_of(rt.alloc(), FileKind::Tower, fitting), None);
     Ok(())
 }
 
@@ -82,7 +82,7 @@ const BAD_STEPS: [Refused; 5] = [
 
 #[test]
 fn faults_of_a_line(rt: HostRuntime) -> Result<(), Fail> {
-    assert_faults(&rt, Kind::Tower, &BAD_STEPS)
+    assert_faults(&rt, FileKind::Tower, &BAD_STEPS)
 }
 
 /// Second lines of files, with towers at their limits.
@@ -109,8 +109,8 @@ const BEYOND_THE_LIMITS: [Refused; 2] = [
 
 #[test]
 fn sizes(rt: HostRuntime) -> Result<(), Fail> {
-    assert_same_after(&rt, Kind::Tower, b"tower 1\n", AT_THE_LIMITS)?;
-    assert_faults(&rt, Kind::Tower, &BEYOND_THE_LIMITS)
+    assert_same_after(&rt, FileKind::Tower, b"tower 1\n", AT_THE_LIMITS)?;
+    assert_faults(&rt, FileKind::Tower, &BEYOND_THE_LIMITS)
 }
 
 /// Files with schedules of each tower.
@@ -129,7 +129,7 @@ const SCHEDULES: [&[u8]; 10] = [
 
 #[test]
 fn printed_again(rt: HostRuntime) -> Result<(), Fail> {
-    assert_all_same(&rt, Kind::Tower, &SCHEDULES)
+    assert_all_same(&rt, FileKind::Tower, &SCHEDULES)
 }
 
 /// A file with a schedule in which the writer stops in the middle of a write.
@@ -137,7 +137,7 @@ const STOPPED: &[u8] = b"tower 2\nsafe 0\nw 0 1\ng 0 0\nx 0\ng 0 0\nr 1\ng 1 0\n
 
 /// Files with a bad stop: in version 1, any stop; in version 2, a stop of a process that the tower
 /// doesn't have, and a stop with a choice.
-const UNSTOPPED: [Refused; 2] = [
+const BAD_STOPS: [Refused; 2] = [
     (
         b"tower 1\nsafe 0\nw 0 1\ng 0 0\n",
         b"x 0\ng 0 0\nr 1\ng 1 0\ng 1 1\n",
@@ -154,9 +154,9 @@ const UNSTOPPED: [Refused; 2] = [
 
 #[test]
 fn stopped_writer(rt: HostRuntime) -> Result<(), Fail> {
-    assert_all_same(&rt, Kind::Tower, &[STOPPED, b"tower 2\nsafe 0\n"])?;
+    assert_all_same(&rt, FileKind::Tower, &[STOPPED, b"tower 2\nsafe 0\n"])?;
     assert_eq!(rt; parse(rt.alloc(), STOPPED)?.version, Version::Two);
-    assert_faults(&rt, Kind::Tower, &UNSTOPPED)
+    assert_faults(&rt, FileKind::Tower, &BAD_STOPS)
 }
 
 /// A file of 1,000 steps: writes of a safe bit, of which the last has only begun.
@@ -196,7 +196,7 @@ fn count_of_steps(alloc: Global, bytes: &[u8]) -> Result<usize, FileFault> {
 
 /// Asserts that bytes are a file with this number of steps, and are printed as they were read.
 fn assert_same_of(rt: &(impl Abort + AllocGlobal), bytes: &[u8], count: usize) -> Result<(), Fail> {
-    assert_same(rt, Kind::Tower, bytes)?;
+    assert_same(rt, FileKind::Tower, bytes)?;
     assert_eq!(rt; count_of_steps(rt.alloc(), bytes)?, count);
     Ok(())
 }
@@ -204,7 +204,7 @@ fn assert_same_of(rt: &(impl Abort + AllocGlobal), bytes: &[u8], count: usize) -
 #[test]
 fn printed_again_long(rt: HostRuntime) -> Result<(), Fail> {
     assert_same_of(&rt, &thousand_steps(rt.alloc())?, 1000)?;
-    assert_same(&rt, Kind::Tower, &overlap(rt.alloc())?)?;
+    assert_same(&rt, FileKind::Tower, &overlap(rt.alloc())?)?;
     assert_same_of(&rt, &two_writes(rt.alloc())?, 44)
 }
 

@@ -1,5 +1,5 @@
-//! Tests of registers, of their steps and of their files. This crate is above the crates that it
-//! tests, so that none of them is proved again for its tests.
+//! Tests of registers, of their steps and files, and of the search for all answers. This crate is
+//! above the crates that it tests, so that none of them is proved again for its tests.
 #![tactic(auto)]
 
 #[cfg(test)]

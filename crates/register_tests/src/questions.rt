@@ -1,5 +1,5 @@
-//! Answers to small questions are compared with those that were worked out by hand, and counted by
-//! a program of its own.
+//! Answers to small questions are compared with answers worked out by hand, and so are the lengths
+//! of their schedules.
 
 use answers::find::{MOST_STATES, find};
 use answers::found::{Found, Unfound};
@@ -85,7 +85,7 @@ fn assert_length(rt: &impl Abort, found: &Found, read: &[Outcome], expected: usi
     assert_eq!(rt; length(found, &[WRITTEN], read), Some(expected));
 }
 
-/// Asserts that two reads can give each of two values, in schedules of 9 steps.
+/// Asserts that two reads can give any two of the values 0 and 1, in schedules of 9 steps.
 fn assert_two_reads<R: Register>(rt: &impl Abort, alloc: Global, register: &R) -> Result<(), Fail> {
     let question = asked(alloc, &[Op::Write(1)], &[Op::Read, Op::Read])?;
     let found = find(alloc, register, &question, MANY)?;
@@ -129,30 +129,32 @@ fn read_that_overlaps_a_write(rt: HostRuntime) -> Result<(), Fail> {
     Ok(())
 }
 
-/// On a safe bit, a read next to a write of the old value may give the other one. On a regular bit,
-/// it gives the old value, and the write takes one step.
+/// On a safe bit, a read that overlaps a write of the old value may give the other value. On a
+/// regular bit, it gives the old value, and the write takes one step.
 #[test]
 fn write_of_the_old_value(rt: HostRuntime) -> Result<(), Fail> {
     let question = asked(rt.alloc(), &[Op::Write(0)], &[Op::Read])?;
-    let stray = find(rt.alloc(), &Safe, &question, MANY)?;
-    assert_eq!(rt; stray.possible.len(), 2);
-    assert_length(&rt, &stray, &[Outcome::Value(0)], 6);
-    assert_length(&rt, &stray, &[Outcome::Value(1)], 6);
+    let on_safe = find(rt.alloc(), &Safe, &question, MANY)?;
+    assert_eq!(rt; on_safe.possible.len(), 2);
+    assert_length(&rt, &on_safe, &[Outcome::Value(0)], 6);
+    assert_length(&rt, &on_safe, &[Outcome::Value(1)], 6);
     let regular = RegularBit::new(Safe)?;
-    let found = find(rt.alloc(), &regular, &question, MANY)?;
-    assert_eq!(rt; found.possible.len(), 1);
-    assert_length(&rt, &found, &[Outcome::Value(0)], 4);
+    let on_regular = find(rt.alloc(), &regular, &question, MANY)?;
+    assert_eq!(rt; on_regular.possible.len(), 1);
+    assert_length(&rt, &on_regular, &[Outcome::Value(0)], 4);
     Ok(())
 }
 
-/// One read gives the new value, and the next one the old value: on a regular bit too.
+/// Of two reads during a write, the first may give the new value and the second the old one, on a
+/// regular bit too.
 #[test]
 fn new_before_old(rt: HostRuntime) -> Result<(), Fail> {
     assert_two_reads(&rt, rt.alloc(), &Safe)?;
     assert_two_reads(&rt, rt.alloc(), &RegularBit::new(Safe)?)
 }
 
-/// A writer that stops at once takes one step. One that stops within its write can be read as new.
+/// If the writer stops at once, its stop is its only step. If it stops within its write, a read may
+/// give the new value.
 #[test]
 fn stopped_writer(rt: HostRuntime) -> Result<(), Fail> {
     let mut question = write_and_read(rt.alloc())?;
@@ -203,7 +205,7 @@ fn cycle(rt: HostRuntime) -> Result<(), Fail> {
     Ok(())
 }
 
-/// The limit is 1 to `MOST_STATES`. With 1, the initial state alone is too few for a write.
+/// The limit is 1 to `MOST_STATES`. A limit of 1 allows the initial state alone.
 #[test]
 fn limits(rt: HostRuntime) -> Result<(), Fail> {
     let question = write_and_read(rt.alloc())?;

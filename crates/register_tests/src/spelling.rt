@@ -10,16 +10,16 @@ use tower_file::{FaultKind, FileFault, parse, parse_bench, print, print_bench};
 
 /// A kind of file.
 #[derive(Clone, Copy)]
-pub(crate) enum Kind {
+pub(crate) enum FileKind {
     Tower,
     Bench,
 }
 
 /// Why bytes aren't a file of this kind; `None` if they are such a file.
-pub(crate) fn fault_of(alloc: Global, kind: Kind, bytes: &[u8]) -> Option<FileFault> {
-    match kind {
-        Kind::Tower => parse(alloc, bytes).err(),
-        Kind::Bench => parse_bench(alloc, bytes).err(),
+pub(crate) fn fault_of(alloc: Global, file: FileKind, bytes: &[u8]) -> Option<FileFault> {
+    match file {
+        FileKind::Tower => parse(alloc, bytes).err(),
+        FileKind::Bench => parse_bench(alloc, bytes).err(),
     }
 }
 
@@ -36,17 +36,17 @@ fn printed_bench(alloc: Global, bytes: &[u8]) -> Result<Vec<u8>, Fail> {
 }
 
 /// Reads bytes as a file of this kind, and prints it.
-fn printed(alloc: Global, kind: Kind, bytes: &[u8]) -> Result<Vec<u8>, Fail> {
-    match kind {
-        Kind::Tower => printed_tower(alloc, bytes),
-        Kind::Bench => printed_bench(alloc, bytes),
+fn printed(alloc: Global, file: FileKind, bytes: &[u8]) -> Result<Vec<u8>, Fail> {
+    match file {
+        FileKind::Tower => printed_tower(alloc, bytes),
+        FileKind::Bench => printed_bench(alloc, bytes),
     }
 }
 
 /// Asserts that bytes have this kind of fault on this line.
 pub(crate) fn assert_fault(
     rt: &(impl Abort + AllocGlobal),
-    file: Kind,
+    file: FileKind,
     bytes: &[u8],
     kind: FaultKind,
     line: u64,
@@ -58,7 +58,7 @@ pub(crate) fn assert_fault(
 /// Asserts that bytes are a file, and are printed as they were read.
 pub(crate) fn assert_same(
     rt: &(impl Abort + AllocGlobal),
-    file: Kind,
+    file: FileKind,
     bytes: &[u8],
 ) -> Result<(), Fail> {
     let printed = printed(rt.alloc(), file, bytes)?;
@@ -69,7 +69,7 @@ pub(crate) fn assert_same(
 /// Asserts that each of these is a file, and is printed as it was read.
 pub(crate) fn assert_all_same(
     rt: &(impl Abort + AllocGlobal),
-    file: Kind,
+    file: FileKind,
     files: &[&[u8]],
 ) -> Result<(), Fail> {
     for bytes in files {
@@ -88,7 +88,7 @@ fn joined(alloc: Global, before: &[u8], text: &[u8]) -> Result<Vec<u8>, AllocErr
 /// Asserts that a prefix and a text are together a file, and are printed as they were read.
 fn assert_same_joined(
     rt: &(impl Abort + AllocGlobal),
-    file: Kind,
+    file: FileKind,
     before: &[u8],
     text: &[u8],
 ) -> Result<(), Fail> {
@@ -100,7 +100,7 @@ fn assert_same_joined(
 /// printed as it was read.
 pub(crate) fn assert_same_after(
     rt: &(impl Abort + AllocGlobal),
-    file: Kind,
+    file: FileKind,
     before: &[u8],
     texts: &[u8],
 ) -> Result<(), Fail> {
@@ -120,7 +120,7 @@ const MORE_LINES: &[u8] = b"g 1 1\nbranch\n";
 /// Asserts the kind and the line of the fault of these three texts, joined.
 fn assert_fault_joined(
     rt: &(impl Abort + AllocGlobal),
-    file: Kind,
+    file: FileKind,
     texts: [&[u8]; 3],
     kind: FaultKind,
     line: u64,
@@ -135,7 +135,7 @@ fn assert_fault_joined(
 /// line, the fault is also asserted with more lines after the text.
 pub(crate) fn assert_faults(
     rt: &(impl Abort + AllocGlobal),
-    file: Kind,
+    file: FileKind,
     rows: &[Refused],
 ) -> Result<(), Fail> {
     for (before, texts, kind, line) in rows {
@@ -149,11 +149,11 @@ pub(crate) fn assert_faults(
     Ok(())
 }
 
-/// The fault of a file that is cut within a line after the second, given what is left of that line.
-/// `None` if nothing is left of the line, and the lines before it are a file.
-fn fault_of_cut(file: Kind, line: u64, text: &[u8]) -> Option<FaultKind> {
+/// The kind of fault of a file that is cut within this line, after the second, given what is left
+/// of the line. `None` if nothing is left of the line, and the lines before it are a file.
+fn fault_of_later_cut(file: FileKind, line: u64, text: &[u8]) -> Option<FaultKind> {
     match file {
-        Kind::Bench if line == 3 || text.starts_with(b"branch") => Some(FaultKind::BadBranch),
+        FileKind::Bench if line == 3 || text.starts_with(b"branch") => Some(FaultKind::BadBranch),
         _ if text.is_empty() => None,
         _ => Some(FaultKind::BadStep),
     }
@@ -162,7 +162,7 @@ fn fault_of_cut(file: Kind, line: u64, text: &[u8]) -> Option<FaultKind> {
 /// A file with a first line of 8 bytes. The tower's name ends at the index `name_end`, and the
 /// second line at `second_end`; the file has `lines` lines.
 pub(crate) struct Sample {
-    pub(crate) file: Kind,
+    pub(crate) file: FileKind,
     pub(crate) bytes: &'static [u8],
     pub(crate) name_end: usize,
     pub(crate) second_end: usize,
@@ -180,7 +180,7 @@ impl Sample {
         } else if end < self.second_end {
             (FaultKind::BadField, 2)
         } else {
-            (fault_of_cut(self.file, line, text)?, line)
+            (fault_of_later_cut(self.file, line, text)?, line)
         };
         Some(FileFault { kind, line })
     }
@@ -274,9 +274,9 @@ const LINE_2: [(&[u8], FaultKind); 3] = [
 #[test]
 fn faults_of_line_2(rt: HostRuntime) -> Result<(), Fail> {
     for (texts, kind) in LINE_2 {
-        assert_faults(&rt, Kind::Tower, &[(b"tower 1\n", texts, kind, 2)])?;
-        assert_faults(&rt, Kind::Tower, &[(b"tower 2\n", texts, kind, 2)])?;
-        assert_faults(&rt, Kind::Bench, &[(b"bench 1\n", texts, kind, 2)])?;
+        assert_faults(&rt, FileKind::Tower, &[(b"tower 1\n", texts, kind, 2)])?;
+        assert_faults(&rt, FileKind::Tower, &[(b"tower 2\n", texts, kind, 2)])?;
+        assert_faults(&rt, FileKind::Bench, &[(b"bench 1\n", texts, kind, 2)])?;
     }
     Ok(())
 }

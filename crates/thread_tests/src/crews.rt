@@ -57,10 +57,10 @@ impl Runnable for Square {
 }
 
 /// The most iterations of a loop for which an offer is held.
-const TURNS: u32 = 1 << 24;
+const ITERATIONS: u32 = 1 << 24;
 
 /// A gate that holds offer 0 until offer 1 has come, and offer 1 until offer 0 has come, each for
-/// at most `TURNS` iterations.
+/// at most `ITERATIONS` iterations.
 #[derive(Drop)]
 struct Meeting {
     came: [AtomicU64; 2],
@@ -87,7 +87,7 @@ impl<W: Wait> Gate<W> for Meeting {
             return;
         }
         self.came[index].store(1, Ordering::SeqCst);
-        for _ in 0..TURNS {
+        for _ in 0..ITERATIONS {
             if self.came[1 - index].load(Ordering::SeqCst) == 1 {
                 self.met[index].store(1, Ordering::SeqCst);
                 return;
@@ -126,8 +126,8 @@ fn few() -> Limits
     }
 }
 
-/// A chart on a safe bit, with a read on `main`. Unlike the chart's, this contract promises nothing
-/// about it.
+/// A chart on a safe bit, with a read on `main`. Unlike that of `Chart::new`, this contract
+/// promises nothing about the chart.
 fn chart_of_read(alloc: Global) -> Result<Chart<Safe>, Refusal> {
     Chart::new(alloc, Safe, 0, few(), &[READ])
 }
@@ -175,8 +175,8 @@ fn only_step(done: &Ran) -> Option<(SegKey, Step)> {
     }
 }
 
-/// Runs jobs of a plan by the caller and one thief. Unlike the crew's, this contract promises
-/// nothing about the outcomes.
+/// Runs jobs of a plan by the caller and one thief. Unlike that of `Crew::run`, this contract
+/// promises nothing about the outcomes.
 fn run_by_two<W: Threads + Wait + Sync>(
     rt: &W,
     alloc: Global,

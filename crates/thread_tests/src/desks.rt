@@ -86,7 +86,8 @@ impl<'a, R> Tester<'a, R> {
 type Call<'a> = (u32, Option<u64>, &'a Command);
 
 impl<R: Wait> Tester<'_, R> {
-    /// Gives the desk a command. Unlike the desk's, this contract promises nothing about histories.
+    /// Gives the desk a command. Unlike that of `Desk::act`, this contract promises nothing about
+    /// histories.
     fn act(&self, chair: &mut Chair<Safe>, call: Call<'_>) -> Receipt
         requires { IsChairOf (λ _. safe_behaviour) self.now.desk.now chair.old }
         ensures { IsChairOf (λ _. safe_behaviour) self.now.desk.now chair.new }
@@ -105,7 +106,7 @@ impl<R: Wait> Tester<'_, R> {
         matches!(receipt.reply, Reply::Edited(_))
     }
 
-    /// Looks. Unlike the desk's, this contract promises nothing about the answer.
+    /// Looks. Unlike that of `Desk::look`, this contract promises nothing about the answer.
     fn answered(&self, chair: &mut Chair<Safe>, lens: &mut Lens<Safe>, query: Query) -> Answer
         requires { IsChairOf (λ _. safe_behaviour) self.now.desk.now chair.old }
         ensures { IsChairOf (λ _. safe_behaviour) self.now.desk.now chair.new }
@@ -158,7 +159,7 @@ fn is_text(text: &[u8], expected: &[u8]) -> bool {
     text == expected
 }
 
-/// Asks for news. Unlike the desk's, this contract promises nothing about the answer.
+/// Asks for news. Unlike that of `Desk::news`, this contract promises nothing about the answer.
 fn asked(desk: &Desk<Safe>, chair: &mut Chair<Safe>) -> u64
     requires { IsChairOf (λ _. safe_behaviour) desk.now chair.old }
     ensures { IsChairOf (λ _. safe_behaviour) desk.now chair.new }
@@ -166,8 +167,8 @@ fn asked(desk: &Desk<Safe>, chair: &mut Chair<Safe>) -> u64
     desk.news(chair)
 }
 
-/// Joins another chair to this one. Unlike the desk's, this contract promises nothing about
-/// histories.
+/// Joins another chair to this one. Unlike that of `Desk::join`, this contract promises nothing
+/// about histories.
 fn take_in(desk: &Desk<Safe>, chair: &mut Chair<Safe>, other: Chair<Safe>)
     requires { IsChairOf (λ _. safe_behaviour) desk.now chair.old
         × IsChairOf (λ _. safe_behaviour) desk.now other }
@@ -198,7 +199,8 @@ fn replies_so(alloc: Global, book: &mut Book<Safe>, entry: &Entry) -> bool {
     book.act(alloc, entry.chair, entry.who, entry.if_at, &entry.command) == entry.reply
 }
 
-/// A new book of these steps. Unlike the book's, this contract promises nothing about it.
+/// A new book of these steps. Unlike that of `Book::new`, this contract promises nothing about the
+/// book.
 fn book_of(alloc: Global, steps: &[Step]) -> Result<Book<Safe>, Refusal>
     requires { AllFit safe_behaviour steps.now }
 {
@@ -214,7 +216,7 @@ fn replies_to(alloc: Global, book: &mut Book<Safe>, log: &Log) -> bool {
     all
 }
 
-/// A log and a text, unless something went wrong.
+/// A log and a text; `None` if something went wrong, or there is no log.
 fn both(
     fine: bool,
     log: Option<Log>,

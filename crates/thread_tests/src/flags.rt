@@ -3,8 +3,8 @@
 use std::sync::atomic::{AtomicU64, Ordering};
 use std::thread;
 
-/// The most times that a wait reads a flag.
-const LOOKS: u32 = 1 << 24;
+/// The most times that a flag is read until it is set.
+const READS: u32 = 1 << 24;
 
 /// Whether the turn is held, whether its holder was signalled to go on, and whether the holder went
 /// on without a signal.
@@ -31,17 +31,17 @@ impl Flags {
     }
 
     /// Sets the flag that the turn is held, and waits for the signal to go on. Gives up after
-    /// `LOOKS` reads.
+    /// `READS` reads.
     pub(crate) fn hold(&self) {
         self.say_held();
-        if !arrives(&self.released) {
+        if !wait_until_set(&self.released) {
             self.unreleased.store(1, Ordering::SeqCst);
         }
     }
 
-    /// Waits until the turn is held, and returns whether it is. Gives up after `LOOKS` reads.
-    pub(crate) fn is_held(&self) -> bool {
-        arrives(&self.held)
+    /// Waits until the turn is held, and returns whether it is. Gives up after `READS` reads.
+    pub(crate) fn wait_until_held(&self) -> bool {
+        wait_until_set(&self.held)
     }
 
     /// Signals the holder to go on.
@@ -60,9 +60,9 @@ impl Flags {
     }
 }
 
-/// Reads a flag until it is set, at most `LOOKS` times. Returns whether it was set.
-fn arrives(flag: &AtomicU64) -> bool {
-    for _ in 0..LOOKS {
+/// Reads a flag until it is set, at most `READS` times. Returns whether it was set.
+fn wait_until_set(flag: &AtomicU64) -> bool {
+    for _ in 0..READS {
         if flag.load(Ordering::SeqCst) == 1 {
             return true;
         }

@@ -111,7 +111,7 @@ fn write_down<R: Wait>(rt: &R, turn: &Turn<Notes>, chair: &mut Chair<Notes>, val
     turn.with(rt, chair, &mut Write { value }).is_ok()
 }
 
-/// Asks for news. Unlike the turn's, this contract promises nothing about the answer.
+/// Asks for news. Unlike that of `Turn::news`, this contract promises nothing about the answer.
 fn asked(turn: &Turn<Notes>, chair: &mut Chair<Notes>) -> u64
     requires { IsOf turn.now chair.old }
     ensures { IsOf turn.now chair.new }
@@ -161,7 +161,7 @@ fn has_counted(notes: &Notes, chair: u32, count: u32) -> bool {
     next == count
 }
 
-/// Two chairs each write a number down, and then the first asks for news.
+/// The second chair asks for news, each chair writes a number down, and the first asks for news.
 fn write_in_turn<R: Abort + Wait>(
     rt: &R,
     turn: &Turn<Notes>,
@@ -292,12 +292,14 @@ fn keep<R: Wait>(rt: &R, turn: &Turn<Notes>, mut chair: Chair<Notes>, flags: &Fl
 fn ask(turn: &Turn<Notes>, mut chair: Chair<Notes>, flags: &Flags) -> (bool, u64)
     requires { IsOf turn.now chair }
 {
-    let held = flags.is_held();
+    let held = flags.wait_until_held();
     let news = turn.news(&mut chair);
     flags.release();
     (held, news)
 }
 
+/// One thread holds the turn while another asks for news. Returns whether the turn was held, and
+/// the news.
 fn ask_while_held<R: Threads + Wait + Sync>(
     rt: &R,
     turn: &Turn<Notes>,

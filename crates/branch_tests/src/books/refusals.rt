@@ -32,7 +32,7 @@ use views::breakpoint::Break;
 const BAD: Step = Step::Write { p: 1, v: 0 };
 
 /// Three edits and a fork, each at its first place past the end of a branch of `cells` cells.
-fn following(branch: &Name, cells: u32, step: Step, name: &Name) -> [Command; 4]
+fn past_the_end(branch: &Name, cells: u32, step: Step, name: &Name) -> [Command; 4]
     requires { cells < 100 }
 {
     [
@@ -139,8 +139,8 @@ fn late_commands(main: &Name, zed: &Name, new: &Name, bad: &Name) -> Late {
         (Command::Clear(Break::Void), Refusal::NoBreak),
     ];
     Late {
-        missing_branch: following(zed, 9, READ, main),
-        missing_place: following(main, 3, READ, new),
+        missing_branch: past_the_end(zed, 9, READ, main),
+        missing_place: past_the_end(main, 3, READ, new),
         others,
     }
 }

@@ -66,10 +66,10 @@ const AFTER_TWO_WRITES: [(Step, u32); 10] = [
     (GO_0, 1),
 ];
 
-/// The steps of `runs`, each repeated as often as its count.
-fn in_a_row(alloc: Global, runs: &[(Step, u32)]) -> Result<Vec<Step>, AllocError> {
+/// The steps of `rows`, each repeated as often as its count.
+fn in_a_row(alloc: Global, rows: &[(Step, u32)]) -> Result<Vec<Step>, AllocError> {
     let mut steps = Vec::new(alloc);
-    for (step, count) in runs {
+    for (step, count) in rows {
         for _ in 0..*count {
             steps.push(*step)?;
         }
@@ -116,7 +116,8 @@ fn verdicts_after<R: Register>(
     text(alloc, book, query)
 }
 
-/// The text of the verdicts at the end of `main`, the only branch of a book, after these steps.
+/// The text of the verdicts at the end of `main`, the only branch of a new book, after these steps
+/// from an initial value.
 fn verdicts<R: Register>(
     rt: &impl Abort,
     alloc: Global,
@@ -135,10 +136,10 @@ fn judges<R: Register>(
     alloc: Global,
     register: R,
     value: u32,
-    runs: &[(Step, u32)],
+    rows: &[(Step, u32)],
     expected: &[u8],
 ) -> Result<(), Refusal> {
-    let Ok(steps) = in_a_row(alloc, runs) else {
+    let Ok(steps) = in_a_row(alloc, rows) else {
         return Err(Refusal::Memory);
     };
     let text = verdicts(rt, alloc, register, value, &steps)?;

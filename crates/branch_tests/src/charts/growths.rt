@@ -1,8 +1,8 @@
 //! Rows in which memory may run out. A call that ran out of memory is made again, and then has the
-//! result that it would have had with enough memory, except that it doesn't replay runs that were
-//! stored before memory ran out.
+//! result that it would have had with enough memory, except that it doesn't replay segments
+//! whose runs were stored before memory ran out.
 
-use super::rows::{Ask, Kind, LATE, Row, Wanted, first_wrong_if, step_of, writes};
+use super::rows::{Ask, Kind, LATE, Row, Wanted, first_wrong_with, step_of, writes};
 use crate::given::{Branch, none_wrong};
 use std::alloc::Global;
 use std::process::Abort;
@@ -16,7 +16,7 @@ fn late_run_out_of_memory(rt: HostRuntime) {
     // the settle may have stored the run before memory ran out
     rows[2] = (Branch::Main, Ask::Settle(1, 0, 1));
     let steps = [step_of(Kind::Read)];
-    let wrong = first_wrong_if(&rt, rt.alloc(), &steps, Wanted::All, TRIES, &rows);
+    let wrong = first_wrong_with(&rt, rt.alloc(), &steps, Wanted::All, TRIES, &rows);
     none_wrong(&rt, wrong);
 }
 
@@ -31,13 +31,13 @@ const SETTLES: [Row; 6] = [
     (Branch::Main, Ask::Left(0)),
 ];
 
-fn settles_again(rt: &impl Abort, alloc: Global, expected: Wanted) {
+fn settles_again(rt: &impl Abort, alloc: Global, wanted: Wanted) {
     let Ok(steps) = writes(alloc) else {
         return;
     };
     none_wrong(
         rt,
-        first_wrong_if(rt, alloc, &steps, expected, TRIES, &SETTLES),
+        first_wrong_with(rt, alloc, &steps, wanted, TRIES, &SETTLES),
     );
 }
 

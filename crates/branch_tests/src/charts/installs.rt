@@ -62,17 +62,17 @@ fn write_of(is_one: bool) -> Step
     step_of(if is_one { Kind::Write1 } else { Kind::Write0 })
 }
 
-/// The expected result of installing a run of a write at `key`; `None` unless `segment` has that key.
-/// `is_fitting` is whether a run is stored at the shared read.
+/// The expected result of installing a run of a write at `key`; `None` unless `segment` has that
+/// key. `is_settled` is whether a run is stored at the shared read.
 fn reported_of(
     segment: Option<OwnSegment>,
     key: SegKey,
-    is_fitting: bool,
+    is_settled: bool,
     is_one: bool,
 ) -> Option<Installation> {
     match segment {
         Some(segment) if segment.key != key => None,
-        Some(segment) if is_fitting && segment.is_one == is_one => Some(Installation::Installed),
+        Some(segment) if is_settled && segment.is_one == is_one => Some(Installation::Installed),
         Some(_) => Some(Installation::Stale),
         None => None,
     }

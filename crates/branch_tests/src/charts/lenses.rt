@@ -23,7 +23,7 @@ use views::slip::Slip;
 type Used<'a> = Lens<Counting<'a>>;
 
 /// Whether a slip's page through a new lens has this text.
-fn is_own(alloc: Global, slip: &Slip<Counting<'_>>, text: &[u8]) -> Result<bool, Refusal> {
+fn has_text(alloc: Global, slip: &Slip<Counting<'_>>, text: &[u8]) -> Result<bool, Refusal> {
     Ok(text_of(alloc, slip)?.as_slice() == text)
 }
 
@@ -34,7 +34,7 @@ fn is_same<'a>(
     lens: &mut Used<'a>,
 ) -> Result<bool, Refusal> {
     let text = text_through(alloc, slip, lens)?;
-    is_own(alloc, slip, &text)
+    has_text(alloc, slip, &text)
 }
 
 /// How many steps were made for a slip's page through `lens`; `None` if the page differs from the
@@ -48,7 +48,7 @@ fn steps_for<'a>(
     let before = calls.load(Ordering::SeqCst);
     let text = text_through(alloc, slip, lens)?;
     let made = calls.load(Ordering::SeqCst).wrapping_sub(before);
-    Ok(is_own(alloc, slip, &text)?.then_some(made))
+    Ok(has_text(alloc, slip, &text)?.then_some(made))
 }
 
 /// What `is_same` returns for a slip that isn't used again.
@@ -200,20 +200,20 @@ fn three_hundred_places_up_and_down(rt: HostRuntime) {
 
 /// Two charts of the same steps, a lens that they share, and a lens of the second chart alone.
 #[derive(Drop)]
-struct Turns<'a> {
+struct TwoCharts<'a> {
     zero: Counted<'a>,
     one: Counted<'a>,
     shared: Used<'a>,
     own: Used<'a>,
 }
 
-impl<'a> Turns<'a> {
+impl<'a> TwoCharts<'a> {
     /// Two charts, from the initial values 0 and 1. Their registers have equal numbers of cells and
     /// words.
-    fn new(rt: &impl Abort, alloc: Global, calls: &'a AtomicU64) -> Result<Turns<'a>, Refusal> {
+    fn new(rt: &impl Abort, alloc: Global, calls: &'a AtomicU64) -> Result<TwoCharts<'a>, Refusal> {
         let zero = Counted::new(rt, alloc, calls, 0)?;
         let one = Counted::new(rt, alloc, calls, 1)?;
-        Ok(Turns {
+        Ok(TwoCharts {
             zero,
             one,
             shared: new_lens(rt, alloc),
@@ -223,17 +223,18 @@ impl<'a> Turns<'a> {
 
     /// Whether the pages of both charts at a place, through the shared lens, are as through a new
     /// lens, and the second chart's page also through its own lens.
-    fn are_own_at(&mut self, place: u32) -> Result<bool, Refusal> {
+    fn are_right_at(&mut self, place: u32) -> Result<bool, Refusal> {
         let of_zero = self.zero.steps_at(&mut self.shared, place)?.is_some();
         let of_one = self.one.steps_at(&mut self.shared, place)?.is_some();
         let alone = self.one.steps_at(&mut self.own, place)?.is_some();
         Ok(of_zero && of_one && alone)
     }
 
-    /// Goes upwards through 40 places, and returns the first place at which `are_own_at` is false.
-    fn first_foreign(&mut self) -> Result<Option<usize>, Refusal> {
+    /// Goes upwards through 40 places, and returns the first place at which `are_right_at` is
+    /// false.
+    fn first_wrong(&mut self) -> Result<Option<usize>, Refusal> {
         for place in 0..40 {
-            if !self.are_own_at(place)? {
+            if !self.are_right_at(place)? {
                 return Ok(Some(place as usize));
             }
         }
@@ -241,16 +242,16 @@ impl<'a> Turns<'a> {
     }
 }
 
-/// The first place that `Turns::first_foreign` finds.
-fn first_foreign_place(rt: &impl Abort, alloc: Global) -> Result<Option<usize>, Refusal> {
+/// The first place that `TwoCharts::first_wrong` finds.
+fn first_wrong_of_two(rt: &impl Abort, alloc: Global) -> Result<Option<usize>, Refusal> {
     let calls = AtomicU64::new(0);
-    let mut turns = Turns::new(rt, alloc, &calls)?;
-    turns.first_foreign()
+    let mut charts = TwoCharts::new(rt, alloc, &calls)?;
+    charts.first_wrong()
 }
 
 #[test]
 fn charts_by_turns(rt: HostRuntime) {
-    none_wrong(&rt, first_foreign_place(&rt, rt.alloc()));
+    none_wrong(&rt, first_wrong_of_two(&rt, rt.alloc()));
 }
 
 /// The number of kinds of page that a place has.
@@ -273,10 +274,10 @@ fn query_of(kind: u32, branch: Name, place: u32) -> Query
 
 impl<'a> Counted<'a> {
     /// Whether each kind of page of a place is the same through `lens` as through a new lens.
-    fn are_all_own(&mut self, lens: &mut Used<'a>, place: u32) -> Result<bool, Refusal> {
+    fn are_all_same(&mut self, lens: &mut Used<'a>, place: u32) -> Result<bool, Refusal> {
         for kind in 0..KINDS {
             let query = query_of(kind, self.main, place);
-            if !self.is_page_own(lens, query)? {
+            if !self.is_page_same(lens, query)? {
                 return Ok(false);
             }
         }
@@ -284,7 +285,7 @@ impl<'a> Counted<'a> {
     }
 
     /// Whether a page is the same through `lens` as through a new lens.
-    fn is_page_own(&mut self, lens: &mut Used<'a>, query: Query) -> Result<bool, Refusal>
+    fn is_page_same(&mut self, lens: &mut Used<'a>, query: Query) -> Result<bool, Refusal>
         requires { is_at_branch query ≡ true }
     {
         let slip = slip_of(self.alloc, &mut self.chart, query)?;
@@ -296,7 +297,7 @@ impl<'a> Counted<'a> {
     fn first_wrong_of_all_kinds(&mut self, lens: &mut Used<'a>) -> Result<Option<usize>, Refusal> {
         for passed in 0..80u32 {
             let place = if passed < 40 { passed } else { 79 - passed };
-            if !self.are_all_own(lens, place)? {
+            if !self.are_all_same(lens, place)? {
                 return Ok(Some(passed as usize));
             }
         }

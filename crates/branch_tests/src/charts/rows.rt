@@ -105,7 +105,7 @@ pub(super) enum Wanted {
 /// A chart on a register that counts its calls, and runs that were made elsewhere. A call that runs
 /// out of memory is repeated; it is made at most `tries` times.
 #[derive(Drop)]
-pub(super) struct Bench<'a> {
+pub(super) struct Subject<'a> {
     alloc: Global,
     calls: &'a AtomicU64,
     wanted: Wanted,
@@ -134,7 +134,7 @@ fn keeps_only_of<'a>(
     }
 }
 
-/// Makes an edit of a branch; does nothing if something else is asked.
+/// Makes the edit of a branch that is asked for; does nothing if what is asked isn't an edit.
 fn edited(
     rt: &impl Abort,
     alloc: Global,
@@ -158,7 +158,7 @@ fn edited(
 /// A branch, and what the chart is asked about it.
 pub(super) type Row = (Branch, Ask);
 
-impl Bench<'_> {
+impl Subject<'_> {
     /// The number of steps that a settle reports as replayed.
     fn replayed(&mut self, branch: &Name, place: u32) -> Result<u32, Refusal> {
         match self.wanted {
@@ -262,21 +262,21 @@ pub(super) fn chart_of<'a>(
     Chart::new(alloc, Counting::new(calls), value, limits(), steps)
 }
 
-/// A bench for these steps, on a register that counts its calls in `calls`; Memory if there is no
+/// A subject for these steps, on a register that counts its calls in `calls`; Memory if there is no
 /// chart after `tries` tries.
-fn bench_of<'a>(
+fn subject_of<'a>(
     alloc: Global,
     calls: &'a AtomicU64,
     steps: &[Step],
     wanted: Wanted,
     tries: u32,
-) -> Result<Bench<'a>, Refusal>
+) -> Result<Subject<'a>, Refusal>
     requires { AllFit safe_behaviour steps.now }
 {
     for _ in 0..tries {
         if let Ok(chart) = chart_of(alloc, calls, 0, steps) {
             let runs = Vec::new(alloc);
-            return Ok(Bench {
+            return Ok(Subject {
                 alloc,
                 calls,
                 wanted,
@@ -291,7 +291,7 @@ fn bench_of<'a>(
 
 /// The index of the first row that goes wrong in a chart of these steps. Each call is made at most
 /// `tries` times.
-pub(super) fn first_wrong_if(
+pub(super) fn first_wrong_with(
     rt: &impl Abort,
     alloc: Global,
     steps: &[Step],
@@ -302,8 +302,8 @@ pub(super) fn first_wrong_if(
     requires { AllFit safe_behaviour steps.now }
 {
     let calls = AtomicU64::new(0);
-    let mut bench = bench_of(alloc, &calls, steps, wanted, tries)?;
-    bench.first_wrong(rt, rows)
+    let mut subject = subject_of(alloc, &calls, steps, wanted, tries)?;
+    subject.first_wrong(rt, rows)
 }
 
 /// The index of the first row that goes wrong in a chart of these steps: first all runs are wanted,
@@ -316,9 +316,9 @@ fn first_wrong(
 ) -> Result<Option<usize>, Refusal>
     requires { AllFit safe_behaviour steps.now }
 {
-    match first_wrong_if(rt, alloc, steps, Wanted::All, 1, rows)? {
+    match first_wrong_with(rt, alloc, steps, Wanted::All, 1, rows)? {
         Some(index) => Ok(Some(index)),
-        None => first_wrong_if(rt, alloc, steps, Wanted::Last, 1, rows),
+        None => first_wrong_with(rt, alloc, steps, Wanted::Last, 1, rows),
     }
 }
 
@@ -366,9 +366,9 @@ const READS: [(u32, u32); 4] = [(0, 1001), (512, 489), (630, 489), (1000, 105)];
 
 /// The index of the first of `READS` with which something goes wrong.
 fn first_wrong_read(rt: &impl Abort, alloc: Global) -> Result<Option<usize>, Refusal> {
-    for (i, (place, differ)) in READS.iter().enumerate() {
+    for (i, (place, replayed)) in READS.iter().enumerate() {
         let edit = Ask::Insert(*place, Kind::Read);
-        if first_wrong_around(rt, alloc, edit, 1001, *differ, *differ)?.is_some() {
+        if first_wrong_around(rt, alloc, edit, 1001, *replayed, *replayed)?.is_some() {
             return Ok(Some(i));
         }
     }

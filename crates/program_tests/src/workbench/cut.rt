@@ -110,7 +110,7 @@ impl Write for Narrow {
 /// How a reader and a writer behave: the most bytes of a read, what the reader does after it has
 /// given all its bytes, the most bytes of a write, and the most bytes that the writer takes in all.
 #[derive(Clone, Copy)]
-struct Way {
+struct Streams {
     read: usize,
     after: After,
     write: usize,
@@ -122,16 +122,16 @@ fn ended<H: Threads + Wait + Sync>(
     rt: &H,
     alloc: Global,
     script: &[u8],
-    way: Way,
+    streams: Streams,
 ) -> (Option<Fault>, Vec<u8>) {
     let mut reader = Cut {
         bytes: script,
-        piece: way.read,
-        after: way.after,
+        piece: streams.read,
+        after: streams.after,
     };
     let mut writer = Narrow {
-        piece: way.write,
-        room: way.room,
+        piece: streams.write,
+        room: streams.room,
         taken: Vec::new(alloc),
     };
     let ran = run(rt, alloc, Some(TOWER), options(), &mut reader, &mut writer);
@@ -162,8 +162,8 @@ fn answers_within(alloc: Global, count: usize) -> Result<Vec<u8>, AllocError> {
 }
 
 /// A reader that gives at most `read` bytes at each read, and a writer that takes all bytes.
-fn reading(read: usize, after: After) -> Way {
-    Way {
+fn reading(read: usize, after: After) -> Streams {
+    Streams {
         read,
         after,
         write: ALL,
@@ -177,12 +177,12 @@ fn check<H: Abort + AllocGlobal + Threads + Wait + Sync>(
     rt: &H,
     script: &[u8],
     count: usize,
-    way: Way,
+    streams: Streams,
     fault: Fault,
 ) -> Result<(), Fail> {
     let answers = answers_within(rt.alloc(), count)?;
     let front = &script[..count.min(script.len())];
-    let (found, taken) = ended(rt, rt.alloc(), front, way);
+    let (found, taken) = ended(rt, rt.alloc(), front, streams);
     assert_eq!(rt; found, Some(fault), "{count}");
     assert!(rt; taken == answers, "{count}");
     Ok(())
@@ -193,9 +193,9 @@ fn check<H: Abort + AllocGlobal + Threads + Wait + Sync>(
 fn a_read_fails_after_each_byte(rt: HostRuntime) -> Result<(), Fail> {
     let script = script(rt.alloc())?;
     for read in [1, 5, ALL] {
-        let way = reading(read, After::Fails);
+        let streams = reading(read, After::Fails);
         for count in 0..=script.len() {
-            check(&rt, &script, count, way, Fault::Read)?;
+            check(&rt, &script, count, streams, Fault::Read)?;
         }
     }
     Ok(())
@@ -205,9 +205,9 @@ fn a_read_fails_after_each_byte(rt: HostRuntime) -> Result<(), Fail> {
 #[test]
 fn a_reader_never_ends_after_each_byte(rt: HostRuntime) -> Result<(), Fail> {
     let script = script(rt.alloc())?;
-    let way = reading(MORE.len(), After::NeverEnds);
+    let streams = reading(MORE.len(), After::NeverEnds);
     for count in 0..=script.len() {
-        check(&rt, &script, count, way, Fault::TooLong)?;
+        check(&rt, &script, count, streams, Fault::TooLong)?;
     }
     Ok(())
 }
@@ -218,8 +218,8 @@ fn check_interrupted<H: Abort + AllocGlobal + Threads + Wait + Sync>(
     count: usize,
 ) -> Result<(), Fail> {
     let script = script(rt.alloc())?;
-    let way = reading(ALL, After::Interrupted);
-    check(rt, &script, count, way, Fault::TooLong)
+    let streams = reading(ALL, After::Interrupted);
+    check(rt, &script, count, streams, Fault::TooLong)
 }
 
 #[test]
@@ -251,13 +251,13 @@ fn a_write_fails_after_each_byte(rt: HostRuntime) -> Result<(), Fail> {
     let answers = answers_within(rt.alloc(), ALL)?;
     for (read, write) in [(1, 1), (ALL, 1), (1, ALL), (ALL, ALL)] {
         for room in 0..=answers.len() {
-            let way = Way {
+            let streams = Streams {
                 read,
                 after: After::Ends,
                 write,
                 room,
             };
-            let (found, taken) = ended(&rt, rt.alloc(), &script, way);
+            let (found, taken) = ended(&rt, rt.alloc(), &script, streams);
             let fault = (room < answers.len()).then_some(Fault::Write);
             assert_eq!(rt; found, fault, "{room}");
             assert!(rt;

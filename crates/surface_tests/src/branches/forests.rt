@@ -52,7 +52,8 @@ fn has_steps(alloc: Global, trie: &Trie<u32>, main: &Name) -> bool {
     are_edited(&trie.path(alloc, main))
 }
 
-/// Whether the note of `main`'s first segment is kept, and then removed.
+/// Whether a note of `main`'s first segment is kept and then removed, the segment begins with
+/// `main`'s first cell, and there is no segment above it.
 fn has_notes(alloc: Global, trie: &mut Trie<u32>, main: &Name) -> Result<bool, Refusal> {
     let keys = trie.segments(alloc, main)?;
     let Some(key) = keys.as_slice().first().copied() else {

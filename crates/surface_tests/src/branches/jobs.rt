@@ -53,7 +53,8 @@ fn is_installed(
     Ok(planned.offer(job.key, run) == Installation::Installed)
 }
 
-/// Runs these jobs. Returns how many there are, or `None` if a run wasn't installed.
+/// Runs these jobs and installs their runs. Returns how many jobs there are, or `None` if a run
+/// wasn't installed.
 fn install_all(
     alloc: Global,
     planned: &mut impl Planned,
@@ -66,8 +67,8 @@ fn install_all(
     Ok(all.then_some(jobs.len()))
 }
 
-/// Runs all jobs of a branch's plan. Returns how many there are, or `None` if a run wasn't
-/// installed.
+/// Runs all jobs of a branch's plan and installs their runs. Returns how many jobs there are, or
+/// `None` if a run wasn't installed.
 pub(crate) fn installed(
     alloc: Global,
     planned: &mut impl Planned,

@@ -26,7 +26,7 @@ fn bit() -> Result<RegularBit<Copies<Switch>>, LayerError> {
     RegularBit::new(copies)
 }
 
-/// Whether a write of 1 returns after `write` bit actions, and a later read after `read` bit
+/// Whether a write of 1 returns within `write` bit actions, and a later read within `read` bit
 /// actions.
 fn writes_and_reads<R: Register>(
     alloc: Global,

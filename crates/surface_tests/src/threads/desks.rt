@@ -58,7 +58,7 @@ fn joined(desk: &Desk<Switch>, chair: &mut Chair<Switch>, other: Chair<Switch>)
     desk.join(chair, other);
 }
 
-/// The length of the history. This contract promises nothing about that length.
+/// The length of the history. Unlike that of `Desk::news`, this contract promises nothing about it.
 fn news(desk: &Desk<Switch>, chair: &mut Chair<Switch>) -> u64
     requires { IsChairOf (λ _. switch) desk.now chair.old }
     ensures { IsChairOf (λ _. switch) desk.now chair.new }
@@ -205,7 +205,7 @@ impl<R: Abort + Threads + Wait + Sync> Office<'_, R> {
     }
 }
 
-/// The log, or `None` if the chair lacks a share.
+/// Closes the desk and returns its log; `None` if the chair lacks a share.
 fn closed(desk: Desk<Switch>, chair: Chair<Switch>) -> Option<Log>
     requires { IsChairOf (λ _. switch) desk chair }
 {

@@ -10,12 +10,12 @@ use turn::{Chair, Counted, Turn, Work};
 
 /// The numbers of the chairs that took the turn, in order.
 #[derive(Drop)]
-struct Workers(Vec<u32>);
+struct Signatures(Vec<u32>);
 
-impl Counted for Workers {
+impl Counted for Signatures {
     type Entry = u32;
 
-    ghost entries = { λ workers. workers.0.items };
+    ghost entries = { λ signatures. signatures.0.items };
 
     ghost by = { λ number. number };
 
@@ -28,24 +28,24 @@ impl Counted for Workers {
 #[derive(Drop)]
 struct Sign;
 
-impl Work<Workers> for Sign {
+impl Work<Signatures> for Sign {
     ghost use Rattle.std.specs.Prelude.{⊤};
 
     type Out = Result<(), AllocError>;
 
     ghost relation = { λ _ _ _ _ _. ⊤ };
 
-    fn work(&mut self, workers: &mut Workers, number: u32) -> Result<(), AllocError> {
-        workers.0.push(number)?;
+    fn work(&mut self, signatures: &mut Signatures, number: u32) -> Result<(), AllocError> {
+        signatures.0.push(number)?;
         Ok(())
     }
 }
 
 /// A turn that guards an empty list, and its first chair.
-fn empty(alloc: Global) -> Result<(Turn<Workers>, Chair<Workers>), AllocError>
+fn empty(alloc: Global) -> Result<(Turn<Signatures>, Chair<Signatures>), AllocError>
     ensures { IfOk result (λ r. IsOf r.0 r.1 × ((view r.1).shares ≡ every_share)) }
 {
-    Turn::new(alloc, Workers(Vec::new(alloc)))
+    Turn::new(alloc, Signatures(Vec::new(alloc)))
 }
 
 #[test]
@@ -61,9 +61,9 @@ fn each_call_of_a_turn(rt: HostRuntime) -> Result<(), Fail> {
     };
     assert_eq!(rt; out.number(), 50);
     turn.join(&mut first, second);
-    let Ok(workers) = turn.close(first) else {
+    let Ok(signatures) = turn.close(first) else {
         panic!(rt; "a share is missing")
     };
-    assert_eq!(rt; workers.0.as_slice(), [0, 1].as_slice());
+    assert_eq!(rt; signatures.0.as_slice(), [0, 1].as_slice());
     Ok(())
 }

@@ -201,7 +201,7 @@ fn cross<R: Abort + Threads + Wait + Sync>(
     }
 }
 
-/// Fills and looks by one of two chairs of a new desk.
+/// Splits a new desk's chair. One half fills while the other edits; then the first looks.
 fn cross_at<R: Abort + Threads + Wait + Sync>(tester: &Tester<'_, R>, chair: Chair<Safe>)
     requires chair { IsChairOf (λ _. safe_behaviour) tester.now.desk.now chair }
     requires every { (view chair).shares ≡ every_share }

@@ -30,7 +30,7 @@ use views::query::Query;
 use views::slip::Slip;
 
 impl<R: Threads + Wait + Sync> Tester<'_, R> {
-    /// Fills a branch. Unlike the desk's, this contract promises nothing about histories.
+    /// Fills a branch. Unlike that of `Desk::fill`, this contract promises nothing about histories.
     pub(super) fn filled(
         &self,
         chair: &mut Chair<Safe>,
@@ -283,8 +283,8 @@ fn fork_in_the_middle(rt: &impl Abort) -> Command {
     }
 }
 
-/// An editor and a filler work at a new desk of the thousand steps. Compares the log and the text
-/// of a look's page with a book's.
+/// An editor and a filler work at a new desk of the thousand steps. A book that is given the logged
+/// calls has to make the same replies, and its page of the look has to have the same text.
 fn fill_and_edit<R: Abort + Threads + Wait + Sync>(
     rt: &R,
     alloc: Global,

@@ -29,16 +29,15 @@ use workers::gate::Gate;
 /// How many forests are filled.
 const FORESTS: u32 = 50;
 
-/// How often a forest grows, each time by a series of inserts and one other edit.
-const GROWTHS: u32 = 8;
-
-/// One more than the most inserts in a series. 384 inserts make three full segments.
+/// The number of a forest's first inserts; each later series has fewer. 384 make three full
+/// segments.
 const INSERTS: u32 = 385;
 
 /// The most rounds of a fill.
 const ROUNDS: usize = 64;
 
-/// The names of new branches, one letter each.
+/// The names of new branches, one letter each. A forest grows once for each name, by a series of
+/// inserts and one other edit.
 const NAMES: &[u8] = b"abcdefgh";
 
 /// Limits for each of these forests.
@@ -130,7 +129,7 @@ impl Forest {
     }
 
     /// Inserts `count` reads at a place.
-    fn insert_run(&mut self, branch: Name, place: u32, count: u32) -> Result<(), AllocError> {
+    fn insert_reads(&mut self, branch: Name, place: u32, count: u32) -> Result<(), AllocError> {
         let step = READ;
         for _ in 0..count {
             self.edit(Command::Insert {
@@ -151,7 +150,7 @@ impl Forest {
         fresh: Name,
     ) -> Result<(), AllocError> {
         if let Some((branch, place)) = self.chosen(sequence) {
-            self.insert_run(branch, place, sequence.below(INSERTS))?;
+            self.insert_reads(branch, place, sequence.below(INSERTS))?;
         }
         let Some((branch, place)) = self.chosen(sequence) else {
             return Ok(());
@@ -228,7 +227,7 @@ impl Forest {
 fn grow_from(rt: &impl Abort, forest: &mut Forest, seed: u32) -> Result<(), Refusal> {
     let mut sequence = Sequence { state: seed };
     let main = name(rt, b"main");
-    forest.insert_run(main, 0, INSERTS)?;
+    forest.insert_reads(main, 0, INSERTS)?;
     for index in 0..NAMES.len() {
         let fresh = name(rt, &NAMES[index..index + 1]);
         forest.grow(&mut sequence, &main, fresh)?;

@@ -86,8 +86,9 @@ fn edits_of(log: &Log, chair: u32) -> usize {
     edits.count()
 }
 
-/// Two chairs make their guarded edits at a new desk. Counts the edits of each, and compares the
-/// text of a look's page with a book's.
+/// Two chairs make their guarded edits at a new desk. Counts the edits of each. A book that is
+/// given the logged calls has to make the same replies, and its page of the look has to have the
+/// same text.
 fn guard_edits<R: Abort + Threads + Wait + Sync>(
     rt: &R,
     alloc: Global,

@@ -80,7 +80,8 @@ fn are_same(some: &[Limb], others: &[Limb]) -> bool {
     some.len() == others.len() && some.iter().zip(others).all(|(a, b)| is_same(a, b))
 }
 
-/// A chart that is loaded from limbs. Unlike the chart's, this contract promises nothing about it.
+/// A chart that is loaded from limbs. Unlike that of `Chart::load`, this contract promises nothing
+/// about the chart.
 fn loaded_chart(alloc: Global, limbs: &[Limb]) -> Result<Chart<Safe>, Refusal>
     requires { AreLawfulLimbs limbs.now × (0 < length limbs.now)
         × LimbsFit safe_behaviour limbs.now }
@@ -88,7 +89,8 @@ fn loaded_chart(alloc: Global, limbs: &[Limb]) -> Result<Chart<Safe>, Refusal>
     Chart::load(alloc, Safe, 0, limits(1), limbs)
 }
 
-/// A book that is loaded from limbs. Unlike the book's, this contract promises nothing about it.
+/// A book that is loaded from limbs. Unlike that of `Book::load`, this contract promises nothing
+/// about the book.
 fn loaded_book(alloc: Global, limbs: &[Limb]) -> Result<Book<Safe>, Refusal>
     requires { AreLawfulLimbs limbs.now × (0 < length limbs.now)
         × LimbsFit safe_behaviour limbs.now }
@@ -138,7 +140,8 @@ fn is_first_with(saved: &Saved, limbs: &[Limb]) -> bool {
 }
 
 impl<R: Wait> Tester<'_, R> {
-    /// Saves the desk. Unlike the desk's, this contract promises nothing about the limbs.
+    /// Saves the desk. Unlike that of `Desk::limbs`, this contract promises nothing about the
+    /// limbs.
     fn saved(&self, chair: &mut Chair<Safe>) -> Result<Saved, Refusal>
         requires { IsChairOf (λ _. safe_behaviour) self.now.desk.now chair.old }
         ensures { IsChairOf (λ _. safe_behaviour) self.now.desk.now chair.new }

@@ -59,7 +59,7 @@ fn insert_all_on(rt: &impl Abort, alloc: Global, book: &mut Book<Safe>) -> bool 
     all
 }
 
-/// A book with no steps. Unlike the book's, this contract promises nothing about it.
+/// A book with no steps. Unlike that of `Book::new`, this contract promises nothing about the book.
 fn wide_book(alloc: Global) -> Result<Book<Safe>, Refusal> {
     Book::new(alloc, Safe, 0, wide(), &[])
 }

@@ -60,7 +60,7 @@ fn ask_often(desk: &Desk<Safe>, chair: &mut Chair<Safe>, flags: &Flags) -> Optio
     requires { IsChairOf (λ _. safe_behaviour) desk.now chair.old }
     ensures { IsChairOf (λ _. safe_behaviour) desk.now chair.new }
 {
-    if !flags.is_held() {
+    if !flags.wait_until_held() {
         return None;
     }
     let mut news = 0;

@@ -37,7 +37,7 @@ pub(super) fn opened(alloc: Global, log: u32) -> Result<(Desk<Safe>, Chair<Safe>
     Desk::open(alloc, Safe, 0, limits(log), &[])
 }
 
-/// The first `count` steps of whole writes of 1 and 0 in turn.
+/// The first `count` steps of a schedule in which whole writes of 1 and of 0 alternate.
 pub(super) fn writes(alloc: Global, count: u32) -> Result<Vec<Step>, AllocError>
     ensures { IfOk result (λ steps. AllFit safe_behaviour steps.items) }
 {

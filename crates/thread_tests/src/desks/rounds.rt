@@ -94,7 +94,8 @@ impl<R: Abort + Threads + Wait + Sync> Tester<'_, R> {
         all
     }
 
-    /// Fills `main` with a gate. Unlike the desk's, this contract promises nothing about histories.
+    /// Fills `main` through a gate. Unlike that of `Desk::fill_with`, this contract promises
+    /// nothing about histories.
     pub(super) fn filled_with<G: Gate<R> + Sync>(
         &self,
         chair: &mut Chair<Safe>,

@@ -104,7 +104,8 @@ fn two_threads(rt: HostRuntime) -> Result<(), Fail> {
     Ok(())
 }
 
-/// How many rounds each of four threads makes. A round has seven calls.
+/// How many rounds each of four threads makes. Such a round isn't one of a fill: it has seven
+/// calls, two of which are logged.
 const ROUNDS: u32 = 40;
 
 /// Splits `shares` shares off a chair; `None` if `shares` is 0, or if no share would be left.
