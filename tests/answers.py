@@ -79,9 +79,9 @@ SEED = 80
 Question = collections.namedtuple("Question", "text tower operations after stops")
 # A list of answers: of each process its outcomes; and the steps of its schedule.
 Listed = collections.namedtuple("Listed", "answers steps")
-# How a schedule went: of each process the outcomes; the idle ones; the steps that were void; whether the
-# operations were invoked in order, each after those that it follows; whether its last step chose a value;
-# and the processes that stopped.
+# How a schedule went: of each process the outcomes; those with a pending operation; how many steps were
+# void; whether the operations were invoked in order, each after those that it follows; whether its last
+# step chose a value; and the processes that stopped.
 Went = collections.namedtuple("Went", "answers pending voids is_allowed has_chosen stopped")
 
 
@@ -102,7 +102,7 @@ def question_of(line):
 
 
 def listed_in(output):
-    """Returns the lists of answers in the output of the program."""
+    """Returns the number of states, and the lists of answers, in the output of the program."""
     counts, *blocks = output.split("\n\n")
     found = []
     for block in blocks:
@@ -129,7 +129,7 @@ def ask(program, text):
 
 
 def name_of(number):
-    """Returns the name of a branch."""
+    """Returns the name of the branch with a number."""
     name = ""
     while True:
         name = chr(ord("a") + number % 26) + name
@@ -224,7 +224,7 @@ def fault_of_own(bench, question, listed):
 
 
 def schedule(question, most, rng):
-    """Returns a random schedule: each process invokes its operations, and takes turns with the others."""
+    """Returns a random schedule: each process invokes its operations in order, among steps of the others."""
     queues = {}
     for p, its in question.operations.items():
         queue = queues[p] = []

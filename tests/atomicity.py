@@ -82,14 +82,15 @@ def operations(history):
 
 
 def is_linearizable(history):
-    """Returns whether the returned operations and some pending writes have an order as they must.
+    """Returns whether the returned operations and some pending writes have an order by which a history
+    is linearizable.
 
     It searches as Wing and Gong do: an operation may be next if no other that isn't placed yet
     returned before it was invoked.
     """
     its = operations(history)
     returned = sum(1 << i for i, it in enumerate(its) if it.returned is not None)
-    begun, left = {(0, 0)}, [(0, 0)]
+    seen, left = {(0, 0)}, [(0, 0)]
     while left:
         placed, value = left.pop()
         if placed & returned == returned:
@@ -100,8 +101,8 @@ def is_linearizable(history):
             it = its[i]
             if it.invoked < min(ends) and (it.is_write or it.value == value):
                 after = placed | 1 << i, it.value
-                if after not in begun:
-                    begun.add(after)
+                if after not in seen:
+                    seen.add(after)
                     left.append(after)
     return False
 
@@ -306,7 +307,8 @@ def start(matrix):
 
 
 def begun(matrix, state, p):
-    """Returns the states in which p has invoked its only operation, a read or a write of 1."""
+    """Returns the states in which p has invoked its only operation, a read or a write of 1: this state alone if
+    the operation is pending, and none if it has ended."""
     if state.works[p] or state.begun[p]:
         return [state] if state.works[p] else []
     found = []
@@ -318,12 +320,12 @@ def begun(matrix, state, p):
     return found
 
 
-def said_of(code):
+def words_of(code):
     return f"{code.value} with tag {code.tag}"
 
 
 def ended(matrix, state, p, work):
-    """Returns the state with p's operation moved on, and what is said if it has ended."""
+    """Returns the state in which p's operation has come as far as `work`, and what is said if that ends it."""
     has_read = work.read == matrix.processes and work.value is None
     if work.written < matrix.processes and (matrix.writes_back or not has_read):
         return state._replace(works=put(p, work, state.works)), ""
@@ -344,12 +346,12 @@ def steps_of(matrix, state, p):
         if moved.read == n and work.value is not None:
             moved = moved._replace(code=Code(best.tag + 1, p, work.value))
         after, said = ended(matrix, state, p, moved)
-        return [(name, f"reads R[{work.read}][{p}]: {said_of(code)}{said}", after)]
+        return [(name, f"reads R[{work.read}][{p}]: {words_of(code)}{said}", after)]
     at = work.written
     row = put(at, work.code, state.parts[p])
     written = state._replace(parts=put(p, row, state.parts))
     after, said = ended(matrix, written, p, work._replace(written=at + 1))
-    found = [(name, f"writes R[{p}][{at}]: {said_of(work.code)}{said}", after)]
+    found = [(name, f"writes R[{p}][{at}]: {words_of(work.code)}{said}", after)]
     if matrix.refuses:
         ranks = ranks_after(state.ranks, Event(p, REFUSED, None))
         refused = state._replace(works=put(p, None, state.works), ranks=ranks)

@@ -10,7 +10,7 @@ NAME.script and NAME.expected, what standard output says, may come with
 Each may be made: NAME.KIND.make is a line of shell, run in the case's folder, that writes it.
 A row is a case in a folder of tests/rows, one for each subject. No two rows share a name, and those
 of sizes are lines of a table (tests/sizes.py).
-All names are of the repository's top, which is the current folder.
+The current folder has to be the repository's top.
 """
 import collections
 import functools
@@ -92,7 +92,7 @@ def read(path):
 
 
 def case_of(name, scratch):
-    """Returns the case of a name."""
+    """Returns the case with a name, which is its path without its kind."""
     paths = {kind: path_of(name, kind, scratch) for kind in KINDS}
     for kind in ("script", "expected"):
         if paths[kind] is None:
@@ -124,7 +124,7 @@ def ways(case):
 
 
 def shown(line, column):
-    """Returns a line as text, from somewhat before a column on; None: there is no such line."""
+    """Returns a line as text, from a little before a column on; line: None if there is no such line."""
     if line is None:
         return "nothing more"
     begin = max(0, column - BYTES_SHOWN_BEFORE) if len(line) > BYTES_SHOWN else 0
@@ -152,13 +152,13 @@ def saved_by(case):
 
 
 def put_kept(path):
-    """Puts at a path what it holds before a run that saves to it, if it ends well."""
+    """Writes KEPT to a path: only a run that ends well may replace it."""
     with open(path, "wb") as file:
         file.write(KEPT)
 
 
 def fault_of_kept(path):
-    """Returns what is wrong at such a path after a run that ended by a fault; None: nothing."""
+    """Returns what is wrong at such a path after a run that ended by a fault, and has to have left it; None: nothing."""
     is_kept = os.path.exists(path) and read(path) == KEPT
     return None if is_kept else "the file is not as it was"
 

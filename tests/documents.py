@@ -11,7 +11,7 @@ A document is README.md, CONTRIBUTING.md, CHANGELOG.md, each page of docs/ and l
   in the sources, and a definition's by its file is defined there: tests/definitions.py; one with a
   dash is the name of a wrong body, a row, an example or another file, or a word of some source.
 - No line is longer than 100 columns, but in tables, and on a lesson's page, which is a screen wide.
-All names are of the repository's top, which is the current folder.
+Paths begin at the repository's top, which has to be the current folder; links at the document's folder.
 """
 import collections
 import fnmatch
@@ -191,8 +191,18 @@ def quote_fault(block):
         # A quote has whole lines
         found = f"\n{source}".find(f"\n{part}\n", at)
         if found < 0:
-            return f"{block.about} doesn't have, in this order: {part.strip().splitlines()[0]}"
+            return f"{block.about} doesn't have, in this order: {first_lost(source, part, at)}"
         at = found + len(part)
+    return None
+
+
+def first_lost(source, part, at):
+    """Returns the first line of a part of a quote that doesn't follow those before it in the source."""
+    lines = part.split("\n")
+    for count, line in enumerate(lines, 1):
+        front = "\n".join(lines[:count])
+        if f"\n{source}".find(f"\n{front}\n", at) < 0:
+            return line.strip() or "a blank line"
     return None
 
 
@@ -216,9 +226,6 @@ def fault_of_commands(asked):
 def faults_of_text(line, document, crate):
     """Returns the faults of a line of the text, in a section about the crate."""
     found = [fault_of_span(it, crate) for it in SPAN.findall(line)]
-    if document == definitions.PAGE and line.startswith("|"):
-        # A fault of a span is reported once
-        found += [it for it in definitions.faults_of_row(line, crate) if it not in found]
     links = [it for it in LINK.findall(line) if "://" not in it]
     folder = os.path.dirname(document)
     lost = [

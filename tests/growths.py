@@ -68,7 +68,7 @@ MORE_IN_A_ROW = {
     ),
 }
 # A crate whose tests are tried if no source is newer than they are, a test's name, and how many
-# growths are refused in a row: some make a call again that was refused memory, more often than so.
+# growths are refused in a row: some tests repeat a call that was refused memory, more often than that.
 TESTS = (
     ("thread_tests", "desks::growths::two_chairs_out_of_memory", (1,)),
     ("thread_tests", "desks::growths::two_chairs_asking_again", (1, 2, 6)),
@@ -124,10 +124,10 @@ def remark():
 
 
 def each_refused(refuse, mark, in_a_row, work):
-    """Calls work on each number of a growth, as far as there are any, from which on `in_a_row` are
-    refused, with the environment for that and a call that returns how many were.
+    """Calls `work` once for each growth, with its number, an environment in which `in_a_row` growths
+    from that one on are refused, and a call that returns how many were refused.
 
-    Work returns whether all came out as with ample memory. Returns how many growths were refused.
+    `work` returns whether all came out as with ample memory. Returns how many growths were refused in all.
     """
     number = total = past = 0
 
@@ -158,7 +158,7 @@ class Answers:
         self.run, self.lines, self.prefixes = run, script.splitlines(keepends=True), {}
 
     def prefix(self, count, left_out):
-        """Returns the answers to the first `count` lines."""
+        """Returns the answers to the first `count` lines if the lines `left_out` are left out."""
         key = count, frozenset(it for it in left_out if it < count)
         if key not in self.prefixes:
             kept = [b"\n" if k in key[1] else it for k, it in enumerate(self.lines[:count])]
@@ -166,7 +166,7 @@ class Answers:
         return self.prefixes[key]
 
     def rest(self, count, left_out):
-        """Returns the answers to the lines after the first `count`."""
+        """Returns the answers to the lines after the first `count`, without the lines `left_out`."""
         return self.prefix(len(self.lines), left_out)[len(self.prefix(count, left_out)) :]
 
     def fault(self, output, is_whole, most_refused):
@@ -213,7 +213,7 @@ def fault_of_run(ran, answers, refused):
 
 
 def fault_of_order(trial, ran):
-    """Returns which refusal was due before that of memory, or None."""
+    """Returns that a look or fill with another refusal due was refused memory, if one was, or None."""
     is_due = os.path.basename(trial.name) in REFUSED_OTHERWISE
     return "another refusal is due" if is_due and REFUSED in ran.output else None
 
@@ -254,11 +254,11 @@ def fault_of_script(trial, program, refuse, scratch):
 
     total = each_refused(refuse, f"{temporary}/mark", trial.in_a_row, work)
     if trial.words == ["--workers", "0"]:
-        REFUSED_BY_TRIAL[said_of(trial)] = total
+        REFUSED_BY_TRIAL[name_of(trial)] = total
     return None
 
 
-def said_of(trial):
+def name_of(trial):
     """Returns a trial's name."""
     more = f", {trial.in_a_row} in a row" * (trial.in_a_row > 1)
     return " ".join([trial.name, *trial.words]) + more
@@ -271,7 +271,7 @@ def said(ran):
 
 
 def fault_of_test(path, test, in_a_row, refuse, scratch):
-    """Refuses growths of a built test in turn, as many as there are; returns what is wrong."""
+    """Refuses each growth of a built test in turn; returns what is wrong, or None."""
 
     def work(number, environment, _):
         ran = cases.run(path, [test], b"", environment)

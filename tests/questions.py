@@ -5,8 +5,8 @@
   (tests/answers.py).
 - tests/questions/faults.txt has a faulty file in each line, and its fault.
 - the table of docs/guide/answers.md has in each row a question, answers and the least number of steps, or
-  `none`; and what the guide's lines `| FAULT |` name occurs in a fault of the file above.
-All names are of the repository's top, which is the current folder.
+  `none`.
+The current folder has to be the repository's top.
 """
 import functools
 import glob

@@ -8,12 +8,13 @@ its answer; one that begins with ```timeline NAME is looked at by tests/timeline
 - The lines below one of them are in that command's answer in NAME.expected, in order.
 - The page says how the program is started on NAME.tower, or on NAME.bench, also with `--save`.
 - A line of an answer that the page's text names, as `4 p1 return 0` does, is one of those quoted in
-  its blocks. A command that it names, as `0 verdict main 6` does, is one of its scripts.
+  its blocks. A command that it names, as `0 verdict main 6` does, is in one of
+  its scripts.
 - A lesson asks first: a question, a time line, and exercises, the last of them for a schedule of the
   reader's own, whose solution is your-own.script. All this fits a screen. The answers, with all
   transcripts, are folded away after it.
 - lessons/README.md links to each lesson, in order.
-That the outputs are the program's is seen by running the scripts.
+Running the scripts shows that the outputs are the program's (tests/run).
 """
 import pathlib
 import re

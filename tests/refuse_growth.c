@@ -1,5 +1,5 @@
 /* Loaded before the C library: refuses growths of memory, of which REFUSED_GROWTH numbers the first and REFUSED_COUNT says how many in a row.
-   For each it writes a byte to the end of the file REFUSED_MARK. */
+   For each it writes a byte to the end of the file that REFUSED_MARK names. */
 #include <fcntl.h>
 #include <stddef.h>
 #include <stdlib.h>

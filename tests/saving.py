@@ -74,7 +74,7 @@ def fault_of(name, program, scratch):
     return cases.fault_of_kept(path)
 
 
-def fault_of_place(name, program, scratch):
+def fault_of_saving_over(name, program, scratch):
     """Returns what is wrong with saving over the file that was read, or nothing."""
     temporary = tempfile.mkdtemp(dir=scratch)
     case = cases.case_of(name, temporary)

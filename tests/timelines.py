@@ -186,9 +186,9 @@ def fault_of_block(program, folder, words, lines):
         return f"{name}: {branch} has {lacks}, the time line {has}"
     for row, texts in rows.items():
         for step in range(count):
-            is_so, is_drawn = found.get(row, {}).get(step), texts.get(step)
-            if is_so != is_drawn:
-                return f"{name}: step {step}, row {row}: {is_so}, the time line {is_drawn}"
+            right, drawn = found.get(row, {}).get(step), texts.get(step)
+            if right != drawn:
+                return f"{name}: step {step}, row {row}: {right}, the time line {drawn}"
     return None
 
 

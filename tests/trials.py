@@ -32,7 +32,7 @@ def count_faults(tests, lanes):
 def status_of(tests, is_whole=False, lanes=None, remark=None):
     """Does the tests, `lanes` at a time, and returns the status to end with. is_whole: one that can't be tried is a failure.
 
-    What `remark` returns then is the last line but one.
+    What `remark` returns after the tests is printed before the last line.
     """
     skipped = [it for it in tests if it.work is None]
     for it in skipped:

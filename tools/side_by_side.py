@@ -21,14 +21,14 @@ TOP = os.path.dirname(os.path.dirname(os.path.realpath(__file__)))
 PARTS = ("src", "specs", "proofs")
 # By one processor a check takes 0.8 to 2.3 GB, and that of the program 3.6.
 MEMORY_OF_A_CHECK = 2 * 10**9
-# It gains little from more than 4 processors.
+# A check gains little from more than 4 processors.
 JOBS_OF_A_CHECK = 4
-# It also loads the crates below: this many of their lines take as long as one of its own.
+# A check also loads the crates below: this many of their lines take as long as one of its own.
 LINES_LOADED_AS_ONE = 7
 # The last in the queue for a processor, as `nice` counts.
 NICEST = 19
 SECONDS_BETWEEN_REPORTS = 60
-# Builds in another order, each by one processor, to see that their bytes are the same (tools/twice).
+# Whether crates are built in the other order, each by one processor: their bytes have to be the same (tools/twice).
 IS_BACKWARD = os.environ.get("TOWERBENCH_ORDER") == "backward"
 LINES_SHOWN = 20
 # What a check says of a place, of a function or a goal that isn't proved, and of what can't be read.

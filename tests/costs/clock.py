@@ -1,7 +1,7 @@
 """What workers gain, by the clock: run this alone, on a machine that does nothing else.
 
-A fill is timed from its line to its answer, so without the opening. The runs take turns, and each turn begins one further on. Fills
-without workers are there twice: the ratio of the two says how far the others can be trusted.
+A fill is timed from its line to its answer, so without the opening. The numbers of workers are tried one after the other, over
+and over, each time from the next one on. 0 is there twice: the ratio of these two says how far the others can be trusted.
 """
 import os
 import statistics
@@ -36,11 +36,11 @@ def seconds(words):
 
 
 def fills(words, until):
-    """Returns how long each fill took, by the place in `WORKERS`."""
+    """Returns how long the fills took, for each place in `WORKERS`."""
     taken = [[] for _ in WORKERS]
     while len(taken[0]) < LEAST or len(taken[0]) < MOST and time.monotonic() < until:
-        turn = len(taken[0])
-        for place in (*range(turn % len(WORKERS), len(WORKERS)), *range(turn % len(WORKERS))):
+        first = len(taken[0]) % len(WORKERS)
+        for place in (*range(first, len(WORKERS)), *range(first)):
             taken[place].append(seconds([*words, "--workers", str(WORKERS[place])]))
     return taken
 

@@ -29,7 +29,7 @@ def inserts(room):
 
 
 def each_in(room):
-    """Returns what gives the instructions of each of `count` lines of a script, after others."""
+    """Returns a function that gives the instructions of each of `count` lines of a script, after others."""
 
     def each(path, before, script, count):
         return (

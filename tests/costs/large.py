@@ -6,7 +6,7 @@ from costs.runs import instructions
 # Half of the cells are of `main`, and the others of branches that are forked at its end
 MAIN, OWN, OTHERS = 1 << 23, 8_200, 1_023
 WORDS = ["--cells", str(1 << 24), "--branches", "1024"]
-# Those of a program in plain Rust in millions, taken once, of which two or three digits are known
+# The costs of a program in plain Rust in millions, taken once, of which two or three digits are known
 PLAIN = {
     "opening": 8_490,
     "a look at the end of `main`": 458,

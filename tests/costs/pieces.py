@@ -12,7 +12,7 @@ MOST_LINES = 1_000
 
 
 def answered(command, pieces):
-    """Runs a program, and yields its number after its opening and after each of these pieces."""
+    """Runs a program, and yields the id of its process after its opening and after each of these pieces."""
     how = {
         "stdin": subprocess.PIPE,
         "stdout": subprocess.PIPE,

@@ -93,7 +93,7 @@ def replacements(data):
                 yield f"byte {place} as {other:#04x}", changed
 
 
-# What bytes are put in, and how many files are changed at more than one place.
+# What bytes are put in, and how many files are changed by chance, at one to three places.
 BYTES = b"0123456789 \nwrgxtowerbranch"
 MIXED = 300
 # Numbers at each tower's limits, and just past them.
@@ -118,7 +118,7 @@ def mixed(data):
 
 
 def changed_by(chance, data):
-    """Returns data without a byte, with one more, or with two lines that have changed places."""
+    """Returns data with a byte removed, added or replaced, or with two lines that have changed places."""
     place, way = chance.randrange(len(data) + 1), chance.randrange(4)
     if way == 0:
         return data[:place] + data[place + 1 :]

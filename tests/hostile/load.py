@@ -1,4 +1,4 @@
-"""As much as the limits that it is given allow, and one more; and what memory it takes."""
+"""As much as the limits allow that the program is given, and one more; and what memory that takes."""
 import re
 
 from watched import Stage, Watched
@@ -262,7 +262,7 @@ def long_branch(counts, room):
 
 
 def breaks_on(tail):
-    """Returns breaks, and the place at which each is met: from the beginning forth, from the end back."""
+    """Returns breaks, each with the places at which a seek from the beginning and one back from the end meet it."""
     return (
         ("returns 1", tail + 2, None),
         ("void", 3, tail),

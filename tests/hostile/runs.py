@@ -5,7 +5,7 @@ import subprocess
 import time
 
 TOP = os.path.dirname(os.path.dirname(os.path.dirname(os.path.realpath(__file__))))
-# A run that isn't meant to take long has no end if it takes this many seconds.
+# A run that isn't meant to take long counts as one without an end after this many seconds.
 SECONDS = 120
 # At most this many differences of a row are shown.
 MOST_SHOWN = 8

@@ -184,7 +184,7 @@ def pipe(counts, room):
     path, got = made_pipe(f"{room}/pipe"), []
     reader = threading.Thread(target=lambda: got.append(bytes_at(path)), daemon=True)
     reader.start()
-    counts.same("it", ended(words_of(f"{room}/little", path)), good(b""))
+    counts.same("a save to it", ended(words_of(f"{room}/little", path)), good(b""))
     reader.join(SECONDS)
     counts.count("its reader's bytes", None if got == [LITTLE] else f"{got}")
     counts.count(

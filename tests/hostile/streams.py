@@ -277,7 +277,7 @@ def read_until_gone(path, count):
 
 
 def gone_readers(counts, room):
-    """Answers of which a reader takes some bytes, or for which a file is that long at most."""
+    """A reader that takes some bytes of the answers and is then gone, and a file that can hold no more bytes than that."""
     path = put(f"{room}/tower", TOWER)
     counts.begin("streams: a reader that is gone after its k-th byte")
     unseen = len(ANSWERS) - len(TALK[-1][1])

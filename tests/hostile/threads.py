@@ -24,7 +24,7 @@ MOST_BYTES = 1 << 24
 TOO_LONG = b"towerbench: script too long\n"
 # A call that was refused: not what a history says of an operation.
 REFUSED = re.compile(rb"^(?:line )?[0-9]+: refused ", re.MULTILINE)
-# The crate with the tests of chairs, and those of them that are run, with the tools. Helgrind knows
+# The crate with the tests of chairs, and the tests that are run, each with its tools. Helgrind knows
 # pthread's locks alone, and would take what two threads do by turns for races: the turn is made of
 # atomics.
 CHAIRS = "thread_tests"
@@ -49,9 +49,9 @@ def script():
     names = [f"b{i}" for i in range(BRANCHES)]
     lines = [f"0 fork main {STEPS} {name}" for name in names]
     lines += [f"0 detach {name}" for name in names[1:]]
-    for turn in range(ROUNDS):
-        lines += [f"0 fill {names[turn]}"]
-        lines += [f"0 insert {name} {STEPS // 3 + turn} g 0 1" for name in names]
+    for number in range(ROUNDS):
+        lines += [f"0 fill {names[number]}"]
+        lines += [f"0 insert {name} {STEPS // 3 + number} g 0 1" for name in names]
         lines += [f"0 state {name} {STEPS // 4}" for name in names[::50]]
     lines += ["0 fill main", f"0 history main {STEPS}", "0 branches"]
     return "".join(f"{line}\n" for line in lines).encode()

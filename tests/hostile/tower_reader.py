@@ -169,7 +169,8 @@ def unary_at(values, readers, init):
 
 
 def stamped_at(codes):
-    """Returns those of a stamped register: after its bits a last stamp and a best code."""
+    """Returns the cells and the words of a stamped register before any step; its last two words are the
+    writer's last stamp and the reader's best code."""
     cells, words = unary_at(codes, 1, 0)
     return cells, words + [0, 0]
 

@@ -10,8 +10,8 @@ from runs import BYTES_SHOWN, program
 
 PIECE = 2**16
 
-# script: bytes; pieces: the bytes that are to be answered, one after the other; of: what it has
-# count of, for each of which memory is shown, or None.
+# script: bytes; pieces: those of the answers, one after the other; of, count: what the stage makes, and
+# how much of it, if memory is to be shown for each, or None.
 Stage = collections.namedtuple("Stage", "name script pieces of count", defaults=(None, None))
 # held: the memory before the stage; most: the peak within it; in bytes.
 Measure = collections.namedtuple("Measure", "stage held most seconds")

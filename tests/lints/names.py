@@ -1,5 +1,5 @@
 #!/usr/bin/env python3
-"""Public names that two definitions share: each has one of its own.
+"""Public names: no two definitions share one, and no two items do.
 
 usage: tests/lints/names.py   prints each name that is shared, with the files that define it; status 1 if there is one
 

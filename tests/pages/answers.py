@@ -5,11 +5,11 @@ Which lists are possible, and how short their schedules are, is from reasoning a
 import json
 import re
 
-from pages.live import TURNS, holds, same
+from pages.live import TRIES, holds, same
 from pages.reader import Reader
 
 # a search takes at most 120 seconds for each of three limits
-MOST_TURNS = 10 * TURNS
+MOST_TRIES = 10 * TRIES
 FOUND = "document.querySelector('[data-find-again]')"
 DRAWN = "'drawn' in document.querySelector('#study-text').dataset"
 # each lesson's question: the register, each list that can be guessed or found, and whether it has a schedule
@@ -164,6 +164,6 @@ def too_many(page):
         page.until("document.querySelector('[data-find-stop]')")
         if wanted.startswith("the"):
             page.click("[data-find-stop]")
-        page.until("document.querySelector('[data-find]')", turns=MOST_TURNS)
+        page.until("document.querySelector('[data-find]')", tries=MOST_TRIES)
         said = page.text("#answers-said")
         holds(wanted in said.lower(), said)

@@ -26,7 +26,7 @@ STOPPED, TOO_LONG = (
     r"The program took longer than [0-9]+ seconds and was stopped\.",
 )
 FILES = ("lessons/01-safe-bit/safe", "examples/stamped", "examples/matrix", "examples/branches")
-# Is between the page and its worker: what the worker answers is changed by `damage`, if there is one.
+# Code between the page and its worker: what the worker answers is changed by `damage`, if there is one.
 BETWEEN = """{ const Real = Worker;
   Worker = class {
     constructor(address) {
@@ -37,7 +37,7 @@ BETWEEN = """{ const Real = Worker;
     postMessage(it) { if (!globalThis.isDeaf) this.real.postMessage(it); }
     terminate() { this.real.terminate(); }
   }; }"""
-# Changes lines of the answers and of the bench file by a number that says how.
+# Changes lines of the answers and of the bench file, in ways that a number determines.
 DAMAGE = """globalThis.damaged = (seed) => {
   let state = seed * 7919 + 1;
   const under = (most) => { state = (state * 1103515245 + 12345) % 2147483648; return Math.floor(state / 2147483648 * most); };

@@ -14,7 +14,8 @@ MIDDLE = """(() => { const it = document.querySelector(%s);
   return [x + width / 2, y + height / 2]; })()"""
 FILLED = """(() => { const it = document.querySelector(%s); it.value = %s;
   it.dispatchEvent(new Event("input")); it.dispatchEvent(new Event("change")); })()"""
-TURN, TURNS = 0.02, 1500
+# The seconds between two looks at the page, and the most looks while a test waits
+PAUSE, TRIES = 0.02, 1500
 
 
 def same(found, wanted, label=""):
@@ -42,12 +43,12 @@ class Page:
         self.chrome.open(self.address + given)
         self.wait()
 
-    def until(self, expression, message=None, turns=TURNS):
+    def until(self, expression, message=None, tries=TRIES):
         """Waits until an expression holds in the page."""
-        for _ in range(turns):
+        for _ in range(tries):
             if self.chrome.value(f"Boolean({expression})"):
                 return
-            time.sleep(TURN)
+            time.sleep(PAUSE)
         raise cases.Failure(message or f"this never holds: {expression}")
 
     def wait(self):

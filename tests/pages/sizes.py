@@ -1,4 +1,4 @@
-"""What a click costs on large documents, next to 20 steps.
+"""What a click costs on large documents, in comparison with 20 steps.
 
 It is counted, so that other work on the machine changes nothing: calls of the page's functions,
 lines that the program writes, and elements that the page has.
@@ -20,7 +20,7 @@ MOST_OF_A_STEP = {"step": (40, 1.6), "move": (14, 0.1), "undo": (40, 0.1)}
 MOST_OF_AN_INSERT = {"step": (60, 2.6), "move": (26, 1.9), "undo": (66, 1.9)}
 # Each column is narrower if there are many, so that more are drawn.
 MOST_ELEMENTS_MORE = 400
-# likewise the most calls, lines and elements of any gesture
+# The most calls, lines and elements of any gesture, also about twice of what it takes
 MOST = {
     "60 branches more": (350_000, 2_100, 2_600),
     "4,096 bits": (450_000, 350, 3_300),
@@ -54,8 +54,8 @@ def costs(page, tower, script):
     return found
 
 
-def dearer(name, found, short, most):
-    """Returns by which gestures a schedule of COUNT steps is too dear, next to 20 steps."""
+def too_costly(name, found, short, most):
+    """Returns which gestures cost too much on a schedule of COUNT steps, in comparison with 20 steps."""
     faults = []
     for it, (calls, lines) in most.items():
         more = [a - b for a, b in zip(found[it], short[it])]
@@ -78,7 +78,7 @@ def long_schedules(page):
         ("steps", UNARY + steps(COUNT), "0 join\n", MOST_OF_A_STEP),
         ("inserts", UNARY, f"0 join\n{inserts}", MOST_OF_AN_INSERT),
     ):
-        faults = dearer(f"{COUNT} {name}", costs(page, tower, script), short, most)
+        faults = too_costly(f"{COUNT} {name}", costs(page, tower, script), short, most)
         holds(not faults, faults)
 
 
