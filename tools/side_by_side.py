@@ -314,7 +314,7 @@ def run_side_by_side(tasks, show):
                     it for it in left if is_well and all(below in done for below in tasks[it].waits)
                 ]
                 head = max(chain[it] for it in [*left, *(it for it, _ in running.values())])
-                # A check on several processors costs more in all, so only what others wait for is checked so
+                # A check on several processors costs more in all, so only the longest chain's gets all of them
                 share = all_processors // (len(running) + len(ready) or 1)
                 for key in ready[: all_lanes - len(running)]:
                     most = all_processors if chain[key] == head else share

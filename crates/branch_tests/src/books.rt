@@ -284,7 +284,7 @@ fn answers(alloc: Global, book: &mut Book<Safe>, ask: &Ask<'_>) -> Result<bool, 
     }
 }
 
-/// The index of the first row with a wrong result.
+/// The index of the first ask with a wrong result.
 fn first_wrong(
     alloc: Global,
     book: &mut Book<Safe>,
@@ -298,8 +298,8 @@ fn first_wrong(
     Ok(None)
 }
 
-/// The index of the first row with a wrong result, in a book with these steps on `main`; the number
-/// of rows if the book's log doesn't have `entries` entries after them.
+/// The index of the first ask with a wrong result, in a book with these steps on `main`; the number
+/// of asks if the book's log doesn't have `entries` entries after them.
 fn tried(
     alloc: Global,
     limits: Limits,

@@ -19,8 +19,8 @@ pub record IsLit (s : Seen) : Type 0 where
 abbrev pub MayShow : Seen → Type 0
 MayShow s = (s.last ≡ 1) ⊎ (s.writing ≡ Some 1)
 
--- Bit k is at or above bit p, it is lit, and its index is allowed. The index of each bit from p up
--- to k that a read may find lit is allowed too.
+-- Bit k is at or above bit p and at or below `top`, it is lit, and its index is allowed. The index
+-- of each bit from p up to k of which a read may give 1 is allowed too.
 pub record Beacon (top p k : ℕ) (A : ℕ → Type 0) (parts : ℕ → Seen) : Type 0 where
   pub low : p ≤ k
   pub high : k ≤ top
@@ -83,7 +83,7 @@ beacon_lower top p k i A parts b ne = record {
 }
 
 -- A write of 0 to the beacon, bit i, begins. The new beacon is bit x above it, which is lit, and no
--- read finds a bit between them lit.
+-- read gives 1 of a bit between them.
 pub beacon_jump : (top p i x : ℕ) (A : ℕ → Type 0) (parts : ℕ → Seen) → Beacon top p i A parts → i < x → x ≤ top → A x → (parts x).last ≡ 1 → (parts x).writing ≡ None
     → ((y : ℕ) → i < y → y < x → MayShow (parts y) → ⊥) → Beacon top p x A (put i (lowered (parts i)) parts)
 beacon_jump top p i x A parts b l high ax one quiet none = record {
