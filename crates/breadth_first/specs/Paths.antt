@@ -3,7 +3,7 @@ use Rattle.std.specs.Prelude.{◌≡◌, ℕ, zero, suc, ◌+◌, ◌<◌, ◌�
 use Rattle.std.specs.List.{IsDistinct}
 use Rattle.breadth_first.specs.declared.mark.Mark.{Mark}
 
--- the mark of the start, from which no move is needed
+-- the mark of the start, to which no move is needed
 abbrev pub mark_of_start : Mark
 mark_of_start = record { parent = 0; label = 0; depth = 0 }
 

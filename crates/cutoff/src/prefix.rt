@@ -57,7 +57,8 @@ fn begins_at<R: Register>(start: &Config<R>, top: &Top<'_, R>) -> bool
 }
 
 /// Adds the keys of the segments from `front` up to `top` to `keys`, and returns the key of the
-/// segment right above `top`; `None` if `top` is the first segment of its branches.
+/// segment right above `top`; `None` if `top` is the first segment of its branches. The contract
+/// says of the segments added only that they are those from `front` up to the one that is returned.
 fn pass<R: Register>(
     trie: &Trie<Stored<R>>,
     front: SegKey,
