@@ -18,14 +18,14 @@ const lastOf = (run, process) => run.operations.findLast((it) => it.process === 
 // An operation on the second tower: what it does there, and what it did on the first.
 class Flight {
   constructor(it, acts, choices) {
-    Object.assign(this, { it, acts, choices, process: it.process, done: 0, hits: 0, all: 0 });
+    Object.assign(this, { it, acts, choices, process: it.process, done: 0, hits: 0, count: 0 });
     this.isOver = false;
   }
   // how many of its actions are due before a step of the first schedule, its last one left out
   due(step) {
     const before = this.acts.filter((it) => it < step).length;
     const share = before / Math.max(1, this.acts.length);
-    return Math.min(Math.floor(share * this.all + 1e-9), this.all - 1);
+    return Math.min(Math.floor(share * this.count + 1e-9), this.count - 1);
   }
 }
 class Transfer {
@@ -38,7 +38,7 @@ class Transfer {
     for (const length of LENGTHS) {
       const { ended } = lastOf(await this.run(Array(length).fill(`g ${process} 0`)), process);
       if (ended === null) continue;
-      flight.all = ended - at;
+      flight.count = ended - at;
       flight.isOver = ended === at;
       this.flights.set(process, flight);
       return;

@@ -8,8 +8,8 @@ import { element } from "./elements.js";
 import { now } from "./state.js";
 
 const MOST_ROWS = 64, FEW_VALUES = 8;
-const NONE = "No schedule: the search tried every order of these operations' steps, and both "
-  + "choices at each hit read, and none ends so. That it misses no answer is proved. Other "
+const NO_SCHEDULE = "No schedule: the search tried every order of these operations' steps, and "
+  + "both choices at each hit read, and none ends so. That it misses no answer is proved. Other "
   + "operations may give it.";
 const ORDINALS = ["first", "second", "third", "fourth", "fifth", "sixth"];
 const ODD = { stray: "stray", inversion: "new-old inversion" };
@@ -90,14 +90,14 @@ function guessRow(key, answers, panel, { guess }) {
   return element("label", { class: "list", "data-guess": key }, listWords(answers, panel),
     element("span", {}, element("input", { type: "checkbox", checked, onchange }), " possible"));
 }
-function wasGuessed(key, isPossible, { guesses }) {
+function guessResult(key, isPossible, { guesses }) {
   const isGuessed = guesses.includes(key), isRight = isGuessed === isPossible;
   const said = isRight ? "\u2713 as predicted"
     : `\u2717 you said ${isGuessed ? "possible" : "impossible"}`;
   return element("small", { class: isRight ? "met" : "wrong" }, guesses.length ? said : "");
 }
 function foundRow(key, answers, list, panel, { load }) {
-  const parts = [listWords(answers, panel), wasGuessed(key, Boolean(list), panel)];
+  const parts = [listWords(answers, panel), guessResult(key, Boolean(list), panel)];
   const look = key === panel.shown ? " is-shown" : "";
   if (!list) return element("div", { class: "list is-none", "data-answers": key }, parts,
     element("b", {}, "no schedule"));
@@ -110,7 +110,7 @@ function eachRow(guessed, panel, acts) {
   const all = new Map([...guessed, ...lists.map((it) => it.answers)].map((it) => [keyOf(it), it]));
   if (!panel.lists) return [...all].map((it) => guessRow(...it, panel, acts));
   const rows = [...all].map(([key, it]) => foundRow(key, it, byKey.get(key), panel, acts));
-  return [...rows, all.size > byKey.size && element("p", { class: "no-schedule" }, NONE)];
+  return [...rows, all.size > byKey.size && element("p", { class: "no-schedule" }, NO_SCHEDULE)];
 }
 // if there are more lists than one looks at: what each process's reads gave
 function groupRows({ question, lists, shown }, { load }) {
@@ -129,18 +129,21 @@ function groupRows({ question, lists, shown }, { load }) {
     left > 0 && element("p", {}, `and ${left} more`)];
   });
 }
-function guessNumber({ guess }, acts) {
-  const onchange = ({ target }) => acts.guess({ guess: target.value });
+function guessNumber({ guessedCount }, acts) {
+  const onchange = ({ target }) => acts.guess({ guessedCount: target.value });
   return element("label", {}, "Your prediction: how many lists of answers are possible? ",
-    element("input", { type: "number", min: 1, value: guess, "data-guess-number": "", onchange }));
+    element("input",
+      { type: "number", min: 1, value: guessedCount, "data-guess-number": "", onchange }));
 }
 function resultRows(panel, acts) {
-  const { question, lists, guess, states } = panel, guessed = guessable(question, now.model.shape);
+  const { question, lists, guessedCount, states } = panel;
+  const guessed = guessable(question, now.model.shape);
   const isMany = lists ? lists.length > FEW_LISTS : !guessed;
   if (!lists) return isMany ? [guessNumber(panel, acts)]
     : [element("h3", {}, "Predict: which answers are possible?"), ...eachRow(guessed, panel, acts)];
   const head = `${counted(lists.length, "list")} of answers possible, in ${states} states`;
-  return [element("h3", {}, head), guess && element("p", {}, `You predicted ${guess}.`),
+  return [element("h3", {}, head),
+    guessedCount && element("p", {}, `You predicted ${guessedCount}.`),
     ...(isMany ? groupRows(panel, acts) : eachRow(guessed || [], panel, acts))];
 }
 function findRow({ isSearching, lists, said, question }, acts) {

@@ -1,6 +1,6 @@
 // All answers: the panel that asks which answers some operations can have, lets one predict, and
 // loads a shortest schedule of each as a branch. The program of all answers finds them.
-import { found, hasSearch, stopSearch } from "./engine.js";
+import { findAnswers, hasSearch, stopSearch } from "./engine.js";
 import { panelRows, readRows } from "./answerrows.js";
 import { LIMITS, firstQuestion, isTooMany, keyOf, listsIn } from "./questions.js";
 import { operationsIn, questionIn, questionOf, sentenceOf, textOf } from "./questions.js";
@@ -8,23 +8,24 @@ import { pickedRead } from "./whys.js";
 import { one, putIfChanged } from "./elements.js";
 import { now } from "./state.js";
 
-const MOST_SECONDS = 120, LESS = "Leave out a process or an operation.";
-// `guesses`: the keys of lists that are thought possible; `guess`: how many lists there are thought
-// to be; `read`: the one read that is asked about, or nothing; `lists`: what was found, or nothing
-const NOTHING = { guesses: [], guess: "", read: null };
+const MOST_SECONDS = 120, ADVICE = "Leave out a process or an operation.";
+// `guesses`: the keys of lists that are thought possible; `guessedCount`: how many lists there are
+// thought to be; `read`: the one read that is asked about, or nothing; `lists`: what was found, or
+// nothing
+const NOTHING = { guesses: [], guessedCount: "", read: null };
 const NOT_FOUND = { lists: null, states: 0, said: "", isSearching: false, shown: "" };
 const panel = { tower: "", question: null, ...NOTHING, ...NOT_FOUND };
-let does = null, search = 0, drawn = 0;
+let gestures = null, search = 0, drawn = 0;
 // changes what the panel holds, and draws it
-function set(parts) {
+function setPanel(parts) {
   Object.assign(panel, parts);
   drawn++;
-  put();
+  drawPanel();
 }
 function restart(parts) {
   if (panel.isSearching) stopSearch();
   search++;
-  set({ ...NOT_FOUND, ...NOTHING, ...parts });
+  setPanel({ ...NOT_FOUND, ...NOTHING, ...parts });
 }
 // changes a copy of the question; an order of operations that are gone goes too
 function change(make) {
@@ -38,44 +39,44 @@ function change(make) {
 // one search after another, each with a higher limit, so that one sees how far it is
 async function searched(turn) {
   for (const most of LIMITS) {
-    const made = await found(textOf(panel.tower, panel.question, most), MOST_SECONDS);
+    const made = await findAnswers(textOf(panel.tower, panel.question, most), MOST_SECONDS);
     if (turn !== search) return null;
-    if (made.fault) return { said: `${made.fault} ${LESS}` };
+    if (made.fault) return { said: `${made.fault} ${ADVICE}` };
     if (made.status === 0) return listsIn(made.output);
     if (!isTooMany(made.errors) || most === LIMITS.at(-1)) return { said: sentenceOf(made.errors) };
-    set({ said: `more than ${most} states so far\u2026` });
+    setPanel({ said: `more than ${most} states so far\u2026` });
   }
   return null;
 }
 async function find() {
   const turn = ++search;
-  set({ ...NOT_FOUND, isSearching: true, said: "searching\u2026" });
+  setPanel({ ...NOT_FOUND, isSearching: true, said: "searching\u2026" });
   const made = await searched(turn);
-  if (made) set({ ...NOT_FOUND, ...made });
+  if (made) setPanel({ ...NOT_FOUND, ...made });
 }
 function stopFinding() {
   search++;
   stopSearch();
-  set({ ...NOT_FOUND, said: "The search was stopped." });
+  setPanel({ ...NOT_FOUND, said: "The search was stopped." });
 }
 function load({ answers, steps }) {
-  set({ shown: keyOf(answers) });
-  does.load(steps);
+  setPanel({ shown: keyOf(answers) });
+  gestures.load(steps);
 }
 const other = () =>
   restart({ question: firstQuestion(now.model.shape, now.model.tower), tower: now.model.tower });
 const acts = { change, find, stopFinding, load, other,
-  again: () => restart({}), guess: (guess) => Object.assign(panel, guess) };
-function put() {
+  again: () => restart({}), guess: (parts) => Object.assign(panel, parts) };
+function drawPanel() {
   if (!now.model || one("#answers").hidden) return;
   putIfChanged(one("#answers"), drawn, () => (panel.read ? readRows : panelRows)(panel, acts));
 }
-// draws the panel; `gestures` are those of the page
-export function putAnswers(gestures) {
-  does = gestures || does;
+// draws the panel; `given` are the gestures of the page
+export function putAnswers(given) {
+  gestures = given || gestures;
   one("[data-tab=answers]").hidden = !hasSearch();
   if (panel.tower !== now.model.tower) other();
-  put();
+  drawPanel();
 }
 // asks which values the picked read could have given
 export async function askOfPicked() {

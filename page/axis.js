@@ -16,7 +16,7 @@ export class Axis {
     return new Axis(most, edges);
   }
   get isElastic() { return Boolean(this.edges); }
-  isAs(other) {
+  isSame(other) {
     return Boolean(other) && this.column === other.column
       && String(this.edges) === String(other.edges);
   }

@@ -1,11 +1,11 @@
 // Documents that another one replaced: Undo then reads Back and opens the last one again, Redo
 // reads Forward, and the dialog Open lists the latest.
-import { keepDocumentOf } from "./kept.js";
+import { storeDocument } from "./kept.js";
 import { isUntouched, taskOf } from "./tasks.js";
 import { one } from "./elements.js";
 import { now } from "./state.js";
 
-const left = [], ahead = [];
+const leftDocuments = [], aheadDocuments = [];
 let opened = { tower: "", script: "" }, restored = "";
 function titleOf({ lesson, model, document: { lines } }) {
   const named = taskOf(lines).exercise.split(" ").slice(2).join(" ");
@@ -20,42 +20,42 @@ function isChanged() {
   return tower !== opened.tower || script.trim() !== opened.script.trim();
 }
 // whether there is work in the document
-const isWork = ({ document, model }) =>
+const hasWork = ({ document, model }) =>
   model && (!isUntouched(document.lines) || document.tower !== opened.tower);
-const held = () => ({ document: now.document, lesson: now.lesson, who: now.who, opened,
+const currentDocument = () => ({ document: now.document, lesson: now.lesson, who: now.who, opened,
   title: now.model ? titleOf(now) : "" });
 const isStep = (line) => line && !/^[0-9]+ (join|go)\b/.test(line);
 const workIn = ({ tower, lines }) => `${tower}${lines.filter(isStep).join("\n")}`;
 // Returns what keeps the document, if there is work in it, once another one is opened: `next`, as
 // it was opened. `way` is "back" or "forward" if that one was open before.
 export function leaving(next, way) {
-  const was = held(), isKept = isWork(now);
+  const was = currentDocument(), isKept = hasWork(now);
   return () => {
     opened = next;
     restored = way ? workIn(now.document) : "";
-    if (way === "back") ahead.push(was);
-    else if (way === "forward" || isKept) left.push(was);
-    if (!way) ahead.length = 0;
+    if (way === "back") aheadDocuments.push(was);
+    else if (way === "forward" || isKept) leftDocuments.push(was);
+    if (!way) aheadDocuments.length = 0;
     if (!isKept) return;
     const { document: { tower, script }, title } = was;
-    keepDocumentOf({ tower, script, title, when: Date.now() });
+    storeDocument({ tower, script, title, when: Date.now() });
   };
 }
 // what was left last, if Undo takes it up: if nothing was done here yet
 export function backTo() {
-  const isHere = now.document.lastGesture > 0 && (!left.length || isChanged());
-  return isHere ? null : left.at(-1) || null;
+  const isHere = now.document.lastGesture > 0 && (!leftDocuments.length || isChanged());
+  return isHere ? null : leftDocuments.at(-1) || null;
 }
 // what Undo left last, if Redo takes it up: if nothing was done since
-const aheadTo = () => (workIn(now.document) === restored ? ahead.at(-1) || null : null);
+const aheadTo = () => (workIn(now.document) === restored ? aheadDocuments.at(-1) || null : null);
 export function takeBack() {
   const was = backTo();
-  if (was) left.pop();
+  if (was) leftDocuments.pop();
   return was;
 }
 export function takeForward() {
   const was = aheadTo();
-  if (was) ahead.pop();
+  if (was) aheadDocuments.pop();
   return was;
 }
 function putButton(id, was, [words, wordsOf, title, titleOfWas]) {
@@ -72,15 +72,15 @@ export function putUndo() {
 // a document that was forgotten is kept again once it changes
 let forgotten = null;
 function keepOpen() {
-  if (!isWork(now) || now.document === forgotten) return;
+  if (!hasWork(now) || now.document === forgotten) return;
   const { tower, script } = now.document;
-  keepDocumentOf({ tower, script, title: titleOf(now), when: Date.now() }, true);
+  storeDocument({ tower, script, title: titleOf(now), when: Date.now() }, true);
 }
 addEventListener("pagehide", keepOpen);
 // a tab that is closed while it is hidden gets no other event
 document.addEventListener("visibilitychange", () => document.hidden && keepOpen());
 export function forgetLeft() {
   forgotten = now.document;
-  left.length = ahead.length = 0;
+  leftDocuments.length = aheadDocuments.length = 0;
   putUndo();
 }

@@ -32,7 +32,7 @@ export function bitStrips(drawing, reading, groups, shared) {
   if (reading.facts && codes?.size) return registerRows(drawing, reading, ofRegister, shared);
   return [...groups].map(([name, numbers]) => {
     const all = numbers.map((it) => reading.cells[it] || []);
-    const title = [`${name} (${numbers.length})`, folded(all)];
+    const title = [`${name} (${numbers.length})`, foldedRuns(all)];
     const fold = name && rowsStrip(drawing, reading, [title], "fold", shared);
     return { name, fold, rows: bitRows(numbers) };
   });
@@ -93,7 +93,7 @@ function readLine(drawing, reading, [begin, end, read], y) {
   return read === "h" && shape("path", { class: "hit", d: `${begun}${teeth(right - x)}` });
 }
 // the runs of many bits as those of one: what is done to any of them
-function folded(all) {
+function foldedRuns(all) {
   const places = [], runs = [];
   for (const [begin, end, words] of all.flat()) {
     const done = words.slice(words.indexOf(" "));

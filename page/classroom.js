@@ -62,11 +62,11 @@ function cellsOf(it, columns, open) {
     predictedCell(it), towerCell(it),
     said([it.verdicts.join(", "), it.refused].filter(Boolean).join(", "))];
 }
-const plain = () => [...one("#class-table").querySelectorAll("tr")].map((row) =>
+const tableText = () => [...one("#class-table").querySelectorAll("tr")].map((row) =>
   [...row.children].map((it) => it.textContent.trim().replace(/\s+/g, " ")).join("\t")).join("\n");
 async function copyTable() {
   try {
-    await navigator.clipboard.writeText(plain());
+    await navigator.clipboard.writeText(tableText());
     one("#class-said").textContent = "The table is copied; a spreadsheet takes it.";
   } catch { one("#class-said").textContent = "The browser doesn't let the page copy it."; }
 }
@@ -84,7 +84,7 @@ function saidOfJudges() {
   return packed + (own ? `${counted(own, "file")} judged by ${whose} own goals, which a student `
     + "can change: open the exercise, and choose the files again." : "");
 }
-function put(begin) {
+function showTable(begin) {
   const dialog = one("#class-dialog"), judges = new Map(rows.filter((it) => it.judge)
     .map(({ judge }) => [judge.key, judge]));
   const columns = Math.max(0, ...rows.map((it) => it.goals.length));
@@ -112,5 +112,5 @@ export async function openClass(texts, begin) {
     rows = await judgedAll(texts);
     say("");
   }
-  put(begin);
+  showTable(begin);
 }

@@ -58,7 +58,7 @@ function axisOf(branches, room) {
   const made = isElastic(branches, room)
     ? Axis.elastic(wideSteps(branches), room - MARGIN, choice.column)
     : new Axis(choice.column || EQUAL_WIDTHS.find(isFitting) || EQUAL_WIDTHS.at(-1));
-  return made.isAs(now.range.axis) ? now.range.axis : made;
+  return made.isSame(now.range.axis) ? now.range.axis : made;
 }
 // The columns in sight and some around them; if the page follows it, the cursor comes in sight.
 // `scrolled` is where the picture is scrolled to, `cells` how many lines of pages a place takes.

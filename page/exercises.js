@@ -4,8 +4,8 @@ import { packedContents } from "./engine.js";
 import { EMPTY_TOWER } from "./document.js";
 import { remember, remembered } from "./kept.js";
 
-export const lessonsOf = () => packedContents.lessons;
-export const hashOfLesson = (lesson) => `#lesson-${lessonsOf().indexOf(lesson) + 1}`;
+export const allLessons = () => packedContents.lessons;
+export const hashOfLesson = (lesson) => `#lesson-${allLessons().indexOf(lesson) + 1}`;
 export const partOf = (lesson, name) => lesson.parts.find((it) => it.name === name);
 // its tower, and its question and goals as comments
 export function exerciseDocument(lesson, { number, title, text, parts }, part) {
@@ -16,7 +16,7 @@ export function exerciseDocument(lesson, { number, title, text, parts }, part) {
 // the lesson and the exercise that a script's words name, or nothing
 export function exerciseNamed(words) {
   const [folder, number] = words.split(" ");
-  const lesson = lessonsOf().find((it) => it.folder === folder);
+  const lesson = allLessons().find((it) => it.folder === folder);
   const exercise = lesson?.exercises.find((it) => it.number === Number(number));
   return exercise ? { lesson, exercise } : null;
 }
@@ -25,7 +25,7 @@ export function exerciseAfter({ lesson, exercise }) {
   return next && { title: next.title, ...exerciseDocument(lesson, next) };
 }
 export function lessonAfter({ folder }) {
-  const all = lessonsOf(), index = all.findIndex((it) => it.folder === folder);
+  const all = allLessons(), index = all.findIndex((it) => it.folder === folder);
   return (all[index + 1] || all[0]).folder;
 }
 const keyOf = (lesson, exercise) => `solved ${lesson.folder} ${exercise.number}`;

@@ -14,7 +14,7 @@ import { element, mounted } from "./elements.js";
 const LONG_SCHEDULE = 60, LEAST_WIDTH = 560, EDGES = 30, PLAY_PAUSE = 900;
 const COLUMN = { least: 34, most: 104 };
 // the figures of the lesson that is shown
-const shown = new Set();
+const shownFigures = new Set();
 // a branch up to a place, in rows that are as wide as there is room
 async function picture(model, branch, place, room) {
   const { length } = branch, fitting = Math.floor((room - LABEL - MARGIN) / Math.max(1, length));
@@ -98,9 +98,9 @@ class Figure {
 }
 // draws the lesson's figures again, as wide as there is room now
 export function redrawFigures() {
-  for (const it of shown)
+  for (const it of shownFigures)
     if (it.target.isConnected) it.draw(it.place);
-    else shown.delete(it);
+    else shownFigures.delete(it);
 }
 // the stamped tower, which has no inversions, that can take the operations of a number's time line
 function secondOf({ tower }, { steps }) {
@@ -126,6 +126,6 @@ export async function putFigure(target, lesson, enter, enterBoth) {
     target.replaceChildren(text,
       fold(`as a picture, ${branch.length} steps`, figure.row, figure.drawn, figure.why));
   else target.replaceChildren(figure.row, figure.drawn, figure.why, fold("as text", text));
-  shown.add(figure);
+  shownFigures.add(figure);
   await figure.draw(branch.length);
 }

@@ -8,7 +8,7 @@ import { Document, EMPTY_TOWER, detached, dropped, forked } from "./document.js"
 import { loaded, otherChoice, put, removed, replaced } from "./document.js";
 import { one } from "./elements.js";
 import { answer, stop } from "./engine.js";
-import { exerciseNamed, lessonsOf } from "./exercises.js";
+import { allLessons, exerciseNamed } from "./exercises.js";
 import { keepDocument, leaveAddress } from "./address.js";
 import { chooseOpen, chooseTower } from "./choosing.js";
 import { SESSIONS } from "./grammar.js";
@@ -16,20 +16,20 @@ import { remember, remembered } from "./kept.js";
 import { lessonOf, lessonStep, putLesson } from "./lessons.js";
 import { Model, stepsToEnd } from "./model.js";
 import { documentOf, textsOf } from "./opened.js";
-import { light, shown } from "./picture.js";
+import { light, shownBranches } from "./picture.js";
 import { present, unfold } from "./room.js";
 import { openShare } from "./share.js";
 import { here, now, setNow, setView } from "./state.js";
 import { leaveStudy, putStudy } from "./study.js";
 import { task } from "./task.js";
-import { headed, startLine, startOf } from "./tasks.js";
+import { startLine, startOf, withHeadLine } from "./tasks.js";
 import { forgetTyped, putTyped, showTab } from "./text.js";
 import { forgetViewing, viewing } from "./viewing.js";
 import { drawWhole, putSpent } from "./whole.js";
 import { lookIntoRead } from "./whys.js";
 
 const TRIES = [64, 1024, 16384], MOST_STEPS_ON_A_BRANCH = 4000;
-export const draw = (isFollowing) => drawWhole(does, taskDoes, isFollowing);
+export const draw = (isFollowing) => drawWhole(gestures, taskGestures, isFollowing);
 // Changes the document, but for a gesture that is refused or finds nothing: no line of it stays in
 // the script.
 export async function change(next, added = 0) {
@@ -86,7 +86,7 @@ export function begin(tower, script, { lesson = null, who, opened, way = "", und
       putUndo();
       // keys now go to a process that waits for a choice
       const asked = processesHere().find((it) => it.isHit);
-      if (asked) does.choose(asked.number);
+      if (asked) gestures.choose(asked.number);
     } catch (fault) {
       setNow(before);
       // the address stays as it was
@@ -97,10 +97,10 @@ export function begin(tower, script, { lesson = null, who, opened, way = "", und
   });
 }
 // what the page is for, until a person begins something
-let isWelcomed = false;
-export function putWelcome(isBegun = isWelcomed) {
-  isWelcomed = isBegun;
-  one("#welcome").hidden = isWelcomed || remembered("welcomed") === "yes";
+let hasBegun = false;
+export function putWelcome(begun = hasBegun) {
+  hasBegun = begun;
+  one("#welcome").hidden = hasBegun || remembered("welcomed") === "yes";
 }
 function open(tower, script, lesson) {
   putWelcome(true);
@@ -143,9 +143,9 @@ function predictedLine(number, words) {
 // options are judged on the document as it was opened
 function withPredicted(line) {
   const { lines } = now.document, start = task().start ? "" : startLine(openedLines());
-  return withLines(headed(start ? headed(lines, start) : lines, line));
+  return withLines(withHeadLine(start ? withHeadLine(lines, start) : lines, line));
 }
-const taskDoes = {
+const taskGestures = {
   line: (command) => edit(() => command),
   begin: (tower, script) => open(tower, script, null),
   again: () => open(now.document.tower, `${startOf(now.document.lines).join("\n")}\n`, null),
@@ -177,13 +177,13 @@ export const move = (find) => act(() => {
   if (isSaying("message", "refusal")) say("");
   return change(base.moving(who, to.name, nearest(to.name, to.place).place));
 });
-export const by = (steps) => move(({ name, place }) => ({ name, place: place + steps }));
+export const moveBy = (steps) => move(({ name, place }) => ({ name, place: place + steps }));
 export function focusOn(name) {
   if (!name || name === here().name) return null;
   return move(({ place }) => ({ name, place }));
 }
 export const panelNext = (way) => move(({ name, place }) => {
-  const drawn = shown();
+  const drawn = shownBranches();
   return { name: drawn[drawn.findIndex((it) => it.name === name) + way]?.name, place };
 });
 function freeName(wish) {
@@ -192,10 +192,13 @@ function freeName(wish) {
 }
 export const redraw = (isFollowing) => act(() => draw(isFollowing));
 export const views = viewing(redraw);
-export const does = {
+export const gestures = {
   edit: (command) => edit(() => command),
   go: (place) => move(({ name }) => ({ name, place })),
-  before: async (index) => { await does.go(index); say(`Steps now go in before step ${index}.`); },
+  before: async (index) => {
+    await gestures.go(index);
+    say(`Steps now go in before step ${index}.`);
+  },
   replace: (index, step) => edit(() => replaced(here(), index, step)),
   remove: (index) => edit(() => removed(here(), index)),
   tryOther: (index) => act(() => {
@@ -216,7 +219,7 @@ export const does = {
       return loaded(branches[0].name, name, steps);
     });
   },
-  choose(p) { setView({ process: p, awaiting: "" }); putDeck(does); },
+  choose(p) { setView({ process: p, awaiting: "" }); putDeck(gestures); },
   // a read that returns by the step is picked, so one sees why
   async put(p, step) {
     setView({ process: p });
@@ -253,12 +256,12 @@ export function pick(name, begun) {
   setView({ picked: begun === undefined ? null : { name, begun } });
   say("");
   light();
-  putDeck(does);
+  putDeck(gestures);
   act(async () => {
     await lookIntoRead();
     putSpent();
     light();
-    putDeck(does);
+    putDeck(gestures);
   });
 }
 // a click on a read says why it gave its value; another one opens the layer below
@@ -297,8 +300,9 @@ const play = (way) => act(() => { clear(); return now.lesson && change(lessonSte
 // what the buttons with data-do do; `name` is the branch of the panel that has the button, or the
 // cursor's
 export const commands = {
-  left: () => by(-1), right: () => by(1), help: () => ask(one("#help-dialog")), stop, undo, redo,
-  fork: async (name) => { await focusOn(name); does.fork(); },
+  left: () => moveBy(-1), right: () => moveBy(1), help: () => ask(one("#help-dialog")), stop,
+  undo, redo,
+  fork: async (name) => { await focusOn(name); gestures.fork(); },
   detach: async (name) => { await focusOn(name); edit(() => detached(here())); },
   drop: (name) => edit(() => {
     const other = now.model.branches.find((it) => it.name !== name);
@@ -310,7 +314,7 @@ export const commands = {
   own: (name) => move(() => ({ name, place: now.model.branch(name).shared })),
   chooseTower: () => chooseTower(open), theme: switchTheme,
   chooseOpen: () => chooseOpen(open, openFiles),
-  study: () => study((exerciseNamed(task().exercise)?.lesson || lessonsOf()[0]).folder),
+  study: () => study((exerciseNamed(task().exercise)?.lesson || allLessons()[0]).folder),
   studyClose: () => { leaveStudy(); redraw(true); }, table: () => openClass(null, open),
   values: () => { showTab("answers"); unfold("aside"); askOfPicked(); },
   share: () => act(() => openShare((script) =>

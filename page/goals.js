@@ -74,7 +74,7 @@ function hasWords(words) {
   const wanted = ` ${words.join(" ")} `;
   return (line) => ` ${line} `.includes(wanted);
 }
-function isIn(lines, patterns) {
+function areInOrder(lines, patterns) {
   let at = 0;
   return patterns.every((words) => {
     const has = hasWords(words), found = lines.findIndex((line, index) => index >= at && has(line));
@@ -83,8 +83,9 @@ function isIn(lines, patterns) {
   });
 }
 function holds({ count, patterns }, lines) {
-  if (count === null) return isIn(lines, patterns);
-  return count ? lines.filter(hasWords(patterns[0])).length === count : !isIn(lines, patterns);
+  if (count === null) return areInOrder(lines, patterns);
+  return count ? lines.filter(hasWords(patterns[0])).length === count
+    : !areInOrder(lines, patterns);
 }
 function branchesOf({ scope }, { branches }) {
   return ["some", "every"].includes(scope) ? branches : branches.filter((it) => it.name === scope);

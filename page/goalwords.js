@@ -1,38 +1,38 @@
 // A goal in the words of a sentence. Forms that exercises often use have their own; of all others
 // the sentence names the page and quotes the words.
 const owned = (process, thing) => (process ? `${process}'s ${thing}` : `a ${thing}`);
-const none = (process, thing) => `no ${thing}${process ? ` of ${process}` : ""}`;
+const noneOf = (process, thing) => `no ${thing}${process ? ` of ${process}` : ""}`;
 const pair = (is, isnt) => ({ is, isnt });
-function ofVerdict(process, value, verdict) {
+function verdictWords(process, value, verdict) {
   const says = value ? `gives ${value}${verdict ? `, ${verdict}` : ""}` : `is ${verdict}`;
-  return pair(`${owned(process, "read")} ${says}`, `${none(process, "read")} ${says}`);
+  return pair(`${owned(process, "read")} ${says}`, `${noneOf(process, "read")} ${says}`);
 }
-function ofInvoke(process = "a process", kind, value) {
+function invokeWords(process = "a process", kind, value) {
   const what = value ? `${kind} of ${value}` : kind;
   const isnt = process === "a process" ? `no ${what} begins` : `${process} begins no ${what}`;
   return pair(`${process} begins a ${what}`, isnt);
 }
-const ofChosen = (process, bit, value) => (bit
+const chosenWords = (process, bit, value) => (bit
   ? pair(`a hit read of bit ${bit} is given ${value || "a chosen value"}`,
     `no hit read of bit ${bit} is given ${value || "a chosen value"}`)
   : pair(process ? `a choice matters to ${process}` : "a choice matters",
     process ? `no choice matters to ${process}` : "no choice matters"));
-function ofRefused(process, tower) {
+function refusedWords(process, tower) {
   const why = tower ? `, as no ${tower === "matrix" ? "tag" : "stamp"} is left` : "";
   return pair(`an operation${process ? ` of ${process}` : ""} is refused${why}`,
-    `${none(process, "operation")} is refused${why}`);
+    `${noneOf(process, "operation")} is refused${why}`);
 }
 const P = "(?:(p[0-9]) )?";
 const FORMS = [
-  ["verdict", `${P}([0-9]+)(?: (fresh|overlap|stray))?`, ofVerdict],
-  ["verdict", `${P}()(fresh|overlap|stray)`, ofVerdict],
-  ["history", `${P}invoke (read|write)(?: ([0-9]+))?`, ofInvoke],
-  ["history", `${P}chosen(?: bit ([0-9]+)(?: value ([01]))?)?`, ofChosen],
-  ["history", `${P}refused(?: spent (\\w+))?`, ofRefused],
+  ["verdict", `${P}([0-9]+)(?: (fresh|overlap|stray))?`, verdictWords],
+  ["verdict", `${P}()(fresh|overlap|stray)`, verdictWords],
+  ["history", `${P}invoke (read|write)(?: ([0-9]+))?`, invokeWords],
+  ["history", `${P}chosen(?: bit ([0-9]+)(?: value ([01]))?)?`, chosenWords],
+  ["history", `${P}refused(?: spent (\\w+))?`, refusedWords],
   ["history", `${P}return written`, (it) => pair(`${owned(it, "write")} returns`,
-    `${none(it, "write")} returns`)],
+    `${noneOf(it, "write")} returns`)],
   ["history", `${P}return ([0-9]+)`, (it, value) => pair(`${owned(it, "read")} returns ${value}`,
-    `${none(it, "read")} returns ${value}`)],
+    `${noneOf(it, "read")} returns ${value}`)],
   ["history", "(p[0-9]) stop", (it) => pair(`${it} stops`, `${it} doesn't stop`)],
   ["steps", "([0-9]+) ([wrgx] .*)", (step, it) => pair(`step ${step} is ${it}`,
     `step ${step} isn't ${it}`)],

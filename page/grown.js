@@ -8,12 +8,12 @@ import { benchOf, copiesOf } from "./pages.js";
 const INSERT = whole(`${NUMBER} (?:@${NUMBER} )?insert (${NAME}) (${NUMBER}) (${STEP})`);
 const isDone = (answer) => /^[0-9]+: edit [0-9]+$/.test(answer?.first);
 // adds the step that a line inserts at its branch's end, and says whether the line does so
-function put(branches, line) {
+function appendStep(branches, line) {
   const [, name, place, step] = INSERT.exec(line) || [], branch = branches.get(name);
   return branch?.length === Number(place) && branch.own.push(step) > 0;
 }
 // likewise takes off the step that a line inserted, while no other step comes after it
-function takeBack(branches, line) {
+function dropStep(branches, line) {
   const [, name, place] = INSERT.exec(line) || [], branch = branches.get(name);
   return branch?.length === Number(place) + 1 && branch.own.pop() !== undefined;
 }
@@ -29,7 +29,7 @@ export function grown(before, document) {
   if (!taken.length && !added.length) return before;
   const branches = copiesOf(before.branches);
   const byName = new Map(branches.map((it) => [it.name, it]));
-  const isKnown = taken.reverse().every((line) => takeBack(byName, line))
-    && added.every((line) => put(byName, line));
+  const isKnown = taken.reverse().every((line) => dropStep(byName, line))
+    && added.every((line) => appendStep(byName, line));
   return isKnown ? { bench: benchOf(before.tower, branches), tower: before.tower, branches } : null;
 }

@@ -10,13 +10,13 @@ import { Model } from "./model.js";
 import { startLine, startOf, taskOf } from "./tasks.js";
 import { now } from "./state.js";
 
-const NONE = { scope: "", groups: [] };
+const NO_GOAL = { scope: "", groups: [] };
 const isSameFile = (one, other) => one.trim() === other.trim();
 const isBench = (text) => text.startsWith("bench ");
 // which options of each question are right: those that hold on the document as it begins
 export async function rightOptions(asks, tower, script) {
   const model = await Model.of(Document.of(tower, script), answer);
-  const of = ({ options }) => metGoals(options.map((it) => it.goal || NONE), model);
+  const of = ({ options }) => metGoals(options.map((it) => it.goal || NO_GOAL), model);
   return Promise.all(asks.map(of));
 }
 // the lines with which a script begins, if it has steps of its own then

@@ -24,7 +24,7 @@ export function keptDocuments() {
   } catch { return []; }
 }
 // an earlier version of a document that is still open is replaced
-export function keepDocumentOf({ tower, script, title, when }, isOpen = false) {
+export function storeDocument({ tower, script, title, when }, isOpen = false) {
   if (tower.length + script.length > MOST_TEXT) return;
   const isOlder = (it) => it.script === script || (isOpen && script.startsWith(it.script));
   const others = keptDocuments().filter((it) => it.tower !== tower || !isOlder(it));

@@ -4,7 +4,8 @@ import { FEW_VALUES, closeMenu, openMenu, processesHere, putDeck } from "./deck.
 import { flipped } from "./document.js";
 import { one } from "./elements.js";
 import { saveAs } from "./files.js";
-import { by, commands, does, nextSession, panelNext, pick, pickNext, views } from "./gestures.js";
+import { commands, gestures, moveBy, nextSession } from "./gestures.js";
+import { panelNext, pick, pickNext, views } from "./gestures.js";
 import { isPresenting } from "./room.js";
 import { here, now, setView } from "./state.js";
 import { isStudying } from "./study.js";
@@ -16,15 +17,16 @@ function key(step) {
   const p = now.view.process, it = processesHere().find((each) => each.number === p);
   const isWrite = step === "w", isStep = step === "g", { values } = now.model.shape;
   if (isWrite && values > FEW_VALUES) return one(`[data-key="p${p} value"]`)?.focus();
-  if (!isWrite && !(isStep && it?.isHit)) return does.put(p, `${step} ${p}${isStep ? " 0" : ""}`);
+  if (!isWrite && !(isStep && it?.isHit))
+    return gestures.put(p, `${step} ${p}${isStep ? " 0" : ""}`);
   setView({ awaiting: step });
   say(isWrite ? `p${p} writes which value?` : `p${p}'s read: give 0 or 1?`, "awaits");
-  return putDeck(does);
+  return putDeck(gestures);
 }
 function digit(number) {
   const { awaiting, process } = now.view, p = Number(number);
-  if (awaiting) return does.put(process, `${awaiting} ${process} ${number}`);
-  return processesHere().some((it) => it.number === p) && does.choose(p);
+  if (awaiting) return gestures.put(process, `${awaiting} ${process} ${number}`);
+  return processesHere().some((it) => it.number === p) && gestures.choose(p);
 }
 const atStep = (offset, use) => () => {
   const { place, branch } = here(), index = place + offset;
@@ -32,23 +34,23 @@ const atStep = (offset, use) => () => {
 };
 const atBranch = (name) => () => commands[name](here().name);
 const keys = {
-  ArrowLeft: (count) => by(-count), ArrowRight: (count) => by(count),
-  Home: () => by(-FAR), End: () => by(FAR),
+  ArrowLeft: (count) => moveBy(-count), ArrowRight: (count) => moveBy(count),
+  Home: () => moveBy(-FAR), End: () => moveBy(FAR),
   ArrowUp: () => panelNext(-1), ArrowDown: () => panelNext(1),
   w: () => key("w"), r: () => key("r"), g: () => key("g"), x: () => key("x"),
-  e: () => does.end(now.view.process), f: () => does.fork(),
+  e: () => gestures.end(now.view.process), f: () => gestures.fork(),
   d: atBranch("detach"), j: atBranch("own"), m: atBranch("compare"),
   a: atBranch("alone"), D: atBranch("drop"),
   ...views.keys,
-  n: () => does.edit("seek"), b: () => does.edit("back"), v: pickNext,
+  n: () => gestures.edit("seek"), b: () => gestures.edit("back"), v: pickNext,
   l: commands.lessonNext, "?": commands.help,
   "[": () => nextSession(-1), "]": () => nextSession(1),
   Escape: () => { setView({ awaiting: "" }); pick(); },
-  Enter: atStep(0, (index) => openMenu(index, does)),
-  o: atStep(0, (index) => does.tryOther(index)),
-  c: atStep(0, (index, step) => does.replace(index, flipped(step))),
-  Delete: atStep(0, (index) => does.remove(index)),
-  Backspace: atStep(-1, (index) => does.remove(index)),
+  Enter: atStep(0, (index) => openMenu(index, gestures)),
+  o: atStep(0, (index) => gestures.tryOther(index)),
+  c: atStep(0, (index, step) => gestures.replace(index, flipped(step))),
+  Delete: atStep(0, (index) => gestures.remove(index)),
+  Backspace: atStep(-1, (index) => gestures.remove(index)),
 };
 const heldKeys = { z: () => commands.undo(), Z: () => commands.redo(), y: () => commands.redo(),
   p: () => saveAs("print") };

@@ -45,13 +45,13 @@ export function writtenLabels(codes, numbers) {
 }
 // the words for an inner operation; an outermost one has those of its operation
 export function labelsOf(facts, it) {
-  if (it.layer === "matrix") return ofMatrix(facts, it);
-  if (it.layer === "stamped") return it.above ? ofPart(facts, it) : ofStamped(facts, it);
-  if (!it.above) return ofWhole(facts, it);
-  if (it.layer === "unary") return ofNumber(facts, it);
-  return it.layer === "regular" ? ofBit(facts, it) : ofCopy(facts, it);
+  if (it.layer === "matrix") return matrixLabels(facts, it);
+  if (it.layer === "stamped") return it.above ? partLabels(facts, it) : stampedLabels(facts, it);
+  if (!it.above) return wholeLabels(facts, it);
+  if (it.layer === "unary") return scanOrWriteLabels(facts, it);
+  return it.layer === "regular" ? bitLabels(facts, it) : copyLabels(facts, it);
 }
-function ofMatrix(facts, root) {
+function matrixLabels(facts, root) {
   const { operation: { name }, last: { phase, code }, isWrite } = root, { codes } = facts;
   if (phase === "read") return [`${name}: reads its column`, name];
   const [long, short] = tagLabels(codes, code);
@@ -59,7 +59,7 @@ function ofMatrix(facts, root) {
   const ofEntry = of ? [`${name} = ${of}: ${long}`, `${name} = ${of}: ${short}`] : [];
   return [...ofEntry, `${name} = ${long}`, `${name} = ${short}`, name];
 }
-function ofStamped(facts, it) {
+function stampedLabels(facts, it) {
   const { codes } = facts, { name } = it.operation, [register] = codes.registers;
   const words = (code) => `code ${code} = ${codeWords(codes, code).long}`;
   if (it.isWrite) return [`${name} = ${words(it.value)}`, `${name} = code ${it.value}`, name];
@@ -73,7 +73,7 @@ function ofStamped(facts, it) {
     `${found}, kept ${best}`, "r"];
 }
 // an operation of a tower of one number, or of bits
-function ofWhole(facts, it) {
+function wholeLabels(facts, it) {
   const { name } = it.operation;
   if (it.isWrite) return [name];
   if (it.layer === "unary") {
@@ -88,7 +88,7 @@ function ofWhole(facts, it) {
   return [`${name}: bit ${got.cell} ${how}`, name, "r"];
 }
 // an operation on a register of a matrix
-function ofPart(facts, it) {
+function partLabels(facts, it) {
   const { codes } = facts, register = facts.registerOf(it), name = register?.name || "register";
   const digits = name.replace(/\D/g, ""), labels = [name, digits];
   if (it.isWrite) {
@@ -104,7 +104,7 @@ function ofPart(facts, it) {
   return [`read ${name}: ${tagWords(codes, inner)}${kept}`, `read ${name}: ${short}`,
     `${name}: ${short}`, `${digits}: ${short}`, `read ${name}`, ...labels];
 }
-function ofNumber(facts, it) {
+function scanOrWriteLabels(facts, it) {
   const { codes } = facts, noun = codes.kind === "unary" ? "" : "code ";
   const about = (code) => (noun ? ` (${codeWords(codes, code).long})` : "");
   if (it.isWrite)
@@ -116,7 +116,7 @@ function ofNumber(facts, it) {
     `= ${found}`];
 }
 // a bit is named by its place in the number, if there is one
-function ofBit(facts, it) {
+function bitLabels(facts, it) {
   const index = it.within?.index ?? "", name = index === "" ? "" : `bit ${index} `;
   if (it.isWrite) {
     const passed = passedWords(facts, it), set = `${name}:= ${it.value}`;
@@ -128,7 +128,7 @@ function ofBit(facts, it) {
     return [`${name}hit, chosen ${got.value}`, `${name}hit`, name.trim(), `${index}`];
   return [`${name}is ${got.value}`, `${index}=${got.value}`, `${index}`];
 }
-function ofCopy(facts, it) {
+function copyLabels(facts, it) {
   const reader = it.within?.index ?? "";
   if (it.isWrite)
     return [`copy for p${reader} := ${it.value}`, `p${reader} := ${it.value}`, `p${reader}`];

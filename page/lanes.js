@@ -5,7 +5,7 @@ import { NEST, nestedBars } from "./nests.js";
 import { between } from "./pages.js";
 import { rounded, shape, sized, textAt, titled, widthOf } from "./shapes.js";
 
-const TICKS = 21, TAG = 24, LONG_BITS = 16, SHORT_BITS = 10, TEXT_MORE = 832, TEXT_GAP = 240;
+const TICKS = 21, TAG = 24, LONG_BITS = 16, SHORT_BITS = 10, TEXT_EVERY = 832, TEXT_GAP = 240;
 // the sizes of letters on an operation's bar, and how drawing.css names them
 const OP_LOOKS = { 17: "op", 15: "op small", 13: "op less" }, OP_SIZES = [17, 15, 13];
 // The lanes of one reading. `shared`: how many steps are drawn above already, on another branch.
@@ -20,7 +20,7 @@ export class Lanes {
   }
   hasBits(process) { return this.layersAt(process).includes("regular"); }
   // many bits have long numbers, which go below their ticks
-  hasLong(process) {
+  hasLongNumbers(process) {
     const { hasTexts, tower } = this.drawing;
     return hasTexts && tower.cells > SHORT_BITS && !this.hasBits(process);
   }
@@ -33,7 +33,7 @@ export class Lanes {
       y += tower.reads(process) || tower.isRefusing ? TAG + 2 : 4;
       tops.set(process, y);
       y += BAR + 8 + this.nestHeight(process) + (hasTexts ? TICKS : 4);
-      y += LONG_BITS * this.hasLong(process);
+      y += LONG_BITS * this.hasLongNumbers(process);
     }
     return { tops, height: y };
   }
@@ -116,7 +116,7 @@ export class Lanes {
     const { words: shown, size } = sized(labels, room - 6, OP_SIZES) || {};
     if (!shown) return begun >= from ? [textAt(short, begin + 3, y, "op")] : [];
     const kind = OP_LOOKS[size], width = widthOf(shown, size), texts = [];
-    const first = drawing.left(begun) + 8, every = Math.max(TEXT_MORE, width + TEXT_GAP);
+    const first = drawing.left(begun) + 8, every = Math.max(TEXT_EVERY, width + TEXT_GAP);
     let x = first + Math.max(0, Math.ceil((begin - first) / every)) * every;
     for (; x + width * 0.9 <= begin + room - 4; x += every) texts.push(textAt(shown, x, y, kind));
     return texts;
@@ -158,7 +158,7 @@ export class Lanes {
     const given = { class: "tick", "data-action": `${action} ${bit}`, "data-step": step };
     if (drawing.axis.isElastic || drawing.width(step) < TICK_WORDS)
       return shape("g", given, shape("path", { d: `M${x} ${y + 1}v5` }));
-    const below = this.hasLong(process) ? { x, dy: LONG_BITS } : {};
+    const below = this.hasLongNumbers(process) ? { x, dy: LONG_BITS } : {};
     const tspan = { class: "bit", ...below };
     const hasNest = this.nestHeight(process) > 0;
     const number = !this.hasBits(process) && shape("tspan", tspan, String(bit));

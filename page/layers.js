@@ -103,11 +103,11 @@ export class Layers {
   }
   root(operation) { return this.roots.find((it) => it.operation === operation); }
   // all of a layer inside one; of several copies those below them are meant, one for each copy
-  of(layer, it) {
+  allIn(layer, it) {
     if (it.layer === layer) return layer === "copies" ? it.inner : [it];
-    return it.inner.flatMap((each) => this.of(layer, each));
+    return it.inner.flatMap((each) => this.allIn(layer, each));
   }
-  all(layer) { return this.roots.flatMap((it) => this.of(layer, it)); }
+  all(layer) { return this.roots.flatMap((it) => this.allIn(layer, it)); }
 }
 // one that began before the first place that is known, and the inner ones that may have
 function markCut(it) {
@@ -166,7 +166,7 @@ export class Facts {
   }
   // the number that a scan found, also of a read that has it inside; null while it goes on
   found(it) {
-    const scan = it.layer === "unary" ? it : this.layers.of("unary", it)[0];
+    const scan = it.layer === "unary" ? it : this.layers.allIn("unary", it)[0];
     return scan && scan.isEnded && !scan.isWrite ? scan.last.index : null;
   }
   // the register in which something is done, if that is known

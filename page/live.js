@@ -4,11 +4,11 @@ import { packedData } from "./engine.js";
 import { act, isSaying, say } from "./acting.js";
 import { closeMenu, openMenu } from "./deck.js";
 import { one } from "./elements.js";
-import { lessonsOf } from "./exercises.js";
+import { allLessons } from "./exercises.js";
 import { redrawFigures } from "./figures.js";
 import { documentInAddress, firstDocument, leaveAddress } from "./address.js";
 import { watchDrops } from "./choosing.js";
-import { actAs, begin, change, clickRead, commands, does, draw, focusOn } from "./gestures.js";
+import { actAs, begin, change, clickRead, commands, gestures, draw, focusOn } from "./gestures.js";
 import { move, openFiles, putWelcome, redraw, show, study, views } from "./gestures.js";
 import { watchKeys } from "./keys.js";
 import { lessonNumberIn } from "./links.js";
@@ -30,7 +30,7 @@ const placeAt = (x) =>
   Math.round(now.range.axis.place(x - one("#inner").getBoundingClientRect().left - LABEL));
 async function openMenuAt(branch, step) {
   await focusOn(branch);
-  openMenu(step, does);
+  openMenu(step, gestures);
 }
 addEventListener("click", ({ target, clientX }) => {
   const at = (selector) => target.closest(selector), branch = at(".panel")?.dataset.branch;
@@ -56,7 +56,7 @@ for (const it of [one("#panels"), one("#tree-fold")])
     else if (now.model) redraw(false);
   }, true);
 one("#here").addEventListener("toggle", () => { if (areBitsMissing()) redraw(false); }, true);
-one("#place").addEventListener("input", ({ target }) => does.go(Number(target.value)));
+one("#place").addEventListener("input", ({ target }) => gestures.go(Number(target.value)));
 one("#show").addEventListener("change", ({ target }) => show(target.value));
 one("#session").addEventListener("change", ({ target }) => actAs(Number(target.value)));
 let isScrolled = false;
@@ -70,7 +70,7 @@ addEventListener("resize", () => {
   redrawFigures();
 });
 function openLesson(number) {
-  const lesson = lessonsOf()[number - 1];
+  const lesson = allLessons()[number - 1];
   return lesson ? study(lesson.folder) : say(`This page has no lesson ${number}.`, "refusal");
 }
 addEventListener("hashchange", async () => {
@@ -86,10 +86,10 @@ watchText((next) => act(() => { say(""); return change(next); }).then(() => !isS
 watchDrops(openFiles);
 watchFolds(() => now.model && redraw(true));
 watchWords();
-const madeOf = ({ version, commit, kit }) =>
+const versionWords = ({ version, commit, kit }) =>
   `Version ${version}, commit ${commit || "unknown"}, kit ${kit || "unknown"}`;
 showTab("here");
-one("#made").textContent = madeOf(packedData());
+one("#made").textContent = versionWords(packedData());
 const number = lessonNumberIn(location.hash), first = await firstDocument();
 putWelcome(!first.isFirst);
 await begin(first.tower, first.script, { who: first.who, lesson: first.lesson });

@@ -10,7 +10,7 @@ const LITTLE_SIZE = 10, REPEATED_EVERY = 700, GOES_ON = 40;
 // `layers` are the names of the layers that are drawn, and `top` is the first one's y
 export function nestedBars(drawing, reading, root, layers, top) {
   const { facts } = reading;
-  return layers.flatMap((layer, row) => facts.layers.of(layer, root)
+  return layers.flatMap((layer, row) => facts.layers.allIn(layer, root)
     .filter((it) => it.to >= reading.from && it.from <= reading.to)
     .map((it) => nestedBar(drawing, reading, it, layer, top + row * NEST)));
 }

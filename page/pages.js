@@ -105,8 +105,8 @@ function processIn(line) {
     bit: bit && Number(bit) };
 }
 // equal texts are one object, so that comparing them takes no time
-const CELLS = new Map();
-const oneText = (words) => CELLS.get(words) || CELLS.set(words, words).get(words);
+const CELL_TEXTS = new Map();
+const sharedText = (words) => CELL_TEXTS.get(words) || CELL_TEXTS.set(words, words).get(words);
 // what each kind of page is at first, and how it takes a line, if it knows it
 const PAGES = {
   // `bits` has a digit for each bit
@@ -122,7 +122,7 @@ const PAGES = {
   bits: [() => ({ cells: [] }), (page, line) => {
     const space = line.indexOf(" "), number = Number(line.slice(0, space));
     const isNext = number === page.cells.length && CELL.test(line);
-    if (isNext) page.cells.push(oneText(line.slice(space + 1)));
+    if (isNext) page.cells.push(sharedText(line.slice(space + 1)));
     return isNext || WORDS.test(line);
   }],
   history: [() => ({ events: [] }), (page, line) => {

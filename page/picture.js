@@ -16,7 +16,7 @@ const SIGHT = 300, MOST_TREE = 12, TREE_ROW = 27, LEAST_ROOM = 300;
 const scroll = one("#scroll"), heights = new Map();
 one("#patterns").append(mounted(hatch()));
 // the branches that are drawn one below the other, as the page's choice has them
-export function shown() {
+export function shownBranches() {
   const { model, view } = now, [kind, ...names] = view.show.split(" ");
   const found = names.map((it) => model.branch(it));
   if (kind !== "all" && found.every(Boolean) && names.includes(here().name)) return found;
@@ -72,9 +72,10 @@ function branchesOfTree() {
 const cut = ({ from, to }, branch) => [from, to].map((it) => Math.min(it, branch.length));
 export async function look(isFollowing) {
   const { model } = now, { name, place } = here(), tree = branchesOfTree();
-  const ofAxis = axisLooks(shown(), roomOf());
+  const ofAxis = axisLooks(shownBranches(), roomOf());
   await model.look(ofAxis);
-  const panels = panelsInSight(shown()), range = findRange(shown(), panels.length, isFollowing);
+  const branches = shownBranches(), panels = panelsInSight(branches);
+  const range = findRange(branches, panels.length, isFollowing);
   const looks = panels.flatMap((it) => looksOf(it, ...cut(range, it), kindsOf(it)));
   for (const it of tree) {
     const [, to] = cut(range, it);
@@ -111,7 +112,7 @@ export function isMissing() {
   const { from, to, axis } = now.range, { scrollLeft, clientWidth } = scroll;
   const last = axis.place(scrollLeft + clientWidth - LABEL), end = lengthOf(now.model.branches);
   const isBeyond = axis.place(scrollLeft) < from || (last > to && to < end);
-  if (isBeyond || panelsInSight(shown()).some((it) => !now.inSight.has(it))) return true;
+  if (isBeyond || panelsInSight(shownBranches()).some((it) => !now.inSight.has(it))) return true;
   return branchesOfTree().some((it) => !now.readings.has(it.name));
 }
 export function stripNode({ kind, label, drawn, height }, { x, width, whole }) {
@@ -126,8 +127,8 @@ export function stripNode({ kind, label, drawn, height }, { x, width, whole }) {
 }
 const stripPart = (key, strip, frame) =>
   ({ key, held: JSON.stringify([strip, frame]), make: () => stripNode(strip, frame) });
-// a register's bits, or the words, which are drawn once they are unfolded
-function foldPart(branch, { name, fold, rows }, frame) {
+// the part of a register's bits or of the words, if any are drawn; folded, if they have a fold
+function partsOfRows(branch, { name, fold, rows }, frame) {
   const key = `${branch.name} ${name}`, isOpen = isFoldOpen(key);
   if (!rows.drawn.length && !fold?.drawn.length) return [];
   if (!fold) return [stripPart(name || "bits", rows, frame)];
@@ -174,7 +175,7 @@ function putPanel(section, branch, drawing, frame, { asked, groups, above, diffe
     if (cursors.length) parts.push(stripPart("flags", drawing.flags(cursors), frame));
     parts.push(stripPart("lanes", drawing.lanes(reading, { asked, shared: above }), frame));
     const rows = [...drawing.bits(reading, groups, above), drawing.words(reading, above)];
-    parts.push(...rows.flatMap((it) => foldPart(branch, it, frame)));
+    parts.push(...rows.flatMap((it) => partsOfRows(branch, it, frame)));
   }
   putParts(section, parts);
 }
@@ -211,7 +212,7 @@ function frameOf(drawing) {
   return { x, width, whole: whole + LABEL, axis: axis.key };
 }
 function putPanels(drawing, frame, asked) {
-  const drawn = shown(), { name, place } = here(), panels = one("#panels");
+  const drawn = shownBranches(), { name, place } = here(), panels = one("#panels");
   const inSight = drawn.filter((it) => now.inSight.has(it));
   const groups = drawing.groups(inSight.map((it) => now.readings.get(it.name)));
   while (panels.children.length > drawn.length) panels.lastChild.remove();
@@ -256,7 +257,7 @@ function putChoices() {
 }
 export function comparison() {
   if (!isComparing()) return "";
-  const [a, b] = shown(), shared = sharedCells(a, b), at = firstDifference(a, b);
+  const [a, b] = shownBranches(), shared = sharedCells(a, b), at = firstDifference(a, b);
   const parts = shared ? `their first ${shared} steps` : "no step";
   const said = `${a.name} and ${b.name} share ${parts}`;
   const on = (it) => `${at < it.length ? it.step(at) : "none"} on ${it.name}`;

@@ -1,7 +1,7 @@
 // The page on paper: the task, pictures, what the reads returned and why, the file and the script.
 import { reasonOf, Reading } from "./reading.js";
 import { looksOf, stillRows } from "./still.js";
-import { shown } from "./picture.js";
+import { shownBranches } from "./picture.js";
 import { inWords } from "./goalwords.js";
 import { taskOf } from "./tasks.js";
 import { element, mounted, one } from "./elements.js";
@@ -10,8 +10,9 @@ import { now } from "./state.js";
 const MOST_PRINTED = 400000, MOST_PREPARED = 6000, PRINT_PAUSE = 800;
 // the pages for paper, of as many columns of each shown branch as fit
 function printedLooks() {
-  const { model } = now, most = Math.floor(MOST_PRINTED / model.shape.cells / shown().length);
-  return shown().flatMap((it) => looksOf(it, 0, Math.min(most, it.length)));
+  const branches = shownBranches(), ofEach = MOST_PRINTED / branches.length;
+  const most = Math.floor(ofEach / now.model.shape.cells);
+  return branches.flatMap((it) => looksOf(it, 0, Math.min(most, it.length)));
 }
 export const lookAtAll = () => now.model.look(printedLooks());
 // a few are fetched when nothing else happens, as a browser's own print command waits for nothing
@@ -52,7 +53,8 @@ addEventListener("beforeprint", () => {
   const { model, document: { script, tower } } = now;
   const text = (title, words) => [element("h2", {}, title), element("pre", {}, words)];
   const title = element("h1", {}, `towerbench: ${model.tower}`), task = printedTask();
-  one("#print").replaceChildren(element("section", {}, title, task, shown().flatMap(printedBranch),
+  const branches = shownBranches().flatMap(printedBranch);
+  one("#print").replaceChildren(element("section", {}, title, task, branches,
     text("The file", tower), text("The script", script)));
 });
 addEventListener("afterprint", () => one("#print").replaceChildren());

@@ -4,18 +4,18 @@ import { one } from "./elements.js";
 
 const PARTS = ["deck", "aside", "task"];
 const { classList } = document.body;
-function put(part, isFolded) {
+function setFolded(part, isFolded) {
   classList.toggle(`no-${part}`, isFolded);
   one(`[data-fold=${part}]`)?.setAttribute("aria-expanded", String(!isFolded));
 }
 // `redraw` draws the picture in its new room
 export function watchFolds(redraw) {
-  for (const part of PARTS) put(part, remembered(`fold ${part}`) === "yes");
+  for (const part of PARTS) setFolded(part, remembered(`fold ${part}`) === "yes");
   addEventListener("click", ({ target }) => {
     const part = target.closest("[data-fold]")?.dataset.fold;
     if (!part) return;
     const isFolded = !classList.contains(`no-${part}`);
-    put(part, isFolded);
+    setFolded(part, isFolded);
     remember(`fold ${part}`, isFolded ? "yes" : "");
     redraw();
   });

@@ -30,14 +30,14 @@ function firstRun() {
   return new Reading(branch, length, length, page).run;
 }
 // the towers that can take the operations of the cursor's branch
-function offered() {
+function offeredTowers() {
   const { branch } = here(), { tower } = now.model;
   return branch.length && branch.length <= MOST_TRANSFERRED ? othersOf(tower, branch.steps) : [];
 }
 // makes the second schedule, if a tower is chosen that can take it
 export async function lookAtSecond() {
   const { name, branch } = here(), { ask, tower } = now.model;
-  if (!below.tower || !offered().includes(below.tower)) return;
+  if (!below.tower || !offeredTowers().includes(below.tower)) return;
   const key = JSON.stringify([tower, name, below.tower, branch.steps]);
   await now.model.look(["history", "verdict"].map((kind) => [kind, name, branch.length]));
   if (below.key === key) return;
@@ -78,9 +78,9 @@ function partsBelow({ model }) {
   return strips.map((it) => stripNode(it, { x: 0, width, whole }));
 }
 export function putSecond() {
-  const towers = offered(), select = one("#second-tower"), section = one("#second");
-  const none = below.tower ? "one tower" : "and on\u2026";
-  const words = [["", none], ...towers.map((it) => [it, `and ${it}`])];
+  const towers = offeredTowers(), select = one("#second-tower"), section = one("#second");
+  const firstChoice = below.tower ? "one tower" : "and on\u2026";
+  const words = [["", firstChoice], ...towers.map((it) => [it, `and ${it}`])];
   select.hidden = !towers.length;
   putIfChanged(select, JSON.stringify(words), () =>
     words.map(([value, text]) => element("option", { value }, text)));

@@ -39,12 +39,12 @@ function scriptWith({ text, data, name }, lines, isBare) {
 }
 const fields = () => ({ text: valueOf("text"), data: valueOf("data"), name: valueOf("name") });
 const isBare = () => one("[name=share-start]:checked").value === "bare";
-function made() {
+function sharedDocument() {
   const { tower, lines } = now.document;
   return { tower, script: scriptWith(fields(), lines, isBare()) };
 }
 // goals that the cursor's branch meets, each of which a click adds
-async function ideas(model, name) {
+async function suggestedGoals(model, name) {
   const { length } = model.branch(name);
   const looks = ["verdict", "history"].map((kind) => [kind, name, length]);
   await model.look(looks);
@@ -74,7 +74,7 @@ async function check() {
     { class: it.fault ? "wrong" : isMet(it, model) && "met" }, `${signOf(it)} ${inWords(it)}`)),
   ...unread.map((it) => element("li", { class: "wrong" },
     `! ${it} can't be read: a line begins with goal:, ask: or option:`)));
-  const link = base.split("#")[0] + await hashFor(made());
+  const link = base.split("#")[0] + await hashFor(sharedDocument());
   field("link").value = link;
   field("size").textContent = base ? `${link.length} characters`
     : "A link needs the address of this page on the web. Without one, save one file.";
@@ -91,7 +91,8 @@ async function copyLink() {
   }
 }
 function saveFile() {
-  const document = { name: "exercise", ...made() }, page = pageWith(document, valueOf("base"));
+  const document = { name: "exercise", ...sharedDocument() };
+  const page = pageWith(document, valueOf("base"));
   const name = fileName("html", taskOf(document.script.split("\n")));
   save(name, page, "text/html");
   const size = Math.round(page.length / 1000);
@@ -130,7 +131,7 @@ export async function openShare(take) {
   one(`[name=share-start][value=${start}]`).checked = true;
   field("said").textContent = "";
   watch(dialog, take);
-  const suggested = await ideas(now.model, here().name);
+  const suggested = await suggestedGoals(now.model, here().name);
   field("ideas").replaceChildren("What holds now: ", ...suggested.map(ideaButton));
   await check();
   dialog.showModal();

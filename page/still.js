@@ -51,8 +51,8 @@ function stillStrips(model, branches, range, most) {
     readings.set(it.name, readInside(model, it, from, to, end));
   }
   const drawn = [...readings.values()].filter((it) => it.to > it.from || range.from === 0);
-  const groups = drawing.groups(drawn), strips = [drawing.ruler(longest(branches))];
-  const inTree = branches.map((it, index) => ({ ...drawnIn(it, branches), index }));
+  const groups = drawing.groups(drawn), strips = [drawing.ruler(longestLength(branches))];
+  const inTree = branches.map((it, index) => ({ ...branchInTree(it, branches), index }));
   if (branches.length > 1) strips.push(drawing.tree(inTree, readings));
   for (const reading of drawn) {
     strips.push(headStrip(drawing, reading.branch, drawing.left(range.from)));
@@ -63,22 +63,22 @@ function stillStrips(model, branches, range, most) {
   }
   return { drawing, strips };
 }
-const longest = (branches) => Math.max(...branches.map((it) => it.length));
+const longestLength = (branches) => Math.max(...branches.map((it) => it.length));
 function headStrip(drawing, branch, x) {
   const name = shape("text", { x: 10, y: 24, class: "process" }, branch.name);
   const about = shape("text", { x, y: 24, class: "role" }, aboutBranch(branch));
   return drawing.strip("head", [name], [about], 34);
 }
 // a branch whose parent isn't drawn begins at the left
-function drawnIn({ name, length, parent, shared }, branches) {
+function branchInTree({ name, length, parent, shared }, branches) {
   const index = branches.indexOf(parent);
   return { name, length, parent: { index }, shared: index < 0 ? 0 : shared };
 }
-const evenly = (most, perRow) => Math.ceil(most / Math.ceil(Math.max(1, most) / perRow)) || 1;
+const evenCount = (most, perRow) => Math.ceil(most / Math.ceil(Math.max(1, most) / perRow)) || 1;
 // The branches of a model in rows of columns; each row is an element `svg` and its size. The pages
 // must be there. `count`: how many columns a row has; without it they are even, of at most `perRow`
 export function stillRows(model, branches, { most, column = 76, perRow = 24, count }) {
-  if (!count) return stillRows(model, branches, { most, column, count: evenly(most, perRow) });
+  if (!count) return stillRows(model, branches, { most, column, count: evenCount(most, perRow) });
   const rows = [], width = count * column + MARGIN;
   for (let from = 0; from < Math.max(1, most); from += count) {
     const range = { from, to: Math.min(most, from + count), column };
@@ -111,7 +111,7 @@ function forPaper(style) {
 }
 // The branches of a model as SVG; `style` is drawing.css, whose colours for paper are taken.
 export function stillPicture(model, branches, style, options = {}) {
-  const most = Math.min(MOST_STILL, longest(branches)), inner = [];
+  const most = Math.min(MOST_STILL, longestLength(branches)), inner = [];
   const rows = stillRows(model, branches, { ...options, most });
   const paper = shape("rect", { width: "100%", height: "100%", class: "paper" });
   let y = 0;

@@ -42,7 +42,7 @@ function storyOfNumber(facts, root) {
     rows: [{ name: "number", place: root.to }] };
 }
 function storyOfStamped(facts, root) {
-  const { codes } = facts, [register] = codes.registers, [scan] = facts.layers.of("unary", root);
+  const { codes } = facts, [register] = codes.registers, [scan] = facts.layers.allIn("unary", root);
   if (!scan) return NOTHING;
   const parts = [scan, ...scan.inner], remembers = `p${root.process} remembers`;
   const found = facts.found(root), words = scanWords(facts, scan), place = root.to;

@@ -2,7 +2,7 @@
 // pictures that can be played, a prediction before them, and exercises with a button to begin each.
 import { hasSearch, packedContents } from "./engine.js";
 import { EMPTY_TOWER } from "./document.js";
-import { exerciseDocument, hashOfLesson, isSolved, lessonsOf, partOf } from "./exercises.js";
+import { allLessons, exerciseDocument, hashOfLesson, isSolved, partOf } from "./exercises.js";
 import { putFigure } from "./figures.js";
 import { setLessonHash } from "./address.js";
 import { remember, remembered } from "./kept.js";
@@ -104,7 +104,7 @@ async function putFigures(article, put) {
 }
 // shows a lesson; `begin` makes a document of a tower file, a script and a lesson's lines
 export function putStudy(folder, begin, { isAnswered = false, ask } = {}) {
-  const lessons = lessonsOf(), lesson = lessons.find((it) => it.folder === folder);
+  const lessons = allLessons(), lesson = lessons.find((it) => it.folder === folder);
   if (!lesson) return;
   studied = folder;
   setLessonHash(hashOfLesson(lesson));

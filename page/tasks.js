@@ -44,18 +44,18 @@ function readTask(lines) {
   task.isTask = Boolean(task.goals.length || task.asks.length);
   return task;
 }
-const read = new WeakMap();
+const knownTasks = new WeakMap();
 // what a script's comments ask; `left`: how many lines of it were too many
 export function taskOf(lines) {
-  if (!read.has(lines)) read.set(lines, readTask(lines));
-  return read.get(lines);
+  if (!knownTasks.has(lines)) knownTasks.set(lines, readTask(lines));
+  return knownTasks.get(lines);
 }
 export const isPredicted = ({ asks, predicted }) => asks.every((it) => predicted.has(it.number));
 // the tower file that a script names, or nothing
 export const towerIn = ({ tower }) => tower && `${tower.split("; ").join("\n")}\n`;
 export const towerLine = (tower) => `# tower: ${tower.trim().split("\n").join("; ")}`;
 // a script's lines with another one after its comments
-export function headed(lines, line) {
+export function withHeadLine(lines, line) {
   const head = headOf(lines);
   return [...lines.slice(0, head), line, ...lines.slice(head)];
 }

@@ -1,5 +1,5 @@
-// The whole page drawn: the picture, the deck, the texts, a lesson and an exercise. `does` are the
-// deck's gestures, `taskDoes` those of the exercise.
+// The whole page drawn: the picture, the deck, the texts, a lesson and an exercise. `gestures`
+// are the deck's, `taskGestures` those of the exercise.
 import { putAnswers } from "./answers.js";
 import { putUndo } from "./back.js";
 import { processesHere, putDeck } from "./deck.js";
@@ -15,18 +15,18 @@ import { putText } from "./text.js";
 
 // for the tests: what was asked of the program since the page began
 export const putSpent = () => Object.assign(one("#inner").dataset, spent);
-export async function drawWhole(does, taskDoes, isFollowing = true) {
+export async function drawWhole(gestures, taskGestures, isFollowing = true) {
   await look(isFollowing);
   await lookAtSecond();
   putSpent();
   await now.model.look(goalLooks());
   putPicture(processesHere().filter((it) => it.isHit).map((it) => it.number));
   putSecond();
-  putDeck(does);
-  putAnswers(does);
+  putDeck(gestures);
+  putAnswers(gestures);
   putText();
   putLesson();
-  const isCovered = await putTask(taskDoes) || isLessonAtStart();
+  const isCovered = await putTask(taskGestures) || isLessonAtStart();
   document.body.classList.toggle("covered", isCovered);
   putUndo();
   followFocus();

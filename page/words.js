@@ -46,7 +46,7 @@ function showWords({ at, words }) {
   const { height } = box.getBoundingClientRect(), isBelow = bottom + height + GAP < innerHeight;
   box.style.top = `${isBelow ? bottom + GAP : Math.max(GAP, top - height - GAP)}px`;
 }
-function after(pause) {
+function showAfter(pause) {
   return ({ target }) => {
     const found = wordsOf(target);
     hide();
@@ -68,7 +68,7 @@ export function withWords(text) {
   return [...made, text.slice(at)].filter(Boolean);
 }
 export function watchWords() {
-  const hover = after(HOVER_PAUSE), touch = after(0);
+  const hover = showAfter(HOVER_PAUSE), touch = showAfter(0);
   addEventListener("pointerover", (event) => event.pointerType === "mouse" && hover(event));
   addEventListener("focusin", (event) => event.target.matches(":focus-visible") && hover(event));
   addEventListener("pointerdown", (event) =>

@@ -1,7 +1,9 @@
 #!/usr/bin/env python3
-"""All answers, outside the prover: what `towerbench-answers` lists is compared with runs of `towerbench`.
+"""All answers, outside the prover: what `towerbench-answers` lists is compared with runs of
+`towerbench`.
 
-usage: tests/answers.py BENCH ANSWERS          all of it; the paths are those of the two built programs
+usage: tests/answers.py BENCH ANSWERS            all of it; the paths are those of the two built
+                                                 programs
        tests/answers.py BENCH ANSWERS SCHEDULES  tries that number of random schedules, not 100,000
 
 - own: each listed schedule, run by `towerbench`, has no void step, and gives just its answers; the
@@ -79,10 +81,10 @@ SEED = 80
 Question = collections.namedtuple("Question", "text tower operations after stops")
 # A list of answers: of each process its outcomes; and the steps of its schedule.
 Listed = collections.namedtuple("Listed", "answers steps")
-# How a schedule went: of each process the outcomes; those with a pending operation; how many steps were
-# void; whether the operations were invoked in order, each after those that it follows; whether its last
-# step chose a value; and the processes that stopped.
-Went = collections.namedtuple("Went", "answers pending voids is_allowed has_chosen stopped")
+# What a schedule leads to: of each process the outcomes; those with a pending operation; how many
+# steps were void; whether the operations were invoked in order, each after those that it follows;
+# whether its last step chose a value; and the processes that stopped.
+Result = collections.namedtuple("Result", "answers pending voids is_allowed has_chosen stopped")
 
 
 def question_of(line):
@@ -138,7 +140,7 @@ def name_of(number):
             return name
 
 
-def pages_of(bench, tower, schedules):
+def histories_of(bench, tower, schedules):
     """Returns the lines of each schedule's history, as `towerbench` prints them."""
     lines, script = ["bench 1", tower], []
     for number, steps in enumerate(schedules):
@@ -152,7 +154,7 @@ def pages_of(bench, tower, schedules):
     return [it.splitlines()[1:] for it in re.split(r"(?m)^0: ", output)[1:]]
 
 
-def went(question, steps, lines):
+def result_of(question, steps, lines):
     """Returns how a schedule went, given the lines of its history."""
     answers = {p: [] for p in question.operations}
     begun, stopped, voids, is_allowed, chosen = collections.Counter(), set(), 0, True, None
@@ -179,20 +181,20 @@ def went(question, steps, lines):
         elif kind == "chosen":
             chosen = int(index)
     pending = {p for p, its in answers.items() if begun[p] > len(its)}
-    return Went(answers, pending, voids, is_allowed, chosen == len(steps) - 1, stopped)
+    return Result(answers, pending, voids, is_allowed, chosen == len(steps) - 1, stopped)
 
 
-def all_went(bench, question, schedules):
+def results_of(bench, question, schedules):
     """Returns how each schedule went."""
     found = []
     for first in range(0, len(schedules), BRANCHES):
-        some = schedules[first : first + BRANCHES]
-        pages = pages_of(bench, question.tower, some)
-        found += [went(question, steps, lines) for steps, lines in zip(some, pages)]
+        batch = schedules[first : first + BRANCHES]
+        pages = histories_of(bench, question.tower, batch)
+        found += [result_of(question, steps, lines) for steps, lines in zip(batch, pages)]
     return found
 
 
-def is_through(question, it):
+def is_complete(question, it):
     """Returns whether each process that hasn't stopped has ended all its operations."""
     return all(
         p in it.stopped or len(it.answers[p]) == len(its) for p, its in question.operations.items()
@@ -215,16 +217,17 @@ def fault_of_own(bench, question, listed):
         return "a list of answers is there twice"
     if lengths != sorted(lengths):
         return "the lists aren't in the order of their lengths"
-    for key, it in zip(keys, all_went(bench, question, [it.steps for it in listed])):
-        if it.voids or not it.is_allowed or not is_through(question, it):
+    for key, it in zip(keys, results_of(bench, question, [it.steps for it in listed])):
+        if it.voids or not it.is_allowed or not is_complete(question, it):
             return f"the schedule of {spelled(key)} isn't one of what is asked"
         if key_of(it.answers) != key:
             return f"the schedule of {spelled(key)} gives {spelled(key_of(it.answers))}"
     return None
 
 
-def schedule(question, most, rng):
-    """Returns a random schedule: each process invokes its operations in order, among steps of the others."""
+def random_schedule(question, most, rng):
+    """Returns a random schedule: each process invokes its operations in order, among steps of the
+    others."""
     queues = {}
     for p, its in question.operations.items():
         queue = queues[p] = []
@@ -246,11 +249,12 @@ def schedule(question, most, rng):
     return steps
 
 
-def compared(listed, question, its):
-    """Returns what differs between the lists and how schedules went, or None; and the least lengths."""
+def fault_and_least_lengths(listed, question, its):
+    """Returns what differs between the lists and how schedules went, or None; and the least
+    lengths."""
     lengths, least = {key_of(it.answers): len(it.steps) for it in listed}, {}
     for steps, it in its:
-        if not it.is_allowed or not is_through(question, it):
+        if not it.is_allowed or not is_complete(question, it):
             continue
         key, length = key_of(it.answers), len(steps) - it.voids
         if key not in lengths:
@@ -271,14 +275,16 @@ def fault_of_random(bench, question, listed, count):
         for p in question.operations
     )
     for first in range(0, count, BRANCHES):
-        some = [schedule(question, most, rng) for _ in range(min(BRANCHES, count - first))]
-        fault, _ = compared(listed, question, zip(some, all_went(bench, question, some)))
+        batch = [random_schedule(question, most, rng) for _ in range(min(BRANCHES, count - first))]
+        fault, _ = fault_and_least_lengths(
+            listed, question, zip(batch, results_of(bench, question, batch))
+        )
         if fault:
             return fault
     return None
 
 
-def longer(question, steps, it):
+def one_step_longer(question, steps, it):
     """Returns the schedules with one step more; a choice is made only when a read is hit."""
     found = []
     for p, its in question.operations.items():
@@ -296,22 +302,26 @@ def longer(question, steps, it):
     return found
 
 
-def whole(bench, question):
+def all_schedules(bench, question):
     """Returns all schedules of a question, with how each went, step by step."""
-    ended, front = [], [([], went(question, [], []))]
+    ended, front = [], [([], result_of(question, [], []))]
     while front:
-        ended += [(steps, it) for steps, it in front if is_through(question, it)]
-        after = [steps for front_steps, it in front for steps in longer(question, front_steps, it)]
-        its = all_went(bench, question, after) if after else []
+        ended += [(steps, it) for steps, it in front if is_complete(question, it)]
+        after = [
+            steps
+            for front_steps, it in front
+            for steps in one_step_longer(question, front_steps, it)
+        ]
+        its = results_of(bench, question, after) if after else []
         others = [[*s[:-1], s[-1][:-1] + "1"] for s, it in zip(after, its) if it.has_chosen]
-        its += all_went(bench, question, others) if others else []
+        its += results_of(bench, question, others) if others else []
         front = list(zip([*after, *others], its))
     return ended
 
 
 def fault_of_whole(bench, question, listed):
     """Returns how all schedules of a question differ from what is listed, or None."""
-    fault, least = compared(listed, question, whole(bench, question))
+    fault, least = fault_and_least_lengths(listed, question, all_schedules(bench, question))
     if fault:
         return fault
     for it in listed:
@@ -321,7 +331,7 @@ def fault_of_whole(bench, question, listed):
     return None
 
 
-def planted(question, listed):
+def wrong_lists(question, listed):
     """Returns wrong lists, by what is wrong with them."""
     first, last = listed[0], listed[-1]
     reader = max(question.operations)
@@ -344,7 +354,7 @@ def padded(listed):
 def fault_of_plants(bench, answers):
     """Returns a planted wrong answer that no check finds, or None."""
     question = question_of(SMALL[3])
-    for what, listed in planted(question, ask(answers, question.text)).items():
+    for what, listed in wrong_lists(question, ask(answers, question.text)).items():
         checks = (fault_of_own(bench, question, listed), fault_of_whole(bench, question, listed))
         if not any(checks):
             return f"it isn't found that {what}"
@@ -355,7 +365,8 @@ def fault_of_plants(bench, answers):
 
 
 def fault_of_question(bench, answers, line, count):
-    """Returns what is wrong with the answers to a question, by its own and random schedules, or None."""
+    """Returns what is wrong with the answers to a question, by its own and random schedules, or
+    None."""
     question = question_of(line)
     listed = ask(answers, question.text)
     return fault_of_own(bench, question, listed) or fault_of_random(bench, question, listed, count)
@@ -368,8 +379,11 @@ def fault_of_small(bench, answers, line):
 
 def tests(bench, answers, count=QUICK_SCHEDULES, small=QUICK):
     """Returns the tests by their names, each a call that returns what is wrong, or None."""
-    each = -(-count // len(QUESTIONS))
-    found = {it: functools.partial(fault_of_question, bench, answers, it, each) for it in QUESTIONS}
+    count_of_each = -(-count // len(QUESTIONS))
+    found = {
+        it: functools.partial(fault_of_question, bench, answers, it, count_of_each)
+        for it in QUESTIONS
+    }
     for it in small:
         found[f"all schedules of {it}"] = functools.partial(fault_of_small, bench, answers, it)
     found["planted wrong answers"] = functools.partial(fault_of_plants, bench, answers)

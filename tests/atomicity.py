@@ -8,7 +8,8 @@ usage: tests/atomicity.py definition         compares the ranks of Ranks.antt wi
                                              prints, are linearizable: 100,000 random ones
        tests/atomicity.py order NAME         searches a matrix that isn't atomic, and prints the
                                              shortest schedule that shows it
-       tests/atomicity.py orders             searches each of those matrices, and two that are atomic
+       tests/atomicity.py orders             searches each of those matrices, and two that are
+                                             atomic
 
 The first two also plant wrong answers, which they must find. Status 1 if something is wrong.
 """
@@ -27,29 +28,30 @@ Event = collections.namedtuple("Event", "process kind value")
 READ, WRITE, GOT, WROTE, REFUSED = "read", "write", "got", "wrote", "refused"
 VALUES = (0, 1)
 
-# What is known of the ranks, as in Ranks.antt; `values` lists the value of each rank, if it has one.
+# What is known of the ranks, as in Ranks.antt; `values` lists the value of each rank, if it has
+# one.
 Ranking = collections.namedtuple("Ranking", "top values floor mine")
 # What a planted wrong definition allows.
 PLANTED = ("a refused write has a rank", "a read's rank falls", "a returned write has no rank")
 
 
-def at_first(processes, most):
+def first_ranking(processes, most):
     return Ranking(0, (0,) + (None,) * most, (0,) * processes, (None,) * processes)
 
 
-def put(index, item, items):
+def with_item(index, item, items):
     return items[:index] + (item,) + items[index + 1 :]
 
 
-def after_ranks(r, event, planted=None):
+def rankings_after(r, event, planted=None):
     """Returns what may be known after an event, by the ranks that its operation may have."""
     p, ranks = event.process, range(len(r.values))
     if event.kind == READ:
-        return [r._replace(floor=put(p, r.top, r.floor), mine=put(p, None, r.mine))]
+        return [r._replace(floor=with_item(p, r.top, r.floor), mine=with_item(p, None, r.mine))]
     if event.kind == WRITE:
-        begun = r._replace(floor=put(p, r.top, r.floor), mine=put(p, None, r.mine))
+        begun = r._replace(floor=with_item(p, r.top, r.floor), mine=with_item(p, None, r.mine))
         own = [n for n in ranks if n > r.top and r.values[n] is None]
-        taken = [(put(n, event.value, r.values), put(p, n, r.mine)) for n in own]
+        taken = [(with_item(n, event.value, r.values), with_item(p, n, r.mine)) for n in own]
         return [begun] + [begun._replace(values=values, mine=mine) for values, mine in taken]
     if event.kind == GOT:
         low = 0 if planted == PLANTED[1] else r.floor[p]
@@ -58,7 +60,7 @@ def after_ranks(r, event, planted=None):
     if event.kind == WROTE:
         if r.mine[p] is None:
             return [r] if planted == PLANTED[2] else []
-        return [r._replace(top=max(r.top, r.mine[p]), mine=put(p, None, r.mine))]
+        return [r._replace(top=max(r.top, r.mine[p]), mine=with_item(p, None, r.mine))]
     is_refusable = r.mine[p] is None or planted == PLANTED[0]
     return [r] if is_refusable else []
 
@@ -82,8 +84,8 @@ def operations(history):
 
 
 def is_linearizable(history):
-    """Returns whether the returned operations and some pending writes have an order by which a history
-    is linearizable.
+    """Returns whether the returned operations and some pending writes have an order by which a
+    history is linearizable.
 
     It searches as Wing and Gong do: an operation may be next if no other that isn't placed yet
     returned before it was invoked.
@@ -129,12 +131,12 @@ def compare(processes, most, planted=None):
 
     What follows a history that is bad by both isn't compared: it is bad by both, too.
     """
-    count, left = 0, [((), {at_first(processes, most)})]
+    count, left = 0, [((), {first_ranking(processes, most)})]
     while left:
         history, rankings = left.pop()
         for event in next_events(history, processes, most):
             longer = (*history, event)
-            after = {it for r in rankings for it in after_ranks(r, event, planted)}
+            after = {it for r in rankings for it in rankings_after(r, event, planted)}
             count += 1
             if bool(after) != is_linearizable(longer):
                 return count, longer
@@ -168,7 +170,9 @@ TOWERS = (
     ("matrix 4 2 1 3", 4, 2),
 )
 BRANCHES, STEPS, FILES = 500, 240, 200
-LINE = re.compile(r" +\d+ p(\d) (invoke|return|refused)(?: (read|written|write (\d+)|(\d+)|.*))?")
+EVENT_LINE = re.compile(
+    r" +\d+ p(\d) (invoke|return|refused)(?: (read|written|write (\d+)|(\d+)|.*))?"
+)
 
 
 def blocks_of(processes, rng):
@@ -183,7 +187,7 @@ def blocks_of(processes, rng):
     ]
 
 
-def schedule(processes, values, blocks, rng):
+def random_schedule(processes, values, blocks, rng):
     """Returns a random schedule, in which processes take turns and one may stop, and its length."""
     found, count, most = [], 0, rng.choice((2, 4, 8))
     stopped = rng.randrange(processes) if rng.random() < 0.25 else None
@@ -202,7 +206,7 @@ def schedule(processes, values, blocks, rng):
 
 
 def event_of(line):
-    found = LINE.match(line)
+    found = EVENT_LINE.match(line)
     if not found:
         return None
     p, kind, rest, written, got = found.groups()
@@ -223,7 +227,7 @@ def histories_of(program, tower, processes, values, seed, scratch):
     with open(bench, "w", encoding="ascii") as file:
         file.write(f"bench 1\n{tower}\n")
         for name in names:
-            steps, count = schedule(processes, values, blocks, rng)
+            steps, count = random_schedule(processes, values, blocks, rng)
             file.write(f"branch {name} 0 0\n{steps}")
             script += f"0 history {name} {count}\n"
     words = [program, bench, "--cells", "67108864", "--branches", "1024"]
@@ -242,7 +246,7 @@ def histories_of(program, tower, processes, values, seed, scratch):
     return found
 
 
-def changed(history, rng):
+def with_changed_read(history, rng):
     """Returns the history with one read's value changed, or None if no read returned."""
     reads = [i for i, it in enumerate(history) if it.kind == GOT]
     if not reads:
@@ -251,8 +255,9 @@ def changed(history, rng):
     return [*history[:at], history[at]._replace(value=1 - history[at].value), *history[at + 1 :]]
 
 
-def checked(program, seed, scratch):
-    """Returns counts of one file: histories, returned, refused, planted and found; or raises ValueError."""
+def counts_of_file(program, seed, scratch):
+    """Returns counts of one file: histories, returned, refused, planted and found; or raises
+    ValueError."""
     tower, processes, values = TOWERS[seed % len(TOWERS)]
     rng, counts = random.Random(seed), collections.Counter()
     for history in histories_of(program, tower, processes, values, seed, scratch):
@@ -261,7 +266,7 @@ def checked(program, seed, scratch):
         counts["refused"] += sum(it.kind == REFUSED for it in history)
         if not is_linearizable(history):
             raise ValueError(f"{tower}: not linearizable: {spelled(history)}")
-        planted = changed(history, rng) if counts["histories"] % 10 == 0 else None
+        planted = with_changed_read(history, rng) if counts["histories"] % 10 == 0 else None
         if planted:
             counts["planted"] += 1
             counts["found"] += not is_linearizable(planted)
@@ -271,7 +276,7 @@ def checked(program, seed, scratch):
 def check_histories(program):
     counts = collections.Counter()
     with tempfile.TemporaryDirectory() as scratch, concurrent.futures.ProcessPoolExecutor() as pool:
-        work = [pool.submit(checked, program, seed, scratch) for seed in range(FILES)]
+        work = [pool.submit(counts_of_file, program, seed, scratch) for seed in range(FILES)]
         for it in work:
             counts += it.result()
     # a changed value may be that of an overlapping write, so that not every one is wrong
@@ -296,27 +301,27 @@ Working = collections.namedtuple("Working", "value read written code")
 State = collections.namedtuple("State", "parts works begun ranks")
 
 
-def ranks_after(ranks, event):
-    return frozenset(it for r in ranks for it in after_ranks(r, event))
+def all_rankings_after(ranks, event):
+    return frozenset(it for r in ranks for it in rankings_after(r, event))
 
 
-def start(matrix):
+def first_state(matrix):
     n = matrix.processes
-    ranks = frozenset([at_first(n, n)])
+    ranks = frozenset([first_ranking(n, n)])
     return State(((Code(0, 0, 0),) * n,) * n, (None,) * n, (False,) * n, ranks)
 
 
-def begun(matrix, state, p):
-    """Returns the states in which p has invoked its only operation, a read or a write of 1: this state alone if
-    the operation is pending, and none if it has ended."""
+def invoked_states(matrix, state, p):
+    """Returns the states in which p has invoked its only operation, a read or a write of 1: this
+    state alone if the operation is pending, and none if it has ended."""
     if state.works[p] or state.begun[p]:
         return [state] if state.works[p] else []
     found = []
     for value in (None, 1):
-        ranks = ranks_after(state.ranks, Event(p, READ if value is None else WRITE, value))
+        ranks = all_rankings_after(state.ranks, Event(p, READ if value is None else WRITE, value))
         work = Working(value, 0, 0, Code(0, 0, 0))
-        works = put(p, work, state.works)
-        found.append(State(state.parts, works, put(p, True, state.begun), ranks))
+        works = with_item(p, work, state.works)
+        found.append(State(state.parts, works, with_item(p, True, state.begun), ranks))
     return found
 
 
@@ -324,15 +329,16 @@ def words_of(code):
     return f"{code.value} with tag {code.tag}"
 
 
-def ended(matrix, state, p, work):
-    """Returns the state in which p's operation has come as far as `work`, and what is said if that ends it."""
+def state_after(matrix, state, p, work):
+    """Returns the state in which p's operation has come as far as `work`, and what is said if that
+    ends it."""
     has_read = work.read == matrix.processes and work.value is None
     if work.written < matrix.processes and (matrix.writes_back or not has_read):
-        return state._replace(works=put(p, work, state.works)), ""
+        return state._replace(works=with_item(p, work, state.works)), ""
     kind, value = (WROTE, None) if work.value is not None else (GOT, work.code.value)
-    ranks = ranks_after(state.ranks, Event(p, kind, value))
+    ranks = all_rankings_after(state.ranks, Event(p, kind, value))
     said = " and returns" + (f" {value}" if kind == GOT else "")
-    return state._replace(works=put(p, None, state.works), ranks=ranks), said
+    return state._replace(works=with_item(p, None, state.works), ranks=ranks), said
 
 
 def steps_of(matrix, state, p):
@@ -345,28 +351,28 @@ def steps_of(matrix, state, p):
         moved = work._replace(read=work.read + 1, code=best)
         if moved.read == n and work.value is not None:
             moved = moved._replace(code=Code(best.tag + 1, p, work.value))
-        after, said = ended(matrix, state, p, moved)
+        after, said = state_after(matrix, state, p, moved)
         return [(name, f"reads R[{work.read}][{p}]: {words_of(code)}{said}", after)]
     at = work.written
-    row = put(at, work.code, state.parts[p])
-    written = state._replace(parts=put(p, row, state.parts))
-    after, said = ended(matrix, written, p, work._replace(written=at + 1))
+    row = with_item(at, work.code, state.parts[p])
+    written = state._replace(parts=with_item(p, row, state.parts))
+    after, said = state_after(matrix, written, p, work._replace(written=at + 1))
     found = [(name, f"writes R[{p}][{at}]: {words_of(work.code)}{said}", after)]
     if matrix.refuses:
-        ranks = ranks_after(state.ranks, Event(p, REFUSED, None))
-        refused = state._replace(works=put(p, None, state.works), ranks=ranks)
+        ranks = all_rankings_after(state.ranks, Event(p, REFUSED, None))
+        refused = state._replace(works=with_item(p, None, state.works), ranks=ranks)
         found.append((name, f"is refused R[{p}][{at}], and so is refused", refused))
     return found
 
 
-def shortest(matrix):
+def shortest_schedule(matrix):
     """Returns the shortest schedule after which the operations have no ranks, or None."""
-    first = start(matrix)
+    first = first_state(matrix)
     before, left = {first: None}, collections.deque([first])
     while left:
         state = left.popleft()
         for p in range(matrix.processes):
-            for working in begun(matrix, state, p):
+            for working in invoked_states(matrix, state, p):
                 for name, said, after in steps_of(matrix, working, p):
                     if after not in before:
                         before[after] = state, name, said
@@ -395,7 +401,7 @@ ORDERS = {
 
 def check_order(name):
     matrix, length = ORDERS[name]
-    steps = shortest(matrix)
+    steps = shortest_schedule(matrix)
     if (steps and len(steps)) != length:
         return f"{name}: {len(steps) if steps else 'no'} steps are found, not {length or 'none'}"
     print(f"{len(steps)} steps" if steps else "every schedule is linearizable")

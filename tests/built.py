@@ -4,7 +4,8 @@
 usage: tests/built.py NAME..   builds the tests of these crates if it must (`rt test`), and
                                prints where they are
 
-`tools/program --current` says whether they are there and no source is newer, as it does of the program.
+`tools/program --current` says whether they are there and no source is newer, as it does of the
+program.
 """
 import functools
 import os
@@ -28,7 +29,8 @@ def are_current(crate):
 
 @functools.lru_cache(None)
 def lack_of(crate):
-    """Returns why a crate's built tests can't be used here, and what builds them; None: they can."""
+    """Returns why a crate's built tests can't be used here, and what builds them; None: they
+    can."""
     if are_current(crate):
         return None
     is_there = os.access(tests_of(crate), os.X_OK)
@@ -42,8 +44,8 @@ def build(crate):
         begun = time.time_ns()
         words = ["rt", "test"]
         subprocess.run(words, cwd=f"{TOP}/crates/{crate}", stdout=subprocess.DEVNULL, check=True)
-        # `rt` leaves the tests as they are if the newer source is none of theirs, so they get the time
-        # at which it began: only sources that are edited after that are newer
+        # `rt` leaves the tests as they are if the newer source is none of theirs, so they get the
+        # time at which it began: only sources that are edited after that are newer
         os.utime(tests_of(crate), ns=(begun, begun))
     return tests_of(crate)
 

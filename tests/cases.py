@@ -24,7 +24,7 @@ ROWS = "tests/rows"
 KINDS = ("script", "expected", "tower", "bench", "saved", "words", "status", "errors")
 MADE = ".make"
 NUMBERS_OF_WORKERS = (0, 1, 4)
-# Words that say themselves how many threads help, or with which nothing is filled.
+# Words that set the number of workers themselves, or with which nothing is filled.
 WORDS_OF_ONE_RUN = ("--workers", "--help")
 REFUSED_WORDS = 2
 MOST_SECONDS = 300
@@ -33,8 +33,8 @@ BYTES_SHOWN_BEFORE = 30
 # What a path that is saved to holds before a run.
 KEPT = b"as it was\n"
 
-# script: its path; words: those after the program's name; output, errors and saved: bytes; saved: None: nothing is;
-# save: the path that it is saved to
+# script: its path; words: those after the program's name; output, errors and saved: bytes; saved:
+# None: nothing is; save: the path that it is saved to
 Case = collections.namedtuple("Case", "script words output status errors saved save")
 Ran = collections.namedtuple("Ran", "output status errors")
 
@@ -115,7 +115,7 @@ def case_of(name, scratch):
     )
 
 
-def ways(case):
+def words_of_workers(case):
     """Returns the words that a case is run with, before its own: numbers of workers, or none."""
     is_given = any(it.startswith(WORDS_OF_ONE_RUN) for it in case.words)
     if is_given or case.status == REFUSED_WORDS:
@@ -124,7 +124,8 @@ def ways(case):
 
 
 def shown(line, column):
-    """Returns a line as text, from a little before a column on; line: None if there is no such line."""
+    """Returns a line as text, from a little before a column on; line: None if there is no such
+    line."""
     if line is None:
         return "nothing more"
     begin = max(0, column - BYTES_SHOWN_BEFORE) if len(line) > BYTES_SHOWN else 0
@@ -152,13 +153,14 @@ def saved_by(case):
 
 
 def put_kept(path):
-    """Writes KEPT to a path: only a run that ends well may replace it."""
+    """Writes KEPT to a path. Only a run that ends well may replace it."""
     with open(path, "wb") as file:
         file.write(KEPT)
 
 
 def fault_of_kept(path):
-    """Returns what is wrong at such a path after a run that ended by a fault, and has to have left it; None: nothing."""
+    """Returns what is wrong with a file after a run that ended by a fault, which may not change it;
+    None: nothing."""
     is_kept = os.path.exists(path) and read(path) == KEPT
     return None if is_kept else "the file is not as it was"
 
@@ -178,7 +180,7 @@ def difference(case, ran):
 def fault_of(name, program, scratch):
     """Returns what is wrong with a case or with what the program makes of it; None: nothing."""
     case = case_of(name, scratch)
-    for words in ways(case):
+    for words in words_of_workers(case):
         if saved_by(case) is not None:
             os.remove(case.save)
         fault = difference(case, run(program, [*words, *case.words], case.script))
@@ -187,7 +189,7 @@ def fault_of(name, program, scratch):
     return None
 
 
-def given(name, kind):
+def bytes_of_file(name, kind):
     """Returns the bytes of a case's file that is made by no line of shell; None: there is none."""
     if name in sizes.files():
         text = sizes.files()[name].get(kind)

@@ -1,9 +1,10 @@
 """Documents: what they name is there, their commands print what they say, and their lines fit.
 
-A document is README.md, CONTRIBUTING.md, CHANGELOG.md, each page of docs/ and lessons/, and each README.md in page/ and crates/.
+A document is README.md, CONTRIBUTING.md, CHANGELOG.md, each page of docs/ and lessons/, and each
+README.md in page/ and crates/.
 - A fence is closed before the next one begins. One ```console is run from the repository's top:
-  each line `$ COMMAND`, and below it what standard output then says. One ```console CRATE needs that
-  crate's program, and is run once it is built.
+  each line `$ COMMAND`, and below it what standard output then says. One ```console CRATE needs
+  that crate's program, and is run once it is built.
 - One ```rust FILE, or another language, quotes lines of the file, as they are in it; a line `..`
   is short for any lines.
 - A word between backticks that is a path is that of a file or a folder, or its end (`*` and NAME
@@ -11,7 +12,8 @@ A document is README.md, CONTRIBUTING.md, CHANGELOG.md, each page of docs/ and l
   in the sources, and a definition's by its file is defined there: tests/definitions.py; one with a
   dash is the name of a wrong body, a row, an example or another file, or a word of some source.
 - No line is longer than 100 columns, but in tables, and on a lesson's page, which is a screen wide.
-Paths begin at the repository's top, which has to be the current folder; links at the document's folder.
+Paths begin at the repository's top, which has to be the current folder; links at the document's
+folder.
 """
 import collections
 import fnmatch
@@ -111,7 +113,8 @@ def is_there(path):
 
 @functools.lru_cache(None)
 def names_of_files():
-    """Returns the names of all files up to their first dot, of all folders, and of the rows of a table."""
+    """Returns the names of all files up to their first dot, of all folders, and of the rows of a
+    table."""
     return {part.split(".")[0] for it in [*files(), *sizes.files()] for part in it.split("/")}
 
 
@@ -197,7 +200,8 @@ def quote_fault(block):
 
 
 def first_lost(source, part, at):
-    """Returns the first line of a part of a quote that doesn't follow those before it in the source."""
+    """Returns the first line of a part of a quote that doesn't follow those before it in the
+    source."""
     lines = part.split("\n")
     for count, line in enumerate(lines, 1):
         front = "\n".join(lines[:count])

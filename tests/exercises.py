@@ -32,7 +32,8 @@ def text_of(path):
 
 
 def attempts():
-    """Returns the attempts at each exercise, by script and number: whether it is right, what it is, and lines."""
+    """Returns the attempts at each exercise, by script and number: whether it is right, what it is,
+    and lines."""
     found, its = {}, []
     for line in text_of("tests/attempts.txt").partition("\n\n")[2].splitlines():
         exercise, attempt = OF_EXERCISE.match(line), ATTEMPT.match(line)
@@ -114,7 +115,7 @@ class Judged:
     def __init__(self, program):
         self.program, self.found, self.turn = program, None, threading.Lock()
 
-    def every(self):
+    def all_judged(self):
         with self.turn:
             if not self.found:
                 names, tried = scripts(), attempts()
@@ -125,7 +126,7 @@ class Judged:
             return self.found
 
     def fault_of(self, folder):
-        return "; ".join(faults_of_lesson(folder, *self.every())) or None
+        return "; ".join(faults_of_lesson(folder, *self.all_judged())) or None
 
 
 def tests(program):

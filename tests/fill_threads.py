@@ -1,7 +1,8 @@
-"""How many threads fills start: one for each 16,384 steps of a round, at most as many as there are workers, so none in a small round.
+"""How many threads fills start: one for each 16,384 steps of a round, at most as many as there are
+workers, so none in a small round.
 
-A preloaded library counts them (tests/count_threads.c). Branches that share nothing have a segment of 128 steps each, and so one
-round of as many jobs.
+A preloaded library counts them (tests/count_threads.c). Branches that share nothing have a segment
+of 128 steps each, and so one round of as many jobs.
 """
 import os
 import shutil
@@ -34,7 +35,7 @@ def bench_file(branches, scratch):
     return path
 
 
-def started(program, counts, branches, workers, scratch):
+def threads_started(program, counts, branches, workers, scratch):
     """Returns how many threads a fill starts at a bench of that many branches."""
     mark = f"{scratch}/threads-{branches}-{workers}"
     words = [bench_file(branches, scratch), "--workers", str(workers)]
@@ -52,7 +53,7 @@ def fault(program, scratch):
     subprocess.run(["cc", "-O2", "-shared", "-fPIC", "-o", counts, SOURCE, "-ldl"], check=True)
     faults = []
     for branches, workers, wanted in EXPECTED:
-        got = started(program, counts, branches, workers, scratch)
+        got = threads_started(program, counts, branches, workers, scratch)
         if got != wanted:
             faults.append(f"{branches} branches, {workers} workers: {got} threads, not {wanted}")
     return "; ".join(faults) or None

@@ -68,7 +68,8 @@ MORE_IN_A_ROW = {
     ),
 }
 # A crate whose tests are tried if no source is newer than they are, a test's name, and how many
-# growths are refused in a row: some tests repeat a call that was refused memory, more often than that.
+# growths are refused in a row: some tests repeat a call that was refused memory, more often than
+# that.
 TESTS = (
     ("thread_tests", "desks::growths::two_chairs_out_of_memory", (1,)),
     ("thread_tests", "desks::growths::two_chairs_asking_again", (1, 2, 6)),
@@ -81,7 +82,8 @@ TESTS = (
     ("branch_tests", "charts::growths::last_run_of_thousand_steps_out_of_memory", (1, 2, 6)),
 )
 SOURCE = "tests/refuse_growth.c"
-# How many growths were refused, by trial: threads may grow more or less often, so those with workers aren't counted.
+# How many growths were refused, by trial: threads may grow more or less often, so those with
+# workers aren't counted.
 REFUSED_BY_TRIAL = {}
 # Past the last growth, this many runs in a row refuse none: threads may grow more or less often.
 RUNS_PAST_THE_LAST = 8
@@ -103,7 +105,7 @@ def compiled(scratch):
     return target
 
 
-def ways(name):
+def words_of_workers(name):
     """Returns the words that a case is tried with, before its own."""
     words = cases.read(f"{name}.words") if os.path.exists(f"{name}.words") else b""
     if b"--workers" in words:
@@ -115,7 +117,7 @@ def trials(names, of_rows):
     """Returns the trials of the named cases and of the rows, of_rows giving a row's name."""
     wanted = [(it, 1) for it in [*map(of_rows, ROWS), *names]]
     wanted += [(of_rows(it), count) for count, rows in MORE_IN_A_ROW.items() for it in rows]
-    return [Trial(name, words, count) for name, count in wanted for words in ways(name)]
+    return [Trial(name, words, count) for name, count in wanted for words in words_of_workers(name)]
 
 
 def remark():
@@ -124,10 +126,11 @@ def remark():
 
 
 def each_refused(refuse, mark, in_a_row, work):
-    """Calls `work` once for each growth, with its number, an environment in which `in_a_row` growths
-    from that one on are refused, and a call that returns how many were refused.
+    """Calls `work` once for each growth, with its number, an environment in which `in_a_row`
+    growths from that one on are refused, and a call that returns how many were refused.
 
-    `work` returns whether all came out as with ample memory. Returns how many growths were refused in all.
+    `work` returns whether all came out as with ample memory. Returns how many growths were refused
+    in all.
     """
     number = total = past = 0
 
@@ -166,7 +169,8 @@ class Answers:
         return self.prefixes[key]
 
     def rest(self, count, left_out):
-        """Returns the answers to the lines after the first `count`, without the lines `left_out`."""
+        """Returns the answers to the lines after the first `count`, without the lines
+        `left_out`."""
         return self.prefix(len(self.lines), left_out)[len(self.prefix(count, left_out)) :]
 
     def fault(self, output, is_whole, most_refused):
@@ -213,7 +217,8 @@ def fault_of_run(ran, answers, refused):
 
 
 def fault_of_order(trial, ran):
-    """Returns that a look or fill with another refusal due was refused memory, if one was, or None."""
+    """Returns that a look or fill with another refusal due was refused memory, if one was, or
+    None."""
     is_due = os.path.basename(trial.name) in REFUSED_OTHERWISE
     return "another refusal is due" if is_due and REFUSED in ran.output else None
 
@@ -248,7 +253,7 @@ def fault_of_script(trial, program, refuse, scratch):
         wrong = wrong or fault_of_order(trial, ran) or fault_of_save(case, ran)
         if wrong:
             raise cases.Failure(
-                f"from growth {number} on, {refused()} refused: {wrong}: {said(ran)}"
+                f"from growth {number} on, {refused()} refused: {wrong}: {end_in_words(ran)}"
             )
         return ran.status == 0 and ran.output == case.output
 
@@ -264,7 +269,7 @@ def name_of(trial):
     return " ".join([trial.name, *trial.words]) + more
 
 
-def said(ran):
+def end_in_words(ran):
     """Returns in one line how a run ended."""
     ends = [repr(it[-cases.BYTES_SHOWN :])[1:] for it in (ran.output, ran.errors)]
     return f"status {ran.status}, output to its end {ends[0]}, standard error {ends[1]}"
@@ -276,7 +281,7 @@ def fault_of_test(path, test, in_a_row, refuse, scratch):
     def work(number, environment, _):
         ran = cases.run(path, [test], b"", environment)
         if ran.status != 0:
-            raise cases.Failure(f"from growth {number} on: not allowed: {said(ran)}")
+            raise cases.Failure(f"from growth {number} on: not allowed: {end_in_words(ran)}")
         return True
 
     each_refused(refuse, f"{tempfile.mkdtemp(dir=scratch)}/mark", in_a_row, work)

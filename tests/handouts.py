@@ -1,4 +1,5 @@
-"""Pages that are handed out: each is whole HTML, no mark of Markdown is left, and what it links to or names is handed out.
+"""Pages that are handed out: each is whole HTML, no mark of Markdown is left, and what it links to
+or names is handed out.
 
 The pages are those that tools/handout makes from the lessons, the guide and the glossary.
 """
@@ -10,8 +11,8 @@ import re
 from tools import loaded
 
 VOID = ("meta", "br", "hr", "img")
-AS_IT_IS = ("pre", "code", "style")
-LEFT = re.compile(r"\*\*|\]\(|`|^\||\0", re.M)
+VERBATIM = ("pre", "code", "style")
+LEFT_MARKS = re.compile(r"\*\*|\]\(|`|^\||\0", re.M)
 # a path of the repository, or its beginning
 PATH = re.compile(r"\b(?:lessons|examples|tests/rows|docs)/[\w./-]*\w")
 
@@ -36,7 +37,7 @@ class Reader(html.parser.HTMLParser):
             self.faults.append(f"</{tag}> ends nothing")
 
     def handle_data(self, data):
-        if set(self.open) & set(AS_IT_IS):
+        if set(self.open) & set(VERBATIM):
             self.code += f"{data}\n"
         else:
             self.text += data
@@ -70,10 +71,10 @@ def fault_of_link(link, path, readers, others):
 def fault():
     """Returns what is wrong with the pages, or nothing."""
     readers = {path: read(text) for path, text in tool().pages().items()}
-    others, faults = set(tool().found(tool().OTHERS)), []
+    others, faults = set(tool().files_matching(tool().OTHERS)), []
     for path, reader in readers.items():
         found = reader.faults + [f"<{it}> isn't ended" for it in reader.open]
-        found += [f"{it.group()!r} is left" for it in LEFT.finditer(reader.text)]
+        found += [f"{it.group()!r} is left" for it in LEFT_MARKS.finditer(reader.text)]
         found += [
             it for it in (fault_of_link(link, path, readers, others) for link in reader.links) if it
         ]

@@ -1,11 +1,11 @@
 """Question files: what `towerbench-answers` says of each.
 
-- examples/NAME.question comes with NAME.lists: each `answers` line, a colon, and the number of steps of
-  its schedule. Which of several shortest schedules is listed isn't said; `towerbench` runs each
-  (tests/answers.py).
+- examples/NAME.question comes with NAME.lists: each `answers` line, a colon, and the number of
+  steps of its schedule. Which of several shortest schedules is listed isn't said; `towerbench` runs
+  each (tests/answers.py).
 - tests/questions/faults.txt has a faulty file in each line, and its fault.
-- the table of docs/guide/answers.md has in each row a question, answers and the least number of steps, or
-  `none`.
+- the table of docs/guide/answers.md has in each row a question, answers and the least number of
+  steps, or `none`.
 The current folder has to be the repository's top.
 """
 import functools
@@ -15,7 +15,7 @@ import subprocess
 import tempfile
 
 import answers
-from commands import ran
+from commands import run
 
 EXAMPLES = "examples"
 FAULTS = "tests/questions/faults.txt"
@@ -73,7 +73,7 @@ def fault_of_faulty(program, text, fault):
     with tempfile.NamedTemporaryFile("w", encoding="ascii") as file:
         file.write(text)
         file.flush()
-        it = ran([program, file.name])
+        it = run([program, file.name])
     if (it.returncode, it.stdout, it.stderr) != (FAULTED, "", f"{NAME}{fault}\n"):
         return f"status {it.returncode}: {it.stdout[:100]!r}, {it.stderr!r}"
     return None
@@ -94,7 +94,7 @@ WORDS = (
 
 def fault_of_words(program, words, status, begins, errors):
     """Returns what is wrong with what the program does on words, or None."""
-    it = ran([program, *words])
+    it = run([program, *words])
     is_right = it.stdout.startswith(begins) if begins else not it.stdout
     if (it.returncode, it.stderr) != (status, errors) or not is_right:
         return f"status {it.returncode}: {it.stdout[:100]!r}, {it.stderr!r}"
@@ -111,15 +111,15 @@ def fault_of_full(program):
     return None if (it.returncode, it.stderr) == (FAULTED, wanted) else repr(it)
 
 
-def fault_of_row(bench, program, question, wanted, count):
+def fault_of_row(towerbench, answers_program, question, wanted, least):
     """Returns what is wrong with a row of the guide's table, or None."""
     its = answers.question_of(question)
-    listed = answers.ask(program, its.text)
+    listed = answers.ask(answers_program, its.text)
     found = [it for it in listed if is_wanted(wanted, it.answers)]
-    least = str(min((len(it.steps) for it in found), default="none"))
-    if least != count:
-        return f"{wanted} has {least} steps"
-    return answers.fault_of_own(bench, its, listed)
+    found_least = str(min((len(it.steps) for it in found), default="none"))
+    if found_least != least:
+        return f"{wanted} has {found_least} steps"
+    return answers.fault_of_own(towerbench, its, listed)
 
 
 def is_wanted(wanted, its):

@@ -10,8 +10,8 @@ its answer; one that begins with ```timeline NAME is looked at by tests/timeline
 - A line of an answer that the page's text names, as `4 p1 return 0` does, is one of those quoted in
   its blocks. A command that it names, as `0 verdict main 6` does, is in one of
   its scripts.
-- A lesson asks first: a question, a time line, and exercises, the last of them for a schedule of the
-  reader's own, whose solution is your-own.script. All this fits a screen. The answers, with all
+- A lesson asks first: a question, a time line, and exercises, the last of them for a schedule of
+  the reader's own, whose solution is your-own.script. All this fits a screen. The answers, with all
   transcripts, are folded away after it.
 - lessons/README.md links to each lesson, in order.
 Running the scripts shows that the outputs are the program's (tests/run).
@@ -83,7 +83,7 @@ def answers(expected):
     return found
 
 
-def quotes_faults(page, name, lines):
+def transcript_faults(page, name, lines):
     """Yields what is wrong with the lines of all transcripts of a name, which are written out."""
     script = page.parent / f"{name}.script"
     if not script.exists():
@@ -116,7 +116,7 @@ def page_faults(page):
         file = re.escape(f"{page.parent.relative_to(TOP)}/{name}.")
         if not re.search(rf"`\./towerbench {file}(tower|bench)( --save [^`]*)?`", text):
             yield f"it doesn't say how to start {name}.tower or {name}.bench"
-        yield from quotes_faults(page, name, [it for line in lines for it in written_out(line)])
+        yield from transcript_faults(page, name, [it for line in lines for it in written_out(line)])
     shown = [
         it for lines in transcripts.values() for line in lines for it in {line, *written_out(line)}
     ]

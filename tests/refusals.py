@@ -1,12 +1,15 @@
-"""Wrong bodies as the gate tries them, by the toolchain's own functions that apply an edit and check a crate.
+"""Wrong bodies as the gate tries them, by the toolchain's own functions that apply an edit and
+check a crate.
 
-`rt must-fail` first proves the crate once more, which takes longer than all trials after it. Here the prover checks the functions that
-a wrong body changes, and those that they call, over the libraries that `rt ci` built: if one of them isn't proved, the crate isn't. If
-all are proved, or the names don't show which they are, it checks the whole crate.
+`rt must-fail` first proves the crate once more, which takes longer than all trials after it. Here
+the prover checks the functions that a wrong body changes, and those that they call, over the
+libraries that `rt ci` built: if one of them isn't proved, the crate isn't. If all are proved, or
+the names don't show which they are, it checks the whole crate.
 
-Much of such a check goes on what it loads, so edits of the bodies of different functions, of which none calls another, are first tried
-together. A proof rests on its own function's body, and only on the contracts of others: what is refused there, by a fault of its own
-function, would be refused alone. Every other edit is tried alone.
+Much of such a check goes on what it loads, so edits of the bodies of different functions, of which
+none calls another, are first tried together. A proof rests on its own function's body, and only on
+the contracts of others: what is refused there, by a fault of its own function, would be refused
+alone. Every other edit is tried alone.
 """
 import collections
 import importlib.machinery
@@ -16,7 +19,8 @@ import re
 import shutil
 import sys
 
-# An item that begins at the margin or in an impl: a function, with the margin before it, an impl or trait, or the end of one.
+# An item that begins at the margin or in an impl: a function, with the margin before it, an impl or
+# trait, or the end of one.
 ITEM = re.compile(
     r"^(?:( *)(?:pub(?:\([a-z]+\))? )?(?:const )?fn (\w+)"
     r"|(?:impl(?:<[^{]*?>)?|(?:pub(?:\([a-z]+\))? )?trait) ([^{]*?)\s*(?:\{|\bwhere\b)|\})",
@@ -39,12 +43,14 @@ NAMES = re.compile(
 NO_SUCH_NAME = 2
 TRIES_OF_A_CHECK = 2
 
-# said: what the prover said, or why it judged nothing; is_refused: whether it refused the wrong body.
+# said: what the prover said, or why it judged nothing; is_refused: whether it refused the wrong
+# body.
 Result = collections.namedtuple("Result", "is_refused said")
-# A function whose body an edit changes: the end of its name, its file, and there the line that it begins in and its `}`, counted from 0.
+# A function whose body an edit changes: the end of its name, its file, and there the line that it
+# begins in and its `}`, counted from 0.
 Body = collections.namedtuple("Body", "name path first last")
-# texts: the files that an edit changes; bodies: what they change, if they change only bodies of functions, or else nothing; calls: the
-# names of all functions that those may call.
+# texts: the files that an edit changes; bodies: what they change, if they change only bodies of
+# functions, or else nothing; calls: the names of all functions that those may call.
 Change = collections.namedtuple("Change", "edit texts bodies calls")
 
 
@@ -61,7 +67,8 @@ def toolchain():
 
 
 def changes_of(edit, crate):
-    """Yields the path and the text of each file that an edit changes, as it is before each change, and the position of the change."""
+    """Yields the path and the text of each file that an edit changes, as it is before each change,
+    and the position of the change."""
     path, old, texts = "", "", {}
     with open(edit, encoding="utf-8") as file:
         for line in file.read().split("\n"):
@@ -81,7 +88,8 @@ def text_of(path):
 
 
 def place_of(path, text, at):
-    """Returns the module that a place of a source is in, and the end of its function's name; no name if none is sure to be its."""
+    """Returns the module that a place of a source is in, and the end of its function's name; no
+    name if none is sure to be its."""
     module = "::".join(it for it in path[: -len(".rt")].split("/")[1:] if it not in ("lib", "main"))
     function, margin, impl = "", "", ""
     for item in ITEM.finditer(text):
@@ -99,7 +107,8 @@ def place_of(path, text, at):
 
 
 def name_of_impl(head):
-    """Returns how a check names an impl, or a trait: `Work<Journal<R>> for Act<'_>` is ActWorkJournal."""
+    """Returns how a check names an impl, or a trait: `Work<Journal<R>> for Act<'_>` is
+    ActWorkJournal."""
     trait, _, name = head.rpartition(" for ")
     # (type parameters have one letter)
     words = re.findall(r"\b[A-Z]\w+", trait)
@@ -108,7 +117,8 @@ def name_of_impl(head):
 
 
 def body_at(path, text, at):
-    """Returns the function whose body a line of a source is in, by the place at which the line begins, or None if none is sure to be."""
+    """Returns the function whose body a line of a source is in, by the place at which the line
+    begins, or None if none is sure to be."""
     items = [*ITEM.finditer(text)]
     item = next((it for it in reversed(items) if it.start() <= at), None)
     name = place_of(path, text, at)[1]
@@ -123,7 +133,8 @@ def body_at(path, text, at):
 
 
 def bodies_of(texts, crate):
-    """Returns the functions whose bodies these texts of a crate's files change, or nothing if they change more than bodies."""
+    """Returns the functions whose bodies these texts of a crate's files change, or nothing if they
+    change more than bodies."""
     found = {}
     for path, text in texts.items():
         old, at = text_of(f"{crate}/{path}"), 0
@@ -161,7 +172,8 @@ def name_in(body):
 
 
 def selections(edit, crate):
-    """Returns what to check, one after another until one refuses the edit: names of functions or modules; none for the whole crate."""
+    """Returns what to check, one after another until one refuses the edit: names of functions or
+    modules; none for the whole crate."""
     places, named = [], ONLY.findall(text_of(edit))
     for path, text, at in changes_of(edit, crate):
         if not path.startswith("src/"):
@@ -177,7 +189,8 @@ def selections(edit, crate):
 
 
 def judged_by(rt, ran, texts):
-    """Returns the lines of a check that refuses something, and those of faults at places, or nothing if it judged nothing."""
+    """Returns the lines of a check that refuses something, and those of faults at places, or
+    nothing if it judged nothing."""
     lines = ran.stdout.rstrip("\n").split("\n")
     is_read = not any(rt.unread(it, texts) for it in lines)
     if (
@@ -192,7 +205,8 @@ def judged_by(rt, ran, texts):
 
 
 def refusal_in(rt, ran, texts):
-    """Returns the first line in which a check refuses a wrong body, or None if it judged nothing or found no fault."""
+    """Returns the first line in which a check refuses a wrong body, or None if it judged nothing or
+    found no fault."""
     lines, faults = judged_by(rt, ran, texts)
     refused = [it for it in lines if it.startswith("fn ") and not it.endswith(": proved")]
     return next(
@@ -201,7 +215,8 @@ def refusal_in(rt, ran, texts):
 
 
 def own_refusal(lines, faults, body):
-    """Returns the first line in which a check refuses a function by a fault of its own, or None if it doesn't, or not surely."""
+    """Returns the first line in which a check refuses a function by a fault of its own, or None if
+    it doesn't, or not surely."""
     about = re.compile(
         rf"fn \w+::((?:\S+::)?{body.name}): (?:not proved|no proof: )(?!.*it calls `)"
     )
@@ -218,7 +233,8 @@ def own_refusal(lines, faults, body):
 
 
 def with_all(changes, crate):
-    """Returns the texts of a crate's files with each of these changes made, none in the function of another."""
+    """Returns the texts of a crate's files with each of these changes made, none in the function of
+    another."""
     texts = {}
     for it in changes:
         for _, path, first, last in it.bodies:
@@ -255,13 +271,16 @@ def changes_by(rt, crate, edits):
 
 
 def refused_together(rt, crate, edits, proved):
-    """Has the prover check a crate with several wrong bodies in it at once, and returns the results of those that are surely refused."""
+    """Checks a crate with several wrong bodies in it at once, and returns the results
+    of those that are surely refused."""
     found = {}
     for batch in batches_of(changes_by(rt, crate, edits)):
         if len(batch) > 1:
             texts = with_all(batch, crate.folder)
             names = [body.name for it in batch for body in it.bodies]
-            judged = judged_by(rt, rt.checked(crate, texts, [*FLAGS, *only(names)], proved), texts)
+            judged = judged_by(
+                rt, rt.checked(crate, texts, [*FLAGS, *only_flags(names)], proved), texts
+            )
             for it in batch:
                 said = [*filter(None, (own_refusal(*judged, body) for body in it.bodies))]
                 if said:
@@ -269,19 +288,20 @@ def refused_together(rt, crate, edits, proved):
     return found
 
 
-def only(names):
+def only_flags(names):
     return [word for it in names for word in ("--only", it)]
 
 
 def tried(rt, crate, edit, proved):
-    """Has the prover check a crate with a wrong body in it. The folder `proved` keeps what checks of some functions prove."""
+    """Checks a crate with a wrong body in it. The folder `proved` keeps what checks of single
+    functions have proved."""
     texts, why = rt.read_edit(edit, crate.folder)
     if why:
         return Result(False, f"BAD EDIT: {why}")
     said = ""
     for names in selections(edit, crate.folder):
         for _ in range(TRIES_OF_A_CHECK):
-            ran = rt.checked(crate, texts, [*FLAGS, *only(names)], proved if names else None)
+            ran = rt.checked(crate, texts, [*FLAGS, *only_flags(names)], proved if names else None)
             said = refusal_in(rt, ran, texts)
             if said:
                 return Result(True, f"refused: {said}")
@@ -296,7 +316,8 @@ def tried(rt, crate, edit, proved):
 
 
 def all_tried(rt, crate, edits, proved):
-    """Has the prover check a crate with these wrong bodies, and yields each with its result: those that are refused together, or else alone."""
+    """Tries these wrong bodies of a crate, several at once and the others alone, and yields each
+    with its result."""
     refused = refused_together(rt, crate, edits, proved)
     for edit in edits:
         yield edit, refused.get(edit) or tried(rt, crate, edit, proved)

@@ -1,4 +1,5 @@
-"""Tests of what makes a release, in scratch folders: versions, two builds that are compared, the release and its sums.
+"""Tests of what makes a release, in scratch folders: versions, two builds that are compared, the
+release and its sums.
 
 Nothing is built: what builds is a substitute.
 """
@@ -12,7 +13,7 @@ import shutil
 import subprocess
 import tempfile
 
-from tools import TOP, loaded, put, same
+from tools import TOP, loaded, write_file, expect_equal
 from trials import Test
 
 PAGE = """<html><script type="application/json" id="data">{}</script>
@@ -35,7 +36,7 @@ def page_of(module):
 
 
 def versions():
-    same("places of the version", loaded("tools/version.py").faults(), [])
+    expect_equal("places of the version", loaded("tools/version.py").faults(), [])
 
 
 def other_order():
@@ -48,34 +49,35 @@ def other_order():
 
     tasks = {"low": task("low", [], 5), "over": task("over", ["low"], 5), "own": task("own", [], 1)}
     side.run_side_by_side(tasks, lambda *_: None)
-    same("the order", order, [("own", 1), ("low", 1), ("over", 1)])
+    expect_equal("the order", order, [("own", 1), ("low", 1), ("over", 1)])
 
 
 def two_builds():
-    """One changed byte in any file that is compared is a difference, and so is a file that isn't there."""
+    """One changed byte in any file that is compared is a difference, and so is a file that isn't
+    there."""
     twice = loaded("tools/twice")
     with tempfile.TemporaryDirectory() as temporary:
         one, other = f"{temporary}/one", f"{temporary}/other"
         for path in twice.products():
-            put(f"{one}/{path}", f"bytes of {path}\n")
-            put(f"{other}/{path}", f"bytes of {path}\n")
-        same("equal builds", twice.differences(one, other), [])
+            write_file(f"{one}/{path}", f"bytes of {path}\n")
+            write_file(f"{other}/{path}", f"bytes of {path}\n")
+        expect_equal("equal builds", twice.differences(one, other), [])
         for path in twice.products():
-            put(f"{other}/{path}", f"bytes of {path}!")
-            same(
+            write_file(f"{other}/{path}", f"bytes of {path}!")
+            expect_equal(
                 "a changed byte", [it.split(":")[0] for it in twice.differences(one, other)], [path]
             )
             with contextlib.redirect_stdout(io.StringIO()):
-                same("its status", twice.main(["--compare", one, other]), 1)
+                expect_equal("its status", twice.main(["--compare", one, other]), 1)
             os.remove(f"{other}/{path}")
-            same("a file less", len(twice.differences(one, other)), 1)
-            put(f"{other}/{path}", f"bytes of {path}\n")
+            expect_equal("a file less", len(twice.differences(one, other)), 1)
+            write_file(f"{other}/{path}", f"bytes of {path}\n")
 
 
 def put_release(releases, folder):
-    put(f"{folder}/towerbench.html", page_of(b"module"))
-    put(f"{folder}/towerbench", "program")
-    put(f"{folder}/SHA256SUMS", releases.lines_of(releases.sums_of(folder)))
+    write_file(f"{folder}/towerbench.html", page_of(b"module"))
+    write_file(f"{folder}/towerbench", "program")
+    write_file(f"{folder}/SHA256SUMS", releases.lines_of(releases.sums_of(folder)))
 
 
 def sums_of_a_release():
@@ -84,10 +86,12 @@ def sums_of_a_release():
         put_release(tried.releases, folder)
         lines = tried.releases.read("SHA256SUMS", folder).decode().splitlines()
         names = [it.split("  ")[1] for it in lines]
-        same("summed", names, ["program.wasm", "towerbench", "towerbench.html"])
-        same("the module", tried.releases.modules_of(page_of(b"module")), {"program": b"module"})
-        same("its sums", tried.fault_of_sums(folder), None)
-        same("what it says", tried.fault_of_data(folder), None)
+        expect_equal("summed", names, ["program.wasm", "towerbench", "towerbench.html"])
+        expect_equal(
+            "the module", tried.releases.modules_of(page_of(b"module")), {"program": b"module"}
+        )
+        expect_equal("its sums", tried.fault_of_sums(folder), None)
+        expect_equal("what it says", tried.fault_of_data(folder), None)
         for name, text in (
             ("towerbench", "Program"),
             ("towerbench.html", page_of(b"Module")),
@@ -95,24 +99,28 @@ def sums_of_a_release():
             ("SHA256SUMS", f"{lines[0]}\n"),
         ):
             put_release(tried.releases, folder)
-            put(f"{folder}/{name}", text)
-            same(f"{name} is changed", bool(tried.fault_of_sums(folder)), True)
+            write_file(f"{folder}/{name}", text)
+            expect_equal(f"{name} is changed", bool(tried.fault_of_sums(folder)), True)
             os.remove(f"{folder}/{name}")
-        put(f"{folder}/towerbench.html", page_of(b"").replace("0123456789ab", "0123 with changes"))
-        same("from changes", bool(tried.fault_of_data(folder)), True)
+        write_file(
+            f"{folder}/towerbench.html", page_of(b"").replace("0123456789ab", "0123 with changes")
+        )
+        expect_equal("from changes", bool(tried.fault_of_data(folder)), True)
 
 
 def program_of_another_system():
     tried = loaded("tools/handout")
     with tempfile.TemporaryDirectory() as temporary:
         tried.releases.FOLDER = f"{temporary}/release"
-        put(f"{temporary}/release/towerbench.html", page_of(b"module"))
-        put(f"{temporary}/release/towerbench", "of another system\n", 0o755)
+        write_file(f"{temporary}/release/towerbench.html", page_of(b"module"))
+        write_file(f"{temporary}/release/towerbench", "of another system\n", 0o755)
         os.makedirs(f"{temporary}/folder")
         with contextlib.redirect_stderr(io.StringIO()) as said:
             needs = tried.put_released(f"{temporary}/folder", temporary)["needs"]
-        same("left out", (needs, os.listdir(f"{temporary}/folder")), ("", ["towerbench.html"]))
-        same("said", "don't run here" in said.getvalue(), True)
+        expect_equal(
+            "left out", (needs, os.listdir(f"{temporary}/folder")), ("", ["towerbench.html"])
+        )
+        expect_equal("said", "don't run here" in said.getvalue(), True)
 
 
 class Repository:
@@ -121,12 +129,12 @@ class Repository:
     def __init__(self, top):
         self.top = top
         for path, text in loaded("tools/version.py").PLACES.items():
-            put(f"{top}/{path}", text.format("1.2.2"))
-        put(f"{top}/VERSION", "1.2.2\n")
-        put(f"{top}/CHANGELOG.md", "# Changes\n\n## 1.2.2\n")
-        put(f"{top}/.ci/turn", "7\n")
-        put(f"{top}/page", page_of(b"module"))
-        put(f"{top}/tools/twice", BUILDS, 0o755)
+            write_file(f"{top}/{path}", text.format("1.2.2"))
+        write_file(f"{top}/VERSION", "1.2.2\n")
+        write_file(f"{top}/CHANGELOG.md", "# Changes\n\n## 1.2.2\n")
+        write_file(f"{top}/.ci/turn", "7\n")
+        write_file(f"{top}/page", page_of(b"module"))
+        write_file(f"{top}/tools/twice", BUILDS, 0o755)
         for it in TOOLS:
             shutil.copy(f"{TOP}/tools/{it}", f"{top}/tools")
         self.git("init", "-q", "-b", "main")
@@ -147,34 +155,34 @@ class Repository:
         self.git("commit", "-q", "-m", message)
 
     def refuses(self, wanted):
-        """Sees that 1.2.3 isn't released, for a reason that begins so."""
+        """Checks that 1.2.3 isn't released, for a reason that begins with this text."""
         done = subprocess.run(
             [f"{self.top}/tools/release", "1.2.3"], capture_output=True, check=False
         )
         said = done.stderr.decode().removeprefix("release: ")
-        same(wanted, (done.returncode, said[: len(wanted)]), (1, wanted))
+        expect_equal(wanted, (done.returncode, said[: len(wanted)]), (1, wanted))
 
 
 def release_in_order():
     with tempfile.TemporaryDirectory() as top:
         its = Repository(top)
-        put(f"{top}/page", page_of(b"changed"))
+        write_file(f"{top}/page", page_of(b"changed"))
         its.refuses("something isn't committed")
         its.git("checkout", "-q", "page")
         its.refuses("CHANGELOG.md has to begin with 1.2.3")
-        put(f"{top}/CHANGELOG.md", "# Changes\n\n## 1.2.3\n\n## 1.2.2\n")
+        write_file(f"{top}/CHANGELOG.md", "# Changes\n\n## 1.2.3\n\n## 1.2.2\n")
         its.commit_all("Changes")
         its.refuses("the gate hasn't passed here")
-        same("versions", (its.text("VERSION"), its.text(".ci/turn")), ("1.2.3\n", "8\n"))
-        same("committed", its.git("log", "-1", "--format=%s"), "Version 1.2.3")
+        expect_equal("versions", (its.text("VERSION"), its.text(".ci/turn")), ("1.2.3\n", "8\n"))
+        expect_equal("committed", its.git("log", "-1", "--format=%s"), "Version 1.2.3")
         its.git("update-ref", "refs/gate/passed", "HEAD~1")
         its.refuses("the gate passed on")
         its.git("update-ref", "refs/gate/passed", "HEAD")
         subprocess.run([f"{top}/tools/release", "1.2.3"], check=True)
         files = ["release/SHA256SUMS", "release/towerbench", "release/towerbench.html"]
         shown = its.git("show", "--name-only", "--format=%s").split()
-        same("one commit", shown, ["Release", "1.2.3", *files])
-        same("nothing is left", its.git("status", "--porcelain"), "")
+        expect_equal("one commit", shown, ["Release", "1.2.3", *files])
+        expect_equal("nothing is left", its.git("status", "--porcelain"), "")
         its.refuses("the release of 1.2.3 is there already")
 
 

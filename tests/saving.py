@@ -3,8 +3,8 @@
 Of each row, example and lesson that ends well:
 - the answers are the same with `--save`;
 - the saved file, loaded and saved again, is the same, byte for byte;
-- the branches that are loaded show the pages that they showed after the script: states, bits, pending
-  operations, histories and verdicts, at their ends and halfway.
+- the branches that are loaded show the pages that they showed after the script: states, bits,
+  pending operations, histories and verdicts, at their ends and halfway.
 If a script ends by a fault, the file at the path is as it was.
 """
 import shutil

@@ -1,8 +1,9 @@
 """The rows of sizes: tests/rows/sizes/table.txt has a line for each, of which its files are made.
 
-A tower that is refused is a fault of its file's second line. Of one that isn't, the first page is looked at, and then steps are
-inserted: writes of the greatest value and of one more, reads by the last reader and by the process after it, a write by process 1 and
-a read by process 0, which only a tower has whose processes all do both, and actions of the last reader and of the process after it.
+A tower that is refused is a fault of its file's second line. Of one that isn't, the first page is
+looked at, and then steps are inserted: writes of the greatest value and of one more, reads by the
+last reader and by the process after it, a write by process 1 and a read by process 0, which only a
+tower has whose processes all do both, and actions of the last reader and of the process after it.
 """
 import collections
 import functools
@@ -13,15 +14,16 @@ REFUSED = "refused"
 # Who writes: process 0, or each process, which then also reads.
 WRITERS = {"p0": False, "all": True}
 
-# last: the number of the last reader; most: the greatest value; bits, words: the first page's; are_alike: whether all processes
-# write and read
+# last: the number of the last reader; most: the greatest value; bits, words: the first page's;
+# are_alike: whether all processes write and read
 Row = collections.namedtuple(
     "Row", "name tower last most bits words are_alike", defaults=[None] * 5
 )
 
 
 def values(column):
-    """Returns the values of a column: `1 0*3` is 1 and three times 0, and `4 of 1 0*3` is that four times."""
+    """Returns the values of a column: `1 0*3` is 1 and three times 0, and `4 of 1 0*3` is that four
+    times."""
     times, _, part = column.rpartition(" of ")
     found = []
     for it in part.split():
@@ -99,6 +101,7 @@ def files_of(row):
 
 @functools.lru_cache(None)
 def files():
-    """Returns the texts of the files of each row of the table, by the row's path and their kinds."""
+    """Returns the texts of the files of each row of the table, by the row's path and their
+    kinds."""
     with open(TABLE, encoding="ascii") as table:
         return {f"{FOLDER}/{it.name}": files_of(it) for it in rows(table.read())}

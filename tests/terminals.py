@@ -1,4 +1,5 @@
-"""./towerbench at a terminal: it says how to end, Ctrl-D ends and saves, Ctrl-C leaves without saving."""
+"""./towerbench at a terminal: it says how to end, Ctrl-D ends and saves, Ctrl-C leaves without
+saving."""
 import os
 import pty
 import select

@@ -1,9 +1,11 @@
 """Texts that the guide names and no expected output has.
 
-The guide's pages write what the program prints between backticks: an answer begins with `0: `, a line of a page with two spaces, a
-frame with the name of a layer; a break is in the table of breaks, and refusals and faults begin their rows with a number.
-A word of capitals is any word there, P in `pP` any number, and A one of the four bit actions. Each of these texts has to be in some
-expected output of a row, an example or a lesson, but that of refused memory, which tests/growths.py brings about.
+The guide's pages write what the program prints between backticks: an answer begins with `0: `, a
+line of a page with two spaces, a frame with the name of a layer; a break is in the table of breaks,
+and refusals and faults begin their rows with a number. A word of capitals is any word there, P in
+`pP` any number, and A one of the four bit actions. Each of these texts has to be in some expected
+output of a row, an example or a lesson, but that of refused memory, which tests/growths.py brings
+about.
 """
 import glob
 import re

@@ -180,8 +180,8 @@ def fault_of_block(program, folder, words, lines):
         return f"{name}: {branch} has {len(found['by'])} steps, the time line {count}"
     if operations != wanted:
         lacks, has = (
-            [tuple(it) for it in some if it not in others]
-            for some, others in ((wanted, operations), (operations, wanted))
+            [tuple(it) for it in one if it not in other]
+            for one, other in ((wanted, operations), (operations, wanted))
         )
         return f"{name}: {branch} has {lacks}, the time line {has}"
     for row, texts in rows.items():
@@ -211,7 +211,8 @@ def fault_of(path, program):
 
 
 def inner_bars(line, columns):
-    """Returns the bars of a row of a layer: the steps of each, and its words; one that goes on has no end."""
+    """Returns the bars of a row of a layer: the steps of each, and its words; one that goes on has
+    no end."""
     found = []
     for bar in INNER_BAR.finditer(line):
         begun = next((it.first for it in columns if it.begin == bar.start()), None)

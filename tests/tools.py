@@ -1,7 +1,8 @@
-"""Tests of the tools that prove, build and count, in scratch folders, with substitutes for the prover and the program: nothing is proved.
+"""Tests of the tools that prove, build and count, in scratch folders, with substitutes for the
+prover and the program: nothing is proved.
 
-Each tool is loaded for each test by itself, and works on a repository of three crates: `over` is above `low`, `tool` is a program over
-both. Expected values are written by hand.
+Each tool is loaded for each test by itself, and works on a repository of three crates: `over` is
+above `low`, `tool` is a program over both. Expected values are written by hand.
 """
 import contextlib
 import importlib.machinery
@@ -33,7 +34,7 @@ SOURCES = {
 ENDED = "checked: all\nrun=ended status={} steps=1\n"
 
 
-def same(what, got, wanted):
+def expect_equal(what, got, wanted):
     if got != wanted:
         raise cases.Failure(f"{what}: {got!r}, and {wanted!r} is right")
 
@@ -51,7 +52,7 @@ def loaded(path):
     return module
 
 
-def put(path, text, mode=0o644):
+def write_file(path, text, mode=0o644):
     os.makedirs(os.path.dirname(path), exist_ok=True)
     with open(path, "w", encoding="utf-8") as file:
         file.write(text)
@@ -62,9 +63,9 @@ def put(path, text, mode=0o644):
 def repository():
     """Makes a scratch folder with three crates; its path."""
     with tempfile.TemporaryDirectory() as top:
-        put(f"{top}/crates.txt", LISTED)
+        write_file(f"{top}/crates.txt", LISTED)
         for path, lines in SOURCES.items():
-            put(f"{top}/crates/{path}", "line\n" * lines)
+            write_file(f"{top}/crates/{path}", "line\n" * lines)
         yield top
 
 
@@ -78,28 +79,28 @@ def crates_and_lines():
     with repository() as top:
         side = side_at(top)
         crates = side.crates_of()
-        same("crates", crates, {"low": [], "over": ["low"], "tool": ["low", "over"]})
-        same("below tool", side.all_below(crates, "tool"), ["low", "over"])
-        same("lines of low", side.lines_of("low"), 21)
+        expect_equal("crates", crates, {"low": [], "over": ["low"], "tool": ["low", "over"]})
+        expect_equal("below tool", side.all_below(crates, "tool"), ["low", "over"])
+        expect_equal("lines of low", side.lines_of("low"), 21)
         # Its own 5, and a seventh of the 21 below
-        same("lines of the check of over", side.lines_of_check(crates, "over"), 8)
-        same("programs", [it for it in crates if side.is_program(it)], ["tool"])
+        expect_equal("lines of the check of over", side.lines_of_check(crates, "over"), 8)
+        expect_equal("programs", [it for it in crates if side.is_program(it)], ["tool"])
 
 
 def tree_of_a_crate():
     with repository() as top:
         side = side_at(top)
-        put(f"{top}/crates/low/out/rlib/low.rlib", "built")
-        put(f"{top}/crates/over/out/before", "kept")
+        write_file(f"{top}/crates/low/out/rlib/low.rlib", "built")
+        write_file(f"{top}/crates/over/out/before", "kept")
         with side.Tree(side.crates_of(), "over") as tree:
             found = sorted(
                 os.path.relpath(f"{at}/{it}", tree.top)
                 for at, _, files in os.walk(tree.top)
                 for it in files
             )
-            put(f"{tree.folder}/out/after", "made")
+            write_file(f"{tree.folder}/out/after", "made")
             tree.put_back()
-        same(
+        expect_equal(
             "files of the tree",
             found,
             [
@@ -112,8 +113,8 @@ def tree_of_a_crate():
                 "crates/over/src/lib.rt",
             ],
         )
-        same("products", sorted(os.listdir(f"{top}/crates/over/out")), ["after", "before"])
-        same("the tree is left", os.path.exists(tree.top), False)
+        expect_equal("products", sorted(os.listdir(f"{top}/crates/over/out")), ["after", "before"])
+        expect_equal("the tree is left", os.path.exists(tree.top), False)
 
 
 def ran_side_by_side(failing=None):
@@ -132,17 +133,19 @@ def ran_side_by_side(failing=None):
         "then": task("then", ["first"], 5),
         "last": task("last", ["then"], 1),
     }
-    same("chains", side.chains(tasks), {"short": 3, "first": 7, "then": 6, "last": 1})
+    expect_equal("chains", side.chains(tasks), {"short": 3, "first": 7, "then": 6, "last": 1})
     return side.run_side_by_side(tasks, lambda *_: None), order
 
 
 def order_of_tasks():
-    same(
+    expect_equal(
         "all tasks",
         ran_side_by_side(),
         (True, [("first", 1), ("then", 1), ("short", 1), ("last", 1)]),
     )
-    same("a task that fails", ran_side_by_side("then"), (False, [("first", 1), ("then", 1)]))
+    expect_equal(
+        "a task that fails", ran_side_by_side("then"), (False, [("first", 1), ("then", 1)])
+    )
 
 
 # What a check prints of a function that isn't proved, among what it prints of others.
@@ -164,29 +167,30 @@ logic=not-proved
 def shown_of(log):
     """Returns the lines that are shown of a failed proof with this log, after the first."""
     with repository() as top:
-        put(f"{top}/prove.log", log)
+        write_file(f"{top}/prove.log", log)
         return side_at(top).said_of_failure(f"{top}/prove.log", "low")[1:]
 
 
 def faults_of_failures():
     said = UNPROVED.splitlines()
-    same("what isn't proved", shown_of(UNPROVED), [said[it] for it in (2, 4, 7, 9)])
+    expect_equal("what isn't proved", shown_of(UNPROVED), [said[it] for it in (2, 4, 7, 9)])
     lost = "src/lib.rt:11:11: error[unknown-name]: cannot find value `y` in this scope"
-    same("what can't be read", shown_of(f"rt: chose\n{lost}\nstatements\n"), [lost])
-    same("no such line", shown_of("killed\n" * 30), ["killed"] * 20)
+    expect_equal("what can't be read", shown_of(f"rt: chose\n{lost}\nstatements\n"), [lost])
+    expect_equal("no such line", shown_of("killed\n" * 30), ["killed"] * 20)
     many = shown_of(f"{lost}\n" * 21)
-    same("more than are shown", many, [lost] * 20 + ["(and 1 more line of faults)"])
+    expect_equal("more than are shown", many, [lost] * 20 + ["(and 1 more line of faults)"])
 
 
 def statements_at(top):
-    """Returns the module over a kit in /kit, and the commands that it gives; each makes the file that it names."""
+    """Returns the module over a kit in /kit, and the commands that it gives; each makes the file
+    that it names."""
     statements, given = loaded("tools/statements.py"), []
     statements.side = side_at(top)
     statements.said_by_rt = {"doc": "/kit/START.md", "version": "kit 1"}.__getitem__
 
     def call(words, folder, _):
         given.append((os.path.relpath(folder, top), words))
-        put(os.path.join(folder, words[words.index("-o") + 1]), "made")
+        write_file(os.path.join(folder, words[words.index("-o") + 1]), "made")
         return True
 
     statements.side.PROCESSES.call = call
@@ -199,7 +203,7 @@ def words_of_a_library():
         words = " ".join(statements.steps_of(statements.side.crates_of(), "over", 2)[0]).replace(
             top, "TOP"
         )
-        same(
+        expect_equal(
             "words",
             words,
             (
@@ -216,18 +220,18 @@ def built_once():
         statements, given = statements_at(top)
         crates = statements.side.crates_of()
         made = [statements.prove(crates, it, 1, 0) for it in ("low", "low", "over", "tool")]
-        same("proved", made, [True] * 4)
+        expect_equal("proved", made, [True] * 4)
         # A program is compiled, and then linked
-        same(
+        expect_equal(
             "built",
             [folder for folder, _ in given],
             ["crates/low", "crates/over", "crates/tool", "crates/tool"],
         )
-        same(
+        expect_equal(
             "the program is where rt builds it", os.path.exists(f"{top}/crates/tool/out/tool"), True
         )
-        put(f"{top}/crates/over/specs/Over.antt", "another line\n")
-        same("current", [it for it in crates if statements.is_current(crates, it)], ["low"])
+        write_file(f"{top}/crates/over/specs/Over.antt", "another line\n")
+        expect_equal("current", [it for it in crates if statements.is_current(crates, it)], ["low"])
 
 
 def sums_after_a_new_layer():
@@ -240,7 +244,7 @@ def sums_after_a_new_layer():
             if os.path.isdir(f"{TOP}/crates/{name}/{part}"):
                 shutil.copytree(f"{TOP}/crates/{name}/{part}", f"{top}/crates/{name}/{part}")
         before = sums_of(statements)
-        put(
+        write_file(
             f"{top}/crates.txt",
             f"{side.text_of(f'{top}/crates.txt')}another: layers frames safe_bit\n",
         )
@@ -248,19 +252,21 @@ def sums_after_a_new_layer():
             for path in [f"{at}/{file}" for file in files]:
                 text = side.text_of(path).replace("own_register", "another")
                 text = text.replace("LayerName(b't', b'w', b'o')", "LayerName(b'a', b'n', b'o')")
-                put(path.replace("/own_register/", "/another/"), text)
+                write_file(path.replace("/own_register/", "/another/"), text)
         after = sums_of(statements)
-        same("to be proved", [it for it in after if before.get(it) != after[it]], ["another"])
-        same(
+        expect_equal(
+            "to be proved", [it for it in after if before.get(it) != after[it]], ["another"]
+        )
+        expect_equal(
             "its name",
             "b'a', b'n', b'o'" in side.text_of(f"{top}/crates/another/src/task.rt"),
             True,
         )
-        put(f"{top}/crates/layers/specs/Added.antt", "-- a definition\n")
+        write_file(f"{top}/crates/layers/specs/Added.antt", "-- a definition\n")
         changed = [
             statements.sum_of(side.crates_of(), it) != after[it] for it in ("another", "frames")
         ]
-        same("proved again if layers changes: another, frames", changed, [True, False])
+        expect_equal("proved again if layers changes: another, frames", changed, [True, False])
 
 
 def sums_of(statements):
@@ -279,37 +285,38 @@ def words_of_first_run():
         (["--save", "s"], None),
         (["--", "-a"], 1),
     ):
-        same(f"file of {words}", first.place_of_file(words), place)
+        expect_equal(f"file of {words}", first.place_of_file(words), place)
     for words, left in (
         (["a", "--save", "s"], ["a"]),
         (["--save=s", "a"], ["a"]),
         (["--save"], ["--save"]),
         (["--", "--save", "s"], ["--", "--save", "s"]),
     ):
-        same(f"{words} without its save", first.without_save(words), left)
+        expect_equal(f"{words} without its save", first.without_save(words), left)
     twice = ["--save", "s", "--save=t"]
-    same("two saves", first.without_save(twice), twice)
+    expect_equal("two saves", first.without_save(twice), twice)
     with tempfile.TemporaryDirectory() as temporary:
         first.keep(io.BytesIO(b"abcdef"), f"{temporary}/kept", 3)
-        same("kept of a long stream", cases.read(f"{temporary}/kept"), b"abcd")
-        same("a folder is kept", first.keep_file(temporary, f"{temporary}/none"), False)
+        expect_equal("kept of a long stream", cases.read(f"{temporary}/kept"), b"abcd")
+        expect_equal("a folder is kept", first.keep_file(temporary, f"{temporary}/none"), False)
 
 
 def first_run(early, program, words=(), has_rt=True):
-    """Runs tools/first_run between substitutes, which are shell: for `rt try`, and for the program, or None: it isn't proved."""
+    """Runs tools/first_run between substitutes, which are shell: for `rt try`, and for the program,
+    or None: it isn't proved."""
     with repository() as top:
         os.makedirs(f"{top}/crates/program")
         for it in ("first_run", "side_by_side.py"):
-            put(f"{top}/tools/{it}", "")
+            write_file(f"{top}/tools/{it}", "")
             shutil.copy(f"{TOP}/tools/{it}", f"{top}/tools/{it}")
-        put(f"{top}/built", f"#!/bin/sh\n{program}\n", 0o755)
-        put(
+        write_file(f"{top}/built", f"#!/bin/sh\n{program}\n", 0o755)
+        write_file(
             f"{top}/tools/program",
             "#!/bin/sh\n" + (f"echo '{top}/built'\n" if program else "exit 1\n"),
             0o755,
         )
         if has_rt:
-            put(f"{top}/bin/rt", f"#!/bin/sh\n{early}\n", 0o755)
+            write_file(f"{top}/bin/rt", f"#!/bin/sh\n{early}\n", 0o755)
         path = {"PATH": f"{top}/bin:/usr/bin:/bin" if has_rt else f"{top}/bin"}
         ran = subprocess.run(
             [sys.executable, f"{top}/tools/first_run", *words],
@@ -324,21 +331,21 @@ def first_run(early, program, words=(), has_rt=True):
 def answers_twice():
     early = "cat; printf '%s' '" + ENDED.format(0) + "' >&2"
     status, output, said = first_run(early, "cat")
-    same(
+    expect_equal(
         "the same answers",
         (status, output, said[-2]),
         (0, "0 join\n", "towerbench: proved, and the proved program answers the same"),
     )
     status, output, said = first_run(early, "cat; echo more; exit 1")
-    same(
+    expect_equal(
         "other answers",
         (status, output, said[-3:]),
         (3, "0 join\n", ["+more", "towerbench: the status was 0, and is 1", ""]),
     )
     status, output, said = first_run("echo stuck >&2", "cat; exit 1")
-    same("no unproved answers", (status, output, "stuck" in said), (1, "0 join\n", True))
-    same("no proof", first_run(early, None)[:2], (1, "0 join\n"))
-    same("no rt", first_run(early, "cat", has_rt=False)[:2], (1, ""))
+    expect_equal("no unproved answers", (status, output, "stuck" in said), (1, "0 join\n", True))
+    expect_equal("no proof", first_run(early, None)[:2], (1, "0 join\n"))
+    expect_equal("no rt", first_run(early, "cat", has_rt=False)[:2], (1, ""))
 
 
 def answers_and_saves():
@@ -350,7 +357,7 @@ def answers_and_saves():
         "towerbench: save failed",
         "",
     ]
-    same("a save that fails", (status, output, said[-3:]), (1, "0 join\ntry --\n", wanted))
+    expect_equal("a save that fails", (status, output, said[-3:]), (1, "0 join\ntry --\n", wanted))
 
 
 def table_of_shares():
@@ -362,7 +369,7 @@ def table_of_shares():
         5: ("low", "wrong bodies", ""),
     }
     crates = {"low": [], "another": ["low"], "over": ["low"]}
-    same(
+    expect_equal(
         "table",
         loaded(".ci/shares").written(parts, {1: 120, 2: 24, 3: 60, 4: 600, 5: 6}, crates),
         (
@@ -390,11 +397,12 @@ def edits_of_copies():
             tool.is_made_by(f"{temporary}/lost.edit", f"{temporary}/crate", f"{temporary}/{it}")
             for it in ("other", "same")
         ]
-        same("copies that an edit made", found, [True, False])
+        expect_equal("copies that an edit made", found, [True, False])
 
 
 def shares_of(command):
-    """Returns the status of a command under .ci/shares, and the lines of its table, if there is one."""
+    """Returns the status of a command under .ci/shares, and the lines of its table, if there is
+    one."""
     with tempfile.TemporaryDirectory() as temporary:
         status = subprocess.run(
             [f"{TOP}/.ci/shares", f"{temporary}/table", "bash", "-c", command], check=False
@@ -408,15 +416,17 @@ def shares_of(command):
 
 
 def shares_of_commands():
-    same("a command that ends", shares_of("exit 7"), (7, []))
-    same("a command that is killed", shares_of("kill -9 $$"), (137, []))
+    expect_equal("a command that ends", shares_of("exit 7"), (7, []))
+    expect_equal("a command that is killed", shares_of("kill -9 $$"), (137, []))
     # Once a second it looks at what the command has started
     prover = (
         f"exec -a rattle '{sys.executable}' -c 'import time; time.sleep(3)' --crate-name low --test"
     )
     status, lines = shares_of(f"({prover}); exit 0")
-    same("the prover's crates", (status, [it.split()[0] for it in lines[1:-3]]), (0, ["low"]))
-    same(
+    expect_equal(
+        "the prover's crates", (status, [it.split()[0] for it in lines[1:-3]]), (0, ["low"])
+    )
+    expect_equal(
         "the prover's ratio",
         lines[-2:-1],
         ["(tests + wrong bodies) over proofs: no proofs in this run"],
@@ -424,7 +434,9 @@ def shares_of_commands():
     after = lambda first: subprocess.run(
         [f"{TOP}/.ci/shares", "/dev/null", *first, "--", "false"], check=False
     ).returncode
-    same("a command after another", (after(["true"]), after(["bash", "-c", "exit 7"])), (1, 7))
+    expect_equal(
+        "a command after another", (after(["true"]), after(["bash", "-c", "exit 7"])), (1, 7)
+    )
 
 
 SOURCE = """//! Cells.
@@ -453,38 +465,44 @@ fn most() -> u32 {
 
 def places_of_changes():
     at = lambda text, file="src/store/cell.rt": refusals.place_of(file, SOURCE, SOURCE.index(text))
-    same("a method", at("self.value\n"), ("store::cell", "Cell::value"))
-    same("a method of an impl of a trait", at("*self"), ("store::cell", "CellModel::clone"))
-    same("a constant", at("u32 = 4"), ("store::cell", ""))
-    same("a function", at("MOST\n"), ("store::cell", "store::cell::most"))
-    same("a function of a library's root", at("MOST\n", "src/lib.rt"), ("", "most"))
+    expect_equal("a method", at("self.value\n"), ("store::cell", "Cell::value"))
+    expect_equal("a method of an impl of a trait", at("*self"), ("store::cell", "CellModel::clone"))
+    expect_equal("a constant", at("u32 = 4"), ("store::cell", ""))
+    expect_equal("a function", at("MOST\n"), ("store::cell", "store::cell::most"))
+    expect_equal("a function of a library's root", at("MOST\n", "src/lib.rt"), ("", "most"))
 
 
 def selections_of_edits():
     with tempfile.TemporaryDirectory() as temporary:
-        put(f"{temporary}/src/cell.rt", SOURCE)
-        put(f"{temporary}/src/lib.rt", "pub mod cell;\n")
+        write_file(f"{temporary}/src/cell.rt", SOURCE)
+        write_file(f"{temporary}/src/lib.rt", "pub mod cell;\n")
 
         def of(*lines):
-            put(f"{temporary}/edit", "\n".join(lines) + "\n")
+            write_file(f"{temporary}/edit", "\n".join(lines) + "\n")
             return refusals.selections(f"{temporary}/edit", temporary)
 
         method, value = ["file: src/cell.rt", "old:         self.value", "new:         0"], [
             "old:     MOST",
             "new:     self",
         ]
-        same("a method, its module, the crate", of(*method), [["Cell::value"], ["cell"], []])
-        same("two functions", of(*method, *value), [["Cell::value", "cell::most"], ["cell"], []])
-        same(
+        expect_equal(
+            "a method, its module, the crate", of(*method), [["Cell::value"], ["cell"], []]
+        )
+        expect_equal(
+            "two functions", of(*method, *value), [["Cell::value", "cell::most"], ["cell"], []]
+        )
+        expect_equal(
             "a method of a trait",
             of("file: src/cell.rt", "old:         *self", "new:         Cell { value: 0 }"),
             [["CellModel::clone"], ["cell"], []],
         )
-        same("no function", of("file: src/lib.rt", "old: pub mod cell;", "new: mod cell;"), [[]])
+        expect_equal(
+            "no function", of("file: src/lib.rt", "old: pub mod cell;", "new: mod cell;"), [[]]
+        )
         definition = ["file: specs/Cells.antt", "old: one", "new: two"]
-        put(f"{temporary}/specs/Cells.antt", "one\n")
-        same("a definition", of(*definition), [[]])
-        same("what it refuses", of("only: laws::safe", *definition), [["laws::safe"], []])
+        write_file(f"{temporary}/specs/Cells.antt", "one\n")
+        expect_equal("a definition", of(*definition), [[]])
+        expect_equal("what it refuses", of("only: laws::safe", *definition), [["laws::safe"], []])
 
 
 def refusals_of_checks():
@@ -493,11 +511,13 @@ def refusals_of_checks():
     of = lambda status, *lines: refusals.refusal_in(
         rt, types.SimpleNamespace(returncode=status, stdout="\n".join(lines) + "\n"), {}
     )
-    same("some functions", of(1, said, "only=2 proved=1"), said)
-    same("a crate", of(1, said, "logic=not-proved functions=2"), said)
-    same("all proved", of(0, "only=2 proved=2"), None)
-    same("not compiled", of(1, "error[type-mismatch]: src/cell.rt:12:5"), None)
-    same("not read", of(1, "src/cell.rt:12:5: error: `x` is not in scope", "only=2 proved=1"), None)
+    expect_equal("some functions", of(1, said, "only=2 proved=1"), said)
+    expect_equal("a crate", of(1, said, "logic=not-proved functions=2"), said)
+    expect_equal("all proved", of(0, "only=2 proved=2"), None)
+    expect_equal("not compiled", of(1, "error[type-mismatch]: src/cell.rt:12:5"), None)
+    expect_equal(
+        "not read", of(1, "src/cell.rt:12:5: error: `x` is not in scope", "only=2 proved=1"), None
+    )
 
 
 def names_of_impls():
@@ -508,12 +528,12 @@ def names_of_impls():
         ("Named for R", "AnyNamed"),
         ("Register: Behaves + Copy", "Register"),
     ):
-        same(head, refusals.name_of_impl(head), name)
+        expect_equal(head, refusals.name_of_impl(head), name)
 
 
 def bodies_of_edits():
     with tempfile.TemporaryDirectory() as temporary:
-        put(f"{temporary}/src/cell.rt", SOURCE)
+        write_file(f"{temporary}/src/cell.rt", SOURCE)
 
         def of(*pairs):
             text = SOURCE
@@ -522,8 +542,8 @@ def bodies_of_edits():
             return [it.name for it in refusals.bodies_of({"src/cell.rt": text}, temporary)]
 
         body = ("        self.value\n", "        0\n")
-        same("a body", of(body), ["Cell::value"])
-        same(
+        expect_equal("a body", of(body), ["Cell::value"])
+        expect_equal(
             "two",
             of(("  MOST", "  3"), ("*self", "Cell { value: 0 }")),
             ["CellModel::clone", "cell::most"],
@@ -535,7 +555,7 @@ def bodies_of_edits():
             ("an item in a body", "    MOST\n", "    const LEAST: u32 = 3; LEAST\n"),
             ("a comment", "//! Cells", "//! Bits"),
         ):
-            same(f"{what} and a body", of(body, pair), [])
+            expect_equal(f"{what} and a body", of(body, pair), [])
 
 
 # What a check says of the functions of SOURCE, each edited.
@@ -544,7 +564,8 @@ UNPROVED_CALL = "; it calls `cells::cell::Cell::value`, which is not proved"
 
 
 def checks_of_cells(said):
-    """Returns a substitute for the prover: `said` has what it says of a function, by its name; and the list of what it is asked."""
+    """Returns a substitute for the prover: `said` has what it says of a function, by its name; and
+    the list of what it is asked."""
     asked = []
 
     def read_edit(edit, crate):
@@ -568,13 +589,14 @@ def checks_of_cells(said):
 
 
 def tried_with(said):
-    """Tries three edits of SOURCE, and returns the results, and what was checked: the functions, and how many edits were in the copy."""
+    """Tries three edits of SOURCE, and returns the results, and what was checked: the functions,
+    and how many edits were in the copy."""
     rt, asked = checks_of_cells(said)
     with tempfile.TemporaryDirectory() as temporary:
-        put(f"{temporary}/src/cell.rt", SOURCE)
+        write_file(f"{temporary}/src/cell.rt", SOURCE)
         edits = {"clone": "        *self", "most": "    MOST", "value": "        self.value"}
         for name, old in edits.items():
-            put(f"{temporary}/{name}", f"file: src/cell.rt\nold: {old}\nnew: edited\n")
+            write_file(f"{temporary}/{name}", f"file: src/cell.rt\nold: {old}\nnew: edited\n")
         crate = types.SimpleNamespace(folder=temporary)
         paths = [f"{temporary}/{it}" for it in edits]
         results = refusals.all_tried(rt, crate, paths, temporary)
@@ -587,7 +609,7 @@ def edits_tried_together():
     value_is_lost = lambda _: [value, fn("Cell::value", "not proved")]
     clone = "./proofs/cell/CellModel/clone/Answers.antt:4:1: error: expected type `a`"
     all_three = ["CellModel::clone", "cell::most", "Cell::value"]
-    same(
+    expect_equal(
         "all are refused",
         tried_with(
             {
@@ -602,7 +624,7 @@ def edits_tried_together():
         ),
     )
     is_with_value = lambda names: UNPROVED_CALL if "Cell::value" in names else ""
-    same(
+    expect_equal(
         "one is proved, and one calls another",
         tried_with(
             {
@@ -626,7 +648,7 @@ def edits_tried_together():
         ),
     )
     unread = "src/cell.rt:20:5: error: `x` is not in scope"
-    same(
+    expect_equal(
         "one can't be read",
         tried_with(
             {
@@ -642,16 +664,16 @@ def edits_tried_together():
 def edits_of_callers():
     twice = "\nfn twice() -> u32 {\n    once()\n}\n\nfn once() -> u32 {\n    most()\n}\n"
     with tempfile.TemporaryDirectory() as temporary:
-        put(f"{temporary}/src/cell.rt", SOURCE + twice)
+        write_file(f"{temporary}/src/cell.rt", SOURCE + twice)
         edits = {"most": "    MOST", "twice": "    once()", "value": "        self.value"}
         for name, old in edits.items():
-            put(f"{temporary}/{name}", f"file: src/cell.rt\nold: {old}\nnew: edited\n")
+            write_file(f"{temporary}/{name}", f"file: src/cell.rt\nold: {old}\nnew: edited\n")
         rt, crate = checks_of_cells({})[0], types.SimpleNamespace(folder=temporary)
         changes = refusals.changes_by(rt, crate, [f"{temporary}/{it}" for it in edits])
         found = [
             [os.path.basename(it.edit) for it in batch] for batch in refusals.batches_of(changes)
         ]
-        same("a caller apart", found, [["most", "value"], ["twice"]])
+        expect_equal("a caller apart", found, [["most", "value"], ["twice"]])
 
 
 def faults_of_other_functions():
@@ -660,16 +682,20 @@ def faults_of_other_functions():
         [fault, *[f"fn cells::cell::{it}" for it in said]], [fault], body
     )
     own, other = f"note: {CELL.format('11:9')}", f"note: {CELL.format('14:1')}"
-    same("its own fault", of(own, "Cell::value: not proved"), own)
-    same("another's fault", of(other, "Cell::value: not proved"), None)
+    expect_equal("its own fault", of(own, "Cell::value: not proved"), own)
+    expect_equal("another's fault", of(other, "Cell::value: not proved"), None)
     answer = "./proofs/cell/Cell/most/Answers.antt:4:1: error: expected type `a`"
-    same("a fault in another's proof", of(answer, "Cell::value: not proved"), None)
+    expect_equal("a fault in another's proof", of(answer, "Cell::value: not proved"), None)
     lost = "./proofs/cell/Cell/value/Answers.antt:4:1: error: `c` has no field `x`"
-    same("a name that is gone", of(lost, "Cell::value: not proved"), None)
-    same("proved", of(own, "Cell::value: proved"), None)
-    same("a callee", of(own, "Cell::value: not proved; it calls `cells::f`, which is not"), None)
-    same("not named", of(own, "Cell::most: not proved"), None)
-    same("two of a name", of(own, "Cell::value: not proved", "a::Cell::value: not proved"), None)
+    expect_equal("a name that is gone", of(lost, "Cell::value: not proved"), None)
+    expect_equal("proved", of(own, "Cell::value: proved"), None)
+    expect_equal(
+        "a callee", of(own, "Cell::value: not proved; it calls `cells::f`, which is not"), None
+    )
+    expect_equal("not named", of(own, "Cell::most: not proved"), None)
+    expect_equal(
+        "two of a name", of(own, "Cell::value: not proved", "a::Cell::value: not proved"), None
+    )
 
 
 def floors_of_proofs():
@@ -679,28 +705,34 @@ def floors_of_proofs():
         "30 passed, 0 failed",
         "wrong bodies: turn 7 of 8 tries 70 besides those of each gate",
     )
-    same("all", of(proved, turn, "wrong bodies: 124 refused, 0 not"), 0)
-    same("a crate less", of("29 passed, 0 failed", turn, "wrong bodies: 124 refused, 0 not"), 1)
-    same("a failure", of("30 passed, 1 failed", turn, "wrong bodies: 124 refused, 0 not"), 1)
-    same("a wrong body less", of(proved, turn, "wrong bodies: 123 refused, 0 not"), 1)
-    same("a wrong body that is proved", of(proved, turn, "wrong bodies: 123 refused, 1 not"), 1)
-    same("nothing", of(""), 2)
+    expect_equal("all", of(proved, turn, "wrong bodies: 124 refused, 0 not"), 0)
+    expect_equal(
+        "a crate less", of("29 passed, 0 failed", turn, "wrong bodies: 124 refused, 0 not"), 1
+    )
+    expect_equal(
+        "a failure", of("30 passed, 1 failed", turn, "wrong bodies: 124 refused, 0 not"), 1
+    )
+    expect_equal("a wrong body less", of(proved, turn, "wrong bodies: 123 refused, 0 not"), 1)
+    expect_equal(
+        "a wrong body that is proved", of(proved, turn, "wrong bodies: 123 refused, 1 not"), 1
+    )
+    expect_equal("nothing", of(""), 2)
 
 
 def quotes_of_files():
     with tempfile.TemporaryDirectory() as temporary:
-        put(f"{temporary}/lib.rt", "one\ntwo\nthree\nfour\n")
+        write_file(f"{temporary}/lib.rt", "one\ntwo\nthree\nfour\n")
 
         def is_quote(*lines, file="lib.rt"):
             block = documents.Block(1, "rust", f"{temporary}/{file}", "", [*lines])
             return documents.quote_fault(block) is None
 
-        same("lines in a row", is_quote("two", "three"), True)
-        same("lines left out", is_quote("one", "..", "four"), True)
-        same("another order", is_quote("three", "..", "two"), False)
-        same("lines that aren't in a row", is_quote("one", "three"), False)
-        same("part of a line", is_quote("wo"), False)
-        same("no such file", is_quote("two", file="main.rt"), False)
+        expect_equal("lines in a row", is_quote("two", "three"), True)
+        expect_equal("lines left out", is_quote("one", "..", "four"), True)
+        expect_equal("another order", is_quote("three", "..", "two"), False)
+        expect_equal("lines that aren't in a row", is_quote("one", "three"), False)
+        expect_equal("part of a line", is_quote("wo"), False)
+        expect_equal("no such file", is_quote("two", file="main.rt"), False)
 
 
 ALL = {

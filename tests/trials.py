@@ -1,4 +1,5 @@
-"""Tests that are done side by side: one line reports each that fails, and the last line how many passed."""
+"""Tests that are run side by side: one line reports each that fails, and the last line how many
+passed."""
 import collections
 import os
 import subprocess
@@ -19,7 +20,7 @@ def outcome(test):
 
 
 def count_faults(tests, lanes):
-    """Does all tests side by side, prints which fail, and returns how many."""
+    """Runs all tests side by side, prints which fail, and returns how many."""
     failed = 0
     with ThreadPoolExecutor(lanes or os.cpu_count()) as pool:
         for test, fault in zip(tests, pool.map(outcome, tests)):
@@ -30,7 +31,8 @@ def count_faults(tests, lanes):
 
 
 def status_of(tests, is_whole=False, lanes=None, remark=None):
-    """Does the tests, `lanes` at a time, and returns the status to end with. is_whole: one that can't be tried is a failure.
+    """Runs the tests, `lanes` at a time, and returns the status to end with. is_whole: one that
+    can't be tried is a failure.
 
     What `remark` returns after the tests is printed before the last line.
     """

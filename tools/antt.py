@@ -4,15 +4,17 @@ import re
 
 WORD = r"[^\W\d][\w'-]*"
 COMMENT = "--"
-# How a declaration begins: its margin, its marks, and its name, after which there is a colon but for a record's or a type's.
+# How a declaration begins: its margin, its marks, and its name, after which there is a colon but
+# for a record's or a type's.
 HEAD = re.compile(
     r"( *)((?:abbrev |unfoldable |pub )*)(?:(record|data) ([^\s:(){}]+)|([^\s:(){}]+) :(?: |$))"
 )
 # A line that declares nothing itself, but has names of other files or parameters of what follows.
-OTHER = re.compile(r" *(?:module|(?:pub )?(?:use|mod)) ")
+NO_DECLARATION = re.compile(r" *(?:module|(?:pub )?(?:use|mod)) ")
 USED = re.compile(r"\buse (Rattle(?:\.\w+)+)(?:\.\{([^}]*)\}| as (\w+))?", re.DOTALL)
 
-# kind: "record", "data" or ""; number: that of its first line; lines: those of its code, also of what is declared inside it
+# kind: "record", "data" or ""; number: that of its first line; lines: those of its code, also of
+# what is declared inside it
 Declaration = collections.namedtuple("Declaration", "name kind is_public margin number lines")
 
 
@@ -32,7 +34,7 @@ def code_of(text):
 
 def declared_by(line, number):
     """Returns what a line declares, or None."""
-    head = None if OTHER.match(line) else HEAD.match(line)
+    head = None if NO_DECLARATION.match(line) else HEAD.match(line)
     if not head:
         return None
     margin, marks, kind, *names = head.groups()
@@ -42,7 +44,8 @@ def declared_by(line, number):
 
 
 def declarations(text):
-    """Returns what a file declares for all of it, in order: fields and local names are lines of what they are in."""
+    """Returns what a file declares for all of it, in order: fields and local names are lines of
+    what they are in."""
     found, is_open = [], False
     for number, line in enumerate(code_of(text)):
         if not line.strip():
@@ -52,7 +55,7 @@ def declarations(text):
         if declared:
             found.append(declared)
             is_open = True
-        elif inside or (is_open and not OTHER.match(line)):
+        elif inside or (is_open and not NO_DECLARATION.match(line)):
             found[-1].lines.append(line)
         else:
             is_open = False
@@ -60,7 +63,8 @@ def declarations(text):
 
 
 def public_names(text):
-    """Returns the names that a file declares for others, but for those of fields and of operators."""
+    """Returns the names that a file declares for others, but for those of fields and of
+    operators."""
     return {it.name for it in declarations(text) if it.is_public and is_word(it.name)}
 
 
@@ -79,7 +83,8 @@ def lines_of_fields(text):
 
 
 def imports_of(text):
-    """Returns where a file's `use` lines find names: each one's module and name there, or a module."""
+    """Returns where a file's `use` lines find names: each one's module and name there, or a
+    module."""
     names, modules = {}, {}
     for whole, listed, alias in USED.findall(text):
         at = tuple(it for it in whole.split(".")[1:] if it not in ("specs", "proofs"))

@@ -1,4 +1,5 @@
-"""A release: the files of the folder release/, and what is inside its page. It needs Python alone."""
+"""A release: the files of the folder release/, and what is inside its page. It needs Python
+alone."""
 import base64
 import gzip
 import hashlib
@@ -17,7 +18,7 @@ DATA = re.compile(r'<script type="application/json" id="data">(.*?)</script>', r
 MODULE = r'<script type="text/plain" id="{}">([\w+/=\s]*)</script>'
 
 
-class Unread(ValueError):
+class NotAPage(ValueError):
     """What isn't a page of tools/page."""
 
 
@@ -35,10 +36,11 @@ def has_program():
 
 
 def data_of(page):
-    """Returns what a page says of itself: version, commit, kit, and the sums of its programs' sources."""
+    """Returns what a page says of itself: version, commit, kit, and the sums of its programs'
+    sources."""
     found = DATA.search(page)
     if not found:
-        raise Unread("the page lacks its data")
+        raise NotAPage("the page lacks its data")
     return json.loads(found.group(1))
 
 
@@ -46,7 +48,7 @@ def modules_of(page):
     """Returns the modules inside a page, by the names of their programs' crates."""
     found = {name: re.search(MODULE.format(name), page) for name in data_of(page)["sources"]}
     if not found or not all(found.values()):
-        raise Unread(f"the page lacks the module of one of {sorted(found)}")
+        raise NotAPage(f"the page lacks the module of one of {sorted(found)}")
     return {name: gzip.decompress(base64.b64decode(it.group(1))) for name, it in found.items()}
 
 
@@ -59,7 +61,8 @@ def sum_of(content):
 
 
 def sums_of(folder=None):
-    """Returns the sum of each file of a release but the sums themselves, and of each module inside its page."""
+    """Returns the sum of each file of a release but the sums themselves, and of each module inside
+    its page."""
     names = [it for it in sorted(os.listdir(folder or FOLDER)) if it != SUMS]
     found = {it: sum_of(read(it, folder)) for it in names}
     modules = modules_of(read(PAGE, folder).decode())
@@ -72,7 +75,8 @@ def lines_of(sums):
 
 
 def put_modules(folder):
-    """Writes the modules inside the release's page into a folder, and returns their paths by program."""
+    """Writes the modules inside the release's page into a folder, and returns their paths by
+    program."""
     found = {}
     for program, content in modules_of(read(PAGE).decode()).items():
         found[program] = f"{folder}/{module_name(program)}"

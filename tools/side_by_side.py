@@ -1,8 +1,9 @@
 """The crates of this repository, and work on them side by side.
 
-`rt` lets one run at a time into a crate and all below it, so two crates over one library wait for each other.
-Here each crate is worked on in a tree of its own, a scratch folder that has the crate's files and the libraries below it as
-they are built; its products are then put back. Needs Python 3.8, as `rt` does.
+`rt` lets one run at a time into a crate and all below it, so two crates over one library wait for
+each other. Here each crate is worked on in a tree of its own, a scratch folder that has the crate's
+files and the libraries below it as they are built; its products are then put back. Needs Python
+3.8, as `rt` does.
 """
 import collections
 import fcntl
@@ -28,16 +29,19 @@ LINES_LOADED_AS_ONE = 7
 # The last in the queue for a processor, as `nice` counts.
 NICEST = 19
 SECONDS_BETWEEN_REPORTS = 60
-# Whether crates are built in the other order, each by one processor: their bytes have to be the same (tools/twice).
+# Whether crates are built in the other order, each by one processor: their bytes have to be the
+# same (tools/twice).
 IS_BACKWARD = os.environ.get("TOWERBENCH_ORDER") == "backward"
 LINES_SHOWN = 20
-# What a check says of a place, of a function or a goal that isn't proved, and of what can't be read.
-OF_A_FAULT = re.compile(
+# What a check says of a place, of a function or a goal that isn't proved, and of what can't be
+# read.
+FAULT_LINE = re.compile(
     r"(note: )?\S+:\d+:\d+: |fn .*: (?!proved$)|note: `.* (must prove|may be false)|.*\berror\b"
 )
 
-# waits: the keys of the tasks that have to go well first; lines: about how long it takes; most_jobs: how many processors it can
-# use; work: is given how many it may use and its niceness, and returns whether it went well.
+# waits: the keys of the tasks that have to go well first; lines: about how long it takes;
+# most_jobs: how many processors it can use; work: is given how many it may use and its niceness,
+# and returns whether it went well.
 Task = collections.namedtuple("Task", "waits lines most_jobs work")
 
 
@@ -100,7 +104,8 @@ def link_or_copy(source, target):
 
 
 class Tree:
-    """A scratch tree for work on one crate, which nothing else works on meanwhile. Used by `with`."""
+    """A scratch tree for work on one crate, which nothing else works on meanwhile. Used by
+    `with`."""
 
     def __init__(self, crates, name, has_out=True):
         self.name, self.below, self.has_out = name, all_below(crates, name), has_out
@@ -154,7 +159,8 @@ class Tree:
 
 
 def lock(folder, kind):
-    """Waits until no other run works in the folder, and returns what keeps others out until it is closed."""
+    """Waits until no other run works in the folder, and returns a descriptor that keeps others out
+    until it is closed."""
     held, has_said = os.open(folder, os.O_RDONLY), False
     while not PROCESSES.are_ended:
         try:
@@ -222,7 +228,7 @@ def said_of_failure(log, name):
     the last ones if none does."""
     with open(log, encoding="utf-8", errors="replace") as it:
         lines = it.read().splitlines()
-    faults = [it for it in lines if OF_A_FAULT.match(it)]
+    faults = [it for it in lines if FAULT_LINE.match(it)]
     how = "in part:" if faults else "which ends:"
     said = f"{name} is not proved; all that its proof said is in {os.path.relpath(log)}, {how}"
     left = len(faults) - LINES_SHOWN
@@ -272,13 +278,15 @@ def processors():
 
 
 def lanes():
-    """Returns how many checks may run side by side: as many as memory holds, at most two for each processor, and at least one."""
+    """Returns how many checks may run side by side: as many as memory holds, at most two for each
+    processor, and at least one."""
     free = 1024 * (number_in("/proc/meminfo", r"MemAvailable:\s+(\d+)") or 0)
     limit = number_in("/sys/fs/cgroup/memory.max", r"(\d+)")
     held = number_in("/sys/fs/cgroup/memory.stat", r"anon (\d+)")
     if limit and held is not None:
         free = min(free, limit - held)
-    # A check uses one processor for half of its time, so more checks than processors keep these busy
+    # A check uses one processor for half of its time, so more checks than processors keep these
+    # busy
     return max(1, min(2 * processors(), free // MEMORY_OF_A_CHECK))
 
 
@@ -298,11 +306,13 @@ def chains(tasks):
 
 
 def run_side_by_side(tasks, show):
-    """Runs the tasks, those with the longest chain after them first, and returns whether all went well.
+    """Runs the tasks, those with the longest chain after them first, and returns whether all went
+    well.
 
-    The one that the longest chain waits for may use all processors. The others share them, and the shorter the chain after one, the
-    lower its priority if processors are short. Once one fails, the others are ended. `show` is given those that are done and
-    those that run, each with its seconds, whenever that changes and once a minute."""
+    The one that the longest chain waits for may use all processors. The others share them, and the
+    shorter the chain after one, the lower its priority if processors are short. Once one fails, the
+    others are ended. `show` is given those that are done and those that run, each with its seconds,
+    whenever that changes and once a minute."""
     all_processors, all_lanes, chain = processors(), lanes(), chains(tasks)
     left = sorted(tasks, key=lambda it: chain[it] if IS_BACKWARD else -chain[it])
     running, done = {}, {}
@@ -314,7 +324,8 @@ def run_side_by_side(tasks, show):
                     it for it in left if is_well and all(below in done for below in tasks[it].waits)
                 ]
                 head = max(chain[it] for it in [*left, *(it for it, _ in running.values())])
-                # A check on several processors costs more in all, so only the longest chain's gets all of them
+                # A check on several processors costs more in all, so only the longest chain's gets
+                # all of them
                 share = all_processors // (len(running) + len(ready) or 1)
                 for key in ready[: all_lanes - len(running)]:
                     most = all_processors if chain[key] == head else share
@@ -340,7 +351,7 @@ def run_side_by_side(tasks, show):
 
 
 def end_by_signals():
-    """Has a request to end the run end its commands too, and remove its scratch trees."""
+    """Makes a signal that ends the run also end its commands and remove its scratch trees."""
 
     def end(*_):
         raise SystemExit(130)

@@ -1,8 +1,9 @@
 """Proofs from nothing, over libraries that hold what they state and not its proofs.
 
-`rt lib` builds a library with its checked proofs, and keeps the check's work for the next one. Who only wants the program needs
-neither: a library that is cut to its statements, as in `rt ci`, makes each proof over it cheaper. What is built so lies in
-crates/NAME/out/statements, next to what `rt` keeps, and serves until the crate or one below it changes.
+`rt lib` builds a library with its checked proofs, and keeps the check's work for the next one. For
+the program alone neither is needed: a library that is cut to its statements, as in `rt ci`, makes
+each proof over it cheaper. What is built so lies in crates/NAME/out/statements, next to what `rt`
+keeps, and serves until the crate or one below it changes.
 """
 import functools
 import hashlib
@@ -36,7 +37,7 @@ def folder_of(name):
     return f"{side.TOP}/crates/{name}"
 
 
-def made_of(name):
+def built_path(name):
     """Returns where a crate's library or program is built."""
     return f"{folder_of(name)}/out/statements/{name}{'' if side.is_program(name) else '.rlib'}"
 
@@ -56,8 +57,9 @@ def sum_of(crates, name):
     return found.hexdigest()
 
 
-def words_of(crates, name, made=made_of):
-    """Returns the words that give `rattle` a crate, the libraries that its row names, and where theirs are; `made`: where each is built."""
+def words_of(crates, name, made=built_path):
+    """Returns the words that give `rattle` a crate, the libraries that its row names, and where
+    theirs are; `made`: where each is built."""
     words = ["--crate-name", name, f"src/{'main' if side.is_program(name) else 'lib'}.rt"]
     named = side.rows()[name].partition(":")[2].replace(",", " ").split()
     for it in ["std", *[it for it in named if it not in crates]]:
@@ -87,7 +89,7 @@ def c_libraries():
     return [f"{kit()}/c/lib{it}_c.a" for it in ("os", "libc")]
 
 
-def linking(unlinked, linked):
+def link_command(unlinked, linked):
     """Returns the words that link a program from its object file."""
     return [
         f"{kit()}/bin/rattle-link",
@@ -105,19 +107,20 @@ def steps_of(crates, name, jobs):
     """Returns the commands that prove and build a crate, in the crate's folder."""
     prover = [f"{kit()}/bin/rattle", "build", *words_of(crates, name), "--jobs", str(jobs)]
     if not side.is_program(name):
-        return [[*prover, "--statements", "-o", made_of(name)]]
+        return [[*prover, "--statements", "-o", built_path(name)]]
     unlinked = f"out/statements/{name}.o"
     # Rattle's own compiler is done a minute sooner than LLVM, and nothing else is left to do
     return [
         [*prover, *toolchain(), "--backend", "rattle", "-o", unlinked],
-        linking(unlinked, made_of(name)),
+        link_command(unlinked, built_path(name)),
     ]
 
 
-def by_llvm(crates, name, unlinked, built):
-    """Returns the commands that prove a program's own crate, build it by LLVM and link it, in its folder."""
+def llvm_steps_of(crates, name, unlinked, built):
+    """Returns the commands that prove a program's own crate, build it by LLVM and link it, in its
+    folder."""
     prover = [f"{kit()}/bin/rattle", "build", *words_of(crates, name), *toolchain()]
-    return [[*prover, "-o", unlinked], linking(unlinked, built)]
+    return [[*prover, "-o", unlinked], link_command(unlinked, built)]
 
 
 def prove(crates, name, jobs, niceness):
@@ -125,13 +128,13 @@ def prove(crates, name, jobs, niceness):
     is_proved = is_current(crates, name) or build(crates, name, jobs, niceness)
     if is_proved and side.is_program(name):
         # It replaces the program that `rt` built at one stroke, even if that is running
-        shutil.copy2(made_of(name), f"{made_of(name)}.new")
-        os.replace(f"{made_of(name)}.new", f"{folder_of(name)}/out/{name}")
+        shutil.copy2(built_path(name), f"{built_path(name)}.new")
+        os.replace(f"{built_path(name)}.new", f"{folder_of(name)}/out/{name}")
     return is_proved
 
 
 def is_current(crates, name):
-    return os.path.exists(made_of(name)) and side.text_of(
+    return os.path.exists(built_path(name)) and side.text_of(
         f"{folder_of(name)}/out/statements/sum"
     ) == sum_of(crates, name)
 

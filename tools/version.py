@@ -1,4 +1,5 @@
-"""The version of the repository: the file VERSION has it, and each other place that says it is here."""
+"""The version of the repository: the file VERSION has it, and each other place that says it is
+here."""
 import os
 import re
 
@@ -44,7 +45,7 @@ def faults():
     return found
 
 
-def put(path, text):
+def write(path, text):
     with open(f"{side.TOP}/{path}", "w", encoding="utf-8") as file:
         file.write(text)
 
@@ -53,5 +54,5 @@ def set_version(new):
     """Writes a version in place of the one that all places say, but for the changes."""
     now = version()
     for path, text in PLACES.items():
-        put(path, text_at(path).replace(text.format(now), text.format(new)))
-    put(os.path.relpath(FILE, side.TOP), f"{new}\n")
+        write(path, text_at(path).replace(text.format(now), text.format(new)))
+    write(os.path.relpath(FILE, side.TOP), f"{new}\n")

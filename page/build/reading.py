@@ -1,4 +1,5 @@
-"""The lessons' texts, and what words on the screen mean, for the page: from the Markdown that the repository has of them."""
+"""The lessons' texts, and what words on the screen mean, for the page: from the Markdown that the
+repository has of them."""
 import glob
 import os
 import re
@@ -21,12 +22,13 @@ GUIDE, TOWERS, GLOSSARY = "docs/guide/script.md", "docs/guide/towers.md", "docs/
 
 
 def explained_in(page, words):
-    """Returns for each of these words the page that explains it, and the word, with which its row begins."""
+    """Returns for each of these words the page that explains it, and the word, with which its row
+    begins."""
     return {word: (page, word) for word in words.split()}
 
 
-# What a word on the screen means: in words of its own, if it is an abbreviation, or the page that says so, and how the row, item or
-# sentence begins there.
+# What a word on the screen means: in words of its own, if it is an abbreviation, or the page that
+# says so, and how the row, item or sentence begins there.
 WORDS = {
     "w": "a step: a process begins a write of the value that follows",
     "r": "a step: a process begins a read",
@@ -72,7 +74,8 @@ def plain(text):
 
 
 def with_towers(text):
-    """Returns a text that names each tower by its line, and not by how it is started at a terminal."""
+    """Returns a text that names each tower by its line, and not by how it is started at a
+    terminal."""
     rest = TYPED.sub(lambda it: (it.group(1) or "").upper(), text)
     return STARTED.sub(lambda it: f"`{text_of(it.group(1)).splitlines()[1]}`", rest)
 
@@ -106,7 +109,8 @@ def article(folder):
 
 
 def exercises(folder):
-    """Returns a lesson's exercises: number, title, text, and for each script that has goals or questions of it these comments."""
+    """Returns a lesson's exercises: number, title, text, and for each script that has goals or
+    questions of it these comments."""
     asked = with_towers(text_of(f"lessons/{folder}/README.md")).partition(FOLD)[0]
     found = [
         {"number": int(number), "title": title, "text": plain(text), "parts": []}
@@ -128,7 +132,8 @@ def exercises(folder):
 
 
 def explained(page, mark):
-    """Returns what a page says of a word: a table's row, a list's item, or the sentence that begins with the mark."""
+    """Returns what a page says of a word: a table's row, a list's item, or the sentence that begins
+    with the mark."""
     text = text_of(page)
     row = re.search(rf"^\| ` *{re.escape(mark)}` \| (.*?) \|", text, re.M)
     item = re.search(

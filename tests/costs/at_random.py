@@ -23,8 +23,8 @@ with open(f"{os.path.dirname(__file__)}/at_random.json", encoding="ascii") as fi
 class Table:
     """Rows of what the program takes at some sizes, and its ratios to what plain Rust takes."""
 
-    def __init__(self, title, room):
-        self.title, self.room, self.rows = title, room, {}
+    def __init__(self, title, scratch):
+        self.title, self.scratch, self.rows = title, scratch, {}
 
     def add(self, row, figure):
         self.rows.setdefault(row, []).append(figure)
@@ -65,10 +65,15 @@ def given_steps(line):
             yield from first + second if next(drawn) % 2 else second + first
 
 
-def whole_operations(line, room):
+def steps_without_void(line, scratch):
     """Returns the steps of the longest branch: of the given ones those that aren't void."""
     given = list(given_steps(line))
-    command = [runs.PROGRAM, runs.tower(line, given, len(given), room), "--cells", str(len(given))]
+    command = [
+        runs.PROGRAM,
+        runs.tower(line, given, len(given), scratch),
+        "--cells",
+        str(len(given)),
+    ]
     how = {"stdin": subprocess.PIPE, "stdout": subprocess.PIPE, "text": True}
     with subprocess.Popen(command, **how) as program:
         program.stdin.write(f"0 history main {len(given)}\n")
@@ -88,15 +93,15 @@ def edits_of(steps):
     yield "an insert near the front", ["0 insert main 5 r 1\n"] * EDITS, 1
 
 
-def looks_at(steps, line, table):
+def add_looks_and_edits(steps, line, table):
     """Adds what a branch of these steps costs: its opening, looks, and edits."""
     look, edits = f"0 state main {len(steps)}\n", list(edits_of(steps))
     pieces = [look, look]
     for _, lines, adds in edits:
         for count, it in enumerate(lines, 1):
             pieces += [it, f"0 state main {len(steps) + adds * count}\n"]
-    path = runs.tower(line, steps, len(steps), table.room)
-    taken = costs_of([path, *WORDS], pieces, table.room)
+    path = runs.tower(line, steps, len(steps), table.scratch)
+    taken = costs_of([path, *WORDS], pieces, table.scratch)
     for row in ("opening", "the first look at the end", "the same look again"):
         table.add(row, taken.pop(0))
     for at, (row, *_) in enumerate(edits):
@@ -105,10 +110,10 @@ def looks_at(steps, line, table):
         table.add(f"{row}: the look after it", sum(its[1::2]) / EDITS)
 
 
-def shared_by_few(steps, room):
+def shared_by_few(steps, scratch):
     """Inserts of steps that 200 forks share: the first ones, the next ones, and the last ones."""
-    table = Table("instructions, safe 0, inserts that 200 forks share", room)
-    path = runs.tower("safe 0", steps, FEW_STEPS, room)
+    table = Table("instructions, safe 0, inserts that 200 forks share", scratch)
+    path = runs.tower("safe 0", steps, FEW_STEPS, scratch)
     forks = "".join(f"0 fork main {FEW_STEPS} a{i}\n" for i in range(FEW))
     for name in ("0", "any place"):
         drawn, count, pieces = numbers(), FEW_STEPS, [forks]
@@ -116,7 +121,7 @@ def shared_by_few(steps, room):
             places = [0 if name == "0" else next(drawn) % (count + i) for i in range(more)]
             pieces.append("".join(f"0 insert main {it} r 1\n" for it in places))
             count += more
-        for cost, more in zip(costs_of([path, *WORDS], pieces, room)[2:], INSERTS):
+        for cost, more in zip(costs_of([path, *WORDS], pieces, scratch)[2:], INSERTS):
             table.add(f"an insert at {name}", cost / more)
     return table.write("of the first 5,000, the next 5,000, the last 10,000")
 
@@ -135,24 +140,24 @@ def edits_that_many_share(places):
     yield "a look at the 500th fork then", [f"0 state a499 {half}\n"]
 
 
-def shared_by_many(steps, room):
+def shared_by_many(steps, scratch):
     """Edits of steps that 1,000 forks share, and looks after them."""
-    table = Table("instructions, safe 0, 1,000 forks", room)
-    path = runs.tower("safe 0", steps, MANY_STEPS, room)
+    table = Table("instructions, safe 0, 1,000 forks", scratch)
+    path = runs.tower("safe 0", steps, MANY_STEPS, scratch)
     drawn, half = numbers(3), MANY_STEPS // 2
     for places in ([MANY_STEPS] * MANY, [half + next(drawn) % half for _ in range(MANY)]):
         rows = dict(edits_that_many_share(places))
         pieces = [f"0 state main {MANY_STEPS}\n", *("".join(it) for it in rows.values())]
-        for (row, lines), cost in zip(rows.items(), costs_of([path, *WORDS], pieces, room)[2:]):
+        for (row, lines), cost in zip(rows.items(), costs_of([path, *WORDS], pieces, scratch)[2:]):
             table.add(row, cost / len(lines))
     return table.write("at the end, and each at a place of its own")
 
 
-def resident(steps, room):
+def resident(steps, scratch):
     """Bytes of the resident memory of a fork."""
-    table = Table("bytes that are resident, safe 0", room)
+    table = Table("bytes that are resident, safe 0", scratch)
     for count in LENGTHS[1:]:
-        words = [runs.tower("safe 0", steps, count, room), *WORDS]
+        words = [runs.tower("safe 0", steps, count, scratch), *WORDS]
         look, taken = f"0 state main {count}\n", []
         # A refused fork has a log entry, and nothing else; plain Rust's program has no log
         for line in (f"0 fork main {count} a%d\n", "0 fork main 0 main\n"):
@@ -164,15 +169,15 @@ def resident(steps, room):
     return table.write("1,000 forks of 100,000 and 1,000,000 steps")
 
 
-def random(room):
+def random(scratch):
     """Prints the tables, and how many of the ratios are at most 1.0."""
     ratios = []
     for line in TOWERS:
-        steps, table = whole_operations(line, room), Table(f"instructions, {line}", room)
+        steps, table = steps_without_void(line, scratch), Table(f"instructions, {line}", scratch)
         for count in LENGTHS:
-            looks_at(steps[:count], line, table)
+            add_looks_and_edits(steps[:count], line, table)
         ratios += table.write("10,000, 100,000 and 1,000,000 steps")
         if line == "safe 0":
             for part in (shared_by_few, shared_by_many, resident):
-                ratios += part(steps, room)
+                ratios += part(steps, scratch)
     print(f"  at most 1.0: {sum(it < 1.005 for it in ratios)} of {len(ratios)}")

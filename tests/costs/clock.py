@@ -1,7 +1,8 @@
 """What workers gain, by the clock: run this alone, on a machine that does nothing else.
 
-A fill is timed from its line to its answer, so without the opening. The numbers of workers are tried one after the other, over
-and over, each time from the next one on. 0 is there twice: the ratio of these two says how far the others can be trusted.
+A fill is timed from its line to its answer, so without the opening. The numbers of workers are
+tried one after the other, over and over, each time from the next one on. 0 is there twice: the
+ratio of these two says how far the others can be trusted.
 """
 import os
 import statistics
@@ -19,8 +20,8 @@ WORKERS = (0, 0, 1, 2, 3, 4)
 LEAST, MOST, SECONDS = 6, 60, 300
 
 
-def bench_file(branches, steps, room):
-    path, cycle = f"{room}/apart", runs.TOWERS[LINE]
+def bench_file(branches, steps, scratch):
+    path, cycle = f"{scratch}/apart", runs.TOWERS[LINE]
     own = "".join(f"{cycle[at % len(cycle)]}\n" for at in range(steps))
     with open(path, "w", encoding="ascii") as file:
         file.write(f"bench 1\n{LINE}\n")
@@ -31,7 +32,9 @@ def bench_file(branches, steps, room):
 
 def seconds(words):
     """Returns how long a fill takes, from its line to its answer."""
-    times = [time.monotonic() for _ in pieces.answered([runs.PROGRAM, *words], ["0 fill main\n"])]
+    times = [
+        time.monotonic() for _ in pieces.run_by_pieces([runs.PROGRAM, *words], ["0 fill main\n"])
+    ]
     return times[1] - times[0]
 
 
@@ -45,19 +48,19 @@ def fills(words, until):
     return taken
 
 
-def clock(room):
+def clock(scratch):
     load, processors = os.getloadavg()[0], os.cpu_count()
     print(f"the load of the last minute: {load:.2f}, on {processors} processors")
     print("medians of one fill by the clock: seconds with no worker, and ratios to them")
     begun = time.monotonic()
     for at, (branches, steps) in enumerate(SIZES, 1):
-        words = [bench_file(branches, steps, room), "--branches", "1024"]
+        words = [bench_file(branches, steps, scratch), "--branches", "1024"]
         words += ["--cells", str(branches * steps)]
         taken = fills(words, begun + SECONDS * at / len(SIZES))
-        none, *others = (statistics.median(it) for it in taken)
-        ratios = [f"{it}: {of / none:.2f}" for it, of in zip(WORKERS[1:], others)]
+        without_workers, *others = (statistics.median(it) for it in taken)
+        ratios = [f"{it}: {of / without_workers:.2f}" for it, of in zip(WORKERS[1:], others)]
         print(
-            f"  {branches} branches of {steps}: {none:.4f}; {', '.join(ratios)};"
+            f"  {branches} branches of {steps}: {without_workers:.4f}; {', '.join(ratios)};"
             f" of {len(taken[0])} runs each",
             flush=True,
         )

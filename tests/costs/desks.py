@@ -3,15 +3,15 @@ import subprocess
 import time
 
 import built
-from costs.runs import CALLGRIND, SHORT_WRITES, TOWERS, collected, instructions, tower
+from costs.runs import CALLGRIND, SHORT_WRITES, TOWERS, instructions, reported_instructions, tower
 
 
-def desk(room):
+def desk(scratch):
     program = built.build("thread_tests")
 
     def counted(test):
         how = {"stdout": subprocess.DEVNULL, "stderr": subprocess.PIPE, "text": True, "check": True}
-        return collected(
+        return reported_instructions(
             subprocess.run([*CALLGRIND, program, f"desks::measured::{test}"], **how).stderr
         )
 
@@ -34,27 +34,31 @@ def desk(room):
     )
 
 
-def fills(room):
-    fills_apart(room)
-    fills_shared(room)
-    fills_along_main(room)
+def fills(scratch):
+    fills_apart(scratch)
+    fills_shared(scratch)
+    fills_along_main(scratch)
 
 
-def fills_apart(room):
-    """Eight branches that share nothing: four fills, and a page of each branch after them, twice."""
+def fills_apart(scratch):
+    """Eight branches that share nothing: four fills, and a page of each branch after them,
+    twice."""
     line, count = "matrix 2 2 1 3", 12_500
-    path = tower(line, TOWERS[line], count, room)
+    path = tower(line, TOWERS[line], count, scratch)
     others = [f"b{k}" for k in range(7)]
     apart = "".join(f"0 fork main {count} {name}\n0 detach {name}\n" for name in others)
-    # A fill of 64 rounds stores 64 runs of each branch, and a branch has some 98 or up to twice as many segments
+    # A fill of 64 rounds stores 64 runs of each branch, and a branch has some 98 or up to twice as
+    # many segments
     script = apart + "0 fill main\n" * 4
 
     def spent(workers, text):
-        return instructions([path, "--cells", "200000", "--workers", str(workers)], text, room)
+        return instructions([path, "--cells", "200000", "--workers", str(workers)], text, scratch)
 
-    none, four = (spent(workers, script) - spent(workers, apart) for workers in (0, 4))
+    without_workers, with_four = (
+        spent(workers, script) - spent(workers, apart) for workers in (0, 4)
+    )
     print(
-        f"instructions of filling eight branches of {count} steps of {line}: {none} with no worker, {four} with 4: {four / none:.2f}"
+        f"instructions of filling eight branches of {count} steps of {line}: {without_workers} with no worker, {with_four} with 4: {with_four / without_workers:.2f}"
     )
     totals = [spent(0, script)]
     for name in ["main", *others, "main", *others]:
@@ -65,7 +69,7 @@ def fills_apart(room):
     print(f"the same pages again: {' '.join(map(str, pages[8:]))}")
 
 
-def fills_shared(room):
+def fills_shared(scratch):
     """Branches that share all cells: the first fill, of 64 rounds, and all fills that it takes."""
     print("instructions of fills of branches that share all steps of safe 0")
     for branches, count in (
@@ -75,14 +79,14 @@ def fills_shared(room):
         (500, 100_000),
         (1_000, 100_000),
     ):
-        path = tower("safe 0", SHORT_WRITES, count, room)
+        path = tower("safe 0", SHORT_WRITES, count, scratch)
         words = [path, "--cells", "200000", "--branches", "1024"]
         forks = "".join(f"0 fork main {count} b{k}\n" for k in range(branches - 1))
-        opened = instructions(words, forks, room)
+        opened = instructions(words, forks, scratch)
         segments = count // 128 + 1
         needed = segments // 64 + 1
         first, all_of_them = (
-            instructions(words, forks + "0 fill main\n" * fills, room) - opened
+            instructions(words, forks + "0 fill main\n" * fills, scratch) - opened
             for fills in (1, needed)
         )
         print(
@@ -90,9 +94,10 @@ def fills_shared(room):
         )
 
 
-def fills_along_main(room):
-    """Branches forked along `main`: the first fill after a look at its end, and after an edit too."""
-    branches, own, path = 400, 300, f"{room}/along"
+def fills_along_main(scratch):
+    """Branches forked along `main`: the first fill after a look at its end, and after an edit
+    too."""
+    branches, own, path = 400, 300, f"{scratch}/along"
     print(f"instructions of the first fill of {branches} branches of {own} steps, by main's length")
     taken = []
     for count in (25_000, 50_000, 100_000):
@@ -108,8 +113,8 @@ def fills_along_main(room):
         look, edit = f"0 state main {count}\n", "0 replace main 1 g 0 1\n"
         taken.append(
             [
-                instructions(words, f"{before}0 fill main\n", room)
-                - instructions(words, before, room)
+                instructions(words, f"{before}0 fill main\n", scratch)
+                - instructions(words, before, scratch)
                 for before in (look, look + edit)
             ]
         )

@@ -9,7 +9,7 @@ LENGTHS = (50_000, 100_000, 200_000)
 SEED = 5
 
 
-def inserts(room):
+def inserts(scratch):
     chance = random.Random(SEED)
     places = {
         "start": lambda i: 0,
@@ -22,19 +22,20 @@ def inserts(room):
         figures = []
         for count in (25_000, 50_000, 100_000):
             script = "".join(f"0 insert main {place(i)} r 1\n" for i in range(count))
-            figures.append(instructions(["--cells", "200000"], script, room) / count)
+            figures.append(instructions(["--cells", "200000"], script, scratch) / count)
         print(f"  {name:16}" + "".join(f"{it:10.0f}" for it in figures))
     script = "0 insert main 0 r 1\n" * 20_000
-    print(f"  20,000 at the start: {instructions([], script, room)} in all")
+    print(f"  20,000 at the start: {instructions([], script, scratch)} in all")
 
 
-def each_in(room):
-    """Returns a function that gives the instructions of each of `count` lines of a script, after others."""
+def each_in(scratch):
+    """Returns a function that gives the instructions of each of `count` lines of a script, after
+    others."""
 
     def each(path, before, script, count):
         return (
-            instructions([path, *WORDS], before + script, room)
-            - instructions([path, *WORDS], before, room)
+            instructions([path, *WORDS], before + script, scratch)
+            - instructions([path, *WORDS], before, scratch)
         ) / count
 
     return each
@@ -44,13 +45,13 @@ def row(name, figures):
     print(f"  {name:48}" + "".join(f"{it:11.0f}" for it in figures))
 
 
-def shared(room):
-    paths = [(count, f"{room}/{count}") for count in LENGTHS]
+def shared(scratch):
+    paths = [(count, f"{scratch}/{count}") for count in LENGTHS]
     for count, path in paths:
-        os.replace(tower("safe 0", SHORT_WRITES, count, room), path)
-    shared_by_length(paths, each_in(room))
-    shared_by_forks(*paths[1], each_in(room))
-    bytes_of_a_fork(paths, room)
+        os.replace(tower("safe 0", SHORT_WRITES, count, scratch), path)
+    shared_by_length(paths, each_in(scratch))
+    shared_by_forks(*paths[1], each_in(scratch))
+    bytes_of_a_fork(paths, scratch)
 
 
 def shared_by_length(paths, each):
@@ -113,11 +114,11 @@ def shared_by_forks(n, path, each):
     )
 
 
-def bytes_of_a_fork(paths, room):
+def bytes_of_a_fork(paths, scratch):
     figures = []
     for count, path in paths:
         script = PAD + "".join(f"0 fork main {count} a{i}\n" for i in range(1000)) + PAD
-        held = [now for now, _ in heap_at_reads([path, *WORDS], script, room)]
+        held = [now for now, _ in heap_at_reads([path, *WORDS], script, scratch)]
         figures.append((held[-1] - held[0]) / 1000)
     print("bytes of the heap, of 1,000 forks of a branch of 50,000, 100,000 and 200,000 steps")
     row("a fork", figures)

@@ -2,9 +2,10 @@
 from costs.runs import PAD, SHORT_WRITES, heap_at_reads, instructions, tower
 
 
-def bench_file(shared, own, others, room):
-    """A bench file of a branch, and of others that have its first steps each and as many own ones."""
-    path = f"{room}/bench"
+def bench_file(shared, own, others, scratch):
+    """A bench file of a branch, and of others that have its first steps each and as many own
+    ones."""
+    path = f"{scratch}/bench"
     with open(path, "w") as file:
 
         def step_lines(count):
@@ -18,7 +19,7 @@ def bench_file(shared, own, others, room):
     return path
 
 
-def bench(room):
+def bench(scratch):
     def row(name, figures):
         print(f"  {name:52}" + "".join(f"{it:9.1f}" for it in figures))
 
@@ -26,10 +27,10 @@ def bench(room):
         """Returns what a step costs to be opened, and then to be saved."""
         opened, saved = [], []
         for shared, own, others in sizes:
-            path, count = bench_file(shared, own, others, room), shared + own * others
+            path, count = bench_file(shared, own, others, scratch), shared + own * others
             words = [path, "--cells", str(count + 9), "--branches", "1024"]
-            first, last = instructions(words, script, room), instructions(
-                [*words, "--save", f"{room}/kept"], script, room
+            first, last = instructions(words, script, scratch), instructions(
+                [*words, "--save", f"{scratch}/kept"], script, scratch
             )
             opened.append(first / count)
             saved.append((last - first) / count)
@@ -49,13 +50,13 @@ def bench(room):
     held, most = [], []
     for count, own, others in sizes:
         words = [
-            bench_file(count, own, others, room),
+            bench_file(count, own, others, scratch),
             "--cells",
             str(count + 9),
             "--save",
-            f"{room}/kept",
+            f"{scratch}/kept",
         ]
-        reads = heap_at_reads(words, PAD, room)
+        reads = heap_at_reads(words, PAD, scratch)
         held.append(reads[0][0] / count)
         most.append(max(it[1] for it in reads) / count)
     print("bytes of the heap a step, of the same")
@@ -63,11 +64,11 @@ def bench(room):
     row("at most on the way there", most)
 
 
-def heap(room):
+def heap(scratch):
     count = 1_000_000
-    path = tower("safe 0", SHORT_WRITES, count, room)
+    path = tower("safe 0", SHORT_WRITES, count, scratch)
     script = f"0 state main {count}\n{PAD}0 fork main {count} a\n{PAD}0 branches\n"
-    reads = heap_at_reads([path, "--cells", "2000000"], script, room)
+    reads = heap_at_reads([path, "--cells", "2000000"], script, scratch)
     opened, most = reads[0]
     print(f"bytes of the heap a step, over a file of {count} steps")
     print(f"  opened: {opened / count:.1f}, and at most {most / count:.1f} on the way there")

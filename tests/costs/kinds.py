@@ -14,8 +14,9 @@ KINDS = {
     "cycle": lambda count: [SHORT_WRITES[i % len(SHORT_WRITES)] for i in range(count)],
     "random": mixed_operations,
 }
-# The costs of a comparable program in plain Rust, which wrote the same bytes; taken once. It stores runs, has early cutoff and a mark
-# of what fits, has no threads and no log, and its forks share segments.
+# The costs of a comparable program in plain Rust, which wrote the same bytes; taken once. It stores
+# runs, has early cutoff and a mark of what fits, has no threads and no log, and its forks share
+# segments.
 PLAIN = {
     ("cycle", "a step of a first look"): (59.5, 54.6, 54.6),
     ("cycle", "a look after an edit"): (13_579, 38_289, 284_404),
@@ -46,23 +47,23 @@ def places(count, below):
 class Kind:
     """Schedules of one kind, and the rows of their table: of each, a figure at each size."""
 
-    def __init__(self, name, room):
-        self.name, self.room, self.rows = name, room, {}
+    def __init__(self, name, scratch):
+        self.name, self.scratch, self.rows = name, scratch, {}
 
     def path(self, count):
-        path = f"{self.room}/{self.name}-{count}"
+        path = f"{self.scratch}/{self.name}-{count}"
         with open(path, "w") as file:
             file.write("tower 1\nsafe 0\n" + "".join(f"{it}\n" for it in KINDS[self.name](count)))
         return path
 
     def costs(self, count, *pieces):
-        return costs_of([self.path(count), *WORDS], pieces, self.room)[1:]
+        return costs_of([self.path(count), *WORDS], pieces, self.scratch)[1:]
 
     def add(self, row, figure):
         self.rows.setdefault(row, []).append(figure)
 
 
-def of_one_branch(kind):
+def measure_one_branch(kind):
     for n in LENGTHS:
         look = f"0 state main {n}\n"
         edits, others = (
@@ -85,7 +86,7 @@ def forked(count, forks):
     return "".join(f"0 fork main {count} a{i}\n" for i in range(forks))
 
 
-def of_shared_steps(kind):
+def measure_shared_steps(kind):
     drawn = [f"0 insert main {place} r 1\n" for place in places(2 * EDITS, SHARED)]
     edits, others = drawn[:EDITS], drawn[EDITS:]
     long = SHARED + EDITS
@@ -110,27 +111,29 @@ def of_shared_steps(kind):
         )
 
 
-def bytes_of_a_fork(kind):
+def measure_bytes_of_a_fork(kind):
     for k in FORKS:
         # A refused fork has a log entry, and nothing else; the plain program has no log
         scripts = forked(SHARED, k), "0 fork main 0 main\n" * k
         taken = [
-            heap_at_reads([kind.path(SHARED), *WORDS], PAD + it + PAD, kind.room) for it in scripts
+            heap_at_reads([kind.path(SHARED), *WORDS], PAD + it + PAD, kind.scratch)
+            for it in scripts
         ]
         fork, refused = ((reads[-1][0] - reads[0][0]) / k for reads in taken)
         kind.add("bytes of the heap a fork", fork)
         kind.add("the same, without its log entry", fork - refused)
 
 
-def kinds(room):
-    """Prints a table for each kind of schedule, and how many of the figures are at most those of plain Rust."""
+def kinds(scratch):
+    """Prints a table for each kind of schedule, and how many of the figures are at most those of
+    plain Rust."""
     ratios = []
     for name in KINDS:
         print(
             f"on schedules of safe 0, {name}, at three sizes: what is taken, and its ratio to what plain Rust takes"
         )
-        kind = Kind(name, room)
-        for part in (of_one_branch, of_shared_steps, bytes_of_a_fork):
+        kind = Kind(name, scratch)
+        for part in (measure_one_branch, measure_shared_steps, measure_bytes_of_a_fork):
             part(kind)
         for row, figures in kind.rows.items():
             against = [

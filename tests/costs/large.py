@@ -6,7 +6,8 @@ from costs.runs import instructions
 # Half of the cells are of `main`, and the others of branches that are forked at its end
 MAIN, OWN, OTHERS = 1 << 23, 8_200, 1_023
 WORDS = ["--cells", str(1 << 24), "--branches", "1024"]
-# The costs of a program in plain Rust in millions, taken once, of which two or three digits are known
+# The costs of a program in plain Rust in millions, taken once, of which two or three digits are
+# known
 PLAIN = {
     "opening": 8_490,
     "a look at the end of `main`": 458,
@@ -34,15 +35,15 @@ def pieces():
     yield "the first fill after the look", "0 fill main\n"
 
 
-def large(room):
+def large(scratch):
     cells = MAIN + OWN * OTHERS
     print(f"{cells:,} cells on {OTHERS + 1:,} branches: millions, those of plain Rust, the ratio")
-    words = [bench_file(MAIN, OWN, OTHERS, room), *WORDS]
+    words = [bench_file(MAIN, OWN, OTHERS, scratch), *WORDS]
     names, script = zip(*pieces())
-    taken = costs_of(words, script, room)
+    taken = costs_of(words, script, scratch)
     for name, cost in zip(("opening", *names), taken):
         if name:
             row(name, cost)
-    kept = instructions([*words, "--save", f"{room}/kept"], "", room)
-    row("saving", kept - instructions(words, "", room))
+    kept = instructions([*words, "--save", f"{scratch}/kept"], "", scratch)
+    row("saving", kept - instructions(words, "", scratch))
     row("bytes that are resident at most", residents(words, script)[-1])

@@ -2,9 +2,9 @@
 from costs.runs import READ, SHORT_WRITES, TOWERS, WRITE, instructions, tower, varied
 
 
-def pages(room):
+def pages(scratch):
     count = 100_000
-    path = tower("safe 0", SHORT_WRITES, count, room)
+    path = tower("safe 0", SHORT_WRITES, count, scratch)
     words = [path, "--cells", "200000"]
     page = f"0 state main {count}\n"
     lines = [
@@ -13,40 +13,40 @@ def pages(room):
         ("page again", page),
         ("insert and page", f"0 insert main {count // 2} g 0 1\n{page}"),
     ]
-    before, script, first = instructions(words, "", room), "", None
+    before, script, first = instructions(words, "", scratch), "", None
     print(f"instructions of pages at the end of {count} steps of safe 0, opened by {before}")
     for name, more in lines:
         script += more
-        now = instructions(words, script, room)
+        now = instructions(words, script, scratch)
         first = first or now - before
         print(f"  {name:18}{now - before:12}   1 / {first / (now - before):.1f}")
         before = now
 
 
-def looks(room):
+def looks(scratch):
     print(
         "instructions a step of a page at the end of a settled branch of safe 0, of 10,000, 20,000 and 40,000 steps"
     )
     for kind in ("state", "history", "verdict"):
         figures = []
         for count in (10_000, 20_000, 40_000):
-            path = tower("safe 0", WRITE + READ, count, room)
+            path = tower("safe 0", WRITE + READ, count, scratch)
             script = f"0 state main {count}\n"
-            once = instructions([path], script, room)
+            once = instructions([path], script, scratch)
             figures.append(
-                (instructions([path], f"{script}0 {kind} main {count}\n", room) - once) / count
+                (instructions([path], f"{script}0 {kind} main {count}\n", scratch) - once) / count
             )
         print(f"  {kind:16}" + "".join(f"{it:9.1f}" for it in figures))
 
 
-def lens(room):
+def lens(scratch):
     line, count, runs, deep = "stamped 4 3", 100_000, range(34), range(96, 128)
-    path = tower(line, varied(TOWERS[line], count), count, room)
+    path = tower(line, varied(TOWERS[line], count), count, scratch)
     words, first = [path, "--cells", "200000"], f"0 state main {128 * len(runs)}\n"
 
     def cost_at(places):
         return instructions(
-            words, first + "".join(f"0 state main {place}\n" for place in places), room
+            words, first + "".join(f"0 state main {place}\n" for place in places), scratch
         )
 
     ends = cost_at([128 * k for k in runs for _ in deep])
@@ -60,7 +60,7 @@ def lens(room):
     )
 
 
-def sessions(room):
+def sessions(scratch):
     counts = (10_000, 20_000, 40_000)
     begun = {count: f"0 state main {count}\n0 join\n" for count in counts}
     print(
@@ -69,12 +69,12 @@ def sessions(room):
     for kind in ("returns 9", "bit 9 1"):
         figures = []
         for count in counts:
-            path = tower("safe 0", WRITE + READ, count, room)
+            path = tower("safe 0", WRITE + READ, count, scratch)
             script = f"{begun[count]}0 break {kind}\n"
             figures.append(
                 (
-                    instructions([path], f"{script}0 seek\n", room)
-                    - instructions([path], script, room)
+                    instructions([path], f"{script}0 seek\n", scratch)
+                    - instructions([path], script, scratch)
                 )
                 / count
             )
@@ -83,8 +83,8 @@ def sessions(room):
     for kind in ("join", "go main 5000", "break void", "cursor"):
         figures = []
         for count in counts:
-            path = tower("safe 0", WRITE + READ, count, room)
+            path = tower("safe 0", WRITE + READ, count, scratch)
             line = f"0 {kind}\n"
-            few, many = (instructions([path], begun[count] + line * n, room) for n in (1, 101))
+            few, many = (instructions([path], begun[count] + line * n, scratch) for n in (1, 101))
             figures.append((many - few) / 100)
         print(f"  {kind:16}" + "".join(f"{it:9.0f}" for it in figures))

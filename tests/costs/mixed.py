@@ -1,8 +1,9 @@
-"""What looks cost on whole operations in a mixed order, and what a command costs that arrives alone."""
+"""What looks cost on whole operations in a mixed order, and what a command costs that arrives
+alone."""
 import subprocess
 
 from costs import runs
-from costs.runs import CALLGRIND, collected, instructions, tower
+from costs.runs import CALLGRIND, instructions, reported_instructions, tower
 
 LENGTHS = (10_000, 100_000, 1_000_000)
 COMMANDS = 200
@@ -30,7 +31,7 @@ def mixed_operations(count):
     return steps[:count]
 
 
-def mixed(room):
+def mixed(scratch):
     print(
         "instructions a step of safe 0 in mixed operations, at 10,000, 100,000 and 1,000,000 steps"
     )
@@ -40,11 +41,11 @@ def mixed(room):
         "a replacement in the middle, and the page, in all": [],
     }
     for count in LENGTHS:
-        path = tower("safe 0", mixed_operations(count), count, room)
+        path = tower("safe 0", mixed_operations(count), count, scratch)
         page, edit = f"0 state main {count}\n", f"0 replace main {count // 2} g 0 1\n"
 
         def cost(script):
-            return instructions([path, "--cells", "2000000"], script, room)
+            return instructions([path, "--cells", "2000000"], script, scratch)
 
         opened, looked = cost(""), cost(page)
         figures = (
@@ -56,13 +57,14 @@ def mixed(room):
             row.append(figure)
     for name, figures in rows.items():
         print(f"  {name:52}" + "".join(f"{it:11.1f}" for it in figures))
-    alone(room)
+    commands_alone(scratch)
 
 
-def alone(room):
-    """The commands once all in one read, and once each in a read of its own, after the answer to the one before."""
+def commands_alone(scratch):
+    """The commands once all in one read, and once each in a read of its own, after the answer to
+    the one before."""
     lines = ["0 join\n", *["0 go main 0\n"] * COMMANDS]
-    together = instructions([], "".join(lines), room)
+    together = instructions([], "".join(lines), scratch)
     with subprocess.Popen(
         [*CALLGRIND, runs.PROGRAM],
         stdin=subprocess.PIPE,
@@ -75,7 +77,7 @@ def alone(room):
             program.stdin.flush()
             program.stdout.readline()
         program.stdin.close()
-        apart = collected(program.stderr.read())
+        apart = reported_instructions(program.stderr.read())
     print(
         f"instructions of a command that arrives alone, more than one among others: {(apart - together) / len(lines):.0f}"
     )

@@ -11,8 +11,9 @@ LAST = "0 state main 99999999\n"
 MOST_LINES = 1_000
 
 
-def answered(command, pieces):
-    """Runs a program, and yields the id of its process after its opening and after each of these pieces."""
+def run_by_pieces(command, pieces):
+    """Runs a program, and yields the id of its process after its opening and after each of these
+    pieces."""
     how = {
         "stdin": subprocess.PIPE,
         "stdout": subprocess.PIPE,
@@ -34,7 +35,7 @@ def answered(command, pieces):
         program.stdin.close()
 
 
-def counted(out):
+def counted_instructions(out):
     """Returns the instructions in callgrind's files named after `out`, which it removes."""
     total = 0
     for path in glob.glob(f"{out}.*"):
@@ -44,13 +45,15 @@ def counted(out):
     return total
 
 
-def costs_of(words, pieces, room):
+def costs_of(words, pieces, scratch):
     """Returns what the opening costs and what each of these pieces does, less an empty piece."""
-    out = f"{room}/callgrind"
+    out = f"{scratch}/callgrind"
     tool = ["valgrind", "--tool=callgrind", f"--callgrind-out-file={out}", "--dump-before=write"]
     command = [*tool, runs.PROGRAM, *words]
-    opening, empty, *taken = (counted(out) for _ in answered(command, ["", *pieces]))
-    counted(out)
+    opening, empty, *taken = (
+        counted_instructions(out) for _ in run_by_pieces(command, ["", *pieces])
+    )
+    counted_instructions(out)
     return [it - empty for it in (opening, *taken)]
 
 
@@ -62,4 +65,4 @@ def most_resident(process):
 
 def residents(words, pieces):
     """Returns the most bytes that were resident by the opening, and by each of these pieces."""
-    return [most_resident(it) for it in answered([runs.PROGRAM, *words], pieces)]
+    return [most_resident(it) for it in run_by_pieces([runs.PROGRAM, *words], pieces)]

@@ -5,9 +5,10 @@ import random
 from costs.runs import SHORT_WRITES, TOWERS, instructions, tower
 from costs.steps import OPERATIONS, whole_operations
 
-# Instructions of the same program in plain Rust, which wrote the same bytes: each of its segments knows the one above, it stores
-# runs, has early cutoff and threads, and proves nothing. Of a replayed step; and of each row of `plain` but a fill's and a seek's, on
-# random operations, and of `stamped 4 15` in place of `stamped 4 3`. (`random` has both programs on the same files.)
+# Instructions of the same program in plain Rust, which wrote the same bytes: each of its segments
+# knows the one above, it stores runs, has early cutoff and threads, and proves nothing. Of a
+# replayed step; and of each row of `plain` but a fill's and a seek's, on random operations, and of
+# `stamped 4 15` in place of `stamped 4 3`. (`random` has both programs on the same files.)
 PLAIN_STEPS = {
     "safe 0": 50,
     "copies 4 0": 53,
@@ -21,24 +22,27 @@ SEED = 5
 
 
 class Plain:
-    """The table of `plain`. Each row: what the program takes, what plain Rust takes, and their ratio."""
+    """The table of `plain`. Each row: what the program takes, what plain Rust takes, and their
+    ratio."""
 
-    def __init__(self, room):
-        self.room, self.ratios = room, []
+    def __init__(self, scratch):
+        self.scratch, self.ratios = scratch, []
 
     def row(self, name, taken, of_plain):
         self.ratios.append(taken / of_plain)
         print(f"  {name:64}{taken:12.0f}{of_plain:12}{taken / of_plain:8.2f}", flush=True)
 
     def cost(self, words, script):
-        return instructions([*words, "--cells", "2000000", "--branches", "1024"], script, self.room)
+        return instructions(
+            [*words, "--cells", "2000000", "--branches", "1024"], script, self.scratch
+        )
 
     def each(self, words, before, script, count):
         return (self.cost(words, before + script) - self.cost(words, before)) / count
 
     def file_of(self, line, cycle, count, name):
-        path = f"{self.room}/{name}"
-        os.replace(tower(line, cycle, count, self.room), path)
+        path = f"{self.scratch}/{name}"
+        os.replace(tower(line, cycle, count, self.scratch), path)
         return path
 
     def sum_up(self):
@@ -50,9 +54,9 @@ class Plain:
         )
 
 
-def plain(room):
+def plain(scratch):
     print("instructions, those of plain Rust, and the ratio of the two")
-    table = Plain(room)
+    table = Plain(scratch)
     for part in (plain_steps, plain_first_looks, plain_edits, plain_long_branch, plain_shared):
         part(table)
     table.sum_up()
@@ -60,16 +64,17 @@ def plain(room):
 
 def plain_steps(table):
     for line in OPERATIONS:
-        path = whole_operations(line, table.room)
+        path = whole_operations(line, table.scratch)
         count = sum(1 for _ in open(path)) - 2
         first = count // 256 * 128
         page, fill = f"0 state main {first + 11}\n", "".join(
             f"0 state main {place}\n" for place in range(2, 68, 2)
         )
-        # The middle one of seven, as the lens sometimes rebuilds its table, which costs more than the steps
+        # The middle one of seven, as the lens sometimes rebuilds its table, which costs more than
+        # the steps
         places = range(first + 11, first + 124, 16)
         figures = [
-            instructions([path], page + f"0 state main {place}\n{fill}" * 20, table.room)
+            instructions([path], page + f"0 state main {place}\n{fill}" * 20, table.scratch)
             for place in places
         ]
         step = sorted(far - near for near, far in zip(figures, figures[1:]))[3] / (20 * 16)
@@ -77,8 +82,9 @@ def plain_steps(table):
 
 
 def plain_first_looks(table):
-    # Plain Rust has no figures for a fill and a seek: they are compared with a first look, which stores as much, and with a
-    # replayed step; a fill stores 64 runs of a branch at most, and 8,000 steps are 63 segments
+    # Plain Rust has no figures for a fill and a seek: they are compared with a first look, which
+    # stores as much, and with a replayed step; a fill stores 64 runs of a branch at most, and 8,000
+    # steps are 63 segments
     count, most = 10_000, 8_000
     for line, of_plain in PLAIN_FIRST_LOOK.items():
         path = table.file_of(line, TOWERS[line], count, "first")

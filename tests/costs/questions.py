@@ -1,14 +1,15 @@
-"""What the search for all answers costs: states, instructions, and bytes of the heap, of `towerbench-answers`."""
+"""What the search for all answers costs: states, instructions, and bytes of the heap, of
+`towerbench-answers`."""
 import os
 import subprocess
 import sys
 
-from costs.runs import CALLGRIND, TOP, collected
+from costs.runs import CALLGRIND, TOP, reported_instructions
 
 PROGRAM = f"{TOP}/crates/answers_program/out/answers_program"
-# Questions, with the instructions that a plain Rust program takes which searches the same states, breadth first with a set of
-# states as lists of numbers; it follows both choices only if a read is hit, and makes no schedule easier to read. Its figures
-# were taken once.
+# Questions, with the instructions that a plain Rust program takes which searches the same states,
+# breadth first with a set of states as lists of numbers; it follows both choices only if a read is
+# hit, and makes no schedule easier to read. Its figures were taken once.
 QUESTIONS = (
     ("safe 0; process 0 w 1 w 0; process 1 r r", 559_632),
     ("safe 0; process 0 w 1 w 0; process 1 r r; stop 0", 836_466),
@@ -42,34 +43,35 @@ print(resource.getrusage(resource.RUSAGE_CHILDREN).ru_maxrss)
 """
 
 
-def ran(path, room, prefix=(), env=None):
+def run(path, scratch, prefix=(), env=None):
     """Returns what a run of the program writes on standard output and on standard error."""
     words = [*prefix, PROGRAM, path]
-    done = subprocess.run(words, capture_output=True, text=True, env=env, check=False, cwd=room)
+    done = subprocess.run(words, capture_output=True, text=True, env=env, check=False, cwd=scratch)
     if done.returncode != 0:
         sys.exit(f"tests/cost: the program ended with {done.returncode}: {done.stderr}")
     return done.stdout, done.stderr
 
 
-def most_held(path, room):
+def most_held(path, scratch):
     """Returns the most bytes that a run holds on the heap."""
-    library = f"{room}/count.so"
+    library = f"{scratch}/count.so"
     if not os.path.exists(library):
         source = f"{TOP}/tests/count_heap.c"
         subprocess.run(["cc", "-O2", "-shared", "-fPIC", "-o", library, source, "-ldl"], check=True)
     env = {**os.environ, "LD_PRELOAD": library, "HEAP_AT_END": "1"}
-    said = ran(path, room, env=env)[1].splitlines()[-1].split()
+    said = run(path, scratch, env=env)[1].splitlines()[-1].split()
     return int(said[2])
 
 
-def resident_at_most(path, room):
+def resident_at_most(path, scratch):
     """Returns how many states a run finds, and the most bytes that it has resident."""
-    lines = ran(path, room, (sys.executable, "-c", RESIDENT))[0].splitlines()
+    lines = run(path, scratch, (sys.executable, "-c", RESIDENT))[0].splitlines()
     return int(lines[0].split()[1]), int(lines[-1]) * 1024
 
 
 def instructions_in(path, function):
-    """Returns the instructions that callgrind's output file reports of calls of a function, with all that it calls."""
+    """Returns the instructions that callgrind's output file reports of calls of a function, with
+    all that it calls."""
     names, total, callee = {}, 0, ""
     with open(path, encoding="utf-8", errors="replace") as file:
         lines = iter(file)
@@ -83,31 +85,31 @@ def instructions_in(path, function):
     return total
 
 
-def question_file(line, room):
-    path = f"{room}/question"
+def question_file(line, scratch):
+    path = f"{scratch}/question"
     with open(path, "w", encoding="ascii") as file:
         file.write(line.replace("; ", "\n") + "\n")
     return path
 
 
-def questions(room):
+def questions(scratch):
     subprocess.run([f"{TOP}/tools/prove", "answers_program"], stdin=subprocess.DEVNULL, check=True)
     print(
         "states; instructions in thousands, of which the search; its ratio to plain Rust's; bytes a state"
     )
     for line, peer in QUESTIONS:
-        path = question_file(line, room)
-        output, said = ran(path, room, (*CALLGRIND[:2], f"--callgrind-out-file={room}/calls"))
-        states, cost = int(output.split()[1]), collected(said)
-        tidied = instructions_in(f"{room}/calls", "answers::tidy::tidy::")
+        path = question_file(line, scratch)
+        output, said = run(path, scratch, (*CALLGRIND[:2], f"--callgrind-out-file={scratch}/calls"))
+        states, cost = int(output.split()[1]), reported_instructions(said)
+        tidied = instructions_in(f"{scratch}/calls", "answers::tidy::tidy::")
         if tidied == 0:
             sys.exit("tests/cost: the program has no function that makes schedules easy to read")
         search = cost - tidied
         ratio = f"{search / peer:8.2f}" if peer else "       -"
-        held = most_held(path, room) / states
+        held = most_held(path, scratch) / states
         costs = f"{cost / 1000:12.0f}{search / 1000:12.0f}"
         print(f"  {line:72}{states:8}{costs}{ratio}{held:8.0f}", flush=True)
     print("states; megabytes that are resident at most")
     for line in LARGE:
-        states, most = resident_at_most(question_file(line, room), room)
+        states, most = resident_at_most(question_file(line, scratch), scratch)
         print(f"  {line:84}{states:8}{most / 1e6:8.0f}", flush=True)

@@ -17,13 +17,14 @@ TOWERS = {
 }
 SHORT_WRITES = ["w 0 1", "g 0 0", "g 0 0", "w 0 0", "g 0 0", "g 0 0"]
 CALLGRIND = ("valgrind", "--tool=callgrind", "--callgrind-out-file=/dev/null")
-# A comment that fills a read, so that the next one, which reports the heap, follows the lines before it.
+# A comment that fills a read, so that the next one, which reports the heap, follows the lines
+# before it.
 PAD = "#" * 4096 + "\n"
 
 
-def ran(words, script, room, prefix=(), env=None):
+def run(words, script, scratch, prefix=(), env=None):
     """Returns what a run of the program writes on standard error, with its answers left out."""
-    path = f"{room}/script"
+    path = f"{scratch}/script"
     with open(path, "w") as file:
         file.write(script)
     with open(path) as script_file:
@@ -41,22 +42,23 @@ def ran(words, script, room, prefix=(), env=None):
     return done.stderr
 
 
-def collected(text):
+def reported_instructions(text):
     """Returns the instructions that callgrind reports."""
     return int(next(line.split()[-1] for line in text.splitlines() if "Collected" in line))
 
 
-def instructions(words, script, room):
-    return collected(ran(words, script, room, CALLGRIND))
+def instructions(words, script, scratch):
+    return reported_instructions(run(words, script, scratch, CALLGRIND))
 
 
-def heap_at_reads(words, script, room):
-    """Returns the bytes that a run holds on the heap at each read of its script, and the most since the read before."""
-    library = f"{room}/count.so"
+def heap_at_reads(words, script, scratch):
+    """Returns the bytes that a run holds on the heap at each read of its script, and the most since
+    the read before."""
+    library = f"{scratch}/count.so"
     if not os.path.exists(library):
         source = f"{TOP}/tests/count_heap.c"
         subprocess.run(["cc", "-O2", "-shared", "-fPIC", "-o", library, source, "-ldl"], check=True)
-    text = ran(words, script, room, env={**os.environ, "LD_PRELOAD": library})
+    text = run(words, script, scratch, env={**os.environ, "LD_PRELOAD": library})
     return [
         tuple(int(it) for it in line.split()[1:])
         for line in text.splitlines()
@@ -64,8 +66,8 @@ def heap_at_reads(words, script, room):
     ]
 
 
-def tower(line, cycle, count, room):
-    path = f"{room}/tower"
+def tower(line, cycle, count, scratch):
+    path = f"{scratch}/tower"
     with open(path, "w") as file:
         file.write(
             f"tower 1\n{line}\n" + "".join(f"{cycle[i % len(cycle)]}\n" for i in range(count))
@@ -74,7 +76,8 @@ def tower(line, cycle, count, room):
 
 
 def varied(cycle, count):
-    """Returns `count` steps of a cycle, with choices by a fixed sequence, so that no two runs of them are equal."""
+    """Returns `count` steps of a cycle, with choices by a fixed sequence, so that no two runs of
+    them are equal."""
     made, state = [], 1
     for i in range(count):
         step, state = cycle[i % len(cycle)], state * 1103515245 + 12345 & 0x7FFFFFFF

@@ -9,7 +9,7 @@ import subprocess
 import threading
 
 import tower_reader
-from runs import SECONDS, Ended, ended, fault, good, program
+from runs import SECONDS, Ended, end_by_fault, end_of_run, good_end, program
 
 MOST_BYTES = 2**32
 # A run over a file that is too long takes at most this much memory: a file's limit, and 16 MB.
@@ -17,22 +17,22 @@ MOST_MEMORY = MOST_BYTES + 2**24
 NOBODY = 65534
 
 
-def spelled(header, tower, *steps):
+def file_bytes(header, tower, *steps):
     return "".join(f"{line}\n" for line in (header, tower, *steps)).encode()
 
 
 READ = ["r 1"] + ["g 1 0"] * 8
 ROWS = {
-    "stamped-best": spelled(
+    "stamped-best": file_bytes(
         "tower 1", "stamped 2 1", "w 0 1", *["g 0 0"] * 3, *READ, "r 1", "g 1 0", "g 1 1"
     ),
-    "matrix-spent": spelled(
+    "matrix-spent": file_bytes(
         "tower 1", "matrix 2 2 1 3", "w 0 1", *["g 0 0"] * 12, "w 1 0", *["g 1 0"] * 30
     ),
-    "stopped-writer": spelled(
+    "stopped-writer": file_bytes(
         "tower 2", "safe 0", "w 0 1", "g 0 0", "x 0", "g 0 0", "r 1", "g 1 0", "g 1 1"
     ),
-    "bench-file": spelled(
+    "bench-file": file_bytes(
         "bench 1",
         "safe 0",
         "branch main 0 0",
@@ -43,7 +43,7 @@ ROWS = {
         "branch b 1 2",
         "g 1 1",
     ),
-    "bench-of-four": spelled(
+    "bench-of-four": file_bytes(
         "bench 1",
         "unary 3 2 0",
         "branch c 0 0",
@@ -59,12 +59,12 @@ ROWS = {
 }
 
 
-def wanted(data):
+def wanted_end(data):
     """Returns how a run of the reader's script over a file has to end, by the reader."""
     try:
         if data.startswith(tower_reader.BENCH):
-            return good(tower_reader.bench_pages(tower_reader.read_bench(data)))
-        return good(tower_reader.pages(tower_reader.read(data)))
+            return good_end(tower_reader.bench_pages(tower_reader.read_bench(data)))
+        return good_end(tower_reader.pages(tower_reader.read(data)))
     except tower_reader.Fault as first:
         return Ended(1, b"", first.line)
 
@@ -95,7 +95,7 @@ def replacements(data):
 
 # What bytes are put in, and how many files are changed by chance, at one to three places.
 BYTES = b"0123456789 \nwrgxtowerbranch"
-MIXED = 300
+CHANGES_BY_CHANCE = 300
 # Numbers at each tower's limits, and just past them.
 EDGES = {
     "safe": [(0, 1, 2)],
@@ -107,18 +107,19 @@ EDGES = {
 }
 
 
-def mixed(data):
+def changes_by_chance(data):
     """Yields a file changed at one to three places, by chance that is the same in each run."""
     chance = random.Random(len(data))
-    for number in range(MIXED):
+    for number in range(CHANGES_BY_CHANCE):
         changed = data
         for _ in range(chance.randint(1, 3)):
-            changed = changed_by(chance, changed)
+            changed = with_one_change(chance, changed)
         yield f"change {number}, {changed!r}", changed
 
 
-def changed_by(chance, data):
-    """Returns data with a byte removed, added or replaced, or with two lines that have changed places."""
+def with_one_change(chance, data):
+    """Returns data with a byte removed, added or replaced, or with two lines that have changed
+    places."""
     place, way = chance.randrange(len(data) + 1), chance.randrange(4)
     if way == 0:
         return data[:place] + data[place + 1 :]
@@ -130,12 +131,12 @@ def changed_by(chance, data):
     return data[:place] + bytes([chance.choice(BYTES)]) + data[place + (way == 2) :]
 
 
-def sized():
+def towers_at_limits():
     """Yields files of no steps and of one, of each tower at its limits."""
     for kind, edges in EDGES.items():
         for numbers in itertools.product(*edges):
             tower = " ".join([kind, *map(str, numbers)])
-            yield tower, spelled("tower 1", tower)
+            yield tower, file_bytes("tower 1", tower)
         for version in ("tower 1", "tower 2"):
             for step in (
                 "w 0 1",
@@ -157,42 +158,42 @@ def sized():
                 "",
             ):
                 tower = " ".join([kind, *(str(edge[1]) for edge in edges)])
-                yield f"{version}, {tower}, {step}", spelled(version, tower, step)
+                yield f"{version}, {tower}, {step}", file_bytes(version, tower, step)
 
 
-def over(path, data):
+def run_over(path, data):
     is_bench = data.startswith(tower_reader.BENCH)
-    return ended([path], tower_reader.BENCH_SCRIPT if is_bench else tower_reader.SCRIPT)
+    return end_of_run([path], tower_reader.BENCH_SCRIPT if is_bench else tower_reader.SCRIPT)
 
 
-def broken(counts, room):
+def broken(counts, scratch):
     """A row's file cut after each of its bytes, and with each replaced."""
     for row, data in ROWS.items():
         for kind, changes in (
             ("cut", cuts),
             ("with a byte replaced", replacements),
             ("in each version", versions),
-            ("changed by chance", mixed),
+            ("changed by chance", changes_by_chance),
         ):
-            hold(counts, f"files: {row}, {kind}", changes(data), room)
-    hold(counts, "files: towers at their limits", sized(), room)
+            compare_readings(counts, f"files: {row}, {kind}", changes(data), scratch)
+    compare_readings(counts, "files: towers at their limits", towers_at_limits(), scratch)
 
 
-def hold(counts, row, changes, room):
-    """Holds the program's reading of files to the reader's."""
+def compare_readings(counts, row, changes, scratch):
+    """Compares what the program says of changed files with what the reader says."""
     counts.begin(row)
-    path, kinds = f"{room}/broken", collections.Counter()
+    path, kinds = f"{scratch}/broken", collections.Counter()
     for name, changed in changes:
         with open(path, "wb") as file:
             file.write(changed)
-        want = wanted(changed)
+        want = wanted_end(changed)
         kinds[want.errors.split()[-1].decode() if want.errors else "read"] += 1
-        counts.same(name, over(path, changed), want)
+        counts.compare(name, run_over(path, changed), want)
     print(f"{row}: wanted: {', '.join(f'{count} {kind}' for kind, count in kinds.items())}")
     counts.end()
 
 
-def measured(path):
+def end_and_memory(path):
     """Runs the program over a file, and returns how it ended, and the most memory that it took."""
     how = {"stdin": subprocess.DEVNULL, "stdout": subprocess.PIPE, "stderr": subprocess.PIPE}
     with subprocess.Popen([program(), path], **how) as process:
@@ -207,31 +208,31 @@ def measured(path):
 
 
 def same_in_memory(counts, name, path, want):
-    got, memory = measured(path)
-    counts.same(name, got, want)
+    got, memory = end_and_memory(path)
+    counts.compare(name, got, want)
     is_much = memory > MOST_MEMORY
     counts.count(f"{name}: memory", f"{memory} bytes, more than {MOST_MEMORY}" if is_much else None)
     print(f"{counts.row}: {name}: at most {memory / 2**20:.1f} MB of memory", flush=True)
 
 
-def sparse(path, length):
+def sparse_file(path, length):
     with open(path, "wb") as file:
         file.truncate(length)
     return path
 
 
-def long_files(counts, room):
+def long_files(counts, scratch):
     """Files that are as long as one may be, longer, and without an end."""
     counts.begin("files: long ones")
-    too_long, path = fault("file too long"), f"{room}/long"
-    not_ascii = fault("file line 1: 10 NotAscii")
-    counts.same("2^32 bytes of 0", ended([sparse(path, MOST_BYTES)]), not_ascii)
-    same_in_memory(counts, "2^32 + 1 bytes of 0", sparse(path, MOST_BYTES + 1), too_long)
-    same_in_memory(counts, "2^36 bytes of 0", sparse(path, 2**36), too_long)
+    too_long, path = end_by_fault("file too long"), f"{scratch}/long"
+    not_ascii = end_by_fault("file line 1: 10 NotAscii")
+    counts.compare("2^32 bytes of 0", end_of_run([sparse_file(path, MOST_BYTES)]), not_ascii)
+    same_in_memory(counts, "2^32 + 1 bytes of 0", sparse_file(path, MOST_BYTES + 1), too_long)
+    same_in_memory(counts, "2^36 bytes of 0", sparse_file(path, 2**36), too_long)
     os.remove(path)
     same_in_memory(counts, "/dev/zero", "/dev/zero", too_long)
-    pipe = made_pipe(f"{room}/endless")
-    feeder = fed(pipe, endless())
+    pipe = made_pipe(f"{scratch}/endless")
+    feeder = feed_pipe(pipe, endless_tower())
     same_in_memory(counts, "a named pipe whose writer goes on", pipe, too_long)
     feeder.join(SECONDS)
     wrong = "it still writes" if feeder.is_alive() else None
@@ -244,14 +245,14 @@ def made_pipe(path):
     return path
 
 
-def endless():
+def endless_tower():
     yield b"tower 1\nsafe 0\n"
     while True:
         yield b"r 1\n" * 2**12
 
 
-def fed(path, pieces):
-    """Writes pieces to a named pipe, by a thread, until nobody reads it."""
+def feed_pipe(path, pieces):
+    """Starts a thread that writes pieces to a named pipe until nobody reads it, and returns it."""
 
     def feed():
         try:
@@ -266,10 +267,10 @@ def fed(path, pieces):
     return feeder
 
 
-def pipes(counts, room):
+def pipes(counts, scratch):
     """Named pipes that end: at once, in the middle, by a byte a write."""
     counts.begin("files: named pipes that end")
-    pipe = made_pipe(f"{room}/pipe")
+    pipe = made_pipe(f"{scratch}/pipe")
     for row, data in ROWS.items():
         bytewise = [data[i : i + 1] for i in range(len(data))]
         half = data[: len(data) // 2]
@@ -279,14 +280,14 @@ def pipes(counts, room):
             ("half", [half]),
             ("a byte a write", bytewise),
         ):
-            feeder = fed(pipe, pieces)
+            feeder = feed_pipe(pipe, pieces)
             whole = b"".join(pieces)
-            counts.same(f"{row}, {name}", over(pipe, whole), wanted(whole))
+            counts.compare(f"{row}, {name}", run_over(pipe, whole), wanted_end(whole))
             feeder.join(SECONDS)
     counts.end()
 
 
-def to_nobody():
+def become_nobody():
     os.setgroups([])
     os.setgid(NOBODY)
     os.setuid(NOBODY)
@@ -294,7 +295,7 @@ def to_nobody():
 
 def is_run_by_nobody(path):
     """Returns whether the program can be run without rights here."""
-    how = {"stdout": subprocess.DEVNULL, "stderr": subprocess.DEVNULL, "preexec_fn": to_nobody}
+    how = {"stdout": subprocess.DEVNULL, "stderr": subprocess.DEVNULL, "preexec_fn": become_nobody}
     try:
         done = subprocess.run([path, "--help"], check=False, **how)
     except (OSError, subprocess.SubprocessError):
@@ -302,9 +303,10 @@ def is_run_by_nobody(path):
     return done.returncode == 0
 
 
-def unreadable(counts, room):
-    """A file that its reader has no right to read, and a folder that it has no right to enter, to read from or to save to."""
-    path, folder = f"{room}/locked", f"{room}/closed"
+def unreadable(counts, scratch):
+    """A file that its reader has no right to read, and a folder that it has no right to enter, to
+    read from or to save to."""
+    path, folder = f"{scratch}/locked", f"{scratch}/closed"
     names = {"a file without right to read": path, "one in such a folder": f"{folder}/x"}
     with open(path, "wb") as file:
         file.write(ROWS["stamped-best"])
@@ -313,61 +315,67 @@ def unreadable(counts, room):
     os.chmod(folder, 0)
     how = {}
     if os.geteuid() == 0:
-        os.chmod(room, stat.S_IRWXU | stat.S_IXGRP | stat.S_IXOTH)
-        how = {"preexec_fn": to_nobody}
+        os.chmod(scratch, stat.S_IRWXU | stat.S_IXGRP | stat.S_IXOTH)
+        how = {"preexec_fn": become_nobody}
         if not is_run_by_nobody(program()):
             for name in names:
                 counts.skip(name, "this runs as root, and nobody else can run the program")
             return
     for name, it in names.items():
-        counts.same(name, ended([it], **how), fault("file unreadable"))
-        counts.same(f"saved to {name}", ended(["--save", it], **how), fault("save failed"))
+        counts.compare(name, end_of_run([it], **how), end_by_fault("file unreadable"))
+        counts.compare(
+            f"saved to {name}", end_of_run(["--save", it], **how), end_by_fault("save failed")
+        )
 
 
-def no_files(counts, room):
+def no_files(counts, scratch):
     """What can be named and is no tower file."""
     counts.begin("files: what is no file")
-    os.symlink("ring", f"{room}/ring")
-    with open(f"{room}/plain", "wb") as file:
+    os.symlink("ring", f"{scratch}/ring")
+    with open(f"{scratch}/plain", "wb") as file:
         file.write(ROWS["stamped-best"])
     with socket.socket(socket.AF_UNIX) as listener:
-        listener.bind(f"{room}/socket")
+        listener.bind(f"{scratch}/socket")
         for name, path in (
-            ("a folder", room),
-            ("a name that isn't there", f"{room}/absent"),
+            ("a folder", scratch),
+            ("a name that isn't there", f"{scratch}/absent"),
             ("an empty name", ""),
-            ("a ring of links", f"{room}/ring"),
-            ("below a file", f"{room}/plain/x"),
-            ("a socket", f"{room}/socket"),
+            ("a ring of links", f"{scratch}/ring"),
+            ("below a file", f"{scratch}/plain/x"),
+            ("a socket", f"{scratch}/socket"),
             ("a name of 5,000 bytes", "a" * 5000),
             ("a file whose first read fails", "/proc/self/mem"),
         ):
-            counts.same(name, ended([path], b"0 branches\n"), fault("file unreadable"))
-    counts.same("/dev/null", ended(["/dev/null"]), wanted(b""))
-    got = ended([b"\xff\xfe"], b"0 branches\n")
+            counts.compare(
+                name, end_of_run([path], b"0 branches\n"), end_by_fault("file unreadable")
+            )
+    counts.compare("/dev/null", end_of_run(["/dev/null"]), wanted_end(b""))
+    got = end_of_run([b"\xff\xfe"], b"0 branches\n")
     is_refused = got.status == 2 and not got.output and got.errors.startswith(b"towerbench: ")
     counts.count("a name that is no text", None if is_refused else f"{got}")
-    unreadable(counts, room)
+    unreadable(counts, scratch)
     counts.end()
 
 
-def limits(counts, room):
+def limits(counts, scratch):
     """A file of more steps than cells may be made."""
     counts.begin("files: more steps than cells")
-    path = f"{room}/steps"
+    path = f"{scratch}/steps"
     with open(path, "wb") as file:
         file.write(ROWS["stamped-best"])
     for cells, want in (
-        ("16", wanted(ROWS["stamped-best"])),
-        ("15", fault("open refused 24 Full")),
+        ("16", wanted_end(ROWS["stamped-best"])),
+        ("15", end_by_fault("open refused 24 Full")),
     ):
-        counts.same(f"--cells {cells}", ended([path, "--cells", cells], tower_reader.SCRIPT), want)
+        counts.compare(
+            f"--cells {cells}", end_of_run([path, "--cells", cells], tower_reader.SCRIPT), want
+        )
     counts.end()
 
 
-def run(counts, room):
-    broken(counts, room)
-    long_files(counts, room)
-    pipes(counts, room)
-    no_files(counts, room)
-    limits(counts, room)
+def run(counts, scratch):
+    broken(counts, scratch)
+    long_files(counts, scratch)
+    pipes(counts, scratch)
+    no_files(counts, scratch)
+    limits(counts, scratch)

@@ -1,4 +1,5 @@
-"""As much as the limits allow that the program is given, and one more; and what memory that takes."""
+"""The program is given as much as its limits allow, and one more; and how much memory that
+takes."""
 import re
 
 from watched import Stage, Watched
@@ -29,9 +30,9 @@ def stage(name, *pairs, of=None, count=None):
     return Stage(name, *talk(*pairs), of, count)
 
 
-def file_of(room, steps):
+def file_of(scratch, steps):
     """Makes a file of a safe bit and that many reads' invocations, and returns its path."""
-    path = f"{room}/steps-{steps}"
+    path = f"{scratch}/steps-{steps}"
     with open(path, "wb") as file:
         file.write(HEAD)
         for first in range(0, steps, LINES_AT_ONCE):
@@ -73,7 +74,7 @@ LOGGED = (
 )
 
 
-def full_log(counts, room):
+def full_log(counts, scratch):
     """2^20 logged commands, and more: each is refused first of all, and changes nothing."""
     script, answers = talk(*LOGGED)
     times = MOST_LOGGED // len(LOGGED)
@@ -99,7 +100,7 @@ def full_log(counts, room):
     drive(counts, "the log", [], [opened(), logged, last])
 
 
-def cells_by_inserts(counts, room):
+def cells_by_inserts(counts, scratch):
     """2^24 cells, of which a file brings most and inserts the others, and more."""
     count = MOST_CELLS // 64
     steps = MOST_CELLS - count
@@ -117,14 +118,14 @@ def cells_by_inserts(counts, room):
         *refused(FULL, "0 insert a 0 r 1"),
         branches(count + 4, MOST_CELLS, ("main", MOST_CELLS - 1), ("a", 0)),
     )
-    words = [file_of(room, steps), *CELLS]
+    words = [file_of(scratch, steps), *CELLS]
     drive(counts, "cells by inserts", words, [opened(steps, of="cell"), inserted, last])
 
 
-def cells_by_detach(counts, room):
+def cells_by_detach(counts, scratch):
     """Half as many cells, and as many again by a detach, and more; and a detach of one too many."""
     half = MOST_CELLS // 2
-    words = [file_of(room, half), *CELLS]
+    words = [file_of(scratch, half), *CELLS]
     made = edits(f"0 fork main {half} a", "0 detach a")
     detached = stage("a fork of them, detached", *made, of="cell", count=half)
     last = stage(
@@ -147,14 +148,15 @@ def cells_by_detach(counts, room):
 
 
 def forks(length):
-    """Returns a stage of as many forks of that many steps as there may be, and the branches then."""
+    """Returns a stage of as many forks of that many steps as there may be, and the branches
+    then."""
     names = [f"b{i}" for i in range(MOST_BRANCHES - 1)]
     made = edits(*[f"0 fork main {length} {name}" for name in names])
     name = f"{len(names)} forks of {length} steps"
     return stage(name, *made, of="branch", count=len(names)), ["main", *names]
 
 
-def many_branches(counts, room):
+def many_branches(counts, scratch):
     """1,024 branches that share their steps, and more: refused, and granted once one is dropped."""
     too_many = "0: refused 26 TooManyBranches"
     for steps in (0, MOST_CELLS // 16):
@@ -172,7 +174,7 @@ def many_branches(counts, room):
             *edits("0 insert main 0 r 1", first=before + 3),
             branches(before + 3, steps + 1, *grown),
         )
-        words = [file_of(room, steps), *CELLS, "--branches", str(MOST_BRANCHES)]
+        words = [file_of(scratch, steps), *CELLS, "--branches", str(MOST_BRANCHES)]
         row = f"branches that share {steps} steps"
         drive(counts, row, words, [opened(steps), forked, last])
 
@@ -188,7 +190,7 @@ def page_of(kind, name, length, *lines):
     return f"0 {kind} {name} {length}", "\n".join([first, *lines])
 
 
-def branches_apart(counts, room):
+def branches_apart(counts, scratch):
     """1,024 branches that share nothing, of all cells, and a fill of them by four workers."""
     steps = MOST_CELLS // MOST_BRANCHES
     forked, names = forks(steps)
@@ -205,7 +207,7 @@ def branches_apart(counts, room):
     filled = stage("a fill by 4 workers", fill, of="branch", count=MOST_BRANCHES)
     shown = [state(name, steps, "idle", "read next rs 0") for name in names]
     pages = stage("a page of each", *shown, of="branch", count=MOST_BRANCHES)
-    words = [file_of(room, steps), *CELLS, "--branches", str(MOST_BRANCHES), "--workers", "4"]
+    words = [file_of(scratch, steps), *CELLS, "--branches", str(MOST_BRANCHES), "--workers", "4"]
     stages = [opened(steps), forked, detached, last, filled, pages]
     drive(counts, "branches apart", words, stages)
 
@@ -219,7 +221,7 @@ def steps_page(name, count, first, last):
     yield f"  {count - 1} {last}\n".encode()
 
 
-def long_branch(counts, room):
+def long_branch(counts, scratch):
     """A branch of all cells that there may be, forked, edited at both ends and shown."""
     # After the file's steps and one insert at 0
     tail = FILE_STEPS + 1
@@ -258,11 +260,12 @@ def long_branch(counts, room):
     page = steps_page("a", a - 1, "w 0 0", "g 1 0")
     steps = Stage("its steps", b"0 steps a\n", page, "cell", a - 1)
     stages = [opened(FILE_STEPS, of="cell"), edited, first, others, again, steps]
-    drive(counts, "a long branch", [file_of(room, FILE_STEPS), *CELLS], stages)
+    drive(counts, "a long branch", [file_of(scratch, FILE_STEPS), *CELLS], stages)
 
 
 def breaks_on(tail):
-    """Returns breaks, each with the places at which a seek from the beginning and one back from the end meet it."""
+    """Returns breaks, each with the places at which a seek from the beginning and one back from the
+    end meet it."""
     return (
         ("returns 1", tail + 2, None),
         ("void", 3, tail),
@@ -275,11 +278,11 @@ def breaks_on(tail):
     )
 
 
-def moved(session, place):
+def answer_to_move(session, place):
     return f"{session}: no hit" if place is None else f"{session}: at main {place}"
 
 
-def begun(sessions):
+def joins_with_breaks(sessions):
     """Returns the lines by which sessions join and set two breaks each, with their answers."""
     lines = []
     for session, sought, _, _ in sessions:
@@ -294,7 +297,7 @@ def cursor(session, place, sought):
     return f"{session} cursor", "\n".join(lines)
 
 
-def sixteen_sessions(counts, room):
+def sixteen_sessions(counts, scratch):
     """Sixteen sessions with breaks, which seek forth and back over a branch of nearly all cells."""
     # After the file's steps and one insert at 0
     tail = FILE_STEPS + 1
@@ -303,22 +306,24 @@ def sixteen_sessions(counts, room):
     ends = edits(
         "0 insert main 0 w 0 1", f"0 insert main {tail} g 1 0", f"0 insert main {tail + 1} g 1 0"
     )
-    first, *others = [(f"{it} seek", moved(it, forth)) for it, _, forth, _ in sessions]
+    first, *others = [(f"{it} seek", answer_to_move(it, forth)) for it, _, forth, _ in sessions]
     back, at, again = [], [], []
     for session, sought, _, after in sessions:
         back += [
             (f"{session} go main {end}", f"{session}: at main {end}"),
-            (f"{session} back", moved(session, after)),
+            (f"{session} back", answer_to_move(session, after)),
         ]
         at.append(cursor(session, 1 + (end if after is None else after), sought))
-        again.append((f"{session} seek", moved(session, end + 1 if sought == "bit 0 0" else None)))
+        again.append(
+            (f"{session} seek", answer_to_move(session, end + 1 if sought == "bit 0 0" else None))
+        )
     drive(
         counts,
         "sixteen sessions",
-        [file_of(room, FILE_STEPS), *CELLS],
+        [file_of(scratch, FILE_STEPS), *CELLS],
         [
             opened(FILE_STEPS),
-            stage("edits at its ends, and breaks", *ends, *begun(sessions)),
+            stage("edits at its ends, and breaks", *ends, *joins_with_breaks(sessions)),
             stage("a seek", first, of="cell", count=end),
             stage("a seek of each other", *others),
             stage("each back from the end", *back),
@@ -339,9 +344,9 @@ def drive(counts, row, words, stages):
     if free_memory() < MEMORY_NEEDED:
         counts.skip("all of it", f"less than {MEMORY_NEEDED} bytes of memory are free")
         return
-    with Watched(words, SECONDS) as run:
+    with Watched(words, SECONDS) as watched:
         for place, it in enumerate(stages):
-            wrong, measure = run.stage(it)
+            wrong, measure = watched.run_stage(it)
             counts.count(it.name, wrong)
             MEASURED.append((row, measure))
             if wrong:
@@ -349,7 +354,7 @@ def drive(counts, row, words, stages):
                     counts.skip(left.name, "what comes before it has failed")
                 break
         else:
-            counts.count("the end", run.end())
+            counts.count("the end", watched.end())
     counts.end()
 
 
@@ -363,7 +368,7 @@ def print_table():
         print(f"| {row} | {it.name} | {memory} | {each} | {seconds:.1f} |")
 
 
-def run(counts, room):
+def run(counts, scratch):
     for row in (
         full_log,
         cells_by_inserts,
@@ -373,5 +378,5 @@ def run(counts, room):
         long_branch,
         sixteen_sessions,
     ):
-        row(counts, room)
+        row(counts, scratch)
     print_table()

@@ -24,7 +24,7 @@ def program():
     return _BUILT[0]
 
 
-def ended(words, script=b"", seconds=SECONDS, **how):
+def end_of_run(words, script=b"", seconds=SECONDS, **how):
     """Runs the program over a script, its bytes or an open file, and returns how it ended."""
     given = {"input": script} if isinstance(script, bytes) else {"stdin": script}
     how = {"stdout": subprocess.PIPE, "stderr": subprocess.PIPE, **given, **how}
@@ -35,12 +35,12 @@ def ended(words, script=b"", seconds=SECONDS, **how):
     return Ended(done.returncode, done.stdout or b"", done.stderr or b"")
 
 
-def fault(line, output=b""):
-    """Returns the end of a run that reports a fault."""
+def end_by_fault(line, output=b""):
+    """Returns how a run ends that reports a fault."""
     return Ended(1, output, f"towerbench: {line}\n".encode())
 
 
-def good(output):
+def good_end(output):
     return Ended(0, output, b"")
 
 
@@ -96,7 +96,7 @@ class Counts:
         elif shown_before == MOST_SHOWN:
             print(f"{self.row}: more fail, which aren't shown", flush=True)
 
-    def same(self, name, got, want):
+    def compare(self, name, got, want):
         self.count(name, difference(got, want))
 
     def skip(self, name, why):

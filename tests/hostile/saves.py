@@ -1,4 +1,5 @@
-"""Saves that are killed, that find no room, and over all that a path can name: the old file isn't lost."""
+"""Saves that are killed, that find no room, and over all that a path can name: the old file isn't
+lost."""
 import os
 import random
 import resource
@@ -9,8 +10,8 @@ import tempfile
 import threading
 import time
 
-from files import NOBODY, is_run_by_nobody, made_pipe, to_nobody
-from runs import SECONDS, TOP, Ended, ended, fault, good, program
+from files import NOBODY, become_nobody, is_run_by_nobody, made_pipe
+from runs import SECONDS, TOP, Ended, end_by_fault, end_of_run, good_end, program
 
 # A file of 20 MB, whose branch is saved again as the same bytes.
 STEPS = 2_500_000
@@ -19,14 +20,14 @@ NEW = HEAD + b"w 0 511\n" * STEPS
 LITTLE = HEAD + b"w 0 511\n"
 OLD = b"bench 1\nsafe 1\nbranch old 0 0\n"
 PAGE = f"0: branches 1 edits 0 made {STEPS}\n  main {STEPS}\n".encode()
-FAILED = fault("save failed")
-LEFT = ".towerbench-new"
+FAILED = end_by_fault("save failed")
+NEW_FILE_SUFFIX = ".towerbench-new"
 KILLS, SEED = 200, 78
 LIMIT, SMALL_DISK = 2**20, 2**23
 MODE = 0o640
 
 
-def put(path, data):
+def write_file(path, data):
     with open(path, "wb") as file:
         file.write(data)
     return path
@@ -45,18 +46,19 @@ def words_of(source, path):
 
 
 def same_file(counts, name, path, want, has_left=False):
-    """Holds a file to these bytes, and its folder to what a save may leave there."""
+    """Counts whether a file has these bytes, and whether a save has left a new file next to it."""
     got = bytes_at(path)
     wrong = None if got == want else f"it has {'no file' if got is None else f'{len(got)} bytes'}"
     counts.count(name, wrong)
-    is_left = os.path.exists(path + LEFT)
+    is_left = os.path.exists(path + NEW_FILE_SUFFIX)
     counts.count(
         f"{name}: a new file next to it", None if is_left == has_left else f"there: {is_left}"
     )
 
 
 def killed_save(words, moment):
-    """Starts a save and kills it that many seconds after its start, or never; returns its status and how long it took."""
+    """Starts a save and kills it that many seconds after its start, or never; returns its status
+    and how long it took."""
     how = {"stdin": subprocess.PIPE, "stdout": subprocess.PIPE, "stderr": subprocess.DEVNULL}
     with subprocess.Popen([program(), *words], **how) as process:
         timer = threading.Timer(SECONDS, process.kill)
@@ -75,20 +77,20 @@ def killed_save(words, moment):
         return status, time.monotonic() - begun
 
 
-def kills(counts, room):
+def kills(counts, scratch):
     """200 saves of 20 MB that are killed, and one that isn't."""
     counts.begin("saves: killed")
-    chance, path = random.Random(SEED), f"{room}/killed"
-    words = words_of(put(f"{room}/big", NEW), path)
+    chance, path = random.Random(SEED), f"{scratch}/killed"
+    words = words_of(write_file(f"{scratch}/big", NEW), path)
     _, span = killed_save(words, None)
     same_file(counts, "a save that isn't killed", path, NEW)
     olds = lefts = 0
     for number in range(KILLS):
-        put(path, OLD)
+        write_file(path, OLD)
         killed_save(words, chance.uniform(0, span))
         got = bytes_at(path)
         olds += got == OLD
-        lefts += os.path.exists(path + LEFT)
+        lefts += os.path.exists(path + NEW_FILE_SUFFIX)
         counts.count(
             f"kill {number}",
             None if got in (OLD, NEW) else "neither the old file nor the new one is there",
@@ -102,89 +104,105 @@ def kills(counts, room):
     counts.end()
 
 
-def full_disk(counts, room):
+def full_disk(counts, scratch):
     """A file system with too little room."""
     counts.begin("saves: a small file system")
-    disk, source = f"{room}/disk", f"{room}/big"
+    disk, source = f"{scratch}/disk", f"{scratch}/big"
     os.mkdir(disk)
     mounting = ["mount", "-t", "tmpfs", "-o", f"size={SMALL_DISK}", "tmpfs", disk]
     if subprocess.run(mounting, capture_output=True, check=False).returncode:
         counts.skip("a save on it", "nothing can be mounted here")
         return
     try:
-        path = put(f"{disk}/kept", OLD)
-        counts.same("too much over a file", ended(words_of(source, path)), FAILED)
+        path = write_file(f"{disk}/kept", OLD)
+        counts.compare("too much over a file", end_of_run(words_of(source, path)), FAILED)
         same_file(counts, "the file", path, OLD)
-        counts.same("too much where nothing is", ended(words_of(source, f"{disk}/none")), FAILED)
+        counts.compare(
+            "too much where nothing is", end_of_run(words_of(source, f"{disk}/none")), FAILED
+        )
         same_file(counts, "nothing", f"{disk}/none", None)
-        counts.same("a little", ended(words_of(put(f"{room}/little", LITTLE), path)), good(b""))
+        counts.compare(
+            "a little",
+            end_of_run(words_of(write_file(f"{scratch}/little", LITTLE), path)),
+            good_end(b""),
+        )
         same_file(counts, "the little file", path, LITTLE)
     finally:
         subprocess.run(["umount", disk], check=True)
     counts.end()
 
 
-def limited():
+def limit_file_size():
     resource.setrlimit(resource.RLIMIT_FSIZE, (LIMIT, LIMIT))
 
 
-def limited_and_ignoring():
-    limited()
+def limit_and_ignore_signal():
+    limit_file_size()
     signal.signal(signal.SIGXFSZ, signal.SIG_IGN)
 
 
-def limit(counts, room):
+def limit(counts, scratch):
     """A limit on the sizes of files, whose signal ends the program unless it is ignored."""
     counts.begin("saves: a file-size limit")
-    words = words_of(f"{room}/big", f"{room}/limited")
+    words = words_of(f"{scratch}/big", f"{scratch}/limited")
     by_signal = Ended(-signal.SIGXFSZ, b"", b"")
     for name, how, want in (
-        ("with its signal", {"preexec_fn": limited}, by_signal),
-        ("without its signal", {"preexec_fn": limited_and_ignoring}, FAILED),
+        ("with its signal", {"preexec_fn": limit_file_size}, by_signal),
+        ("without its signal", {"preexec_fn": limit_and_ignore_signal}, FAILED),
         # `./towerbench` ignores the signal
-        ("by ./towerbench", {"preexec_fn": limited, "executable": f"{TOP}/towerbench"}, FAILED),
+        (
+            "by ./towerbench",
+            {"preexec_fn": limit_file_size, "executable": f"{TOP}/towerbench"},
+            FAILED,
+        ),
     ):
-        path = put(words[-1], OLD)
-        counts.same(name, ended(words, **how), want)
+        path = write_file(words[-1], OLD)
+        counts.compare(name, end_of_run(words, **how), want)
         same_file(counts, f"the file, {name}", path, OLD, has_left=want is by_signal)
     counts.end()
 
 
-def links(counts, room):
+def links(counts, scratch):
     """Links, which are followed, and permissions, which are kept."""
     counts.begin("saves: links and permissions")
-    source, path, link = put(f"{room}/little", LITTLE), f"{room}/real", f"{room}/link"
-    os.mkdir(f"{room}/far")
+    source, path, link = (
+        write_file(f"{scratch}/little", LITTLE),
+        f"{scratch}/real",
+        f"{scratch}/link",
+    )
+    os.mkdir(f"{scratch}/far")
     os.symlink("far/../real", link)
-    counts.same("a link to nothing", ended(words_of(source, link)), good(b""))
+    counts.compare("a link to nothing", end_of_run(words_of(source, link)), good_end(b""))
     same_file(counts, "the file that it made", path, LITTLE)
-    put(path, OLD)
+    write_file(path, OLD)
     os.chmod(path, MODE)
-    counts.same("a link", ended(words_of(source, link)), good(b""))
+    counts.compare("a link", end_of_run(words_of(source, link)), good_end(b""))
     same_file(counts, "what it leads to", path, LITTLE)
     counts.count("it is a link still", None if os.path.islink(link) else "it is none")
     mode = stat.S_IMODE(os.stat(path).st_mode)
     counts.count("its permissions", None if mode == MODE else f"{mode:#o}")
-    counts.same("a name of 250 bytes", ended(words_of(source, f"{room}/{'a' * 250}")), good(b""))
-    same_file(counts, "the long name", f"{room}/{'a' * 250}", LITTLE)
+    counts.compare(
+        "a name of 250 bytes", end_of_run(words_of(source, f"{scratch}/{'a' * 250}")), good_end(b"")
+    )
+    same_file(counts, "the long name", f"{scratch}/{'a' * 250}", LITTLE)
     with tempfile.TemporaryFile() as file:
         number = file.fileno()
-        counts.same(
+        counts.compare(
             "an open file without a name",
-            ended(words_of(source, f"/dev/fd/{number}"), pass_fds=[number]),
-            good(b""),
+            end_of_run(words_of(source, f"/dev/fd/{number}"), pass_fds=[number]),
+            good_end(b""),
         )
         counts.count("its bytes", None if file.read() == LITTLE else "others")
     counts.end()
 
 
-def pipe(counts, room):
+def pipe(counts, scratch):
     """A named pipe, which is written in place."""
     counts.begin("saves: a named pipe")
-    path, got = made_pipe(f"{room}/pipe"), []
+    path, got = made_pipe(f"{scratch}/pipe"), []
     reader = threading.Thread(target=lambda: got.append(bytes_at(path)), daemon=True)
     reader.start()
-    counts.same("a save to it", ended(words_of(f"{room}/little", path)), good(b""))
+    counts.compare("a save to it", end_of_run(words_of(f"{scratch}/little", path)), good_end(b""))
     reader.join(SECONDS)
     counts.count("its reader's bytes", None if got == [LITTLE] else f"{got}")
     counts.count(
@@ -193,41 +211,43 @@ def pipe(counts, room):
     counts.end()
 
 
-def folders(counts, room):
+def folders(counts, scratch):
     """A folder that takes no new file, and a file that may not be written."""
     counts.begin("saves: without rights")
-    how, closed = {}, f"{room}/closed"
+    how, closed = {}, f"{scratch}/closed"
     os.mkdir(closed)
-    written, locked = put(f"{closed}/written", OLD), put(f"{room}/locked", OLD)
+    written, locked = write_file(f"{closed}/written", OLD), write_file(f"{scratch}/locked", OLD)
     if os.geteuid() == 0:
-        os.chmod(room, stat.S_IRWXU | stat.S_IXGRP | stat.S_IXOTH)
-        how = {"preexec_fn": to_nobody}
+        os.chmod(scratch, stat.S_IRWXU | stat.S_IXGRP | stat.S_IXOTH)
+        how = {"preexec_fn": become_nobody}
         os.chown(written, NOBODY, NOBODY)
         if not is_run_by_nobody(program()):
             counts.skip(
                 "saves without rights", "this runs as root, and nobody else can run the program"
             )
             return
-    os.chmod(f"{room}/little", 0o644)
+    os.chmod(f"{scratch}/little", 0o644)
     os.chmod(locked, 0o444)
     os.chmod(closed, 0o555)
-    counts.same(
+    counts.compare(
         "a folder that takes no new file",
-        ended(words_of(f"{room}/little", written), **how),
-        good(b""),
+        end_of_run(words_of(f"{scratch}/little", written), **how),
+        good_end(b""),
     )
     same_file(counts, "its file", written, LITTLE)
-    counts.same(
-        "a file that may not be written", ended(words_of(f"{room}/little", locked), **how), FAILED
+    counts.compare(
+        "a file that may not be written",
+        end_of_run(words_of(f"{scratch}/little", locked), **how),
+        FAILED,
     )
     same_file(counts, "that file", locked, OLD)
     counts.end()
 
 
-def run(counts, room):
-    links(counts, room)
-    pipe(counts, room)
-    folders(counts, room)
-    kills(counts, room)
-    full_disk(counts, room)
-    limit(counts, room)
+def run(counts, scratch):
+    links(counts, scratch)
+    pipe(counts, scratch)
+    folders(counts, scratch)
+    kills(counts, scratch)
+    full_disk(counts, scratch)
+    limit(counts, scratch)

@@ -6,7 +6,7 @@ import subprocess
 import threading
 import time
 
-from runs import SECONDS, Ended, ended, fault, good, program
+from runs import SECONDS, Ended, end_by_fault, end_of_run, good_end, program
 
 TOWER = b"tower 1\nsafe 0\nr 1\ng 1 0\ng 1 0\n"
 # A script, and what each of its lines is answered over that tower. No prefix of a line is
@@ -30,8 +30,8 @@ LIMIT = 2**24
 PAUSE = 0.003
 # What a pipe holds.
 PIPE_BYTES = 2**16
-NO_WRITE, NO_READ = fault("write failed"), fault("read failed")
-TOO_LONG = fault("script too long")
+NO_WRITE, NO_READ = end_by_fault("write failed"), end_by_fault("read failed")
+TOO_LONG = end_by_fault("script too long")
 
 
 def closing(*streams):
@@ -39,39 +39,41 @@ def closing(*streams):
     return {"preexec_fn": lambda: [os.close(it) for it in streams]}
 
 
-def put(path, data):
+def write_file(path, data):
     with open(path, "wb") as file:
         file.write(data)
     return path
 
 
-def kept(counts, path, data):
-    """Holds a file to be as it was."""
+def check_unchanged(counts, path, data):
+    """Counts whether a file is as it was."""
     with open(path, "rb") as file:
         wrong = None if file.read() == data else "it was written to"
     counts.count("the file stays as it was", wrong)
 
 
-def lost_output(counts, room):
+def lost_output(counts, scratch):
     """Standard output that takes nothing."""
     counts.begin("streams: standard output")
-    path = put(f"{room}/tower", TOWER)
+    path = write_file(f"{scratch}/tower", TOWER)
     for name, words in (("answers", [path]), ("the help", ["--help"])):
-        got = ended(words, SCRIPT, stdout=None, **closing(1))
-        counts.same(f"{name} to a closed one", got, NO_WRITE)
+        got = end_of_run(words, SCRIPT, stdout=None, **closing(1))
+        counts.compare(f"{name} to a closed one", got, NO_WRITE)
         with open("/dev/full", "wb") as full:
-            counts.same(f"{name} to a full device", ended(words, SCRIPT, stdout=full), NO_WRITE)
+            counts.compare(
+                f"{name} to a full device", end_of_run(words, SCRIPT, stdout=full), NO_WRITE
+            )
         unread = unread_pipe()
-        got = ended(words, SCRIPT, stdout=unread)
-        counts.same(f"{name} to a pipe that nobody reads", got, NO_WRITE)
+        got = end_of_run(words, SCRIPT, stdout=unread)
+        counts.compare(f"{name} to a pipe that nobody reads", got, NO_WRITE)
         os.close(unread)
         with open(path, "rb") as unwritten:
-            got = ended(words, SCRIPT, stdout=unwritten)
-        counts.same(f"{name} to a stream for reading", got, NO_WRITE)
-        counts.same(f"{name} to a full pipe that doesn't wait", to_full_pipe(words), NO_WRITE)
-    got = ended([path], b"# x\n\n", stdout=None, **closing(1))
-    counts.same("nothing to a closed one", got, good(b""))
-    kept(counts, path, TOWER)
+            got = end_of_run(words, SCRIPT, stdout=unwritten)
+        counts.compare(f"{name} to a stream for reading", got, NO_WRITE)
+        counts.compare(f"{name} to a full pipe that doesn't wait", to_full_pipe(words), NO_WRITE)
+    got = end_of_run([path], b"# x\n\n", stdout=None, **closing(1))
+    counts.compare("nothing to a closed one", got, good_end(b""))
+    check_unchanged(counts, path, TOWER)
     counts.end()
 
 
@@ -91,7 +93,7 @@ def to_full_pipe(words):
             os.write(write, b" " * PIPE_BYTES)
     except BlockingIOError:
         pass
-    got = ended(words, SCRIPT, stdout=write)
+    got = end_of_run(words, SCRIPT, stdout=write)
     os.close(read)
     os.close(write)
     return got
@@ -107,61 +109,67 @@ ENDINGS = (
 )
 
 
-def lost_errors(counts, room):
+def lost_errors(counts, scratch):
     """Standard error that takes nothing: the status is kept."""
     counts.begin("streams: standard error")
     paths = {
-        "tower": put(f"{room}/tower", TOWER),
-        "absent": f"{room}/absent",
-        "broken": put(f"{room}/broken", b"tower 3\n"),
+        "tower": write_file(f"{scratch}/tower", TOWER),
+        "absent": f"{scratch}/absent",
+        "broken": write_file(f"{scratch}/broken", b"tower 3\n"),
     }
     for name, words, script, status in ENDINGS:
         words = [paths.get(it, it) for it in words or ["tower"]]
         want = Ended(status, ANSWERS if status == 0 else b"", b"")
-        counts.same(f"{name}, closed", ended(words, script, stderr=None, **closing(2)), want)
+        counts.compare(
+            f"{name}, closed", end_of_run(words, script, stderr=None, **closing(2)), want
+        )
         with open("/dev/full", "wb") as full:
-            counts.same(f"{name}, a full device", ended(words, script, stderr=full), want)
+            counts.compare(f"{name}, a full device", end_of_run(words, script, stderr=full), want)
         unread = unread_pipe()
-        counts.same(f"{name}, a pipe that nobody reads", ended(words, script, stderr=unread), want)
+        counts.compare(
+            f"{name}, a pipe that nobody reads", end_of_run(words, script, stderr=unread), want
+        )
         os.close(unread)
-    got = ended([paths["tower"]], SCRIPT, stdout=None, stderr=None, **closing(1, 2))
-    counts.same("closed, and standard output too", got, Ended(1, b"", b""))
-    kept(counts, paths["broken"], b"tower 3\n")
+    got = end_of_run([paths["tower"]], SCRIPT, stdout=None, stderr=None, **closing(1, 2))
+    counts.compare("closed, and standard output too", got, Ended(1, b"", b""))
+    check_unchanged(counts, paths["broken"], b"tower 3\n")
     counts.end()
 
 
-def lost_input(counts, room):
+def lost_input(counts, scratch):
     """Standard input that gives nothing, or fails."""
     counts.begin("streams: standard input")
-    path = put(f"{room}/tower", TOWER)
+    path = write_file(f"{scratch}/tower", TOWER)
     for name, words in (("without a file", []), ("over a file", [path])):
-        counts.same(f"closed, {name}", ended(words, None, stdin=None, **closing(0)), NO_READ)
-    folder = os.open(room, os.O_RDONLY)
-    counts.same("a folder", ended([path], None, stdin=folder), NO_READ)
+        counts.compare(
+            f"closed, {name}", end_of_run(words, None, stdin=None, **closing(0)), NO_READ
+        )
+    folder = os.open(scratch, os.O_RDONLY)
+    counts.compare("a folder", end_of_run([path], None, stdin=folder), NO_READ)
     os.close(folder)
-    with open(f"{room}/written", "wb") as unread:
-        counts.same("a stream for writing", ended([path], None, stdin=unread), NO_READ)
+    with open(f"{scratch}/written", "wb") as unread:
+        counts.compare("a stream for writing", end_of_run([path], None, stdin=unread), NO_READ)
     read, write = os.pipe()
     os.set_blocking(read, False)
-    got = ended([path], None, stdin=read)
-    counts.same("a pipe that doesn't wait, before its first byte", got, NO_READ)
+    got = end_of_run([path], None, stdin=read)
+    counts.compare("a pipe that doesn't wait, before its first byte", got, NO_READ)
     os.write(write, SCRIPT)
-    got = ended([path], None, stdin=read)
-    counts.same("and after its last", got, fault("read failed", ANSWERS))
+    got = end_of_run([path], None, stdin=read)
+    counts.compare("and after its last", got, end_by_fault("read failed", ANSWERS))
     os.close(read)
     os.close(write)
-    counts.same("no bytes", ended([path], b""), good(b""))
-    got = ended([path], None, stdin=None, stdout=None, stderr=None, **closing(0, 1, 2))
-    counts.same("all three closed", got, Ended(1, b"", b""))
+    counts.compare("no bytes", end_of_run([path], b""), good_end(b""))
+    got = end_of_run([path], None, stdin=None, stdout=None, stderr=None, **closing(0, 1, 2))
+    counts.compare("all three closed", got, Ended(1, b"", b""))
     counts.end()
 
 
-def begun(words, **how):
+def started(words, **how):
     streams = {"stdin": subprocess.PIPE, "stdout": subprocess.PIPE, "stderr": subprocess.PIPE}
     return subprocess.Popen([program(), *words], bufsize=0, **{**streams, **how})
 
 
-def outcome(process):
+def finish(process):
     """Ends a run's script, and returns how the run ended."""
     timer = threading.Timer(SECONDS, process.kill)
     timer.start()
@@ -171,13 +179,13 @@ def outcome(process):
     return Ended(process.returncode, output or b"", errors)
 
 
-def given_slowly(words, pieces):
+def run_slowly(words, pieces):
     """Gives a run its script by pieces, with a pause after each."""
-    process = begun(words)
+    process = started(words)
     for piece in pieces:
         process.stdin.write(piece)
         time.sleep(PAUSE)
-    return outcome(process)
+    return finish(process)
 
 
 def cut_answers(count):
@@ -192,27 +200,29 @@ def cut_answers(count):
     return answers
 
 
-def slow_scripts(counts, room):
+def slow_scripts(counts, scratch):
     """A script by bytes and by two pieces, and one that ends in the middle of a line."""
-    path = put(f"{room}/tower", TOWER)
+    path = write_file(f"{scratch}/tower", TOWER)
     counts.begin("streams: a script by pieces")
     bytewise = [SCRIPT[i : i + 1] for i in range(len(SCRIPT))]
-    counts.same("a byte a write", given_slowly([path], bytewise), good(ANSWERS))
+    counts.compare("a byte a write", run_slowly([path], bytewise), good_end(ANSWERS))
     for count in range(1, len(SCRIPT)):
         pieces = SCRIPT[:count], SCRIPT[count:]
-        counts.same(f"a pause after {count} bytes", given_slowly([path], pieces), good(ANSWERS))
+        counts.compare(
+            f"a pause after {count} bytes", run_slowly([path], pieces), good_end(ANSWERS)
+        )
     counts.end()
     counts.begin("streams: a script that is cut")
     for count in range(len(SCRIPT) + 1):
-        got = ended([path], SCRIPT[:count])
-        counts.same(f"after {count} bytes", got, good(cut_answers(count)))
+        got = end_of_run([path], SCRIPT[:count])
+        counts.compare(f"after {count} bytes", got, good_end(cut_answers(count)))
     counts.end()
 
 
-def long_scripts(counts, room):
+def long_scripts(counts, scratch):
     """Scripts at their limit of bytes, and without an end."""
     counts.begin("streams: long scripts")
-    path = put(f"{room}/tower", TOWER)
+    path = write_file(f"{scratch}/tower", TOWER)
     last, answer = TALK[-1]
     room_left = LIMIT - 1 - len(SCRIPT) - len(last)
     for name, padding in (
@@ -222,30 +232,34 @@ def long_scripts(counts, room):
     ):
         filled = (padding * (room_left // len(padding) + 1))[: room_left - 1] + b"\n"
         script = SCRIPT + filled + last
-        counts.same(f"2^24 - 1 bytes, {name}", ended([path], script), good(ANSWERS + answer))
-        want = fault("script too long", ANSWERS + answer)
-        counts.same(f"2^24 bytes, {name}", ended([path], b"\n" + script), want)
-        want = fault("script too long", ANSWERS)
-        counts.same(f"2^24 bytes, {name}, cut", ended([path], b"\n" + script[:-1] + b"x"), want)
-    bad = good(ANSWERS + f"line {len(TALK) + 1}: refused 36 BadLine\n".encode())
+        counts.compare(
+            f"2^24 - 1 bytes, {name}", end_of_run([path], script), good_end(ANSWERS + answer)
+        )
+        want = end_by_fault("script too long", ANSWERS + answer)
+        counts.compare(f"2^24 bytes, {name}", end_of_run([path], b"\n" + script), want)
+        want = end_by_fault("script too long", ANSWERS)
+        counts.compare(
+            f"2^24 bytes, {name}, cut", end_of_run([path], b"\n" + script[:-1] + b"x"), want
+        )
+    bad = good_end(ANSWERS + f"line {len(TALK) + 1}: refused 36 BadLine\n".encode())
     script = SCRIPT + b"x" * (LIMIT - 1 - len(SCRIPT))
-    counts.same("one bad line, to 2^24 - 1 bytes", ended([path], script), bad)
+    counts.compare("one bad line, to 2^24 - 1 bytes", end_of_run([path], script), bad)
     with open("/dev/zero", "rb") as zeros:
-        counts.same("/dev/zero", ended([path], zeros), TOO_LONG)
+        counts.compare("/dev/zero", end_of_run([path], zeros), TOO_LONG)
     unending(counts, path)
     counts.end()
 
 
 def unending(counts, path):
     """A script of lines without an end: not much more than its limit is taken."""
-    process, taken = begun([path]), 0
+    process, taken = started([path]), 0
     lines = b"#" * 63 + b"\n"
     try:
         while taken < 2 * LIMIT:
             taken += process.stdin.write(lines * 2**6)
     except BrokenPipeError:
         pass
-    counts.same("a script without an end", outcome(process), TOO_LONG)
+    counts.compare("a script without an end", finish(process), TOO_LONG)
     is_much = taken > LIMIT + PIPE_BYTES
     counts.count("how much of it is taken", f"{taken} bytes" if is_much else None)
 
@@ -260,7 +274,7 @@ def give(process, line):
 
 def read_until_gone(path, count):
     """Takes `count` bytes of a run's answers, line by line, and then reads no more."""
-    process, left = begun([path]), count
+    process, left = started([path]), count
     for line, answer in TALK:
         if left == 0 and not process.stdout.closed:
             process.stdout.close()
@@ -273,26 +287,31 @@ def read_until_gone(path, count):
             wanted, left = wanted - taken, left - taken
     process.stdout.close()
     process.stdout = None
-    return outcome(process)
+    return finish(process)
 
 
-def gone_readers(counts, room):
-    """A reader that takes some bytes of the answers and is then gone, and a file that can hold no more bytes than that."""
-    path = put(f"{room}/tower", TOWER)
+def gone_readers(counts, scratch):
+    """A reader that takes some bytes of the answers and is then gone, and a file that can hold no
+    more bytes than that."""
+    path = write_file(f"{scratch}/tower", TOWER)
     counts.begin("streams: a reader that is gone after its k-th byte")
     unseen = len(ANSWERS) - len(TALK[-1][1])
     for count in range(len(ANSWERS) + 1):
         # The last answer is one write, which the pipe has taken before its reader is gone
-        want = NO_WRITE if count <= unseen else good(b"")
-        counts.same(f"{count} bytes", read_until_gone(path, count), want)
+        want = NO_WRITE if count <= unseen else good_end(b"")
+        counts.compare(f"{count} bytes", read_until_gone(path, count), want)
     counts.end()
     counts.begin("streams: a file that takes k bytes")
     for count in range(len(ANSWERS) + 1):
-        got = to_small_file(path, f"{room}/answers", count)
-        want = good(ANSWERS) if count == len(ANSWERS) else fault("write failed", ANSWERS[:count])
-        counts.same(f"{count} bytes", got, want)
+        got = to_small_file(path, f"{scratch}/answers", count)
+        want = (
+            good_end(ANSWERS)
+            if count == len(ANSWERS)
+            else end_by_fault("write failed", ANSWERS[:count])
+        )
+        counts.compare(f"{count} bytes", got, want)
     counts.end()
-    long_answers(counts, room)
+    long_answers(counts, scratch)
 
 
 def to_small_file(path, answers, count):
@@ -304,16 +323,16 @@ def to_small_file(path, answers, count):
         resource.setrlimit(resource.RLIMIT_FSIZE, (count, count))
 
     with open(answers, "w+b") as out:
-        got = ended([path], SCRIPT, stdout=out, preexec_fn=limit)
+        got = end_of_run([path], SCRIPT, stdout=out, preexec_fn=limit)
         out.seek(0)
         return got._replace(output=out.read())
 
 
-def long_answers(counts, room):
+def long_answers(counts, scratch):
     """One answer that is longer than a pipe, of which a reader takes some bytes."""
     counts.begin("streams: a reader that is gone within a long answer")
     steps = 20_000
-    path = put(f"{room}/long", b"tower 1\nsafe 0\n" + b"r 1\n" * steps)
+    path = write_file(f"{scratch}/long", b"tower 1\nsafe 0\n" + b"r 1\n" * steps)
     page = f"0: steps main {steps}\n".encode() + b"".join(b"  %d r 1\n" % i for i in range(steps))
     for count in (
         0,
@@ -326,7 +345,7 @@ def long_answers(counts, room):
         PIPE_BYTES + 1,
         len(page) - PIPE_BYTES - 4096,
     ):
-        process, taken = begun([path]), b""
+        process, taken = started([path]), b""
         give(process, b"0 steps main\n")
         while len(taken) < count:
             piece = process.stdout.read(count - len(taken))
@@ -335,16 +354,16 @@ def long_answers(counts, room):
             taken += piece
         process.stdout.close()
         process.stdout = None
-        counts.same(f"{count} bytes", outcome(process), NO_WRITE)
+        counts.compare(f"{count} bytes", finish(process), NO_WRITE)
         wrong = None if taken == page[:count] else "it is no prefix of the page"
         counts.count(f"{count} bytes: what went out", wrong)
     counts.end()
 
 
-def run(counts, room):
-    lost_output(counts, room)
-    lost_errors(counts, room)
-    lost_input(counts, room)
-    slow_scripts(counts, room)
-    long_scripts(counts, room)
-    gone_readers(counts, room)
+def run(counts, scratch):
+    lost_output(counts, scratch)
+    lost_errors(counts, scratch)
+    lost_input(counts, scratch)
+    slow_scripts(counts, scratch)
+    long_scripts(counts, scratch)
+    gone_readers(counts, scratch)

@@ -1,10 +1,11 @@
-"""Fills by four workers, and chairs on threads of their own, under valgrind's memcheck and helgrind."""
+"""Fills by four workers, and chairs on threads of their own, under valgrind's memcheck and
+helgrind."""
 import re
 import shutil
 import subprocess
 
 import built
-from runs import SECONDS, ended, program, shown
+from runs import SECONDS, end_of_run, program, shown
 
 UNDER_VALGRIND = 40 * SECONDS
 TOOLS = {
@@ -24,9 +25,9 @@ MOST_BYTES = 1 << 24
 TOO_LONG = b"towerbench: script too long\n"
 # A call that was refused: not what a history says of an operation.
 REFUSED = re.compile(rb"^(?:line )?[0-9]+: refused ", re.MULTILINE)
-# The crate with the tests of chairs, and the tests that are run, each with its tools. Helgrind knows
-# pthread's locks alone, and would take what two threads do by turns for races: the turn is made of
-# atomics.
+# The crate with the tests of chairs, and the tests that are run, each with its tools. Helgrind
+# knows pthread's locks alone, and would take what two threads do by turns for races: the turn is
+# made of atomics.
 CHAIRS = "thread_tests"
 TESTS = {
     "desks::rows::two_chairs": ("memcheck", "helgrind"),
@@ -36,8 +37,8 @@ TESTS = {
 }
 
 
-def tower(room, line):
-    path = f"{room}/tower"
+def tower(scratch, line):
+    path = f"{scratch}/tower"
     steps = (CYCLE * (STEPS // len(CYCLE) + 1))[:STEPS]
     with open(path, "w", encoding="ascii") as file:
         file.write("\n".join(["tower 1", line, *steps, ""]))
@@ -57,7 +58,7 @@ def script():
     return "".join(f"{line}\n" for line in lines).encode()
 
 
-def found(log):
+def fault_in(log):
     """Returns what a tool's log says of errors and losses, or None."""
     end = shown(log[-2000:].encode())
     if "ERROR SUMMARY: 0 errors" not in log:
@@ -69,8 +70,9 @@ def found(log):
     return None
 
 
-def checked(counts, name, tool, words, given, want, log, fault=b""):
-    """Runs a command under a tool, and holds it to no error, and to its answers and its fault, if given."""
+def check(counts, name, tool, words, given, want, log, fault=b""):
+    """Runs a command under a tool, and holds it to no error, and to its answers and its fault, if
+    given."""
     valgrind = ["valgrind", *TOOLS[tool], f"--log-file={log}"]
     how = {"stdout": subprocess.PIPE, "stderr": subprocess.PIPE, "timeout": UNDER_VALGRIND}
     try:
@@ -79,7 +81,7 @@ def checked(counts, name, tool, words, given, want, log, fault=b""):
         counts.count(f"{name}, {tool}", "it has no end")
         return
     with open(log, encoding="utf-8", errors="replace") as file:
-        counts.count(f"{name}, {tool}: its errors", found(file.read()))
+        counts.count(f"{name}, {tool}: its errors", fault_in(file.read()))
     is_same = done.returncode == bool(fault) and (
         want is None or (done.stdout, done.stderr) == (want, fault)
     )
@@ -87,21 +89,21 @@ def checked(counts, name, tool, words, given, want, log, fault=b""):
     counts.count(f"{name}, {tool}: its answers", None if is_same else got)
 
 
-def fills(counts, room):
+def fills(counts, scratch):
     counts.begin("threads: fills by four workers")
     for line in TOWERS:
-        path = tower(room, line)
-        alone = ended([path, *LIMITS], script())
+        path = tower(scratch, line)
+        alone = end_of_run([path, *LIMITS], script())
         is_good = alone.status == 0 and not alone.errors and not REFUSED.search(alone.output)
         counts.count(f"{line}, by none", None if is_good else f"{alone}")
         words = [program(), path, *LIMITS, "--workers", "4"]
         too_long = script() + b"#" * MOST_BYTES
-        checked(counts, line, "memcheck", words, too_long, alone.output, f"{room}/log", TOO_LONG)
-        checked(counts, line, "helgrind", words, script(), alone.output, f"{room}/log")
+        check(counts, line, "memcheck", words, too_long, alone.output, f"{scratch}/log", TOO_LONG)
+        check(counts, line, "helgrind", words, script(), alone.output, f"{scratch}/log")
     counts.end()
 
 
-def chairs(counts, room):
+def chairs(counts, scratch):
     """Two chairs in one thread and in two, and at a gate, by the tests of them."""
     counts.begin("threads: two chairs")
     lack = built.lack_of(CHAIRS)
@@ -111,14 +113,14 @@ def chairs(counts, room):
     for test, tools in TESTS.items():
         for tool in tools:
             words = [built.tests_of(CHAIRS), test]
-            checked(counts, test, tool, words, b"", None, f"{room}/log")
+            check(counts, test, tool, words, b"", None, f"{scratch}/log")
     counts.end()
 
 
-def run(counts, room):
+def run(counts, scratch):
     counts.begin("threads")
     if not shutil.which("valgrind"):
         counts.skip("all of it", "there is no valgrind (Debian's package of that name)")
         return
-    fills(counts, room)
-    chairs(counts, room)
+    fills(counts, scratch)
+    chairs(counts, scratch)

@@ -1,7 +1,8 @@
-"""A second reader of tower files and bench files, written from the documents alone, to hold the program's own to.
+"""A second reader of tower files and bench files, written from the documents alone, to hold the
+program's own to.
 
-It goes over a file once for each kind of fault, in the order in which the first one is reported, and
-knows the pages of a tower on which no step was made.
+It goes over a file once for each kind of fault, in the order in which the first one is reported,
+and knows the pages of a tower on which no step was made.
 """
 import collections
 import re
@@ -43,7 +44,7 @@ class Fault(Exception):
 
 def read(data):
     """Returns the tower and the steps that a file's bytes spell, or raises their first fault."""
-    refuse_bytes(data)
+    refuse_non_ascii(data)
     lines = LINE.findall(data.decode("ascii"))
     header, second = (lines[i] if i < len(lines) else "" for i in (0, 1))
     if header not in HEADERS:
@@ -58,7 +59,7 @@ def read(data):
 
 def read_bench(data):
     """Returns the branches that a bench file's bytes spell, or raises their first fault."""
-    refuse_bytes(data)
+    refuse_non_ascii(data)
     lines = LINE.findall(data.decode("ascii"))
     kind, numbers = tower_of(lines[1] if len(lines) > 1 else "")
     tower, branches = Tower(2, kind, numbers, []), []
@@ -93,7 +94,7 @@ def branch_of(words, branches, place):
     return Branch(words[0], shared, parent.steps[:shared])
 
 
-def refuse_bytes(data):
+def refuse_non_ascii(data):
     for place, byte in enumerate(data):
         if byte != 0x0A and not 0x20 <= byte <= 0x7E:
             raise Fault("NotAscii", 1 + data.count(b"\n", 0, place))
@@ -162,16 +163,16 @@ def fits(tower, words):
     return tower.version == 2 and process < roles.processes
 
 
-def unary_at(values, readers, init):
+def unary_memory(values, readers, init):
     """Returns the cells and the words of a unary number before any step."""
     bits = [int(i == init) for i in range(values)]
     return [bit for bit in bits for _ in range(readers)], bits
 
 
-def stamped_at(codes):
-    """Returns the cells and the words of a stamped register before any step; its last two words are the
-    writer's last stamp and the reader's best code."""
-    cells, words = unary_at(codes, 1, 0)
+def stamped_memory(codes):
+    """Returns the cells and the words of a stamped register before any step; its last two words are
+    the writer's last stamp and the reader's best code."""
+    cells, words = unary_memory(codes, 1, 0)
     return cells, words + [0, 0]
 
 
@@ -182,11 +183,11 @@ def memory_of(kind, numbers):
     if kind in ("copies", "regular"):
         return [numbers[1]] * numbers[0], [numbers[1]] if kind == "regular" else []
     if kind == "unary":
-        return unary_at(*numbers)
+        return unary_memory(*numbers)
     if kind == "stamped":
-        return stamped_at((numbers[1] + 1) * numbers[0])
+        return stamped_memory((numbers[1] + 1) * numbers[0])
     count, values, tag, inner = numbers
-    cells, words = stamped_at((inner + 1) * (tag + 1) * count * values)
+    cells, words = stamped_memory((inner + 1) * (tag + 1) * count * values)
     return cells * count**2, words * count**2
 
 

@@ -10,8 +10,8 @@ from runs import BYTES_SHOWN, program
 
 PIECE = 2**16
 
-# script: bytes; pieces: those of the answers, one after the other; of, count: what the stage makes, and
-# how much of it, if memory is to be shown for each, or None.
+# script: bytes; pieces: those of the answers, one after the other; of, count: what the stage makes,
+# and how much of it, if memory is to be shown for each, or None.
 Stage = collections.namedtuple("Stage", "name script pieces of count", defaults=(None, None))
 # held: the memory before the stage; most: the peak within it; in bytes.
 Measure = collections.namedtuple("Measure", "stage held most seconds")
@@ -40,8 +40,8 @@ def memory_of(process, kind):
     return 1024 * int(found.group(1)) if found else 0
 
 
-def begin_peak(process):
-    """Has the peak of the memory held begin again."""
+def reset_peak(process):
+    """Starts the count of a process's peak memory again."""
     try:
         with open(f"/proc/{process.pid}/clear_refs", "w", encoding="ascii") as file:
             file.write("5")
@@ -77,13 +77,13 @@ class Watched:
         except (BrokenPipeError, ValueError):
             pass
 
-    def stage(self, stage):
+    def run_stage(self, stage):
         """Gives the run a stage's script, and returns how its answers differ, and a Measure."""
         begun, held = time.monotonic(), 0
         # The first stage counts what is opened before it too
         if self.is_begun:
             held = memory_of(self.process, "VmRSS")
-            begin_peak(self.process)
+            reset_peak(self.process)
         self.is_begun = True
         self.feeder = threading.Thread(target=self.feed, args=(stage.script,), daemon=True)
         self.feeder.start()

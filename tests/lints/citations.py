@@ -40,7 +40,8 @@ def definitions(path):
 
 @functools.lru_cache(None)
 def file_of(module):
-    """Returns the file of a module of specs/, also if its crate only hands the module on, or None."""
+    """Returns the file of a module of specs/, also if its crate only hands the module on, or
+    None."""
     path = f"{TOP}/crates/{module[0]}/specs/{'/'.join(module[1:])}.antt"
     if os.path.isfile(path):
         return path
@@ -94,7 +95,7 @@ def all_clauses():
 
 
 @functools.lru_cache(None)
-def reached():
+def reached_definitions():
     """Returns the definitions that public clauses reach, each with the first clause that does."""
     found = {}
     for clause in all_clauses():

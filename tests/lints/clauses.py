@@ -1,5 +1,6 @@
 #!/usr/bin/env python3
-"""Contracts that are hard to read: clauses past 100 columns, and functions of more than six parameters.
+"""Contracts that are hard to read: clauses past 100 columns, and functions of more than six
+parameters.
 
 usage: tests/lints/clauses.py [NAME..]   reads crates/NAME/src of these crates, or of all
 
@@ -52,7 +53,7 @@ def wide_clauses(text, code):
             yield first - line + 1, columns
 
 
-def after_generics(code, place):
+def parameters_start(code, place):
     """Returns the place of the bracket that begins a function's parameters."""
     depth = 0
     while place < len(code) and (depth or code[place] != "("):
@@ -85,7 +86,7 @@ def parameters_of(code, start):
 def long_functions(code):
     """Yields the line, the name and the parameters of each function that has too many."""
     for found in FUNCTION.finditer(code):
-        count = parameters_of(code, after_generics(code, found.end()))
+        count = parameters_of(code, parameters_start(code, found.end()))
         if count > MOST_PARAMETERS + (found.group(1) in SERVING):
             yield code.count("\n", 0, found.start()) + 1, found.group(1), count
 

@@ -5,12 +5,12 @@ usage: tests/lints/existentials.py [NAME..]   of these crates, or of all
        tests/lints/existentials.py --list     prints each, with a function whose clause reaches it
 
 An existential is a `(x : T) ×` in a public clause or in a definition that one reaches, as
-tests/lints/citations.py says; or a record with fields that are data as well as fields that are facts. Its
-examples are theorems of its crate's proofs/Examples.antt: of a definition `Old` they are
-`Old-holds` and `Old-fails`, and of a clause's own existential they have the name of the function
-in place of `Old`, one of those whose clauses say the same of other values. Each is below
-a comment that says what is there or what is wrong, and names `Old`, or has a `(x : T) ×`; the near
-miss ends in `→ ⊥`. The last line sums up. Status 1 if an example is missing.
+tests/lints/citations.py says; or a record with fields that are data as well as fields that are
+facts. Its examples are theorems of its crate's proofs/Examples.antt: of a definition `Old` they are
+`Old-holds` and `Old-fails`, and of a clause's own existential they have the name of the function in
+place of `Old`, one of those whose clauses say the same of other values. Each is below a comment
+that says what is there or what is wrong, and names `Old`, or has a `(x : T) ×`; the near miss ends
+in `→ ⊥`. The last line sums up. Status 1 if an example is missing.
 """
 import collections
 import functools
@@ -26,7 +26,7 @@ from lints.citations import (  # noqa: E402
     all_clauses,
     definitions,
     found_in,
-    reached,
+    reached_definitions,
 )
 from lints.clauses import crates  # noqa: E402
 
@@ -78,7 +78,7 @@ def crate_of(path):
 def existentials():
     """Returns the existentials of all public clauses."""
     found = []
-    for it, clause in reached():
+    for it, clause in reached_definitions():
         if is_existential(it):
             where = f"{os.path.relpath(it.path, TOP)}:{it.line}"
             by = f"{crate_of(clause.path)}'s {clause.name}"

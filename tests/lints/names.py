@@ -1,12 +1,14 @@
 #!/usr/bin/env python3
 """Public names: no two definitions share one, and no two items do.
 
-usage: tests/lints/names.py   prints each name that is shared, with the files that define it; status 1 if there is one
+usage: tests/lints/names.py   prints each name that is shared, with the files that define it;
+                              status 1 if there is one
 
-- Definitions: what a file of specs/ defines as `pub`, at the margin or in a `module _`, apart from fields and what it passes on, and
-  from the facts in specs/laws/.
-- Items: the `pub` types, traits, functions and constants at the margin of a crate's sources. Those of `laws.rt` are apart, since
-  each crate states its own laws; so is a type that only gives another of its name.
+- Definitions: what a file of specs/ defines as `pub`, at the margin or in a `module _`, apart from
+  fields and what it passes on, and from the facts in specs/laws/.
+- Items: the `pub` types, traits, functions and constants at the margin of a crate's sources. Those
+  of `laws.rt` are apart, since each crate states its own laws; so is a type that only gives another
+  of its name.
 A definition may have the name of the item that it is about.
 """
 import collections
@@ -35,7 +37,7 @@ def items_of(text):
     return found
 
 
-def shared(pattern, names_of):
+def shared_names(pattern, names_of):
     """Returns the names that several files have, each with these files."""
     found = collections.defaultdict(list)
     for path in sorted(glob.glob(f"{TOP}/crates/{pattern}", recursive=True)):
@@ -49,7 +51,10 @@ def shared(pattern, names_of):
 
 
 def faults():
-    found = [shared("*/specs/**/*.antt", antt.public_names), shared("*/src/**/*.rt", items_of)]
+    found = [
+        shared_names("*/specs/**/*.antt", antt.public_names),
+        shared_names("*/src/**/*.rt", items_of),
+    ]
     return [f"{name}: {', '.join(paths)}" for it in found for name, paths in sorted(it.items())]
 
 

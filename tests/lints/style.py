@@ -1,11 +1,13 @@
 #!/usr/bin/env python3
-"""Habits of wording that read oddly: how often each part of the repository has them, which may only fall.
+"""Habits of wording that read oddly: how often each part of the repository has them, which may only
+fall.
 
 usage: tests/lints/style.py           prints each count, and what has risen above .ci/habits
        tests/lints/style.py --lower   writes counts that are lower to .ci/habits
 
-docs/STYLE.md has the habits, and what to write. Names are read word by word, `told_of` as two; `where` is counted in comments
-and documents alone. A document's words between backticks are names, which count in the code. Status 1 if a count has risen.
+docs/STYLE.md has the habits, and what to write. Names are read word by word, `told_of` as two;
+`where` is counted in comments and documents alone. A document's words between backticks are names,
+which count in the code. Status 1 if a count has risen.
 """
 import collections
 import fnmatch
@@ -35,7 +37,8 @@ PATTERNS = {
     habit: re.compile(rf"(?<![a-z])(?:{pattern})(?![a-z])", re.I)
     for habit, pattern in HABITS.items()
 }
-# The page of the habits has all of them, and this file too; the page of definitions is printed from comments.
+# The page of the habits has all of them, and this file too; the page of definitions is printed from
+# comments.
 LEFT_OUT = ("docs/STYLE.md", "docs/DEFINITIONS.md", "tests/lints/style.py", KEPT)
 PARTS = (
     ("sources", "crates/*/src/*.rt"),
@@ -86,7 +89,7 @@ def counts():
     return found
 
 
-def kept():
+def kept_counts():
     """Returns the counts that were written down."""
     if not os.path.exists(KEPT):
         return {}
@@ -97,7 +100,7 @@ def kept():
 
 def fault():
     """Returns which habits have risen, or None."""
-    before = kept()
+    before = kept_counts()
     risen = [
         f"{habit} in {part}: {count}, {before.get((part, habit), 0)} before"
         for (part, habit), count in counts().items()
@@ -107,7 +110,7 @@ def fault():
 
 
 def lower():
-    before, now = kept(), counts()
+    before, now = kept_counts(), counts()
     with open(KEPT, "w", encoding="utf-8") as file:
         for (part, habit), count in sorted(now.items()):
             file.write(f"{part}\t{habit}\t{min(count, before.get((part, habit), count))}\n")

@@ -1,12 +1,14 @@
 #!/usr/bin/env python3
-"""Lemmas and definitions that nothing uses: names which a file of crates/NAME declares and no other line has.
+"""Lemmas and definitions that nothing uses: names which a file of crates/NAME declares and no other
+line has.
 
 usage: tests/lints/unused.py   prints each, and how many; status 1 if there is one
 
-It reads specs/, proofs/ and the folders of proofs/ by subject; the other folders answer goals, whose names are given. A use is
-a name in a source, definition, proof or wrong body, but not in a line that only brings in files (`use`), nor in the own lines of what
-has the name. Files of worked examples have no uses by others: their names are in EXAMPLES. What only unused names use is found once
-those are removed.
+It reads specs/, proofs/ and the folders of proofs/ by subject; the other folders answer goals,
+whose names are given. A use is a name in a source, definition, proof or wrong body, but not in a
+line that only brings in files (`use`), nor in the own lines of what has the name. Files of worked
+examples have no uses by others: their names are in EXAMPLES. What only unused names use is found
+once those are removed.
 """
 import collections
 import glob
@@ -32,7 +34,8 @@ LEMMAS = re.compile(r"crates/[^/]+/(?:proofs/(?:[a-z]\w*/)?|specs/(?:\w+/)*)([A-
 # The names of files that answer goals, which a function right in lib.rt has in such a folder too.
 ANSWERS = ("Answers", "Invariants", "Proof")
 TOKEN = re.compile(r"[^\s(){}\[\],;:.⟦⟧@`\"]+")
-# Facts of specs/ that nothing names, but that a tactic may use: whether proofs need them wasn't tried.
+# Facts of specs/ that nothing names, but that a tactic may use: whether proofs need them wasn't
+# tried.
 UNSEEN = (
     "LiesIn-part",
     "asked_holds",
@@ -71,7 +74,8 @@ def code_of(path, text):
 
 
 def names_of(path, lines):
-    """Returns the names that a file declares for others to use, local ones and fields too, but for operators."""
+    """Returns the names that a file declares for others to use, local ones and fields too, but for
+    operators."""
     named = LEMMAS.fullmatch(path)
     if not named or named.group(1) in (*EXAMPLES, *ANSWERS):
         return []
@@ -88,7 +92,8 @@ def own_uses(text):
 
 
 def unused(files):
-    """Returns the path and the name of each lemma that nothing uses; files: the texts by their paths."""
+    """Returns the path and the name of each lemma that nothing uses; files: the texts by their
+    paths."""
     code = {path: code_of(path, text) for path, text in files.items()}
     uses = collections.Counter(
         token for lines in code.values() for line in lines for token in TOKEN.findall(line)

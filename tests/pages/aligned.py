@@ -1,6 +1,7 @@
 """The same operations on two towers, under node: they begin and end in the same order on both.
 
-An operation that takes no action on the second tower, as a write of the value that is there, ends there as it begins.
+An operation that takes no action on the second tower, as a write of the value that is there, ends
+there as it begins.
 """
 import json
 import random
@@ -20,7 +21,7 @@ INVERSION = (
 )
 
 
-def schedule(chance, tower):
+def random_schedule(chance, tower):
     values, process, steps = int(tower.split()[1]) if "regular" not in tower else 2, 0, []
     for _ in range(STEPS):
         if chance.random() < 0.33:
@@ -45,8 +46,9 @@ def operations(history):
     return found
 
 
-def order(found, at_once):
-    """Returns in what order operations begin and end, but for the ends of those that end at once on the second tower."""
+def order_of_events(found, at_once):
+    """Returns in what order operations begin and end, but for the ends of those that end at once on
+    the second tower."""
     events = [(begun, 0, f"{process} begins {name}") for process, name, begun, _ in found]
     events += [
         (ended, 1, f"{process} ends")
@@ -59,19 +61,22 @@ def order(found, at_once):
 def fault_of(tower, other, first, second):
     there, here = operations(first), operations(second)
     at_once = {index for index, (_, _, begun, ended) in enumerate(here) if begun == ended}
-    was, became = order(there, at_once), order(here, at_once)
+    was, became = order_of_events(there, at_once), order_of_events(here, at_once)
     return f"{tower} on {other}: {was} became {became}" if was != became else None
 
 
 def fault_of_transfers():
     """Returns which schedules don't keep their order; None: all do."""
     chance = random.Random(SEED)
-    schedules = [INVERSION, *(schedule(chance, FIRST[it % len(FIRST)]) for it in range(COUNT))]
-    with tempfile.TemporaryDirectory() as room:
-        build.put_modules(room, "aligned.mjs")
-        with open(f"{room}/schedules", "w", encoding="ascii") as file:
+    schedules = [
+        INVERSION,
+        *(random_schedule(chance, FIRST[it % len(FIRST)]) for it in range(COUNT)),
+    ]
+    with tempfile.TemporaryDirectory() as scratch:
+        build.put_modules(scratch, "aligned.mjs")
+        with open(f"{scratch}/schedules", "w", encoding="ascii") as file:
             file.writelines(f"{json.dumps(it)}\n" for it in schedules)
-        words = ["node", f"{room}/aligned.mjs", build.made_module(), f"{room}/schedules"]
+        words = ["node", f"{scratch}/aligned.mjs", build.made_module(), f"{scratch}/schedules"]
         made = [json.loads(it) for it in output_of(words).splitlines()]
     if len(made) < 2 * len(schedules):
         return f"only {len(made)} schedules were made of {len(schedules)}"

@@ -1,18 +1,21 @@
-"""The panel of all answers: what lessons ask, what a read could have given, predictions, and what is too much to search.
+"""The panel of all answers: what lessons ask, what a read could have given, predictions, and what
+is too much to search.
 
-Which lists are possible, and how short their schedules are, is from reasoning about the towers: lesson 5's four and three lists, say.
+Which lists are possible, and how short their schedules are, is from reasoning about the towers:
+lesson 5's four and three lists, say.
 """
 import json
 import re
 
-from pages.live import TRIES, holds, same
+from pages.live import TRIES, expect, expect_equal
 from pages.reader import Reader
 
 # a search takes at most 120 seconds for each of three limits
 MOST_TRIES = 10 * TRIES
 FOUND = "document.querySelector('[data-find-again]')"
 DRAWN = "'drawn' in document.querySelector('#study-text').dataset"
-# each lesson's question: the register, each list that can be guessed or found, and whether it has a schedule
+# each lesson's question: the register, each list that can be guessed or found, and whether it has a
+# schedule
 ASKED = {
     "05-new-old-inversion": {
         "unary 2 1 0": {
@@ -55,7 +58,7 @@ def find(page):
     page.wait()
 
 
-def to_lesson(page, folder):
+def open_lesson(page, folder):
     page.do("study")
     page.click(f'#study-list [data-study="{folder}"]')
     page.until(
@@ -64,28 +67,30 @@ def to_lesson(page, folder):
 
 
 def lessons_ask(page, program):
-    """Lessons 5, 6 and 8 ask for all answers: each possible list loads as a branch that gives it, and "no schedule" says what it means."""
+    """Lessons 5, 6 and 8 ask for all answers: each possible list loads as a branch that gives it,
+    and "no schedule" says what it means."""
     page.open()
     for folder, towers in ASKED.items():
         for line, wanted in towers.items():
-            to_lesson(page, folder)
+            open_lesson(page, folder)
             page.click(f'#study-text [data-ask="{line}"]')
             page.until(f"document.querySelector('#tower-line').textContent === {json.dumps(line)}")
             page.wait()
             find(page)
-            same(page.value(ROWS), wanted, line)
-            same(page.count("#answers .no-schedule"), int(False in wanted.values()), line)
+            expect_equal(page.value(ROWS), wanted, line)
+            expect_equal(page.count("#answers .no-schedule"), int(False in wanted.values()), line)
             for number, key in enumerate(it for it, is_there in wanted.items() if is_there):
                 page.click(f'#answers [data-answers="{key}"]')
                 page.until(
                     f"document.querySelector('#at').textContent.startsWith('answer{number + 1 if number else ''},')"
                 )
                 page.wait()
-                same(gave(page, program), key, line)
+                expect_equal(outcomes_in_focus(page, program), key, line)
 
 
-def gave(page, program):
-    """Returns what the native program says that the schedule in focus gives: each process's values, refusals and writes."""
+def outcomes_in_focus(page, program):
+    """Returns what the native program says that the schedule in focus gives: each process's values,
+    refusals and writes."""
     name, length = re.fullmatch(r"(\w+), place (\d+) of \2", page.place()).groups()
     tower, script = page.document()
     page.click("[data-tab=answers]")
@@ -99,34 +104,35 @@ def gave(page, program):
 
 
 def predictions(page, program):
-    """A prediction is marked right or wrong, more than sixteen lists are grouped by reader, and a process may stop."""
+    """A prediction is marked right or wrong, more than sixteen lists are grouped by reader, and a
+    process may stop."""
     page.open("tower 2\nregular 1 0\n", "0 join\n")
     page.click("[data-tab=answers]")
-    same(page.count("#answers [data-guess]"), 4)
+    expect_equal(page.count("#answers [data-guess]"), 4)
     for key in ("p0 written p1 0 0", "p0 written p1 0 1"):
         page.click(f'#answers [data-guess="{key}"] input')
     find(page)
-    same(page.count("#answers .list .met"), 2)
-    same(page.count("#answers .list .wrong"), 2)
-    same(page.texts("#answers .odd"), [" new-old inversion"])
+    expect_equal(page.count("#answers .list .met"), 2)
+    expect_equal(page.count("#answers .list .wrong"), 2)
+    expect_equal(page.texts("#answers .odd"), [" new-old inversion"])
     for _ in range(3):
         page.click('#answers [data-more="p1 r"]')
-    same(page.count("#answers [data-guess]"), 0)
+    expect_equal(page.count("#answers [data-guess]"), 0)
     page.fill("#answers [data-guess-number]", "12")
     find(page)
-    holds("You predicted 12." in page.text("#answers"), page.text("#answers"))
-    holds(page.count("#answers [data-group]") > 16, "the lists aren't grouped")
+    expect("You predicted 12." in page.text("#answers"), page.text("#answers"))
+    expect(page.count("#answers [data-group]") > 16, "the lists aren't grouped")
     page.click('#answers [data-group="p1 1 0 1 0 1"]')
     page.until("document.querySelector('#at').textContent.startsWith('answer,')")
     page.wait()
-    same(gave(page, program), "p0 written p1 1 0 1 0 1")
+    expect_equal(outcomes_in_focus(page, program), "p0 written p1 1 0 1 0 1")
     page.do("undo")
-    same(page.branches(), ["main"])
+    expect_equal(page.branches(), ["main"])
     for index in (4, 3, 2, 1):
         page.click(f'#answers [data-less="p1 {index}"]')
     page.click('#answers [data-may-stop="0"]')
     find(page)
-    same(
+    expect_equal(
         page.value(ROWS),
         {
             "p0 written p1 0": True,
@@ -145,7 +151,7 @@ def a_read(page):
     page.do("values")
     page.until(FOUND)
     page.wait()
-    same(
+    expect_equal(
         page.value(
             "[...document.querySelectorAll('#answers [data-value]')].map((it) => it.dataset.value).sort()"
         ),
@@ -166,4 +172,4 @@ def too_many(page):
             page.click("[data-find-stop]")
         page.until("document.querySelector('[data-find]')", tries=MOST_TRIES)
         said = page.text("#answers-said")
-        holds(wanted in said.lower(), said)
+        expect(wanted in said.lower(), said)

@@ -16,9 +16,10 @@ TURN = threading.Lock()
 RELEASED = {}
 
 
-def take_release(room):
-    """Has all tests take the page and the modules of release/; the modules are put into a folder."""
-    RELEASED.update(releases.put_modules(room))
+def take_release(scratch):
+    """Makes all tests take the page and the modules of release/, and puts the modules into a
+    folder."""
+    RELEASED.update(releases.put_modules(scratch))
 
 
 def made_module(program=module.PROGRAM):
@@ -45,9 +46,10 @@ def packed(modules):
     return pack.packed(modules, None)
 
 
-def put_modules(room, script):
-    """Puts the page's modules and a script of this folder into a folder, so that node takes each of them for a module."""
-    shutil.copytree(f"{TOP}/page", f"{room}/page")
-    shutil.copy(f"{TOP}/tests/pages/{script}", room)
-    with open(f"{room}/package.json", "w", encoding="ascii") as file:
+def put_modules(scratch, script):
+    """Puts the page's modules and a script of this folder into a folder, so that node takes each of
+    them for a module."""
+    shutil.copytree(f"{TOP}/page", f"{scratch}/page")
+    shutil.copy(f"{TOP}/tests/pages/{script}", scratch)
+    with open(f"{scratch}/package.json", "w", encoding="ascii") as file:
         file.write('{ "type": "module" }')

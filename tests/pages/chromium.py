@@ -1,5 +1,4 @@
 """A small driver of Chromium without a window, by its DevTools protocol."""
-import base64
 import json
 import os
 import shutil
@@ -28,7 +27,7 @@ class Browser:
     """
 
     def __init__(self, program):
-        self.room = tempfile.mkdtemp(prefix="towerbench-")
+        self.scratch = tempfile.mkdtemp(prefix="towerbench-")
         # A test may open hundreds of documents in a few seconds, which Chromium otherwise drops
         words = [
             "--headless=new",
@@ -38,7 +37,7 @@ class Browser:
             "--disable-ipc-flooding-protection",
             "--remote-debugging-port=0",
             "--hide-scrollbars",
-            f"--user-data-dir={self.room}/profile",
+            f"--user-data-dir={self.scratch}/profile",
         ]
         self.process = subprocess.Popen(
             [program, *words, "about:blank"],
@@ -46,7 +45,7 @@ class Browser:
             stdout=subprocess.DEVNULL,
             stderr=subprocess.DEVNULL,
         )
-        port, path = self.where()
+        port, path = self.listening_address()
         self.socket, self.number, self.session, self.events = Socket(port, path), 0, None, []
         self.complaints = []
         target = self.ask("Target.createTarget", url="about:blank")["targetId"]
@@ -61,12 +60,12 @@ class Browser:
             uploadThroughput=0,
         )
 
-    def where(self):
+    def listening_address(self):
         """Returns the port and the path that Chromium listens at, once it has written them."""
         for _ in range(PATIENCE * 10):
             try:
                 with open(
-                    os.path.join(self.room, "profile", "DevToolsActivePort"), encoding="ascii"
+                    os.path.join(self.scratch, "profile", "DevToolsActivePort"), encoding="ascii"
                 ) as file:
                     port, path = file.read().split("\n")[:2]
                 return int(port), path
@@ -94,7 +93,8 @@ class Browser:
             self.complaints.append(json.dumps(event["params"])[:400])
 
     def open(self, address):
-        """Opens a page again, also if it differs from the last one by what is after its `#` alone."""
+        """Opens a page again, also if it differs from the last one by what is after its `#`
+        alone."""
         for url in ("about:blank", address):
             self.events = []
             self.ask("Page.navigate", url=url)
@@ -111,7 +111,7 @@ class Browser:
         return answer["result"].get("value")
 
     def count_calls(self):
-        """Has calls of the pages' functions counted from here on."""
+        """Starts to count the calls of the page's functions."""
         self.ask("Profiler.enable")
         self.ask("Profiler.startPreciseCoverage", callCount=True, detailed=False)
 
@@ -144,12 +144,8 @@ class Browser:
             mobile=False,
         )
 
-    def shot(self, path):
-        with open(path, "wb") as file:
-            file.write(base64.b64decode(self.ask("Page.captureScreenshot", format="png")["data"]))
-
     def close(self):
         self.process.terminate()
         self.process.wait(PATIENCE)
         self.socket.close()
-        shutil.rmtree(self.room, ignore_errors=True)
+        shutil.rmtree(self.scratch, ignore_errors=True)

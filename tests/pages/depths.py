@@ -1,6 +1,6 @@
 """What a person does to see the layers of a tower, and what the page then shows and asks."""
 import cases
-from pages.live import holds, same
+from pages.live import expect, expect_equal
 
 INVERSION = "lessons/05-new-old-inversion/unary"
 STAMPED, UNARY, MATRIX = (
@@ -20,10 +20,11 @@ FOUR = "".join(
         "g 2 0\n" * 250,
     )
 )
-# How many pages a gesture may ask for, on a schedule that is open already, in how many runs, and how many lines these
-# write: the pages of the columns in sight, of what the cursor's place shows, and of a read that is explained. An edit
-# takes the whole history again, and the saved branches unless it is at a branch's end. Whether a read is hit is on the
-# page of bits alone, which has 4,096 lines for four processes.
+# How many pages a gesture may ask for, on a schedule that is open already, in how many runs, and
+# how many lines these write: the pages of the columns in sight, of what the cursor's place shows,
+# and of a read that is explained. An edit takes the whole history again, and the saved branches
+# unless it is at a branch's end. Whether a read is hit is on the page of bits alone, which has
+# 4,096 lines for four processes.
 MOST_SPENT = {
     "lesson 8": {"a move": (20, 2, 200), "a step": (20, 1, 1000)},
     "30,000 steps": {
@@ -48,7 +49,8 @@ def opened(page, name, script="0 join\n"):
 
 
 def spent(page):
-    """Returns how many pages the page has asked for, in how many runs, and how many lines these wrote."""
+    """Returns how many pages the page has asked for, in how many runs, and how many lines these
+    wrote."""
     names = "['pages', 'runs', 'lines']"
     return page.value(f"{names}.map((it) => Number(document.querySelector('#inner').dataset[it]))")
 
@@ -67,65 +69,67 @@ def click_in(page, selector):
 def layers(page):
     """The choice of depth, its keys, and clicks on bars, which open and close the layers below."""
     opened(page, MATRIX)
-    same(page.texts("#depth option"), ["operations", "+ registers", "+ numbers", "+ bits"])
-    same(nests(page, 0), {"stamped"})
+    expect_equal(page.texts("#depth option"), ["operations", "+ registers", "+ numbers", "+ bits"])
+    expect_equal(nests(page, 0), {"stamped"})
     page.fill("#depth", "3")
-    same(nests(page, 0), {"stamped", "unary", "regular"})
+    expect_equal(nests(page, 0), {"stamped", "unary", "regular"})
     page.value("document.querySelector('#scroll').focus()")
     page.key("-", "-", "-")
-    same(nests(page, 0), set())
+    expect_equal(nests(page, 0), set())
     page.key("+")
-    same(nests(page, 1), {"stamped"})
+    expect_equal(nests(page, 1), {"stamped"})
     click_in(page, '.nest.stamped[data-process="0"]')
-    same((nests(page, 0), nests(page, 1)), ({"stamped", "unary"}, {"stamped"}))
+    expect_equal((nests(page, 0), nests(page, 1)), ({"stamped", "unary"}, {"stamped"}))
     click_in(page, '.operation.write[data-process="0"]')
-    same(nests(page, 0), set())
+    expect_equal(nests(page, 0), set())
     opened(page, STAMPED)
-    same(nests(page, 1), {"unary", "regular"})
+    expect_equal(nests(page, 1), {"unary", "regular"})
     page.open("tower 2\nsafe 0\n")
-    holds(page.value("document.querySelector('#depth').hidden"), "a safe bit has layers")
+    expect(page.value("document.querySelector('#depth').hidden"), "a safe bit has layers")
 
 
 def reasons(page):
-    """A click on a read says why it gave its value, and lights what it names; another opens the layer below."""
+    """A click on a read says why it gave its value, and lights what it names; another opens the
+    layer below."""
     opened(page, STAMPED)
     click_in(page, '.operation.read[data-at="13"]')
-    holds(
+    expect(
         "Its scan read bit 0, hit, chosen 1: so it found code 0 = stamp 0, value 0. But p1 remembered code 3 = "
         "stamp 1, value 1, which is greater, and gives that one's value, 1." in page.said(),
         page.said(),
     )
-    same(
+    expect_equal(
         page.texts(".nest.lit title"),
         ["scan up to bit 0: code 0 (stamp 0, value 0)", "bit 0 hit, chosen 1"],
     )
-    same(
+    expect_equal(
         page.value("[...document.querySelectorAll('[data-row].lit')].map((it) => it.dataset.row)"),
         ["register", "p1 remembers"],
     )
-    same(page.text(".operation.read[data-at='13'] .op"), "found 0, kept 3")
+    expect_equal(page.text(".operation.read[data-at='13'] .op"), "found 0, kept 3")
     # what gave the value isn't what the scan found, but what was remembered when it began
-    same(page.texts(".source title"), ["code 3 = stamp 1, value 1"])
+    expect_equal(page.texts(".source title"), ["code 3 = stamp 1, value 1"])
     opened(page, UNARY)
     click_in(page, ".operation.read")
-    holds(
+    expect(
         "Its scan read bit 0" in page.said() and "the first 1 that it found is bit" in page.said(),
         page.said(),
     )
     opened(page, MATRIX, "0 join\n0 go main 74\n")
     click_in(page, '.operation.read[data-process="0"]')
-    holds(
+    expect(
         "It read its column: R[0][0]: tag 1, p0 wrote 1; R[1][0]: tag 1, p1 wrote 0. The greatest is tag 1, p1 wrote 0, in "
         "R[1][0]: it gives that one's value, 0. It wrote that to its row, R[0][0] and R[0][1], so that no later read gives "
         "an older value." in page.said(),
         page.said(),
     )
-    same(page.text(".operation.picked .op"), "read = R[1][0]: tag 1, p1 wrote 0")
-    # what gave the value: the read of that register, the number in it then, its cell, and the write of it
-    same(page.texts(".nest.source title"), ["read R[1][0]: tag 1, p1 wrote 0"])
-    same(page.texts(".box.source title"), ["code 14 = tag 1, p1 wrote 0, stamp 1"])
-    same(page.texts(".operation.source .op"), ["write 0 = tag 1, p1 wrote 0"])
-    same(
+    expect_equal(page.text(".operation.picked .op"), "read = R[1][0]: tag 1, p1 wrote 0")
+    # what gave the value: the read of that register, the number in it then, its cell, and the write
+    # of it
+    expect_equal(page.texts(".nest.source title"), ["read R[1][0]: tag 1, p1 wrote 0"])
+    expect_equal(page.texts(".box.source title"), ["code 14 = tag 1, p1 wrote 0, stamp 1"])
+    expect_equal(page.texts(".operation.source .op"), ["write 0 = tag 1, p1 wrote 0"])
+    expect_equal(
         page.value(
             "[...document.querySelectorAll('.memory.lit')].map((it) => it.dataset.register)"
         ),
@@ -134,37 +138,39 @@ def reasons(page):
 
 
 def square(page):
-    """A matrix is a square at the cursor's place, in which the column or the row in work is marked."""
+    """A matrix is a square at the cursor's place, in which the column or the row in work is
+    marked."""
     opened(page, MATRIX, "0 join\n0 go main 74\n")
     cells = page.value(
         "[...document.querySelectorAll('.memory')].map((it) => [it.dataset.register, it.className])"
     )
-    same([name for name, _ in cells], ["R[0][0]", "R[0][1]", "R[1][0]", "R[1][1]"])
-    same([name for name, kind in cells if "column" in kind], ["R[0][0]", "R[1][0]"])
-    same([name for name, kind in cells if "is-read" in kind], ["R[1][0]"])
-    same(page.texts(".memory .value-now"), ["1", "1", "0", "0"])
-    same(
+    expect_equal([name for name, _ in cells], ["R[0][0]", "R[0][1]", "R[1][0]", "R[1][1]"])
+    expect_equal([name for name, kind in cells if "column" in kind], ["R[0][0]", "R[1][0]"])
+    expect_equal([name for name, kind in cells if "is-read" in kind], ["R[1][0]"])
+    expect_equal(page.texts(".memory .value-now"), ["1", "1", "0", "0"])
+    expect_equal(
         page.texts(".card li"),
         ["p0's read: reads its column, now R[1][0]; greatest so far: tag 1, p0 wrote 1"],
     )
     page.key("End")
-    same(page.texts(".memory .value-now"), ["0", "0", "0", "0"])
+    expect_equal(page.texts(".memory .value-now"), ["0", "0", "0", "0"])
 
 
 def scale(page):
-    """The elastic axis shows all steps of lesson 8; a click between two steps goes to their place; columns can be equal or wider."""
+    """The elastic axis shows all steps of lesson 8; a click between two steps goes to their place;
+    columns can be equal or wider."""
     opened(page, MATRIX)
     widths = page.value(
         "[...document.querySelectorAll('.chip rect')].map((it) => Number(it.getAttribute('width')))"
     )
-    same(len(widths), 93)
-    holds(
+    expect_equal(len(widths), 93)
+    expect(
         page.value(
             "document.querySelector('#scroll').scrollWidth <= document.querySelector('#scroll').clientWidth"
         ),
         "it needs scrolling",
     )
-    holds(
+    expect(
         sum(it > 30 for it in widths) > 10 and sum(it < 5 for it in widths) > 50,
         f"the widths are {sorted(widths)}",
     )
@@ -176,9 +182,9 @@ def scale(page):
     )
     page.chrome.click(x, y)
     page.wait()
-    same(page.place(), "main, place 26 of 93")
+    expect_equal(page.place(), "main, place 26 of 93")
     page.do("equal")
-    same(
+    expect_equal(
         set(
             page.value(
                 "[...document.querySelectorAll('.chip rect')].map((it) => it.getAttribute('width'))"
@@ -187,7 +193,7 @@ def scale(page):
         {"41"},
     )
     page.do("narrower")
-    same(
+    expect_equal(
         set(
             page.value(
                 "[...document.querySelectorAll('.chip rect')].map((it) => it.getAttribute('width'))"
@@ -196,11 +202,12 @@ def scale(page):
         {"33"},
     )
     page.do("equal")
-    same(page.count(".chip"), 93)
+    expect_equal(page.count(".chip"), 93)
 
 
 def refusals(page):
-    """The first matrix that the dialog offers takes two writes; what refuses the next, and a stamped write, is said."""
+    """The first matrix that the dialog offers takes two writes; what refuses the next, and a
+    stamped write, is said."""
     page.open()
     page.do("chooseTower")
     page.click("[name=kind][value=matrix]")
@@ -209,17 +216,17 @@ def refusals(page):
     page.wait()
     for key in ("p0 w 0 1", "p0 end", "p1 w 1 0", "p1 end"):
         page.button(key)
-        same(page.count(".operation.refused"), 0)
+        expect_equal(page.count(".operation.refused"), 0)
     page.button("p0 w 0 1")
     page.button("p0 end")
-    same(
+    expect_equal(
         page.said(),
         "p0's write 1 was refused: its tag would be 3, and the last one is 2 (TAG). It wrote nothing; reads go on while "
         "their registers have stamps.",
     )
     page.open("tower 2\nstamped 2 0\n")
     page.button("p0 w 0 1")
-    same(
+    expect_equal(
         page.said(),
         "p0's write 1 was refused: its stamp would be 1, and the last one is 0 (LAST). It changed nothing; no further "
         "write passes, and reads go on.",
@@ -227,9 +234,10 @@ def refusals(page):
 
 
 def two_towers(page):
-    """Below a unary number the same operations are done on a stamped register, without lesson 5's inversion; they follow an edit."""
+    """Below a unary number the same operations are done on a stamped register, without lesson 5's
+    inversion; they follow an edit."""
     opened(page, INVERSION)
-    same(
+    expect_equal(
         page.texts("#second-tower option"),
         ["and on\u2026", "and safe 0", "and regular 1 0", "and stamped 2 1"],
     )
@@ -239,52 +247,54 @@ def two_towers(page):
     page.until("'drawn' in document.querySelector('#study-text').dataset")
     page.click("[data-second='stamped 2 1']")
     page.until("!document.querySelector('#second').hidden")
-    same(page.texts(".panel .verdict text"), ["1 \u25d0 overlap", "0 \u25cf fresh"])
-    same(page.texts("#second .verdict text"), ["1 \u25d0 overlap", "1 \u25d0 overlap"])
+    expect_equal(page.texts(".panel .verdict text"), ["1 \u25d0 overlap", "0 \u25cf fresh"])
+    expect_equal(page.texts("#second .verdict text"), ["1 \u25d0 overlap", "1 \u25d0 overlap"])
     for begun, _ in enumerate(page.texts(".panel .operation")):
         lefts = page.value(
             f"""['.panel', '#second'].map((it) => document.querySelectorAll(it + ' .operation .bar')[{begun}]
           .getBoundingClientRect()).map((it) => [it.left, it.right])"""
         )
-        holds(max(abs(a - b) for a, b in zip(*lefts)) < 2, f"operation {begun} is at {lefts}")
+        expect(max(abs(a - b) for a, b in zip(*lefts)) < 2, f"operation {begun} is at {lefts}")
     page.value("document.querySelector('#scroll').focus()")
     page.key("End")
     page.button("p1 r 1")
-    same(page.count("#second .operation.read"), 3)
+    expect_equal(page.count("#second .operation.read"), 3)
     page.fill("#second-tower", "")
-    holds(page.value("document.querySelector('#second').hidden"), "the second tower stays")
+    expect(page.value("document.querySelector('#second').hidden"), "the second tower stays")
     opened(page, MATRIX)
-    holds(
+    expect(
         page.value("document.querySelector('#second-tower').hidden"), "a matrix has a second tower"
     )
 
 
 def cost(page, work, schedule, gesture):
-    """Does a gesture, and fails if it asks for more pages, in more runs, of more lines, than it may."""
+    """Does a gesture, and fails if it asks for more pages, in more runs, of more lines, than it
+    may."""
     before = spent(page)
     work()
     page.wait()
     found = tuple(now - was for now, was in zip(spent(page), before))
     bound = MOST_SPENT[schedule][gesture]
     said = f"{gesture} in {schedule}: {found}, at most {bound}"
-    holds(all(it <= most for it, most in zip(found, bound)), said)
+    expect(all(it <= most for it, most in zip(found, bound)), said)
 
 
 def counted_pages(page):
-    """A gesture asks for the pages of the columns in sight and what they need, once, in one run if it can."""
+    """A gesture asks for the pages of the columns in sight and what they need, once, in one run if
+    it can."""
 
     def focused_key(name, schedule, gesture):
         page.value("document.querySelector('#scroll').focus()")
         cost(page, lambda: page.key(name), schedule, gesture)
 
     opened(page, MATRIX)
-    holds(spent(page)[0] <= 300, f"lesson 8 asks for {spent(page)[0]} pages")
+    expect(spent(page)[0] <= 300, f"lesson 8 asks for {spent(page)[0]} pages")
     for name in ("ArrowLeft", "+", "+", "-", "ArrowLeft", "Home"):
         focused_key(name, "lesson 8", "a move")
     cost(page, lambda: page.button("p1 r 1"), "lesson 8", "a step")
     page.open(LONG)
     first = spent(page)
-    holds(first[0] <= 150 and first[1] <= 2, f"30,000 steps take {first}")
+    expect(first[0] <= 150 and first[1] <= 2, f"30,000 steps take {first}")
     focused_key("ArrowRight", "30,000 steps", "a move")
     focused_key("End", "30,000 steps", "the other end")
     focused_key("ArrowLeft", "30,000 steps", "a move")

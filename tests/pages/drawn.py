@@ -1,10 +1,11 @@
-"""What the page draws of each branch, held to what a second reader has from the program's pages, place by place."""
+"""What the page draws of each branch, held to what a second reader has from the program's pages,
+place by place."""
 import random
 import re
 
 import cases
 from pages.inside import Inside, Tower
-from pages.live import holds, same
+from pages.live import expect, expect_equal
 from pages.reader import NO_TOWER, Reader, bit_actions, overlapped
 
 MARKS = """(() => { const panel = document.querySelector(".panel.focus"), all = (name) => [...panel.querySelectorAll(name)];
@@ -47,7 +48,8 @@ CLICKED = """(() => { const it = document.querySelector('[data-walk="%d"]');
 
 
 def compare_rows(page, found, name, first, last):
-    """Compares what each row of a bit shows at each place from `first` to `last` with the page of bits there."""
+    """Compares what each row of a bit shows at each place from `first` to `last` with the page of
+    bits there."""
     column, rows = page.value(ROWS)
     for place in range(first, last + 1):
         lines = dict(line.split(" ", 1) for line in found[f"bits {name} {place}"])
@@ -56,12 +58,12 @@ def compare_rows(page, found, name, first, last):
             x = place * column
             boxes = [kind for kind, left, right in row["boxes"] if left <= x <= right]
             reads = [kind for kind, left, right in row["reads"] if left - 0.1 <= x <= right + 0.1]
-            same(
+            expect_equal(
                 boxes,
                 ["written" if written != "-" else {"0": "zero", "1": "one"}[value]],
                 f"bit {bit} at {name} {place}",
             )
-            same(
+            expect_equal(
                 reads,
                 {"-": [], "r": ["read-line"], "h": ["hit"]}[read],
                 f"read of bit {bit} at {name} {place}",
@@ -69,7 +71,8 @@ def compare_rows(page, found, name, first, last):
 
 
 def compare_inside(page, tower, found, name, first, last):
-    """Compares what is inside the operations between places `first` and `last`, and the rows of numbers there, with a second reader's."""
+    """Compares what is inside the operations between places `first` and `last`, and the rows of
+    numbers there, with a second reader's."""
     length = max(int(look.split()[2]) for look in found if look.startswith(f"state {name} "))
     pages = {
         kind: [found[f"{kind} {name} {place}"] for place in range(length + 1)]
@@ -93,7 +96,7 @@ def compare_inside(page, tower, found, name, first, last):
         if it in whole and layer in tower.layers[:depth]
     ]
     drawn = [it for it in nests if (it[1], it[2]) in begun]
-    same(
+    expect_equal(
         sorted(it for it in drawn if it not in wanted),
         sorted(it for it in wanted if it not in drawn),
         f"inside {name}",
@@ -102,24 +105,26 @@ def compare_inside(page, tower, found, name, first, last):
         register = tower.registers.index(row) if row in tower.registers else 0
         bands = inside.bands(register)["number" if row in tower.registers else "best"]
         for begin, end, *box in boxes:
-            # Nothing before `first` is drawn, so a box may lack what a part that began there has found or written
+            # Nothing before `first` is drawn, so a box may lack what a part that began there has
+            # found or written
             is_cut = any(
                 part.begin < first and part.end >= begin
                 for it in inside.operations
                 for part in it.parts
             )
             for place in range(begin, end + 1):
-                holds(
+                expect(
                     is_cut or tuple(box) == bands[place],
                     f"{row} of {name} at {place}: {box}, wanted {bands[place]}",
                 )
 
 
 def compare(page, reader, name):
-    """Compares the marks of the panel where the cursor is with the pages; returns how many steps were drawn."""
+    """Compares the marks of the panel where the cursor is with the pages; returns how many steps
+    were drawn."""
     (found, length), marks = reader.branch(name), page.value(MARKS)
     head = page.text(".panel.focus h2")
-    holds(
+    expect(
         head.startswith(f"{name} {length} step"),
         f"the head of {name}, which has {length} steps, is {head}",
     )
@@ -139,30 +144,31 @@ def compare(page, reader, name):
         for line in found[f"verdict {name} {length}"]
         if re.match(r"\d", line) and first <= int(line.split()[0]) < last
     ]
-    same(
+    expect_equal(
         marks["chips"],
         [line.split(" ", 1)[1] for line in found[f"steps {name} {length}"]][first:last],
         name,
     )
-    holds(
+    expect(
         set(marks["bars"]) <= set(bars) and (first or len(marks["bars"]) == len(bars)),
         f"{name}: {marks['bars']} for {bars}",
     )
-    same(sorted(marks["ticks"]), bit_actions(found, name, first, last), name)
+    expect_equal(sorted(marks["ticks"]), bit_actions(found, name, first, last), name)
     compare_rows(page, found, name, first, last)
     compare_inside(page, Tower(reader.tower.split("\n")[1]), found, name, first, last)
     for kind in KINDS:
-        same(
+        expect_equal(
             marks[kind],
             sum(line.split()[2] == kind for at, line in history if first <= at < last),
             f"{name}, {kind}",
         )
-    same(sorted(marks["verdicts"]), sorted(verdicts), name)
+    expect_equal(sorted(marks["verdicts"]), sorted(verdicts), name)
     return last - first
 
 
 def lit_writes(page, reader, name):
-    """Clicks on each read that returned, and compares the writes that light up and the first word of the sentence."""
+    """Clicks on each read that returned, and compares the writes that light up and the first word
+    of the sentence."""
     found, length = reader.branch(name)
     verdicts = {line.split()[0]: line.split()[-1] for line in found[f"verdict {name} {length}"]}
     count = 0
@@ -180,15 +186,15 @@ def lit_writes(page, reader, name):
         drawn = page.value(
             "[...document.querySelectorAll('.panel.focus .operation')].map((it) => Number(it.dataset.at))"
         )
-        same(
+        expect_equal(
             sorted(lit),
             sorted(it for it in writes if it in drawn),
             f"{name}, the read of step {begun}",
         )
         said = page.said()
-        holds("doesn't show why" not in said, said)
+        expect("doesn't show why" not in said, said)
         is_named = any(f"{it}:" in said.lower() for it in {*verdicts.values()})
-        holds(is_named or "no verdict" in said, said)
+        expect(is_named or "no verdict" in said, said)
         page.key("Escape")
         count += 1
     return count
@@ -218,7 +224,7 @@ def documents(page, program, names):
     for title, tower, script in all_documents(names):
         page.open(tower, script)
         reader = Reader(program, tower, script)
-        same(
+        expect_equal(
             page.value("[...document.querySelectorAll('#show option')].map((it) => it.value)")[
                 1 : len(reader.lengths) + 1
             ],
@@ -229,7 +235,7 @@ def documents(page, program, names):
             page.fill("#show", f"only {name}" if len(reader.lengths) > 1 else "all")
             drawn += compare(page, reader, name)
             reads += lit_writes(page, reader, name)
-    holds(drawn > 300 and reads > 30, f"only {drawn} steps and {reads} reads were drawn")
+    expect(drawn > 300 and reads > 30, f"only {drawn} steps and {reads} reads were drawn")
 
 
 def name_branch(page):
@@ -260,7 +266,8 @@ def walk(page, chance):
 
 
 def walks(page, program):
-    """Does what a person might, at random, on each tower; the marks stay those of the pages that the script gives."""
+    """Makes random gestures on each tower, and compares the marks with the pages that the script
+    gives."""
     chance, drawn = random.Random(SEED), 0
     for tower in TOWERS:
         page.open(f"tower 2\n{tower}\n")
@@ -269,4 +276,4 @@ def walks(page, program):
             if index % 5 == 4:
                 name = page.place().split(",")[0]
                 drawn += compare(page, Reader(program, *page.document()), name)
-    holds(drawn > 200, f"only {drawn} steps were drawn")
+    expect(drawn > 200, f"only {drawn} steps were drawn")

@@ -6,10 +6,11 @@ import tempfile
 import cases
 from pages import build
 from pages.gestures import BEFORE_ITS_END, ONE_READ
-from pages.live import holds, same
+from pages.live import expect, expect_equal
 from pages.reader import Reader
 
-# A module whose one function has this code, of WebAssembly's instructions; its memory is the host's.
+# A module whose one function has this code, of WebAssembly's instructions; its memory is the
+# host's.
 BEFORE_CODE = bytes.fromhex(
     "0061736d01000000 0105016000017f 0212 01 04686f7374 066d656d6f7279 020101 8040 03020100 0707010372756e0000".replace(
         " ", ""
@@ -26,7 +27,8 @@ STOPPED, TOO_LONG = (
     r"The program took longer than [0-9]+ seconds and was stopped\.",
 )
 FILES = ("lessons/01-safe-bit/safe", "examples/stamped", "examples/matrix", "examples/branches")
-# Code between the page and its worker: what the worker answers is changed by `damage`, if there is one.
+# Code between the page and its worker: what the worker answers is changed by `damage`, if there is
+# one.
 BETWEEN = """{ const Real = Worker;
   Worker = class {
     constructor(address) {
@@ -57,7 +59,8 @@ DAMAGE = """globalThis.damaged = (seed) => {
 };"""
 
 
-# Opens documents one after the other while answers are damaged, and returns what is wrong and how many ended how.
+# Opens documents one after the other while answers are damaged, and returns what is wrong and how
+# many ended how.
 OPENED = """(async (documents, from, to) => {
   const counts = { pictures: 0, faults: 0, wrong: [] };
   for (let seed = from; seed < to; seed++) {
@@ -95,12 +98,13 @@ def page_with(page, folder, code):
 
 
 def other_programs(page):
-    """A trap and a full stack are said in a sentence, and an endless run is stopped by the button."""
+    """A trap and a full stack are said in a sentence, and an endless run is stopped by the
+    button."""
     with tempfile.TemporaryDirectory() as folder:
         for code, sentence in SENTENCES.items():
             page_with(page, folder, code)
             page.until("document.querySelector('#said').textContent")
-            holds(re.fullmatch(sentence, page.said()), page.said())
+            expect(re.fullmatch(sentence, page.said()), page.said())
         page_with(page, folder, "endless")
         # The page tries its document, and then an empty one
         for _ in range(2):
@@ -108,7 +112,7 @@ def other_programs(page):
             page.value("document.querySelector('[data-do=stop]').click()")
             page.value("new Promise((done) => setTimeout(done, 200))")
         page.until("document.querySelector('#said').textContent", "an endless run isn't stopped")
-        same(page.said(), STOPPED)
+        expect_equal(page.said(), STOPPED)
 
 
 def opened_between(page, *document):
@@ -117,7 +121,8 @@ def opened_between(page, *document):
 
 
 def no_answer(page):
-    """A run that never answers is stopped by the button, or after some seconds; the document stays, and the page goes on."""
+    """A run that never answers is stopped by the button, or after some seconds; the document stays,
+    and the page goes on."""
     opened_between(page, ONE_READ, BEFORE_ITS_END)
     before = page.script()
     for sentence, is_stopped in ((STOPPED, True), (TOO_LONG, False)):
@@ -127,11 +132,11 @@ def no_answer(page):
         if is_stopped:
             page.value("document.querySelector('[data-do=stop]').click()")
         page.wait()
-        holds(re.fullmatch(sentence, page.said()), page.said())
+        expect(re.fullmatch(sentence, page.said()), page.said())
         page.value("globalThis.isDeaf = false")
-        same(page.script(), before, "after a run without an answer")
+        expect_equal(page.script(), before, "after a run without an answer")
     page.button("p1 g 1 0")
-    holds(page.said().startswith("p1's read returned 0. Fresh"), page.said())
+    expect(page.said().startswith("p1's read returned 0. Fresh"), page.said())
 
 
 def damaged_files(page):
@@ -147,12 +152,13 @@ def damaged_files(page):
             f"location.hash = encodeURIComponent({json.dumps(json.dumps([tower, '0 join']))})"
         )
         page.until("document.querySelector('#said').className === 'refusal'")
-        holds(words in page.said() and page.said().endswith("."), page.said())
-        same(page.document(), [tower, "0 join"])
+        expect(words in page.said() and page.said().endswith("."), page.said())
+        expect_equal(page.document(), [tower, "0 join"])
 
 
 def damaged_answers(page, program):
-    """Answers that are cut, mixed and changed give a picture or a sentence, and never a broken picture."""
+    """Answers that are cut, mixed and changed give a picture or a sentence, and never a broken
+    picture."""
     opened_between(page)
     documents = []
     for it in FILES:
@@ -161,9 +167,9 @@ def damaged_answers(page, program):
     found = {"pictures": 0, "faults": 0}
     for at in range(0, DAMAGED, CHUNK):
         counts = page.value(f"{OPENED}({json.dumps(documents)}, {at}, {at + CHUNK})")
-        holds(not counts["wrong"], counts["wrong"])
+        expect(not counts["wrong"], counts["wrong"])
         for it in found:
             found[it] += counts[it]
-    holds(min(found.values()) > DAMAGED / 20, found)
+    expect(min(found.values()) > DAMAGED / 20, found)
     page.open(*documents[0])
-    same(Reader(program, *page.document()).lengths, Reader(program, *documents[0]).lengths)
+    expect_equal(Reader(program, *page.document()).lengths, Reader(program, *documents[0]).lengths)

@@ -1,5 +1,4 @@
 """A small driver of Firefox without a window, by the protocol WebDriver BiDi."""
-import base64
 import json
 import os
 import re
@@ -28,16 +27,16 @@ class Browser:
     """One Firefox with a fresh profile and one page; `complaints` are the lines of its console."""
 
     def __init__(self, program):
-        self.room = tempfile.mkdtemp(prefix="towerbench-")
-        os.mkdir(f"{self.room}/profile")
+        self.scratch = tempfile.mkdtemp(prefix="towerbench-")
+        os.mkdir(f"{self.scratch}/profile")
         words = [
             "--headless",
             "--remote-debugging-port=0",
             "--profile",
-            f"{self.room}/profile",
+            f"{self.scratch}/profile",
             "about:blank",
         ]
-        with open(f"{self.room}/said", "wb") as said:
+        with open(f"{self.scratch}/said", "wb") as said:
             self.process = subprocess.Popen(
                 [program, *words], stdin=subprocess.DEVNULL, stdout=said, stderr=said
             )
@@ -49,7 +48,7 @@ class Browser:
     def port(self):
         """Returns the port that Firefox listens at, once it says so."""
         for _ in range(PATIENCE * 10):
-            with open(f"{self.room}/said", encoding="utf-8", errors="replace") as said:
+            with open(f"{self.scratch}/said", encoding="utf-8", errors="replace") as said:
                 found = LISTENS.search(said.read())
             if found:
                 return int(found.group(1))
@@ -117,16 +116,8 @@ class Browser:
             viewport={"width": width, "height": height},
         )
 
-    def shot(self, path):
-        with open(path, "wb") as file:
-            file.write(
-                base64.b64decode(
-                    self.ask("browsingContext.captureScreenshot", context=self.context)["data"]
-                )
-            )
-
     def close(self):
         self.process.terminate()
         self.process.wait(PATIENCE)
         self.socket.close()
-        shutil.rmtree(self.room, ignore_errors=True)
+        shutil.rmtree(self.scratch, ignore_errors=True)

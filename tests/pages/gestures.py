@@ -7,7 +7,7 @@ import xml.dom.minidom
 
 import cases
 from pages.chromium import CONTROL
-from pages.live import holds, same
+from pages.live import expect, expect_equal
 from pages.reader import Reader, program_answers
 
 LESSON = "lessons/01-safe-bit/safe"
@@ -18,11 +18,12 @@ PAGES = re.compile(r"^0: (?:bits|history|verdict) .*\n(?:  .*\n)+", re.M)
 
 
 def first_screen(page):
-    """A read that overlaps a write is about to end; its choice is explained, and the other one is tried next to it."""
+    """A read that overlaps a write is about to end; its choice is explained, and the other one is
+    tried next to it."""
     page.open()
-    same(page.said(), ASKED)
+    expect_equal(page.said(), ASKED)
     footer = page.text("footer")
-    holds(
+    expect(
         re.search(
             r"proved sources.*tested, not proved.*Version [0-9.]+, commit [0-9a-f]{12}.*kit \S+",
             footer,
@@ -30,16 +31,19 @@ def first_screen(page):
         footer,
     )
     page.button("p1 g 1 0")
-    holds(page.said().startswith("p1's read returned 0. Fresh: no write had returned"), page.said())
-    same(page.count(".operation.lit"), 1)
+    expect(
+        page.said().startswith("p1's read returned 0. Fresh: no write had returned"), page.said()
+    )
+    expect_equal(page.count(".operation.lit"), 1)
     page.button("other")
-    same(page.place(), "other, place 5 of 5")
-    holds("Overlap: write 1" in page.said(), page.said())
-    same(page.branches(), ["main", "other"])
+    expect_equal(page.place(), "other, place 5 of 5")
+    expect("Overlap: write 1" in page.said(), page.said())
+    expect_equal(page.branches(), ["main", "other"])
 
 
 def lesson_by_clicks(page, program):
-    """Lesson 1 built by clicks: its pages are the lesson's, and undo takes back what redo brings again."""
+    """Lesson 1 built by clicks: its pages are the lesson's, and undo takes back what redo brings
+    again."""
     page.open()
     page.choose_tower("safe", 0)
     for key in ("p0 w 0 1", "p0 g 0 0", "p1 r 1", "p1 g 1 0", "p1 g 1 0", "p0 g 0 0"):
@@ -47,7 +51,7 @@ def lesson_by_clicks(page, program):
     page.fill('[data-key="break"]', "chosen")
     page.key("Home")
     page.button("seek")
-    same(page.place(), "main, place 5 of 6")
+    expect_equal(page.place(), "main, place 5 of 6")
     page.do("left")
     page.button("fork main")
     page.fork("other")
@@ -59,7 +63,7 @@ def lesson_by_clicks(page, program):
     page.fill("#menu input", "w 0 0")
     page.click("#menu form button")
     page.wait()
-    same(page.texts("#tree .verdict text"), ["\u25cf 0", "\u25d0 1", "\u25b2 1"])
+    expect_equal(page.texts("#tree .verdict text"), ["\u25cf 0", "\u25d0 1", "\u25b2 1"])
     tower, script = page.document()
     looks = [
         line
@@ -67,7 +71,7 @@ def lesson_by_clicks(page, program):
         if re.match("0 (bits|history|verdict) ", line)
     ]
     made = program_answers(program, tower, script + "".join(f"{look}\n" for look in looks))
-    same(
+    expect_equal(
         PAGES.findall(made)[-len(looks) :], PAGES.findall(cases.read(f"{LESSON}.expected").decode())
     )
     undo_and_redo(page, script)
@@ -78,11 +82,11 @@ def undo_and_redo(page, script):
     while not page.value("document.querySelector('#undo').disabled"):
         page.do("undo")
         gestures += 1
-    same(page.script(), "0 join\n")
-    holds(gestures >= 12, f"undo takes {gestures} gestures back")
+    expect_equal(page.script(), "0 join\n")
+    expect(gestures >= 12, f"undo takes {gestures} gestures back")
     while not page.value("document.querySelector('#redo').disabled"):
         page.do("redo")
-    same(page.script(), script)
+    expect_equal(page.script(), script)
 
 
 def processes(page):
@@ -92,14 +96,14 @@ def processes(page):
     page.button("p1 r 1")
     page.button("p0 g 0 0")
     page.button("p1 end")
-    same(page.said(), ASKED)
+    expect_equal(page.said(), ASKED)
     page.button("p1 g 1 1")
-    holds(page.said().startswith("p1's read returned 1. Overlap"), page.said())
+    expect(page.said().startswith("p1's read returned 1. Overlap"), page.said())
     page.button("p0 end")
     page.button("p1 x 1")
-    same(page.count(".mark.stop"), 1)
-    same(page.count('[data-process="1"] [data-action="r 1"]'), 0)
-    same(
+    expect_equal(page.count(".mark.stop"), 1)
+    expect_equal(page.count('[data-process="1"] [data-action="r 1"]'), 0)
+    expect_equal(
         [it for it in page.script().splitlines() if " insert " in it],
         [
             "0 insert main 0 w 0 1",
@@ -114,11 +118,12 @@ def processes(page):
     page.open("tower 2\nunary 12 1 0\n")
     page.fill('[data-key="p0 value"]', "11")
     page.button("p0 w")
-    holds("0 insert main 0 w 0 11\n" in page.script(), page.script())
+    expect("0 insert main 0 w 0 11\n" in page.script(), page.script())
 
 
 def steps(page):
-    """What the menu of a step has: remove, replace, flip, insert before, fork, the other choice on a branch."""
+    """What the menu of a step has: remove, replace, flip, insert before, fork, the other choice on
+    a branch."""
     page.open(ONE_READ + "g 1 0\n")
     for action, line in (
         ("flip", "replace main 4 g 1 1"),
@@ -129,18 +134,18 @@ def steps(page):
         step = {"flip": 4, "remove": 3, "before": 2, "try": 3}[action]
         page.click(f'.panel[data-branch=main] .chip[data-step="{step}"]')
         page.click(f'#menu [data-step-action="{action}"]')
-        holds(f"0 {line}\n" in page.script(), f"{action}: {page.script()}")
-    same(page.branches(), ["main", "other"])
+        expect(f"0 {line}\n" in page.script(), f"{action}: {page.script()}")
+    expect_equal(page.branches(), ["main", "other"])
     page.click('.panel[data-branch=main] .chip[data-step="2"]')
     page.click('#menu [data-step-action="fork"]')
     page.fork("third")
-    holds("0 fork main 2 third\n" in page.script(), page.script())
+    expect("0 fork main 2 third\n" in page.script(), page.script())
     before = page.script()
     page.click('.panel[data-branch=third] .chip[data-step="0"]')
     page.fill("#menu input", "w 1 1")
     page.click("#menu form button")
     page.until("document.querySelector('#said').className === 'refusal'")
-    same(page.script(), before, "after a refused step")
+    expect_equal(page.script(), before, "after a refused step")
 
 
 def branches(page):
@@ -149,24 +154,24 @@ def branches(page):
         ONE_READ + "g 1 0\n", "0 join\n0 fork main 4 other\n0 insert other 4 g 1 1\n0 go main 0\n"
     )
     page.click(".panel[data-branch=other] [data-select]")
-    same(page.place(), "other, place 0 of 5")
+    expect_equal(page.place(), "other, place 0 of 5")
     page.button("own other")
-    same(page.place(), "other, place 4 of 5")
+    expect_equal(page.place(), "other, place 4 of 5")
     page.button("compare other")
-    same(page.branches(), ["main", "other"])
-    holds("differ" in page.said() or "first" in page.said(), page.said())
+    expect_equal(page.branches(), ["main", "other"])
+    expect("differ" in page.said() or "first" in page.said(), page.said())
     page.button("compare other")
     page.button("alone other")
-    same(page.branches(), ["other"])
+    expect_equal(page.branches(), ["other"])
     page.fill("#show", "all")
     about = ".panel[data-branch=other] h2 small"
-    same(page.text(about), "5 steps, the first 4 shared with main")
+    expect_equal(page.text(about), "5 steps, the first 4 shared with main")
     page.button("detach other")
-    holds("0 detach other\n" in page.script(), page.script())
+    expect("0 detach other\n" in page.script(), page.script())
     # The steps are still equal, but no longer the same
-    same(page.text(about), "5 steps")
+    expect_equal(page.text(about), "5 steps")
     page.button("drop other")
-    same(page.branches(), ["main"])
+    expect_equal(page.branches(), ["main"])
 
 
 def breaks(page):
@@ -177,24 +182,25 @@ def breaks(page):
     page.fill('[data-key="break"]', "bit")
     page.fill("#breaks form input:last-of-type", "1")
     page.click("#breaks form button")
-    same(page.text("#breaks").count("\u00d7"), 5, page.text("#breaks"))
+    expect_equal(page.text("#breaks").count("\u00d7"), 5, page.text("#breaks"))
     for kind in ("void", "bit 0 1"):
         page.button(f"clear {kind}")
-    same(page.text("#breaks").count("\u00d7"), 3)
+    expect_equal(page.text("#breaks").count("\u00d7"), 3)
     places = []
     for key in ("seek", "seek", "back"):
         page.button(key)
         places.append(int(page.place().split()[2]))
-    same(places, [5, 9, 5])
+    expect_equal(places, [5, 9, 5])
     page.key("End")
     before = page.script()
     page.key("n")
-    same(page.said(), "No break is met there.")
-    same(page.script(), before, "after a search without a hit")
+    expect_equal(page.said(), "No break is met there.")
+    expect_equal(page.script(), before, "after a search without a hit")
 
 
 def keyboard(page):
-    """The first screen, a fork and the menu of a step by keys alone, some of them faster than answers come."""
+    """The first screen, a fork and the menu of a step by keys alone, some of them faster than
+    answers come."""
     page.open(ONE_READ, BEFORE_ITS_END)
     for name in ("1", "g", "0", "ArrowLeft", "o", "ArrowUp", "0", "g", "w", "1", "e", "ArrowLeft"):
         page.chrome.press(name)
@@ -207,7 +213,7 @@ def keyboard(page):
         "0 insert other 4 g 1 1",
         "0 insert main 6 w 0 1",
     ):
-        holds(f"{line}\n" in script, f"{line} isn't in {script}")
+        expect(f"{line}\n" in script, f"{line} isn't in {script}")
     page.value("document.querySelector('#scroll').focus()")
     page.key("f")
     page.until("document.querySelector('#name-dialog').open")
@@ -217,18 +223,19 @@ def keyboard(page):
     page.enter()
     page.until("!document.querySelector('#menu').hidden && document.activeElement.closest('#menu')")
     page.key("Escape")
-    holds(page.value("document.querySelector('#menu').hidden"), "the menu stays open")
+    expect(page.value("document.querySelector('#menu').hidden"), "the menu stays open")
     page.key("Delete", "z")
     page.key("z", modifiers=CONTROL)
-    same(page.branches(), ["main", "other", "other2"])
+    expect_equal(page.branches(), ["main", "other", "other2"])
 
 
 def files(page, program):
-    """What is saved is the document; files are opened by the dialog and dropped; the address holds the document."""
+    """What is saved is the document; files are opened by the dialog and dropped; the address holds
+    the document."""
     page.open(ONE_READ, "0 join\n0 fork main 4 other\n0 insert other 4 g 1 1\n")
-    with tempfile.TemporaryDirectory() as room:
-        page.chrome.ask("Browser.setDownloadBehavior", behavior="allow", downloadPath=room)
-        folder = pathlib.Path(room)
+    with tempfile.TemporaryDirectory() as scratch:
+        page.chrome.ask("Browser.setDownloadBehavior", behavior="allow", downloadPath=scratch)
+        folder = pathlib.Path(scratch)
         for kind, ending in (
             ("script", "script"),
             ("tower", "tower"),
@@ -243,16 +250,16 @@ def files(page, program):
         tower, script = page.document()
         texts = {it.suffix[1:]: it.read_text(encoding="utf-8") for it in folder.iterdir()}
         # A saved script says first on which tower it runs
-        same(
+        expect_equal(
             (texts["tower"], texts["script"]),
             (tower, f"# tower: {'; '.join(tower.strip().splitlines())}\n{script}"),
         )
-        same(
+        expect_equal(
             Reader(program, texts["bench"], "").branch("other"),
             Reader(program, tower, script).branch("other"),
         )
         picture = xml.dom.minidom.parseString(texts["svg"])
-        holds(
+        expect(
             len(picture.getElementsByTagName("title")) > 3 and "var(" not in texts["svg"],
             "the picture isn't whole",
         )
@@ -260,7 +267,7 @@ def files(page, program):
     page.chrome.ask("Page.reload")
     page.until("document.readyState === 'complete'")
     page.wait()
-    same(page.document(), [tower, script], "after a reload")
+    expect_equal(page.document(), [tower, script], "after a reload")
     open_files(page)
 
 
@@ -278,12 +285,12 @@ def open_files(page):
     )
     page.until("document.querySelectorAll('.panel').length === 3")
     page.wait()
-    same(page.branches(), ["main", "a", "b"])
+    expect_equal(page.branches(), ["main", "a", "b"])
     dropped = [pathlib.Path(f"examples/unary.{it}") for it in ("tower", "script")]
     page.drop([(it.name, it.read_text(encoding="ascii")) for it in dropped])
     page.until("document.querySelector('#tower-line').textContent.startsWith('unary')")
     page.wait()
-    holds(
+    expect(
         page.script().strip() == cases.read("examples/unary.script").decode().strip()
         or page.count("#lesson:not([hidden])"),
         "the script isn't opened",
@@ -295,15 +302,15 @@ def sessions(page):
     page.open(ONE_READ, "0 join\n0 go main 4\n")
     page.fill("#session", "3")
     page.key("Home")
-    holds("3 join\n3 go main 0\n" in page.script(), page.script())
+    expect("3 join\n3 go main 0\n" in page.script(), page.script())
     page.button("p0 w 0 1")
-    holds("3 insert main 0 w 0 1\n" in page.script(), page.script())
-    same(page.count(".panel .strip.flags"), 1)
+    expect("3 insert main 0 w 0 1\n" in page.script(), page.script())
+    expect_equal(page.count(".panel .strip.flags"), 1)
     page.fill("#session", "0")
-    holds(page.place().startswith("main, place 5 of 5"), page.place())
+    expect(page.place().startswith("main, place 5 of 5"), page.place())
     page.fill("#session", "3")
     page.button("leave")
-    holds("3 leave\n" in page.script(), page.script())
+    expect("3 leave\n" in page.script(), page.script())
 
 
 def typed(page):
@@ -316,16 +323,16 @@ def typed(page):
       it.dispatchEvent(new Event("input")); }})()"""
     )
     page.until("document.querySelectorAll('#answer [data-line]').length === 3")
-    same(
+    expect_equal(
         page.value(
             "[...document.querySelectorAll('#answer [data-line]')].map((it) => Number(it.dataset.line))"
         ),
         [2, 3, 4],
     )
-    same(page.value("document.querySelector('#script').value"), text)
-    same(page.count("#gutter .wrong"), 3)
+    expect_equal(page.value("document.querySelector('#script').value"), text)
+    expect_equal(page.count("#gutter .wrong"), 3)
     page.click("[data-tab=table]")
-    holds(page.count("#table tbody tr") == 4, "the table has other rows")
+    expect(page.count("#table tbody tr") == 4, "the table has other rows")
 
 
 def tower_limits(page):
@@ -333,10 +340,10 @@ def tower_limits(page):
     page.open()
     page.do("chooseTower")
     page.click("[name=kind][value=matrix]")
-    same(page.texts("#fields label b"), ["N", "VALUES", "TAG", "INNER"])
+    expect_equal(page.texts("#fields label b"), ["N", "VALUES", "TAG", "INNER"])
     for index, number in enumerate((4, 512, 511, 511)):
         page.fill(f"#fields label:nth-child({index + 1}) input", str(number))
-    holds(
+    expect(
         page.text("#tower-fault")
         and page.value("document.querySelector('#tower-dialog [value=begin]').disabled"),
         "it is taken",
@@ -344,7 +351,7 @@ def tower_limits(page):
     page.click("#tower-dialog button[value='']")
     for kind, *numbers in (("copies", 2, 1), ("stamped", 3, 2), ("matrix", 2, 2, 0, 1)):
         page.choose_tower(kind, *numbers)
-        same(page.document()[0], f"tower 2\n{' '.join(map(str, (kind, *numbers)))}\n")
+        expect_equal(page.document()[0], f"tower 2\n{' '.join(map(str, (kind, *numbers)))}\n")
 
 
 def copies(page):
@@ -355,16 +362,17 @@ def copies(page):
     )
     page.fill("#save", "copy")
     page.until("globalThis.copied")
-    same(page.value("globalThis.copied"), BEFORE_ITS_END)
+    expect_equal(page.value("globalThis.copied"), BEFORE_ITS_END)
 
 
 def paper(page):
-    """What is printed has each step of each branch, why each read has its verdict, and the texts."""
+    """What is printed has each step of each branch, why each read has its verdict, and the
+    texts."""
     page.open(ONE_READ + "g 1 0\n", "0 join\n0 fork main 4 other\n0 insert other 4 g 1 1\n")
     page.value("new Promise((done) => setTimeout(done, 1500))")
     page.value("dispatchEvent(new Event('beforeprint'))")
-    same(page.count("#print .chip"), 10)
-    same(page.count("#print li"), 2)
-    same(page.texts("#print pre"), page.document())
+    expect_equal(page.count("#print .chip"), 10)
+    expect_equal(page.count("#print li"), 2)
+    expect_equal(page.texts("#print pre"), page.document())
     page.do("theme")
-    holds(page.text("#theme").endswith("light"), page.text("#theme"))
+    expect(page.text("#theme").endswith("light"), page.text("#theme"))

@@ -56,13 +56,13 @@ Link = collections.namedtuple("Link", "script saved is_quiet")
 class Chain:
     """A file, and scripts over it, one after the other."""
 
-    def __init__(self, program, room, file, scripts=()):
-        self.program, self.room, self.file = program, tempfile.mkdtemp(dir=room), file
+    def __init__(self, program, scratch, file, scripts=()):
+        self.program, self.scratch, self.file = program, tempfile.mkdtemp(dir=scratch), file
         self.links = [self.link(it, False) for it in scripts]
 
     def link(self, script, is_quiet):
         """Returns a script with what it saves, and keeps how long branches are and its edits."""
-        path, saved = cases.written(f"{self.room}/file", self.file), f"{self.room}/saved"
+        path, saved = cases.written(f"{self.scratch}/file", self.file), f"{self.scratch}/saved"
         asked = f"{script}0 branches\n".encode()
         ran = cases.run(self.program, [path, "--save", saved], asked)
         if ran.status:
@@ -76,28 +76,28 @@ class Chain:
 class Changing(Chain):
     """A chain of scripts each of which is a random change of the one before."""
 
-    def __init__(self, program, room, seed):
+    def __init__(self, program, scratch, seed):
         self.chance = random.Random(seed)
         tower, self.steps = self.chance.choice(list(TOWERS.items()))
         steps = [f"{self.step()}\n" for _ in range(self.chance.randrange(6))]
-        super().__init__(program, room, f"tower 2\n{tower}\n{''.join(steps)}")
+        super().__init__(program, scratch, f"tower 2\n{tower}\n{''.join(steps)}")
         if self.chance.random() < 0.5:
             forks = "0 fork main 0 d\n0 fork main 0 e\n0 drop d\n"
             self.file = self.link(forks, False).saved.decode()
         # each line, and whether it needs no saving
         self.lines = [("0 join", True)]
         self.links = [self.next_link(False)]
-        self.links += [self.changed() for _ in range(CHANGES)]
+        self.links += [self.next_changed() for _ in range(CHANGES)]
 
     def next_link(self, is_quiet):
         return self.link("".join(f"{it}\n" for it, _ in self.lines), is_quiet)
 
-    def changed(self):
+    def next_changed(self):
         """Returns the next script, whose last lines are others."""
         (kind,) = self.chance.choices(list(KINDS), KINDS.values())
         if kind == "undo":
-            many = min(self.chance.randrange(1, 8), len(self.lines) - 1)
-            taken = [self.lines.pop() for _ in range(many)]
+            count = min(self.chance.randrange(1, 8), len(self.lines) - 1)
+            taken = [self.lines.pop() for _ in range(count)]
             return self.next_link(all(is_quiet for _, is_quiet in taken))
         is_quiet = kind in QUIET
         kinds = self.chance.choices(MIXED, k=3) if kind == "mixed" else [kind]
@@ -158,15 +158,15 @@ def fault_of_link(link, found):
 
 def fault_of_branches(program):
     """Returns after which scripts the page has other branches; None: after none."""
-    with tempfile.TemporaryDirectory() as room, ThreadPoolExecutor(os.cpu_count()) as pool:
+    with tempfile.TemporaryDirectory() as scratch, ThreadPoolExecutor(os.cpu_count()) as pool:
         seeds = range(SEED, SEED + CHAINS)
-        chains = list(pool.map(lambda it: Changing(program, room, it), seeds))
-        chains += [Chain(program, room, *it) for it in FIXED]
-        build.put_modules(room, "grown.mjs")
-        with open(f"{room}/chains", "w", encoding="ascii") as file:
+        chains = list(pool.map(lambda it: Changing(program, scratch, it), seeds))
+        chains += [Chain(program, scratch, *it) for it in FIXED]
+        build.put_modules(scratch, "grown.mjs")
+        with open(f"{scratch}/chains", "w", encoding="ascii") as file:
             for it in chains:
                 print(json.dumps([it.file, [link.script for link in it.links]]), file=file)
-        words = ["node", f"{room}/grown.mjs", build.made_module(), f"{room}/chains"]
+        words = ["node", f"{scratch}/grown.mjs", build.made_module(), f"{scratch}/chains"]
         found = [json.loads(it) for it in output_of(words).splitlines()]
     links = [link for it in chains for link in it.links]
     if len(found) != len(links) or sum(it.is_quiet for it in links) < len(links) // 3:

@@ -1,5 +1,5 @@
-"""The page in a browser: each test has a browser of its own with a fresh profile, opens the file as a person would, and fails also if
-the console has a line."""
+"""The page in a browser: each test has a browser of its own with a fresh profile, opens the file as
+a person would, and fails also if the console has a line."""
 import functools
 import inspect
 import os

@@ -1,4 +1,5 @@
-"""The program's module, as the page runs it, under node: on the rows, examples and lessons, and on random scripts and files.
+"""The program's module, as the page runs it, under node: on the rows, examples and lessons, and on
+random scripts and files.
 
 A row about a file of the machine, such as /dev/full, is tried with a substitute for that file.
 """
@@ -35,11 +36,11 @@ Run = collections.namedtuple("Run", "words files input most_memory", defaults=[N
 Ended = collections.namedtuple("Ended", "status output errors written fault")
 
 
-def coded(data):
+def base64_of(data):
     return base64.b64encode(data).decode()
 
 
-def ended(line):
+def ended_in(line):
     it = json.loads(line)
     if "fault" in it:
         return Ended(None, b"", b"", {}, it["fault"])
@@ -58,13 +59,13 @@ def run_all(runs):
     with tempfile.NamedTemporaryFile("w", encoding="ascii") as file:
         for it in runs:
             files = {
-                path: coded(text) if isinstance(text, bytes) else text
+                path: base64_of(text) if isinstance(text, bytes) else text
                 for path, text in it.files.items()
             }
             given = {
-                "words": [coded(word) for word in it.words],
+                "words": [base64_of(word) for word in it.words],
                 "files": files,
-                "input": coded(it.input),
+                "input": base64_of(it.input),
             }
             print(
                 json.dumps({**given, "mostMemory": it.most_memory} if it.most_memory else given),
@@ -83,12 +84,12 @@ def run_all(runs):
         )
     if done.returncode:
         raise ValueError(f"node ended with status {done.returncode}: {done.stderr.strip()[-300:]}")
-    return [ended(line) for line in done.stdout.splitlines()]
+    return [ended_in(line) for line in done.stdout.splitlines()]
 
 
 def run_of(case):
     """Returns a case's run in the module."""
-    words = [*cases.ways(case)[0], *case.words]
+    words = [*cases.words_of_workers(case)[0], *case.words]
     files = {
         it: text if isinstance(text, dict) else text.encode()
         for it, text in SUBSTITUTES.items()
@@ -130,21 +131,21 @@ class Cases:
         return cases.difference(case, cases.Ran(got.output, got.status, got.errors))
 
 
-def native(program, given, room):
+def run_native(program, given, folder):
     """Returns what the native program makes of a random input."""
     words = []
     if given.tower is not None:
-        with open(f"{room}/tower", "wb") as file:
+        with open(f"{folder}/tower", "wb") as file:
             file.write(given.tower)
-        words.append(f"{room}/tower")
+        words.append(f"{folder}/tower")
     if given.is_saved:
-        words += ["--save", f"{room}/saved"]
+        words += ["--save", f"{folder}/saved"]
     ran = cases.run(program, ["--workers", "0", *words], given.script)
-    written = {"saved": cases.read(f"{room}/saved")} if os.path.exists(f"{room}/saved") else {}
+    written = {"saved": cases.read(f"{folder}/saved")} if os.path.exists(f"{folder}/saved") else {}
     return Ended(ran.status, ran.output, ran.errors, written, None)
 
 
-def in_module(given):
+def run_of_input(given):
     words = [
         b"towerbench",
         b"--workers",
@@ -157,13 +158,13 @@ def in_module(given):
 
 def fault_of_random_inputs(names, program):
     """Returns where the module and the native program differ on random inputs; None: nowhere."""
-    inputs = random_inputs.made(names, SEED, COUNT)
+    inputs = random_inputs.inputs_of(names, SEED, COUNT)
     with tempfile.TemporaryDirectory() as scratch, ThreadPoolExecutor(os.cpu_count()) as pool:
-        rooms = [f"{scratch}/{index}" for index in range(COUNT)]
-        for it in rooms:
+        folders = [f"{scratch}/{index}" for index in range(COUNT)]
+        for it in folders:
             os.mkdir(it)
-        wanted = list(pool.map(lambda it: native(program, *it), zip(inputs, rooms)))
-    got = run_all(map(in_module, inputs))
+        wanted = list(pool.map(lambda it: run_native(program, *it), zip(inputs, folders)))
+    got = run_all(map(run_of_input, inputs))
     odd = [index for index in range(COUNT) if wanted[index] != got[index]]
     statuses = collections.Counter(it.status for it in wanted)
     if not {0, 1} <= set(statuses):
@@ -178,7 +179,8 @@ def fault_of_random_inputs(names, program):
 
 
 def fault_of_little_memory(names, scratch):
-    """Returns which runs don't end with a status if memory is refused; None: all do, and some say that memory is short."""
+    """Returns which runs don't end with a status if memory is refused; None: all do, and some say
+    that memory is short."""
     os.makedirs(f"{scratch}/little", exist_ok=True)
     runs = [
         run_of(cases.case_of(it, f"{scratch}/little"))._replace(most_memory=LITTLE_MEMORY)
@@ -191,7 +193,8 @@ def fault_of_little_memory(names, scratch):
 
 
 def tests(names, named, program, scratch, makes=True):
-    """Returns the tests of these cases. named: what a case is called; makes: whether the module is made if it has to be."""
+    """Returns the tests of these cases. named: what a case is called; makes: whether the module is
+    made if it has to be."""
     if not shutil.which("node"):
         return [Test("module: node isn't here", None)]
     if not makes and not build.has_module():

@@ -1,11 +1,11 @@
 """What is drawn inside operations, under node, held to a second reader of the program's pages.
 
-That reader has nothing of the page's own code, and doesn't read the page `pending`: from the pages `state` and `bits` it takes each
-operation's bit actions, and puts these together to numbers and registers by what docs/guide/towers.md says of the towers.
+That reader has nothing of the page's own code, and doesn't read the page `pending`: from the pages
+`state` and `bits` it takes each operation's bit actions, and puts these together to numbers and
+registers by what docs/guide/towers.md says of the towers.
 """
 import itertools
 import json
-import os
 import random
 import re
 import shutil
@@ -169,7 +169,8 @@ class Tower:
 
 
 class Part:
-    """Bit actions in a row that belong together, from the place `begin` to the place `end`, whose step ends them if it `is_over`."""
+    """Bit actions in a row that belong together, from the place `begin` to the place `end`, whose
+    step ends them if it `is_over`."""
 
     def __init__(self, parts, layer):
         self.parts, self.layer, self.begin = parts, layer, parts[0].begin
@@ -241,7 +242,8 @@ class Inside:
         return found
 
     def parts_of(self, it):
-        """Returns an operation's parts: for each number that it uses a part with a part for each bit."""
+        """Returns an operation's parts: for each number that it uses a part with a part for each
+        bit."""
         size, readers = self.tower.size or self.tower.readers, self.tower.readers
         bits = [
             Part(list(group), "regular")
@@ -274,7 +276,8 @@ class Inside:
         )
 
     def entry(self, it):
-        """Returns the name of the first register of the column that has its greatest tagged code."""
+        """Returns the name of the first register of the column that has its greatest tagged
+        code."""
         code = self.greatest(it)
         return next(
             self.tower.registers[self.register(one)]
@@ -282,7 +285,7 @@ class Inside:
             if not one.is_write and self.memory(one, one.end + 1, 1) % self.tower.tagged == code
         )
 
-    def tagged(self, it):
+    def tagged_code(self, it):
         """Returns the tagged code that a matrix's operation writes to its row."""
         code = self.greatest(it)
         if it.words == "read":
@@ -298,12 +301,12 @@ class Inside:
         stamp = self.memory(part, part.begin, 0)
         if self.tower.kind == "stamped":
             return stamp * self.tower.values + int(it.words.split()[1])
-        return stamp * self.tower.tagged + self.tagged(it)
+        return stamp * self.tower.tagged + self.tagged_code(it)
 
     def index(self, bit):
         return bit.cell % ((self.tower.size or 1) * self.tower.readers) // self.tower.readers
 
-    def given(self, it, bit):
+    def result_of_read(self, it, bit):
         """Returns what a read of a bit gave, and whether it was hit."""
         chosen = self.chosen.get((bit.end, it.process))
         cell = self.pages["bits"][bit.end][bit.parts[0].cell if bit.parts else bit.cell].split()
@@ -311,8 +314,9 @@ class Inside:
 
     # ---- what is to be drawn
 
-    def passed(self, number, part, bit):
-        """Returns the words for the bits that a write of a number passes around one of its writes of bits."""
+    def passed_words(self, number, part, bit):
+        """Returns the words for the bits that a write of a number passes around one of its writes
+        of bits."""
         ends = [self.index(one) for one in part.parts] + [-1] * part.is_over
         at = part.parts.index(bit)
         groups = [
@@ -354,10 +358,10 @@ class Inside:
         index = self.index(bit)
         if bit.is_write:
             number = self.written(it, part)
-            return f"bit {index} := {int(index == number)}{self.passed(number, part, bit)}"
+            return f"bit {index} := {int(index == number)}{self.passed_words(number, part, bit)}"
         if not bit.is_over:
             return f"bit {index} is being read"
-        value, is_hit = self.given(it, bit)
+        value, is_hit = self.result_of_read(it, bit)
         return f"bit {index} hit, chosen {value}" if is_hit else f"bit {index} is {value}"
 
     def title_of_copy(self, it, part, copy):
@@ -368,7 +372,7 @@ class Inside:
         )
         if copy.is_write:
             return f"copy for p{copy.cell % self.tower.readers + 1} := {value}"
-        return f"its copy is {self.given(it, copy)[0]}" if copy.is_over else "its copy"
+        return f"its copy is {self.result_of_read(it, copy)[0]}" if copy.is_over else "its copy"
 
     def title_of_number(self, it, part):
         noun = "" if self.tower.kind == "unary" else "code "
@@ -393,7 +397,8 @@ class Inside:
         return f"read {name}: {self.tower.tag_words(best % self.tower.tagged)}{kept}"
 
     def nests(self):
-        """Returns each inner operation that is to be drawn: its layer, process, places, and words."""
+        """Returns each inner operation that is to be drawn: its layer, process, places, and
+        words."""
         found, titles = [], {"stamped": self.title_of_register, "unary": self.title_of_number}
         for it in self.operations:
             for part in it.parts:
@@ -419,7 +424,7 @@ class Inside:
             if not any(one.is_write for one in it.parts):
                 return f"{it.words}: reads its column"
             entry = f"{self.entry(it)}: " if is_read else ""
-            return f"{it.words} = {entry}{self.tower.tag_words(self.tagged(it))}"
+            return f"{it.words} = {entry}{self.tower.tag_words(self.tagged_code(it))}"
         part = it.parts[0]
         if not is_read:
             return (
@@ -439,11 +444,12 @@ class Inside:
                 if best == found
                 else f"read: found code {found}, but remembers {self.tower.named(best)}"
             )
-        value, is_hit = self.given(it, part.parts[0])
+        value, is_hit = self.result_of_read(it, part.parts[0])
         return f"read: bit {part.parts[0].cell} {'was hit, chosen' if is_hit else 'is'} {value}"
 
     def scanned(self, register, place):
-        """Returns the numbers that a reader's scan finds if all bits stay as they are: either value of one that is written."""
+        """Returns the numbers that a reader's scan finds if all bits stay as they are: either value
+        of one that is written."""
         found, size, readers = set(), self.tower.size, self.tower.readers
         cells = [
             it.split()[1:3]
@@ -459,7 +465,8 @@ class Inside:
         return found
 
     def going_words(self, register, place, it, part):
-        """Returns the words on a band while a number is written, and whether a scan can find both the old and the new one."""
+        """Returns the words on a band while a number is written, and whether a scan can find both
+        the old and the new one."""
         written, (old,) = self.written(it, part), self.scanned(register, part.begin)
         found = self.scanned(register, place)
         assert found <= {
@@ -474,7 +481,8 @@ class Inside:
         return f"still {self.tower.named(number)}" if noun else f"a scan finds {number}", False
 
     def bands(self, register):
-        """Returns what each band of a register has at each place: words, and whether a scan can find either of two numbers."""
+        """Returns what each band of a register has at each place: words, and whether a scan can
+        find either of two numbers."""
         at = {"number": [], "best": [], "stamp": []}
         writes = [
             (it, part)
@@ -511,7 +519,7 @@ class Inside:
             if not part.is_write and self.register(part) == register
         ]
         return sorted(
-            [bit.begin, bit.end, bit.is_over and self.given(it, bit)[1]]
+            [bit.begin, bit.end, bit.is_over and self.result_of_read(it, bit)[1]]
             for it, part in parts
             for bit in part.parts
         )
@@ -520,7 +528,7 @@ class Inside:
         runs = []
         for bit in part.parts:
             if bit.is_over:
-                value, is_hit = self.given(it, bit)
+                value, is_hit = self.result_of_read(it, bit)
                 index = self.index(bit)
                 if runs and not is_hit and not runs[-1][3] and runs[-1][2] == value:
                     runs[-1][1] = index
@@ -541,7 +549,7 @@ class Inside:
         kind, part = self.tower.kind, it.parts[0]
         if kind in ("safe", "copies", "regular"):
             bit = part.parts[0]
-            value, is_hit = self.given(it, bit)
+            value, is_hit = self.result_of_read(it, bit)
             cell = bit.parts[0].cell
             name = f"Its copy, bit {cell}," if self.tower.readers > 1 else f"Bit {cell}"
             return (
@@ -590,7 +598,7 @@ class Inside:
         )
 
 
-def first_odd(found, wanted, label):
+def difference(found, wanted, label):
     """Returns in what two lists differ; None: nothing."""
     odd = [it for it in found if it not in wanted][:2], [it for it in wanted if it not in found][:2]
     if any(odd):
@@ -614,10 +622,13 @@ def fault_of_nests(inside, drawn):
         (layer, it.process, part.begin) for it, layer, part, _ in inside.nests() if not part.is_over
     }
     hits = {(it["process"], it["from"]) for it in drawn if "is-hit" in it["kind"]}
-    were = {
+    hit_reads = {
         (it.process, part.begin)
         for it, layer, part, _ in inside.nests()
-        if layer == "regular" and not part.is_write and part.is_over and inside.given(it, part)[1]
+        if layer == "regular"
+        and not part.is_write
+        and part.is_over
+        and inside.result_of_read(it, part)[1]
     }
     far = [
         it
@@ -628,9 +639,9 @@ def fault_of_nests(inside, drawn):
         )
     ]
     return (
-        first_odd(found, wanted, "bars")
-        or first_odd(going, still, "bars that go on")
-        or first_odd(hits, were, "hits")
+        difference(found, wanted, "bars")
+        or difference(going, still, "bars that go on")
+        or difference(hits, hit_reads, "hits")
         or (f"a bar isn't at its steps: {far[0]}" if far else None)
     )
 
@@ -657,12 +668,12 @@ def fault_of_rows(inside, drawn):
                 at.update(
                     {place: (words, box["class"] == "written") for place in range(begin, end + 1)}
                 )
-            fault = first_odd(
+            fault = difference(
                 [at.get(place) for place in range(inside.length + 1)], wanted, named[kind]
             )
             if fault or [at.get(place) for place in range(inside.length + 1)] != wanted:
                 return fault or f"{named[kind]} has other places"
-        if fault := first_odd(sorted(rows[name][name]["scans"]), scans, f"scans of {name}"):
+        if fault := difference(sorted(rows[name][name]["scans"]), scans, f"scans of {name}"):
             return fault
     return None
 
@@ -678,17 +689,17 @@ def fault_of(tower, middle, made):
         fault_of_nests(inside, drawn["nests"]),
         fault_of_rows(inside, drawn["rows"]),
         fault_of_labels(inside, drawn),
-        first_odd(
+        difference(
             [(it["begun"], it["process"], it["words"]) for it in drawn["bars"]],
             bars,
             "words on bars",
         ),
-        first_odd({it: stories.get(it) for it in said}.items(), said.items(), "sentences"),
+        difference({it: stories.get(it) for it in said}.items(), said.items(), "sentences"),
     ]
     # what begins after the middle is drawn alike from there, and what is cut says nothing strange
     later = [it for it in drawn["nests"] if begun_of(inside, it) >= middle]
     from_there = [it for it in made["middle"]["nests"] if begun_of(inside, it) >= middle]
-    faults.append(first_odd(from_there, later, "bars from the middle"))
+    faults.append(difference(from_there, later, "bars from the middle"))
     faults += (
         [f"it says {words}" for words in texts_in(made) if STRANGE.search(words)]
         + drawn["notes"]
@@ -735,7 +746,7 @@ def texts_in(made):
         yield from (box[2] for it in drawn["rows"] for row in it["rows"] for box in row["boxes"])
 
 
-def schedule(chance, line):
+def random_schedule(chance, line):
     """Returns random steps of a tower; in one of four schedules processes stop."""
     tower, steps, process = Tower(line), [], 0
     has_stops = chance.random() < 0.25
@@ -757,11 +768,11 @@ def schedule(chance, line):
 
 def drawn(schedules):
     """Yields what is drawn of each schedule."""
-    with tempfile.TemporaryDirectory() as room:
-        build.put_modules(room, "inside.mjs")
-        with open(f"{room}/schedules", "w", encoding="ascii") as file:
+    with tempfile.TemporaryDirectory() as scratch:
+        build.put_modules(scratch, "inside.mjs")
+        with open(f"{scratch}/schedules", "w", encoding="ascii") as file:
             file.writelines(f"{json.dumps(it)}\n" for it in schedules)
-        words = ["node", f"{room}/inside.mjs", build.made_module(), f"{room}/schedules"]
+        words = ["node", f"{scratch}/inside.mjs", build.made_module(), f"{scratch}/schedules"]
         with subprocess.Popen(
             words, stdout=subprocess.PIPE, stderr=subprocess.PIPE, text=True
         ) as node:
@@ -775,7 +786,8 @@ def fault_of_kind(lines, count):
     """Returns what is wrong in what is drawn of random schedules of some towers; None: nothing."""
     chance, faults, tried = random.Random(f"{SEED} {lines[0]}"), [], 0
     schedules = [
-        (schedule(chance, lines[it % len(lines)]), chance.randrange(20, 50)) for it in range(count)
+        (random_schedule(chance, lines[it % len(lines)]), chance.randrange(20, 50))
+        for it in range(count)
     ]
     for (text, middle), made in zip(schedules, drawn(schedules)):
         tried += 1
@@ -793,12 +805,11 @@ def fault_of_kind(lines, count):
 
 
 def tests():
-    count = int(os.environ.get("SCHEDULES", COUNT))
     has_node = shutil.which("node")
     return [
         Test(
-            f"inside {it[0].split()[0]}, {count} schedules",
-            (lambda it=it: fault_of_kind(it, count)) if has_node else None,
+            f"inside {it[0].split()[0]}, {COUNT} schedules",
+            (lambda it=it: fault_of_kind(it, COUNT)) if has_node else None,
         )
         for it in TOWERS
     ]

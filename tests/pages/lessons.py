@@ -3,7 +3,7 @@ import json
 import re
 
 import cases
-from pages.live import holds, same
+from pages.live import expect, expect_equal
 
 COMMENT, SOLUTION = "# ", "/your-own"
 DATA = re.compile(r"# (?:goal|ask|option)(?: \d+)?: ")
@@ -29,7 +29,8 @@ def first_caption(lines):
 
 
 def lessons(page, names):
-    """Each lesson is in the menu, begins before its first line with its caption, and can be played to its end."""
+    """Each lesson is in the menu, begins before its first line with its caption, and can be played
+    to its end."""
     found = [
         it
         for it in names
@@ -43,19 +44,20 @@ def lessons(page, names):
         page.until("!document.querySelector('#lesson').hidden", f"{name} isn't begun")
         page.wait()
         if script.startswith(COMMENT):
-            same(page.text("#caption"), first_caption(script.splitlines()), name)
+            expect_equal(page.text("#caption"), first_caption(script.splitlines()), name)
         page.do("lessonNext")
         page.do("lessonEnd")
-        same(page.script().strip(), script.strip(), name)
-        holds(
+        expect_equal(page.script().strip(), script.strip(), name)
+        expect(
             page.value("document.querySelector('#lesson-next').disabled"),
             f"{name} goes on after its end",
         )
-    holds(len(found) >= 9, f"there are only {len(found)} lessons")
+    expect(len(found) >= 9, f"there are only {len(found)} lessons")
 
 
 def lesson_links(page):
-    """An address that ends in #lesson-5 opens lesson 5, before and after the page has begun, and again once it is loaded again."""
+    """An address that ends in #lesson-5 opens lesson 5, before and after the page has begun, and
+    again once it is loaded again."""
     current = "document.querySelector('#study-list [aria-current]')?.dataset.study"
     page.chrome.open(f"{page.address}#lesson-5")
     page.wait()
@@ -67,7 +69,7 @@ def lesson_links(page):
         "[...document.querySelectorAll('header [data-do], #save')].filter((it) => it.offsetParent)"
     )
     named = f"{shown}.map((it) => it.dataset.do || it.id)"
-    same(page.value(named), ["chooseTower", "study", "chooseOpen", "theme", "help"])
+    expect_equal(page.value(named), ["chooseTower", "study", "chooseOpen", "theme", "help"])
     again = page.value("location.href")
     page.chrome.open(again)
     page.wait()
@@ -76,11 +78,12 @@ def lesson_links(page):
     page.until("location.hash.startsWith('#%5B')", "the address still ends in the lesson's number")
     page.chrome.open(f"{page.address}#lesson-77")
     page.wait()
-    same(page.said(), "This page has no lesson 77.")
+    expect_equal(page.said(), "This page has no lesson 77.")
 
 
 def exercises(page, names):
-    """A lesson's own exercise opens as its tower with an empty script: its solution isn't in the page."""
+    """A lesson's own exercise opens as its tower with an empty script: its solution isn't in the
+    page."""
     for name in [it for it in names if it.endswith(SOLUTION)]:
         tower = cases.read(f"{name}.tower").decode()
         page.open()
@@ -90,8 +93,8 @@ def exercises(page, names):
             f"document.querySelector('#file').value === {json.dumps(tower)}", f"{name} isn't opened"
         )
         page.wait()
-        same(page.script(), "", name)
-        holds(page.value("document.querySelector('#lesson').hidden"), f"{name} is played")
+        expect_equal(page.script(), "", name)
+        expect(page.value("document.querySelector('#lesson').hidden"), f"{name} is played")
 
 
 def a_lesson_line_by_line(page):
@@ -111,16 +114,16 @@ def a_lesson_line_by_line(page):
         page.do("lessonNext")
         played.append((page.text("#played code"), page.text("#played pre")))
         captions.append(page.text("#caption"))
-    same([line for line, _ in played], lines)
+    expect_equal([line for line, _ in played], lines)
     # A caption belongs to the lines below it
     at = lines.index("0 fork other 5 same")
-    holds(
+    expect(
         captions[at].startswith("The same read while 0")
         and captions[at - 1].startswith("The other answer"),
         captions,
     )
     wanted = cases.read(f"{name}.expected").decode().splitlines()
-    same(
+    expect_equal(
         [line for _, answer in played for line in answer.split("\n")], [it.strip() for it in wanted]
     )
 
@@ -136,13 +139,13 @@ def lesson_on_paper(page):
         "['#study-text', '#study-text svg', '#print', '#study-list', '.close-study', '.begin'].map((it) => "
         "document.querySelector(it).checkVisibility())"
     )
-    same(shown, [True, True, False, False, False, False])
+    expect_equal(shown, [True, True, False, False, False, False])
 
 
 def policy(page):
     """The page reaches no network and runs no code but its own."""
     page.open()
     for directive, attempt in REFUSED.items():
-        same(page.value(VIOLATION % attempt), directive)
+        expect_equal(page.value(VIOLATION % attempt), directive)
     # The browser says so on its console too
     page.chrome.complaints.clear()

@@ -18,12 +18,12 @@ FILLED = """(() => { const it = document.querySelector(%s); it.value = %s;
 PAUSE, TRIES = 0.02, 1500
 
 
-def same(found, wanted, label=""):
+def expect_equal(found, wanted, label=""):
     if found != wanted:
         raise cases.Failure(f"{label}{': ' * bool(label)}wanted {wanted!r}, got {found!r}"[:500])
 
 
-def holds(is_so, message):
+def expect(is_so, message):
     if not is_so:
         raise cases.Failure(str(message)[:500])
 
@@ -64,7 +64,7 @@ class Page:
             f"{IDLE} && document.querySelector({quoted})", f"nothing is there to click: {selector}"
         )
         at = self.value(MIDDLE % quoted)
-        holds(at, f"it can't be clicked: {selector}")
+        expect(at, f"it can't be clicked: {selector}")
         self.chrome.click(*at)
         self.wait()
 
@@ -85,7 +85,7 @@ class Page:
         self.click(f'[data-do="{name}"]')
 
     def fill(self, selector, text):
-        """Types a text, or chooses it, as at once."""
+        """Types a text or chooses an option, all at once."""
         self.value(FILLED % (json.dumps(selector), json.dumps(text)))
         self.wait()
 

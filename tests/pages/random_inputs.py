@@ -42,11 +42,11 @@ def changed(text, pool, chance):
 
 
 def texts(names, kinds):
-    found = [cases.given(name, kind) for name in names for kind in kinds]
+    found = [cases.bytes_of_file(name, kind) for name in names for kind in kinds]
     return [it for it in found if it is not None and len(it) < MOST_BYTES]
 
 
-def made(names, seed, count):
+def inputs_of(names, seed, count):
     """Returns `count` inputs, the same ones for the same cases and seed."""
     chance = random.Random(seed)
     scripts, towers = texts(names, ["script"]), texts(names, ["tower", "bench"])

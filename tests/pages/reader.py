@@ -1,4 +1,5 @@
-"""A second reader of the program's pages, which has nothing of the page's own code: what a picture of them has to show."""
+"""A second reader of the program's pages, which has nothing of the page's own code: what a picture
+of them has to show."""
 import re
 import tempfile
 
@@ -61,7 +62,8 @@ class Reader:
 
 
 def bit_actions(found, name, first, last):
-    """Returns each bit action between two places, as two pages of bits say it, one after the other."""
+    """Returns each bit action between two places, as two pages of bits say it, one after the
+    other."""
     actions = []
     for at in range(first, last):
         before, after = (found[f"bits {name} {it}"] for it in (at, at + 1))

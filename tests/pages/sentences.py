@@ -1,8 +1,9 @@
 """What the page says of a read, under node, held to the definitions by a judge of its own.
 
-Each history of one or two writes and one or two reads is tried: every order of their beginnings and ends, with every value, by one
-reader or two, with a last write that is whole, goes on or is refused, or ends in the step in which it begins. These are all that a
-tower with one writer can do with such operations, and more. Three writes of two values are tried with one reader.
+Each history of one or two writes and one or two reads is tried: every order of their beginnings and
+ends, with every value, by one reader or two, with a last write that is whole, goes on or is
+refused, or ends in the step in which it begins. These are all that a tower with one writer can do
+with such operations, and more. Three writes of two values are tried with one reader.
 """
 import collections
 import itertools
@@ -51,26 +52,22 @@ class Judge:
     def __init__(self, operations, read):
         self.operations, self.read = operations, read
         writes = [it for it in operations if it.kind == "write" and not it.is_refused]
-        self.over = self.overlapped(read)
+        self.overlapping = [it for it in writes if it.begun < read.ended and it.ended > read.begun]
         self.last = max(
             (it for it in writes if it.ended < read.begun), key=lambda it: it.begun, default=None
         )
         self.fresh = self.last.value if self.last else INITIAL
 
-    def overlapped(self, read):
-        writes = (it for it in self.operations if it.kind == "write" and not it.is_refused)
-        return [it for it in writes if it.begun < read.ended and it.ended > read.begun]
-
     @property
     def verdict(self):
         if self.read.value == self.fresh:
             return "fresh"
-        return "overlap" if any(it.value == self.read.value for it in self.over) else "stray"
+        return "overlap" if any(it.value == self.read.value for it in self.overlapping) else "stray"
 
     @property
     def sources(self):
         """The steps at which writes began that the value can be of; the initial value's is -1."""
-        found = [it.begun for it in self.over if it.value == self.read.value]
+        found = [it.begun for it in self.overlapping if it.value == self.read.value]
         return found + [self.last.begun if self.last else -1] * (self.read.value == self.fresh)
 
     @property
@@ -83,8 +80,9 @@ class Judge:
         ]
 
     def newer(self, value):
-        """Returns whether a write of a value overlaps the read and is newer than whatever it is of."""
-        return any(it.value == value and it.begun > max(self.sources) for it in self.over)
+        """Returns whether a write of a value overlaps the read and is newer than whatever it is
+        of."""
+        return any(it.value == value and it.begun > max(self.sources) for it in self.overlapping)
 
 
 def fault_of_fresh(judge, words):
@@ -102,7 +100,7 @@ def fault_of_fresh(judge, words):
         return "its source is another"
     is_newer = any(judge.newer(it) for it in VALUES)
     if not more:
-        return "it leaves out a write" if judge.over else None
+        return "it leaves out a write" if judge.overlapping else None
     if it := NEWER.fullmatch(more):
         return (
             None
@@ -110,7 +108,7 @@ def fault_of_fresh(judge, words):
             else "it isn't so that a newer write overlaps it"
         )
     if it := SAME.fullmatch(more):
-        is_there = any(each.value == int(it[1]) == read.value for each in judge.over)
+        is_there = any(each.value == int(it[1]) == read.value for each in judge.overlapping)
         return (
             None
             if is_there and not is_newer and not judge.inversions
@@ -128,7 +126,7 @@ def fault_of_overlap(judge, words):
         return "it has no reason"
     value, begun, began, ended = (None if it is None else int(it) for it in found.groups())
     is_there = any(
-        (it.value, it.begun) == (value, begun) and value == read.value for it in judge.over
+        (it.value, it.begun) == (value, begun) and value == read.value for it in judge.overlapping
     )
     if began is not None:
         return None if is_there and begun < began == read.begun else "no such write overlaps it"
@@ -148,7 +146,7 @@ def fault_of_stray(judge, words):
     is_so = (
         value == judge.read.value
         and (last, initial) == wanted
-        and all(it.value != value for it in judge.over)
+        and all(it.value != value for it in judge.overlapping)
     )
     return None if is_so and value != judge.fresh else "it isn't stray so"
 
@@ -168,7 +166,8 @@ def orders(threads):
 
 
 def histories_of(writes, readers, ending, values=VALUES):
-    """Yields the histories of some writes and reads. readers: the process of each read; ending: of the last write."""
+    """Yields the histories of some writes and reads. readers: the process of each read; ending: of
+    the last write."""
     names = [("w", it) for it in range(writes)], *(
         [("r", it) for it, who in enumerate(readers) if who == p] for p in sorted(set(readers))
     )
@@ -234,9 +233,9 @@ def pages_of(operations, length):
 
 def sentences(lines):
     """Returns what the page says of each history's reads, by the step at which each begins."""
-    with tempfile.TemporaryDirectory() as room:
-        build.put_modules(room, "sentences.mjs")
-        output = output_of(["node", f"{room}/sentences.mjs"], "".join(lines))
+    with tempfile.TemporaryDirectory() as scratch:
+        build.put_modules(scratch, "sentences.mjs")
+        output = output_of(["node", f"{scratch}/sentences.mjs"], "".join(lines))
     return [json.loads(it) for it in output.splitlines()]
 
 

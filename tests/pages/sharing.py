@@ -1,10 +1,11 @@
-"""Documents that travel: links, pages saved as one file, what was open before, and many files in a table; and words and room."""
+"""Documents that travel: links, pages saved as one file, what was open before, and many files in a
+table; and words and room."""
 import json
 import pathlib
 import tempfile
 import time
 
-from pages.live import holds, same
+from pages.live import expect, expect_equal
 
 GOAL = 'goal: some: verdict has "p1 1 stray"'
 QUESTION = "Can a read give a value that nobody wrote?"
@@ -33,23 +34,24 @@ def hash_of(page, base=BASE):
 
 
 def links(page):
-    """A question with a goal is made by clicks and sent as a link, which opens with its question; a damaged link says so."""
+    """A question with a goal is made by clicks and sent as a link, which opens with its question; a
+    damaged link says so."""
     page.open(SAFE, f"0 join\n{STRAY}")
     page.value(CLIPBOARD)
     share(page)
     page.fill("#share-text", QUESTION)
     page.click("#share-ideas button")
-    same(page.value("document.querySelector('#share-data').value"), GOAL)
+    expect_equal(page.value("document.querySelector('#share-data').value"), GOAL)
     page.until("document.querySelector('#share-goals .met')")
     found = hash_of(page)
     page.click("#share-copy")
     page.until("globalThis.copied")
-    same(page.value("globalThis.copied"), BASE + found)
+    expect_equal(page.value("globalThis.copied"), BASE + found)
     page.chrome.open(page.address + found)
     page.wait()
-    holds(QUESTION in page.text("#task"), "the question isn't shown")
-    same(page.document(), [SAFE, f"# {QUESTION}\n# {GOAL}\n0 join\n"])
-    same(
+    expect(QUESTION in page.text("#task"), "the question isn't shown")
+    expect_equal(page.document(), [SAFE, f"# {QUESTION}\n# {GOAL}\n0 join\n"])
+    expect_equal(
         page.value(
             "[...document.querySelectorAll('#task [data-met]')].map((it) => it.dataset.met)"
         ),
@@ -68,8 +70,8 @@ def links(page):
     ):
         page.chrome.open(page.address + damaged)
         page.wait()
-        holds(page.said().startswith("This link is damaged"), f"{damaged[:30]}: {page.said()}")
-        same(page.branches(), ["main"])
+        expect(page.said().startswith("This link is damaged"), f"{damaged[:30]}: {page.said()}")
+        expect_equal(page.branches(), ["main"])
 
 
 def short_links(page):
@@ -83,20 +85,20 @@ def short_links(page):
     page.wait()
     share(page)
     found = len(BASE + hash_of(page))
-    holds(found <= MOST_LINK, f"the link of exercise 5.3 has {found} characters")
+    expect(found <= MOST_LINK, f"the link of exercise 5.3 has {found} characters")
     size = pathlib.Path(page.address[len("file://") :]).stat().st_size
-    holds(size <= MOST_PAGE, f"the page has {size} bytes")
+    expect(size <= MOST_PAGE, f"the page has {size} bytes")
 
 
 def one_file(page):
     """A page that was saved with a document inside opens with it, and says whose it is."""
-    with tempfile.TemporaryDirectory() as room:
-        page.chrome.ask("Browser.setDownloadBehavior", behavior="allow", downloadPath=room)
+    with tempfile.TemporaryDirectory() as scratch:
+        page.chrome.ask("Browser.setDownloadBehavior", behavior="allow", downloadPath=scratch)
         page.open(SAFE, f"# {QUESTION}\n# {GOAL}\n0 join\n{STRAY}")
         share(page)
         page.fill("#share-name", "Anna Example")
         page.click("#share-save")
-        saved = pathlib.Path(room) / "schedule-anna-example.html"
+        saved = pathlib.Path(scratch) / "schedule-anna-example.html"
         for _ in range(400):
             if saved.exists():
                 break
@@ -104,22 +106,23 @@ def one_file(page):
         page.wait()
         page.chrome.open(f"file://{saved}")
         page.wait()
-        same(
+        expect_equal(
             page.document(),
             [SAFE, f"# {QUESTION}\n# {GOAL}\n# student: Anna Example\n0 join\n{STRAY}"],
         )
-        holds(
+        expect(
             "Anna Example" in page.text("#task") and page.count("#task [role=status]"),
             page.text("#task"),
         )
-        (pathlib.Path(room) / "again.html").write_bytes(saved.read_bytes())
+        (pathlib.Path(scratch) / "again.html").write_bytes(saved.read_bytes())
         page.open()
         page.drop([("again.html", saved.read_text(encoding="utf-8"))])
         page.until(f"{TASK}.textContent.includes('Anna Example')")
 
 
 def nothing_lost(page):
-    """Another document keeps the old one: Undo reads Back, Open lists what was open before, and it can be forgotten."""
+    """Another document keeps the old one: Undo reads Back, Open lists what was open before, and it
+    can be forgotten."""
     page.open(SAFE, f"0 join\n{STRAY}")
     page.do("chooseOpen")
     page.click('#open-dialog [data-open="01-safe-bit/your-own"]')
@@ -127,46 +130,48 @@ def nothing_lost(page):
     page.wait()
     page.do("undo")
     page.until(f"document.querySelector('#file').value === {json.dumps(SAFE)}")
-    same(page.script(), f"0 join\n{STRAY}")
-    holds("Undo" in page.text("#undo"), page.text("#undo"))
-    holds("Forward" in page.text("#redo"), page.text("#redo"))
+    expect_equal(page.script(), f"0 join\n{STRAY}")
+    expect("Undo" in page.text("#undo"), page.text("#undo"))
+    expect("Forward" in page.text("#redo"), page.text("#redo"))
     page.do("redo")
     page.until(f"document.querySelector('#file').value !== {json.dumps(SAFE)}")
     page.do("undo")
     page.until(f"document.querySelector('#file').value === {json.dumps(SAFE)}")
     page.do("undo")
-    same(page.script(), "0 join\n")
-    holds("Redo" in page.text("#redo"), page.text("#redo"))
+    expect_equal(page.script(), "0 join\n")
+    expect("Redo" in page.text("#redo"), page.text("#redo"))
     page.do("redo")
-    same(page.script(), f"0 join\n{STRAY}")
+    expect_equal(page.script(), f"0 join\n{STRAY}")
     for number in range(14):
         page.choose_tower("stamped", 2, number)
         page.button("p1 r 1")
     page.choose_tower("copies", 2, 0)
     page.do("chooseOpen")
-    same(page.count("#recent [data-recent]"), 12)
+    expect_equal(page.count("#recent [data-recent]"), 12)
     page.click("#recent [data-recent]")
     page.until("document.querySelector('#tower-line').textContent === 'stamped 2 13'")
     page.wait()
     page.do("chooseOpen")
     page.click("#forget")
     page.do("chooseOpen")
-    holds(page.value("document.querySelector('#recent-part').hidden"), "it isn't forgotten")
+    expect(page.value("document.querySelector('#recent-part').hidden"), "it isn't forgotten")
 
 
 def which_tower(page):
-    """A saved script opens on the tower that it names; of one that names none the page says on which it runs."""
+    """A saved script opens on the tower that it names; of one that names none the page says on
+    which it runs."""
     page.open(SAFE, "0 join\n")
     page.drop([("a.script", "# tower: tower 2; copies 2 0; w 0 1\n0 join\n")])
     page.until("document.querySelector('#tower-line').textContent === 'copies 2 0'")
-    same(page.document()[0], "tower 2\ncopies 2 0\nw 0 1\n")
+    expect_equal(page.document()[0], "tower 2\ncopies 2 0\nw 0 1\n")
     page.drop([("b.script", "0 join\n0 insert main 1 g 0 0\n")])
     page.until("document.querySelector('#said').textContent.includes('b.script')")
-    same(page.said(), "b.script doesn't say on which tower it runs: here it is copies 2 0.")
+    expect_equal(page.said(), "b.script doesn't say on which tower it runs: here it is copies 2 0.")
 
 
 def forty_files(page):
-    """Forty files are a table: names, goals met, predictions, verdicts, faults in words; a click opens one."""
+    """Forty files are a table: names, goals met, predictions, verdicts, faults in words; a click
+    opens one."""
     page.open(SAFE, f"# {QUESTION}\n# {GOAL}\n0 join\n")
     given = []
     for number in range(38):
@@ -184,27 +189,28 @@ def forty_files(page):
     given.append(("none.html", "<p>no document</p>"))
     page.drop(given)
     page.until("document.querySelector('#class-dialog').open")
-    same(page.text("#class-count"), "40 files, 19 meet all goals")
-    same(page.count("#class-table tbody tr"), 40)
-    same(page.count("#class-table .wrong"), 2)
-    same(
+    expect_equal(page.text("#class-count"), "40 files, 19 meet all goals")
+    expect_equal(page.count("#class-table tbody tr"), 40)
+    expect_equal(page.count("#class-table .wrong"), 2)
+    expect_equal(
         page.texts("#class-table [data-class=s01], #class-table [data-class=s02]"),
         ["Student 1", "Student 2"],
     )
     page.value(CLIPBOARD)
     page.click("#class-copy")
     page.until("globalThis.copied")
-    holds(page.value("globalThis.copied").count("\n") == 40, "the copied table has other rows")
+    expect(page.value("globalThis.copied").count("\n") == 40, "the copied table has other rows")
     page.click("#class-table [data-class=s01]")
     page.until(f"{TASK}.textContent.includes('Student 1')")
     page.wait()
-    holds(page.count("#task [role=status]"), "it isn't done")
+    expect(page.count("#task [role=status]"), "it isn't done")
     page.do("table")
     page.until("document.querySelector('#class-dialog').open")
 
 
 def judged_by(page):
-    """Files are judged by the exercise that is open, or else by the lesson's that they name; not by what they say themselves."""
+    """Files are judged by the exercise that is open, or else by the lesson's that they name; not by
+    what they say themselves."""
     tower = f"# tower: {'; '.join(SAFE.strip().splitlines())}"
     solved = f"{tower}\n# {QUESTION}\n# {GOAL}\n# student: S\n0 join\n{STRAY}"
     easy = solved.replace(GOAL, 'goal: some: verdict has no "9"').replace(STRAY, "")
@@ -214,26 +220,26 @@ def judged_by(page):
     page.open(SAFE, f"# {QUESTION}\n# {GOAL}\n0 join\n")
     page.drop(given)
     page.until("document.querySelector('#class-dialog').open")
-    same(page.text("#class-count"), "4 files, 1 meet all goals")
-    same(page.text("#class-judge"), "Judged by the exercise that is open here.")
-    same(
+    expect_equal(page.text("#class-count"), "4 files, 1 meet all goals")
+    expect_equal(page.text("#class-judge"), "Judged by the exercise that is open here.")
+    expect_equal(
         page.texts("#class-table .wrong"),
         [" not the exercise's safe 0", " not as the exercise begins"],
     )
     page.open(SAFE, "0 join\n")
     page.drop(given)
     page.until("document.querySelector('#class-dialog').open")
-    holds("their own goals" in page.text("#class-judge"), page.text("#class-judge"))
+    expect("their own goals" in page.text("#class-judge"), page.text("#class-judge"))
     named = "# exercise: 01-safe-bit 3 A schedule of your own\n"
     page.drop([(name, named + text) for name, text in given])
     page.until("document.querySelector('#class-judge').textContent.includes('lesson')")
-    same(page.text("#class-count"), "4 files, 0 meet all goals")
+    expect_equal(page.text("#class-count"), "4 files, 0 meet all goals")
     asked = f'# ask: Which?\n# option: 0 if main: verdict has "p1 0"\n# option: none if main: verdict has no "p1"\n'
     page.open(SAFE, f"{asked}0 join\n")
     answer = f'{tower}\n# ask: Which?\n# option: 0 if main: verdict has no "p1"\n# predicted: 0\n0 join\n'
     page.drop([("x.script", answer), ("y.script", answer.replace(": 0\n", ": none\n")), given[0]])
     page.until("document.querySelector('#class-dialog').open")
-    same(page.texts("#class-table td:nth-child(3)")[:2], ["0 \u2717", "none \u2713"])
+    expect_equal(page.texts("#class-table td:nth-child(3)")[:2], ["0 \u2717", "none \u2713"])
 
 
 def words(page):
@@ -257,21 +263,22 @@ def words(page):
             f"{word} isn't explained",
         )
     page.do("help")
-    holds(page.count("#all-words dt") >= 30, "the help lacks words")
+    expect(page.count("#all-words dt") >= 30, "the help lacks words")
 
 
 def room(page):
-    """At 1280x720 and at 150 % the picture keeps half of the height, folded if need be; on a phone nothing is wider than the screen."""
+    """At 1280x720 and at 150 % the picture keeps half of the height, folded if need be; on a phone
+    nothing is wider than the screen."""
     page.open(SAFE, f"0 join\n{STRAY}")
     for width, height in ((1280, 720), (1067, 600)):
         page.chrome.size(width, height)
         for part in ("deck", "aside"):
             page.click(f"[data-fold={part}]")
         high = page.value("document.querySelector('#scroll').clientHeight")
-        holds(2 * high >= height, f"at {width}x{height} the picture has {high}")
+        expect(2 * high >= height, f"at {width}x{height} the picture has {high}")
         page.do("present")
         wide = page.value("document.querySelector('#scroll').clientWidth")
-        holds(wide == width, f"the presented picture has {wide}")
+        expect(wide == width, f"the presented picture has {wide}")
         page.key("Escape")
         for part in ("deck", "aside"):
             page.click(f"[data-fold={part}]")
@@ -279,18 +286,19 @@ def room(page):
     page.do("study")
     for name in ("study", "studyClose"):
         wide = page.value("document.documentElement.scrollWidth")
-        holds(wide <= 390, f"{name}: it is {wide} wide")
+        expect(wide <= 390, f"{name}: it is {wide} wide")
         page.do("studyClose" if name == "study" else "study")
     page.click('#study-list [data-study="08-matrix"]')
-    holds(page.value(IN_SIGHT), "the list doesn't show the lesson")
+    expect(page.value(IN_SIGHT), "the list doesn't show the lesson")
     lesson_resized(page)
 
 
 def lesson_resized(page):
-    """A lesson's picture begins with the names of its rows, and is drawn again if the width changes."""
+    """A lesson's picture begins with the names of its rows, and is drawn again if the width
+    changes."""
     page.click('#study-list [data-study="01-safe-bit"]')
     page.until("'drawn' in document.querySelector('#study-text').dataset")
-    same(page.value("document.querySelector('.drawn-here').scrollLeft"), 0)
+    expect_equal(page.value("document.querySelector('.drawn-here').scrollLeft"), 0)
     for width, is_right in ((1600, f"{PICTURE} > 600"), (390, f"{PICTURE} < 600")):
         page.chrome.size(width, 844)
         page.until(is_right, f"at {width} the picture isn't drawn again")
@@ -375,15 +383,16 @@ def hostile(rounds=200):
 
 
 def hostile_documents(page):
-    """200 hostile documents show a sentence or a whole picture, and nothing in them is taken for markup."""
+    """200 hostile documents show a sentence or a whole picture, and nothing in them is taken for
+    markup."""
     page.open()
     for number, (tower, script) in enumerate(hostile()):
         page.drop([("a.tower", tower), ("a.script", script)])
         page.wait()
         said = page.value("document.querySelector('#said').textContent.length")
         drawn = page.value("document.querySelectorAll('.panel .lanes').length")
-        holds(said or drawn, f"document {number} shows neither a sentence nor a picture")
+        expect(said or drawn, f"document {number} shows neither a sentence nor a picture")
         odd = page.value(
             "document.querySelectorAll('#top img, #top script, main img, aside img, dialog img').length"
         )
-        same(odd, 0, f"document {number}")
+        expect_equal(odd, 0, f"document {number}")

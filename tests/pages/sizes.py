@@ -3,7 +3,7 @@
 It is counted, so that other work on the machine changes nothing: calls of the page's functions,
 lines that the program writes, and elements that the page has.
 """
-from pages.live import holds
+from pages.live import expect
 
 CYCLE = "w 0 3\ng 0 0\ng 0 0\nr 1\ng 1 0\ng 1 1\ng 0 0\nr 2\ng 2 0\ng 1 0\n".splitlines(True)
 UNARY, MATRIX = "tower 2\nunary 4 2 0\n", "tower 2\nmatrix 4 2 1 15\n"
@@ -55,7 +55,8 @@ def costs(page, tower, script):
 
 
 def too_costly(name, found, short, most):
-    """Returns which gestures cost too much on a schedule of COUNT steps, in comparison with 20 steps."""
+    """Returns which gestures cost too much on a schedule of COUNT steps, in comparison with 20
+    steps."""
     faults = []
     for it, (calls, lines) in most.items():
         more = [a - b for a, b in zip(found[it], short[it])]
@@ -79,7 +80,7 @@ def long_schedules(page):
         ("inserts", UNARY, f"0 join\n{inserts}", MOST_OF_AN_INSERT),
     ):
         faults = too_costly(f"{COUNT} {name}", costs(page, tower, script), short, most)
-        holds(not faults, faults)
+        expect(not faults, faults)
 
 
 def large_documents(page):
@@ -97,4 +98,4 @@ def large_documents(page):
     ):
         for it, cost in costs(page, tower, script).items():
             most = MOST[name]
-            holds(not are_more(cost, most), f"{name}: {it} takes {cost}, at most {most}")
+            expect(not are_more(cost, most), f"{name}: {it} takes {cost}, at most {most}")

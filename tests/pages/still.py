@@ -24,11 +24,11 @@ LANGUAGE = ["http://www.w3.org/2000/svg"]
 
 def drawn():
     """Returns the picture's bytes."""
-    with tempfile.TemporaryDirectory() as room:
-        build.put_modules(room, "still.mjs")
+    with tempfile.TemporaryDirectory() as scratch:
+        build.put_modules(scratch, "still.mjs")
         words = [
             "node",
-            f"{room}/still.mjs",
+            f"{scratch}/still.mjs",
             build.made_module(),
             f"{LESSON}.tower",
             f"{LESSON}.script",

@@ -1,7 +1,8 @@
 """Turns the Markdown of the lessons, the guide and the glossary into pages for a browser.
 
-It knows what these pages use: headings, paragraphs, lists, tables, fenced and indented blocks, spans of code, strong and emphasized
-words, links, and the lines of a folded part. A link to a page that isn't handed out becomes its text.
+It knows what these pages use: headings, paragraphs, lists, tables, fenced and indented blocks,
+spans of code, strong and emphasized words, links, and the lines of a folded part. A link to a page
+that isn't handed out becomes its text.
 """
 import collections
 import html
@@ -62,7 +63,7 @@ def target_of(link, place):
     return path + mark + anchor if there in place.handed else None
 
 
-def linked(match, place):
+def link_html(match, place):
     target = target_of(html.unescape(match.group(2)), place)
     return f'<a href="{html.escape(target)}">{match.group(1)}</a>' if target else match.group(1)
 
@@ -76,7 +77,7 @@ def spans(text, place):
         return f"\0{len(held) - 1}\0"
 
     text = html.escape(CODE.sub(hold, text), quote=False)
-    text = LINK.sub(lambda it: linked(it, place), text)
+    text = LINK.sub(lambda it: link_html(it, place), text)
     text = EMPHASIZED.sub(r"<em>\1</em>", STRONG.sub(r"<strong>\1</strong>", text))
     return HELD.sub(lambda it: held[int(it.group(1))], text)
 
@@ -122,7 +123,7 @@ def table(lines, place):
     return "<table>\n" + "\n".join(f"<tr>{it}</tr>" for it in made) + "\n</table>"
 
 
-def is_begun(line):
+def begins_block(line):
     """Returns whether a line begins something other than the paragraph or item before it."""
     return (
         not line.strip()
@@ -138,7 +139,7 @@ def items(lines, place):
         head = lines.left.popleft()
         text = [
             ITEM.sub("", head),
-            *(it.strip() for it in lines.take_while(lambda it: not is_begun(it))),
+            *(it.strip() for it in lines.take_while(lambda it: not begins_block(it))),
         ]
         made.append(f"<li>{spans(' '.join(text), place)}</li>")
     number = first.group(1)
@@ -166,7 +167,7 @@ def block(lines, place):
         lines.left.popleft()
         level, text = len(heading.group(1)), heading.group(2)
         return f'<h{level} id="{anchor_of(text)}">{spans(text, place)}</h{level}>'
-    return f"<p>{spans(' '.join(lines.take_while(lambda it: not is_begun(it))), place)}</p>"
+    return f"<p>{spans(' '.join(lines.take_while(lambda it: not begins_block(it))), place)}</p>"
 
 
 def page(text, place):

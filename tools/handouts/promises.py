@@ -1,4 +1,5 @@
-"""The promises in short, for those who have no sources: docs/PROMISES.md without clauses and definitions."""
+"""The promises in short, for those who have no sources: docs/PROMISES.md without clauses and
+definitions."""
 import re
 
 CELL, RULE = re.compile(r"^\| (.*?) \|"), re.compile(r"^\|[-|]+\|$")
@@ -14,7 +15,8 @@ FIRST = "# Promises\n\nWhat is proved of the program, in words. Its sources have
 
 
 def short(text):
-    """Returns the sections of the page that a user asks for, with the first column of each table as a list."""
+    """Returns the sections of the page that a user asks for, with the first column of each table as
+    a list."""
     made = [FIRST]
     for section in re.split(r"^(?=## )", text, flags=re.M):
         title, _, body = section.partition("\n")
