@@ -7,8 +7,8 @@ use Rattle.frames.specs.declared.types.Outcome.{Outcome}
 use Rattle.question_file.specs.Asked.{lists_of}
 use Rattle.answer_lines.specs.Text.{answers_part, answers_parts}
 
--- If the text so far and the parts not yet pushed are the whole text, then this also holds after one
--- more part; after all parts, the text so far is the whole text.
+-- If the text so far and the parts not yet pushed are the whole text, then this also holds after
+-- one more part; after all parts, the text so far is the whole text.
 pub parts_more : (answers : List (List Outcome)) (xs : List (Vec Op)) (p : ℕ) (d : Vec Op) (now new whole : List ℕ) → p < length xs
     → now ++ answers_parts answers p (lists_of (drop p xs)) ≡ whole → new ≡ now ++ answers_part answers p (get_or xs p d).items
     → new ++ answers_parts answers (p + 1) (lists_of (drop (p + 1) xs)) ≡ whole

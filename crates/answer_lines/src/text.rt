@@ -9,7 +9,7 @@ use answers::found::{Found, Possible};
 use answers::outcomes::Outcomes;
 use frames::types::{Layer, Op, Outcome, Step};
 use std::alloc::{AllocError, Global};
-use words::step::append_step;
+use words::step::push_step;
 use words::text::{Pushed, push_labelled, push_text};
 
 /// Adds a space and an outcome.
@@ -80,10 +80,10 @@ fn push_parts(out: &mut Vec<u8>, operations: &[Vec<Op>], answers: &[Outcomes]) -
 }
 
 /// Adds a step's line.
-fn push_step(out: &mut Vec<u8>, step: Step) -> Pushed
+fn push_step_line(out: &mut Vec<u8>, step: Step) -> Pushed
     ensures { OnOk result (out.new.items ≡ out.old.items ++ spec.schedule_line step) }
 {
-    append_step(out, step)?;
+    push_step(out, step)?;
     push_text(out, "\n")
 }
 
@@ -92,7 +92,7 @@ fn push_steps(out: &mut Vec<u8>, steps: &[Step]) -> Pushed
     ensures { OnOk result (out.new.items ≡ out.old.items ++ flat_map spec.schedule_line steps.now) }
 {
     for step in steps {
-        push_step(out, *step)?;
+        push_step_line(out, *step)?;
     }
     Ok(())
 }

@@ -18,7 +18,7 @@ use Rattle.frames.specs.Behaviour.{Behaviour}
 use Rattle.frames.specs.Steps.{process_of}
 use Rattle.frames.specs.Configuration.{Configuration, running_at, is_stopped, events_of, is_ready, is_enabled, acting, acting_unless, invoking, going, return_of, chosen_of, in_order}
 use Rattle.answers.specs.declared.question.Question.{Question}
-use Rattle.answers.specs.Questions.{event_in, events_in, outcomes_by, next_of, stops_in, AreAllowed}
+use Rattle.answers.specs.Questions.{event_in, events_in, outcomes_by, next_of, process_may_stop, AreAllowed}
 use Rattle.answers.specs.States.{ended_counts, invoking_step, step_by}
 
 module _ (q : Question) where
@@ -36,7 +36,7 @@ module _ (q : Question) where
   IsPermitted ended (step.Write p v) = next_of q ended p ≡ Some (op.Write v)
   IsPermitted ended (step.Read p) = next_of q ended p ≡ Some op.Read
   IsPermitted ended (step.Go p c) = ⊤
-  IsPermitted ended (step.Stop p) = stops_in q p ≡ true
+  IsPermitted ended (step.Stop p) = process_may_stop q p ≡ true
 
   invocation_permitted : (ended : ℕ → ℕ) (p : ℕ) (o : Op) → next_of q ended p ≡ Some o → IsPermitted ended (invoking_step p o)
   invocation_permitted ended p (op.Write v) h = h
@@ -46,17 +46,17 @@ module _ (q : Question) where
   by_next ended p None s e h = absurd (none-some s h)
   by_next ended p (Some o) s e h = subst (IsPermitted ended) (same_Some (invoking_step p o) s h) (invocation_permitted ended p o e)
 
-  by_stop : (ended : ℕ → ℕ) (p : ℕ) (t : Bool) (s : Step) → stops_in q p ≡ t → (if t then Some (step.Stop p) else None) ≡ Some s → IsPermitted ended s
+  by_stop : (ended : ℕ → ℕ) (p : ℕ) (t : Bool) (s : Step) → process_may_stop q p ≡ t → (if t then Some (step.Stop p) else None) ≡ Some s → IsPermitted ended s
   by_stop ended p true s e h = subst (IsPermitted ended) (same_Some (step.Stop p) s h) e
   by_stop ended p false s e h = absurd (none-some s h)
 
   by_kind : (ended : ℕ → ℕ) (p : ℕ) (a b c : Bool) (s : Step)
-      → (if a then Some (step.Go p 0) else if b then Some (step.Go p 1) else if c then option_map (invoking_step p) (next_of q ended p) else if stops_in q p then Some (step.Stop p) else None) ≡ Some s
+      → (if a then Some (step.Go p 0) else if b then Some (step.Go p 1) else if c then option_map (invoking_step p) (next_of q ended p) else if process_may_stop q p then Some (step.Stop p) else None) ≡ Some s
       → IsPermitted ended s
   by_kind ended p true b c s h = subst (IsPermitted ended) (same_Some (step.Go p 0) s h) tt
   by_kind ended p false true c s h = subst (IsPermitted ended) (same_Some (step.Go p 1) s h) tt
   by_kind ended p false false true s h = by_next ended p (next_of q ended p) s refl h
-  by_kind ended p false false false s h = by_stop ended p (stops_in q p) s refl h
+  by_kind ended p false false false s h = by_stop ended p (process_may_stop q p) s refl h
 
   -- a step that a label names is permitted
   pub named_permitted : (answers : List (List Outcome)) (p kind : ℕ) (s : Step) → step_by q answers p kind ≡ Some s → IsPermitted (ended_counts answers) s
@@ -80,6 +80,7 @@ module _ (q : Question) where
   going_allowed b before who choice (Some run) m = chosen_allowed before who (b.goes run.point choice m).chosen (b.goes run.point choice m).next
 
   module _ (before : List Event) where
+    -- how many operations each process has ended in the events `before`
     abbrev pub ended_before : ℕ → ℕ
     ended_before r = length (outcomes_by r before)
 
@@ -95,14 +96,14 @@ module _ (q : Question) where
     acting_allowed b (step.Go p c) running m h = going_allowed b before p (c == 1) running m
     acting_allowed b (step.Stop p) running m h = (h, tt)
 
-    unless_allowed : {P : Type 0} (stopped : Bool) (b : Behaviour P) (s : Step) (running : Option (Running P)) (m : Memory)
+    acting_unless_allowed : {P : Type 0} (stopped : Bool) (b : Behaviour P) (s : Step) (running : Option (Running P)) (m : Memory)
         → IsPermitted ended_before s → AreAllowed q before (events_in (acting_unless stopped b s running m).events)
-    unless_allowed true b s running m h = (tt, tt)
-    unless_allowed false b s running m h = acting_allowed b s running m h
+    acting_unless_allowed true b s running m h = (tt, tt)
+    acting_unless_allowed false b s running m h = acting_allowed b s running m h
 
     pub permitted_allowed : {R P : Type 0} (b : Behaviour P) (c : Configuration R P) (s : Step) → IsPermitted ended_before s
         → AreAllowed q before (events_in (events_of b c s))
-    permitted_allowed b c s h = unless_allowed (is_stopped (process_of s) c) b s (running_at (process_of s) c) c.memory h
+    permitted_allowed b c s h = acting_unless_allowed (is_stopped (process_of s) c) b s (running_at (process_of s) c) c.memory h
 
     -- an enabled step whose events are allowed is permitted
     invoked_permitted : {P : Type 0} (b : Behaviour P) (who : ℕ) (o : Op) (running : Option (Running P)) (m : Memory) (later : List Event)
@@ -117,11 +118,11 @@ module _ (q : Question) where
     ready_permitted b (step.Go p c) running m later e h = tt
     ready_permitted b (step.Stop p) running m later e h = h.0
 
-    unless_permitted : {P : Type 0} (stopped : Bool) (b : Behaviour P) (s : Step) (running : Option (Running P)) (m : Memory) (later : List Event)
+    acting_unless_permitted : {P : Type 0} (stopped : Bool) (b : Behaviour P) (s : Step) (running : Option (Running P)) (m : Memory) (later : List Event)
         → (not stopped && is_ready s running) ≡ true → AreAllowed q before (events_in (acting_unless stopped b s running m).events ++ later) → IsPermitted ended_before s
-    unless_permitted true b s running m later e h = absurd (true≢false (sym e))
-    unless_permitted false b s running m later e h = ready_permitted b s running m later e h
+    acting_unless_permitted true b s running m later e h = absurd (true≢false (sym e))
+    acting_unless_permitted false b s running m later e h = ready_permitted b s running m later e h
 
     pub enabled_permitted : {R P : Type 0} (b : Behaviour P) (c : Configuration R P) (s : Step) (later : List Event) → is_enabled c s ≡ true
         → AreAllowed q before (events_in (events_of b c s) ++ later) → IsPermitted ended_before s
-    enabled_permitted b c s later e h = unless_permitted (is_stopped (process_of s) c) b s (running_at (process_of s) c) c.memory later e h
+    enabled_permitted b c s later e h = acting_unless_permitted (is_stopped (process_of s) c) b s (running_at (process_of s) c) c.memory later e h

@@ -10,49 +10,46 @@ use Rattle.frames.specs.Configuration.{fits_step}
 use Rattle.breadth_first.specs.declared.mark.Mark.{Mark}
 use Rattle.breadth_first.specs.Paths.{LeadsBy}
 use Rattle.answers.specs.declared.question.Question.{Question}
-use Rattle.answers.specs.States.{StateOf, IsStateOfRun, advanced, first_state, moved, step_by}
+use Rattle.answers.specs.States.{StateOf, IsStateOfRun, advanced, first_state, step_by}
 use Rattle.answers.specs.Gathered.{IsBuilding}
-use Rattle.answers.proofs.Schedules.{run_first, run_moves, step_taken}
+use Rattle.answers.proofs.Schedules.{labelled_move, run_first, run_moves, step_taken}
 
 module _ {R P : Type 0} (is : R → Behaviour P) (b : Behaviour P) (q : Question) where
-  abbrev leads : StateOf R P → ℕ → Option (StateOf R P)
-  leads x l = moved (is x.configuration.register) q x l
+  pub building_first : (r : R) (start end : StateOf R P) (nodes : List (StateOf R P)) (index : ℕ) (path : List Mark) → is r ≡ b → start ≡ first_state b q.value r
+      → slice_get nodes 0 ≡ Some (first_state b q.value r) → slice_get nodes index ≡ Some end
+      → ((s k : StateOf R P) → slice_get nodes 0 ≡ Some s → slice_get nodes index ≡ Some k → LeadsBy (b.processes * 4) (labelled_move is b q.value q) nodes s path k)
+      → IsBuilding is b q end start [] path
+  building_first r start end nodes index path e f first stored by =
+      subst (λ (s : StateOf R P). IsBuilding is b q end s [] path) (sym f)
+      (record { nodes = nodes; run = run_first is b q.value q r e; leads = by (first_state b q.value r) end first stored })
 
-  pub building_first : (r : R) (start key : StateOf R P) (nodes : List (StateOf R P)) (index : ℕ) (path : List Mark) → is r ≡ b → start ≡ first_state b q.value r
-      → slice_get nodes 0 ≡ Some (first_state b q.value r) → slice_get nodes index ≡ Some key
-      → ((s k : StateOf R P) → slice_get nodes 0 ≡ Some s → slice_get nodes index ≡ Some k → LeadsBy (b.processes * 4) leads nodes s path k)
-      → IsBuilding is b q key start [] path
-  building_first r start key nodes index path e f first stored by =
-      subst (λ (s : StateOf R P). IsBuilding is b q key s [] path) (sym f)
-      (record { nodes = nodes; run = run_first is b q.value q r e; leads = by (first_state b q.value r) key first stored })
-
-  module _ (key state : StateOf R P) where
+  module _ (end state : StateOf R P) where
     -- the step of the next mark, and the state after it
     pub record IsTaken (steps : List Step) (result : Option Step) (left : List Mark) : Type 0 where
       pub step : Step
       pub given : result ≡ Some step
       pub fits : fits_step (is state.configuration.register) step ≡ true
-      pub building : IsBuilding is b q key (advanced (is state.configuration.register) state step) (steps ++ step ∷ []) left
+      pub building : IsBuilding is b q end (advanced (is state.configuration.register) state step) (steps ++ step ∷ []) left
 
-    pub label_low : (steps : List Step) (m : Mark) (left : List Mark) → IsBuilding is b q key state steps (m ∷ left) → m.label < b.processes * 4
+    pub label_low : (steps : List Step) (m : Mark) (left : List Mark) → IsBuilding is b q end state steps (m ∷ left) → m.label < b.processes * 4
     label_low steps m left was = was.leads.1.0.1.0
 
-    building_at : (steps : List Step) (path : List Mark) (i : ℕ) (d : Mark) → i < length path → IsBuilding is b q key state steps (drop i path)
-        → IsBuilding is b q key state steps (get_or path i d ∷ drop (i + 1) path)
-    building_at steps path i d lt was = subst (IsBuilding is b q key state steps) (drop_more path i d lt) was
+    building_at : (steps : List Step) (path : List Mark) (i : ℕ) (d : Mark) → i < length path → IsBuilding is b q end state steps (drop i path)
+        → IsBuilding is b q end state steps (get_or path i d ∷ drop (i + 1) path)
+    building_at steps path i d lt was = subst (IsBuilding is b q end state steps) (drop_more path i d lt) was
 
-    pub label_at : (steps : List Step) (path : List Mark) (i : ℕ) (d : Mark) → i < length path → IsBuilding is b q key state steps (drop i path)
+    pub label_at : (steps : List Step) (path : List Mark) (i : ℕ) (d : Mark) → i < length path → IsBuilding is b q end state steps (drop i path)
         → (get_or path i d).label < b.processes * 4
     label_at steps path i d lt was = label_low steps (get_or path i d) (drop (i + 1) path) (building_at steps path i d lt was)
 
     module _ (Holds : Memory → Type 0) (Reach : ℕ → Op → P → Type 0) (lawful : IsLawful b Holds Reach) where
-      taken : (steps : List Step) (m : Mark) (left : List Mark) (result : Option Step) → IsBuilding is b q key state steps (m ∷ left)
+      taken : (steps : List Step) (m : Mark) (left : List Mark) (result : Option Step) → IsBuilding is b q end state steps (m ∷ left)
           → result ≡ step_by q state.answers (m.label / 4) (m.label % 4) → IsTaken steps result left
       taken steps m left result was says =
           let z = was.leads.0 in
-          let mv : leads state m.label ≡ Some z = was.leads.1.0.1.1 in
+          let mv : labelled_move is b q.value q state m.label ≡ Some z = was.leads.1.0.1.1 in
           let t = step_taken is (is state.configuration.register) q.value q state z (step_by q state.answers (m.label / 4) (m.label % 4)) mv in
-          let next : IsBuilding is b q key z (steps ++ t.0 ∷ []) left = record {
+          let next : IsBuilding is b q end z (steps ++ t.0 ∷ []) left = record {
             nodes = was.nodes;
             run = run_moves is b q.value q Holds Reach lawful steps state z m.label t.0 was.run t.1.0 mv;
             leads = was.leads.1.1;
@@ -61,10 +58,10 @@ module _ {R P : Type 0} (is : R → Behaviour P) (b : Behaviour P) (q : Question
             step = t.0;
             given = says ∙ t.1.0;
             fits = t.1.1.0;
-            building = subst (λ (n : StateOf R P). IsBuilding is b q key n (steps ++ t.0 ∷ []) left) (sym t.1.1.1) next;
+            building = subst (λ (n : StateOf R P). IsBuilding is b q end n (steps ++ t.0 ∷ []) left) (sym t.1.1.1) next;
           }
 
-      pub taken_at : (steps : List Step) (path : List Mark) (i : ℕ) (d : Mark) (result : Option Step) → i < length path → IsBuilding is b q key state steps (drop i path)
+      pub taken_at : (steps : List Step) (path : List Mark) (i : ℕ) (d : Mark) (result : Option Step) → i < length path → IsBuilding is b q end state steps (drop i path)
           → result ≡ step_by q state.answers ((get_or path i d).label / 4) ((get_or path i d).label % 4) → IsTaken steps result (drop (i + 1) path)
       taken_at steps path i d result lt was says = taken steps (get_or path i d) (drop (i + 1) path) result (building_at steps path i d lt was) says
 
@@ -73,17 +70,17 @@ module _ {R P : Type 0} (is : R → Behaviour P) (b : Behaviour P) (q : Question
     taken_fits steps s left result t e = subst (λ (n : Step). fits_step (is state.configuration.register) n ≡ true) (same_Some t.step s (sym t.given ∙ e)) t.fits
 
     pub taken_step : (steps : List Step) (s : Step) (next : StateOf R P) (left : List Mark) (result : Option Step) → IsTaken steps result left → result ≡ Some s
-        → next ≡ advanced (is state.configuration.register) state s → IsBuilding is b q key next (steps ++ s ∷ []) left
+        → next ≡ advanced (is state.configuration.register) state s → IsBuilding is b q end next (steps ++ s ∷ []) left
     taken_step steps s next left result t e f =
-        subst (λ (n : StateOf R P). IsBuilding is b q key n (steps ++ s ∷ []) left) (sym f)
-        (subst (λ (n : Step). IsBuilding is b q key (advanced (is state.configuration.register) state n) (steps ++ n ∷ []) left) (same_Some t.step s (sym t.given ∙ e)) t.building)
+        subst (λ (n : StateOf R P). IsBuilding is b q end n (steps ++ s ∷ []) left) (sym f)
+        (subst (λ (n : Step). IsBuilding is b q end (advanced (is state.configuration.register) state n) (steps ++ n ∷ []) left) (same_Some t.step s (sym t.given ∙ e)) t.building)
 
     pub none_taken : (steps : List Step) (left : List Mark) (result : Option Step) → IsTaken steps result left → result ≡ None → ⊥
     none_taken steps left result t e = none-some t.step (sym e ∙ t.given)
 
-    -- once no mark is left, the steps lead to `key`
-    pub built : (steps : List Step) → IsBuilding is b q key state steps [] → IsStateOfRun is b q.value q steps key
+    -- once no mark is left, the steps lead to `end`
+    pub built : (steps : List Step) → IsBuilding is b q end state steps [] → IsStateOfRun is b q.value q steps end
     built steps was = subst (IsStateOfRun is b q.value q steps) (sym was.leads) was.run
 
-    pub built_state : (steps : List Step) → IsBuilding is b q key state steps [] → state ≡ key
+    pub built_state : (steps : List Step) → IsBuilding is b q end state steps [] → state ≡ end
     built_state steps was = sym was.leads

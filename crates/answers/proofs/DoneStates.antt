@@ -60,12 +60,12 @@ module _ {R P : Type 0} (is : R → Behaviour P) (b : Behaviour P) (q : Question
   at_answers steps x at = record { for_each = at.each; in_order = at.answered }
 
   -- a done state with a schedule's answers is found, no deeper than the schedule is long
-  pub record IsDiscovered (keys : List (StateOf R P)) (marks : List Mark) (steps : List Step) : Type 0 where
+  pub record IsDiscovered (nodes : List (StateOf R P)) (marks : List Mark) (steps : List Step) : Type 0 where
     pub index : ℕ
-    pub key : StateOf R P
-    pub stored : slice_get keys index ≡ Some key
-    pub done : AreAllOver b q key
-    pub answers : HasAnswers b q.value steps key.answers
+    pub state : StateOf R P
+    pub stored : slice_get nodes index ≡ Some state
+    pub done : AreAllOver b q state
+    pub answers : HasAnswers b q.value steps state.answers
     pub within : depth_at marks index ≤ length steps
 
   module _ (E : R → R → Bool) (F : P → P → Bool) (d : (x y : P) → Decides (F x y) (x ≡ y)) where
@@ -75,18 +75,19 @@ module _ {R P : Type 0} (is : R → Behaviour P) (b : Behaviour P) (q : Question
         over_at : List Bool → List (Option (Running P)) → List (List Outcome) → Bool
         over_at stopped running answers = slice_index_or stopped p false || (is_none (slice_index_or running p None) && ended_counts answers p == length (operations_of q p))
 
-    pub discovered : (Holds : Memory → Type 0) (Reach : ℕ → Op → P → Type 0) → IsLawful b Holds Reach → (r : R) → is r ≡ b → (keys : List (StateOf R P)) (marks : List Mark)
-        → IsAllReached (b.processes * 4) (λ x l. moved (is x.configuration.register) q x l) (state_eq E F) (first_state b q.value r) keys marks
-        → (steps : List Step) → IsScheduleOf b q steps → IsDiscovered keys marks steps
-    discovered Holds Reach lawful r e keys marks all steps schedule =
+    -- whatever the schedule, a done state with its answers is found
+    pub discovered : (Holds : Memory → Type 0) (Reach : ℕ → Op → P → Type 0) → IsLawful b Holds Reach → (r : R) → is r ≡ b → (nodes : List (StateOf R P)) (marks : List Mark)
+        → IsAllReached (b.processes * 4) (λ x l. moved (is x.configuration.register) q x l) (state_eq E F) (first_state b q.value r) nodes marks
+        → (steps : List Step) → IsScheduleOf b q steps → IsDiscovered nodes marks steps
+    discovered Holds Reach lawful r e nodes marks all steps schedule =
         let w = walk is b q.value q Holds Reach lawful (first_state b q.value r) steps [] (first_state b q.value r) 0 (at_first is b q.value r e) refl schedule.fit schedule.allowed in
         let f = all.complete w.moves w.state w.reached in
-        let same : SameState E w.state f.key = (state_decides E F d w.state f.key).0 f.same in
+        let same : SameState E w.state f.node = (state_decides E F d w.state f.node).0 f.same in
         record {
           index = f.index;
-          key = f.key;
+          state = f.node;
           stored = f.stored;
-          done = λ p lt. sym (same_over w.state f.key p same) ∙ through_over steps w.state p w.at (schedule.through p lt);
+          done = λ p lt. sym (same_over w.state f.node p same) ∙ through_over steps w.state p w.at (schedule.through p lt);
           answers = subst (HasAnswers b q.value steps) same.answers (at_answers steps w.state w.at);
           within = omega (arith, f.within, w.few);
         }

@@ -15,17 +15,17 @@ use Rattle.frames.specs.declared.types.Step.TheVariants as step
 use Rattle.frames.specs.declared.running.Running.{Running}
 use Rattle.frames.specs.Behaviour.{Behaviour}
 use Rattle.frames.specs.Steps.{process_of}
-use Rattle.frames.specs.Recorded.{AllFit, first_configuration, shown}
+use Rattle.frames.specs.Recorded.{AllFit, first_configuration, configuration_after}
 use Rattle.frames.specs.Configuration.{Configuration, running_at, is_stopped, fits_step, stepped, replayed, events_of, history, acting, acting_unless, invoking, going, return_of, chosen_of, in_order}
 use Rattle.answers.specs.Questions.{event_in, events_in, all_events, events_after, outcomes_in, outcomes_by}
 
-pub ended_append : (p : ℕ) (xs ys : List Event) → outcomes_by p (xs ++ ys) ≡ outcomes_by p xs ++ outcomes_by p ys
-ended_append p [] ys = refl
-ended_append p (x ∷ xs) ys = ap (λ l. outcomes_in p x ++ l) (ended_append p xs ys) ∙ sym (append_assoc (outcomes_in p x) (outcomes_by p xs) (outcomes_by p ys))
+pub outcomes_by_append : (p : ℕ) (xs ys : List Event) → outcomes_by p (xs ++ ys) ≡ outcomes_by p xs ++ outcomes_by p ys
+outcomes_by_append p [] ys = refl
+outcomes_by_append p (x ∷ xs) ys = ap (λ l. outcomes_in p x ++ l) (outcomes_by_append p xs ys) ∙ sym (append_assoc (outcomes_in p x) (outcomes_by p xs) (outcomes_by p ys))
 
-all_append : (xs : List StepEvents) (y : StepEvents) → all_events (xs ++ y ∷ []) ≡ all_events xs ++ events_in y
-all_append [] y = append-nil (events_in y)
-all_append (x ∷ xs) y = ap (λ l. events_in x ++ l) (all_append xs y) ∙ sym (append_assoc (events_in x) (all_events xs) (events_in y))
+all_events_push : (xs : List StepEvents) (y : StepEvents) → all_events (xs ++ y ∷ []) ≡ all_events xs ++ events_in y
+all_events_push [] y = append-nil (events_in y)
+all_events_push (x ∷ xs) y = ap (λ l. events_in x ++ l) (all_events_push xs y) ∙ sym (append_assoc (events_in x) (all_events xs) (events_in y))
 
 replayed_push : {R P : Type 0} (b : Behaviour P) (xs : List Step) (s : Step) (c : Configuration R P) → replayed b c (xs ++ s ∷ []) ≡ stepped b (replayed b c xs) s
 replayed_push b [] s c = refl
@@ -41,13 +41,13 @@ fit_push b xs s h f =
     All-append (λ s. fits_step b s ≡ true) xs (s ∷ []) h (All-cons (λ s. fits_step b s ≡ true) s [] f (λ k d lt. absurd (omega (arith, lt))))
 
 module _ {P : Type 0} (b : Behaviour P) (value : ℕ) where
-  pub shown_more : (steps : List Step) (s : Step) → shown b value (steps ++ s ∷ []) ≡ stepped b (shown b value steps) s
+  pub shown_more : (steps : List Step) (s : Step) → configuration_after b value (steps ++ s ∷ []) ≡ stepped b (configuration_after b value steps) s
   shown_more steps s = replayed_push b steps s (first_configuration b value)
 
-  pub events_more : (steps : List Step) (s : Step) → events_after b value (steps ++ s ∷ []) ≡ events_after b value steps ++ events_in (events_of b (shown b value steps) s)
+  pub events_more : (steps : List Step) (s : Step) → events_after b value (steps ++ s ∷ []) ≡ events_after b value steps ++ events_in (events_of b (configuration_after b value steps) s)
   events_more steps s =
       ap all_events (history_push b steps s (first_configuration b value))
-      ∙ all_append (history b (first_configuration b value) steps) (events_of b (shown b value steps) s)
+      ∙ all_events_push (history b (first_configuration b value) steps) (events_of b (configuration_after b value steps) s)
 
 -- a step of process `who` ends no operation of another process r
 module _ (r : ℕ) where
@@ -79,11 +79,11 @@ module _ (r : ℕ) where
   acting_other b (step.Go p c) running m e = going_other b p (c == 1) running m e
   acting_other b (step.Stop p) running m e = refl
 
-  unless_other : {P : Type 0} (stopped : Bool) (b : Behaviour P) (s : Step) (running : Option (Running P)) (m : Memory) → (process_of s == r) ≡ false
+  acting_unless_other : {P : Type 0} (stopped : Bool) (b : Behaviour P) (s : Step) (running : Option (Running P)) (m : Memory) → (process_of s == r) ≡ false
       → outcomes_by r (events_in (acting_unless stopped b s running m).events) ≡ []
-  unless_other true b s running m e = refl
-  unless_other false b s running m e = acting_other b s running m e
+  acting_unless_other true b s running m e = refl
+  acting_unless_other false b s running m e = acting_other b s running m e
 
   pub events_other : {R P : Type 0} (b : Behaviour P) (c : Configuration R P) (s : Step) → (process_of s == r) ≡ false
       → outcomes_by r (events_in (events_of b c s)) ≡ []
-  events_other b c s e = unless_other (is_stopped (process_of s) c) b s (running_at (process_of s) c) c.memory e
+  events_other b c s e = acting_unless_other (is_stopped (process_of s) c) b s (running_at (process_of s) c) c.memory e

@@ -30,23 +30,23 @@ zero_is_not_one e = omega (arith, e)
 -- process 0 writes 1, and process 1 reads
 module _ (q : Question) (writes : operations_of q 0 ≡ Write 1 ∷ []) (reads : operations_of q 1 ≡ Read ∷ []) where
   module _ (any : q.after.items ≡ []) where
-    next : (ended : ℕ → ℕ) (p : ℕ) (os : List Op) → operations_of q p ≡ os → next_of q ended p ≡ slice_get os (ended p)
-    next ended p os is i = if list_all (allows ended p) (any i) then slice_get (is i) (ended p) else None
+    next_without_after : (ended : ℕ → ℕ) (p : ℕ) (os : List Op) → operations_of q p ≡ os → next_of q ended p ≡ slice_get os (ended p)
+    next_without_after ended p os is i = if list_all (allows ended p) (any i) then slice_get (is i) (ended p) else None
 
     -- AreAllowed: the read is invoked within the write
     AreAllowed-holds : AreAllowed q [] (Invoke 0 (Write 1) ∷ Invoke 1 Read ∷ Wrote 0 ∷ Got 1 0 ∷ [])
     AreAllowed-holds = (
-      next (λ r. length (outcomes_by r [])) 0 (Write 1 ∷ []) writes,
-      (next (λ r. length (outcomes_by r (Invoke 0 (Write 1) ∷ []))) 1 (Read ∷ []) reads, (tt, (tt, tt))),
+      next_without_after (λ r. length (outcomes_by r [])) 0 (Write 1 ∷ []) writes,
+      (next_without_after (λ r. length (outcomes_by r (Invoke 0 (Write 1) ∷ []))) 1 (Read ∷ []) reads, (tt, (tt, tt))),
     )
 
     -- IsAllowed fails: the write has ended, and there is no second one
     no_second : IsAllowed q (Invoke 0 (Write 1) ∷ Wrote 0 ∷ []) (Invoke 0 (Write 1)) → ⊥
-    no_second h = none-some (Write 1) (sym (next (λ r. length (outcomes_by r (Invoke 0 (Write 1) ∷ Wrote 0 ∷ []))) 0 (Write 1 ∷ []) writes) ∙ h)
+    no_second h = none-some (Write 1) (sym (next_without_after (λ r. length (outcomes_by r (Invoke 0 (Write 1) ∷ Wrote 0 ∷ []))) 0 (Write 1 ∷ []) writes) ∙ h)
 
     -- IsAllowed fails: process 0 writes 1, and not 0
     no_other : IsAllowed q [] (Invoke 0 (Write 0)) → ⊥
-    no_other h = zero_is_not_one (ap value_in (sym (next (λ r. length (outcomes_by r [])) 0 (Write 1 ∷ []) writes) ∙ h))
+    no_other h = zero_is_not_one (ap value_in (sym (next_without_after (λ r. length (outcomes_by r [])) 0 (Write 1 ∷ []) writes) ∙ h))
 
   -- IsAllowed fails: no process may stop
   no_stop : q.may_stop.items ≡ [] → IsAllowed q [] (Stop 0) → ⊥

@@ -8,7 +8,7 @@ use Rattle.std.proofs.lemmas.Option.{slice_get-map, get_or_from_slice_get, slice
 use Rattle.safe_bit.specs.Memory.{Memory}
 use Rattle.frames.specs.declared.types.Op.{Op}
 use Rattle.frames.specs.Behaviour.{Behaviour, IsLawful}
-use Rattle.frames.specs.laws.Steps.{initial_keeps}
+use Rattle.frames.specs.laws.Steps.{initial_is_configuration}
 use Rattle.breadth_first.specs.declared.mark.Mark.{Mark}
 use Rattle.breadth_first.specs.Paths.{depth_at}
 use Rattle.answers.specs.declared.found.Possible.{Possible}
@@ -47,26 +47,26 @@ module _ {R P : Type 0} (b : Behaviour P) (q : Question) (nodes : List (StateOf 
   goal_done k stored is_true = (over_below q k b.processes).0 (sym (goal_read (λ x. all_over q x b.processes) nodes goals index k d by_goal stored read) ∙ is_true)
 
   -- a state that isn't done is passed over
-  pub passed_over : ((i j : ℕ) → i ≤ j → j < length nodes → depth_at marks i ≤ depth_at marks j) → (found : List Possible) → IsGathered b q nodes marks index found
+  pub gathered_not_done : ((i j : ℕ) → i ≤ j → j < length nodes → depth_at marks i ≤ depth_at marks j) → (found : List Possible) → IsGathered b q nodes marks index found
       → index < length marks → d ≡ false → IsGathered b q nodes marks (index + 1) found
-  passed_over sorted found g lt is_false = elim ((slice_get_cases nodes index).1) [
+  gathered_not_done sorted found g lt is_false = elim ((slice_get_cases nodes index).1) [
     | inl a ↦ gathered_skip b q nodes marks sorted index found g a.0 a.2 (λ done.
         absurd (true≢false (sym ((over_below q a.0 b.processes).1 done) ∙ (sym (goal_read (λ x. all_over q x b.processes) nodes goals index a.0 d by_goal a.2 read) ∙ is_false))))
     | inr n ↦ absurd (omega (arith, lt, marked, n.0))
   ]
 
 -- what `IsStateOf` says of each state holds of the initial one
-pub first_holds : {R P : Type 0} (b : Behaviour P) (Holds : Memory → Type 0) (Reaches : ℕ → Op → P → Type 0) → IsLawful b Holds Reaches → (r : R) (value : ℕ) → value < b.values
+pub initial_holds : {R P : Type 0} (b : Behaviour P) (Holds : Memory → Type 0) (Reaches : ℕ → Op → P → Type 0) → IsLawful b Holds Reaches → (r : R) (value : ℕ) → value < b.values
     → IsStateOf b Holds Reaches r (first_state b value r)
-first_holds b Holds Reaches lawful r value lt = record {
+initial_holds b Holds Reaches lawful r value lt = record {
   register = refl;
-  sound = initial_keeps b Holds Reaches lawful r value (b.initial value) (replicate b.processes None) (replicate b.processes false) lt refl refl refl;
+  sound = initial_is_configuration b Holds Reaches lawful r value (b.initial value) (replicate b.processes None) (replicate b.processes false) lt refl refl refl;
   each = length-replicate b.processes _;
 }
 
 -- at each index with a mark there is a state
-pub key_at : {X : Type 0} (nodes : List X) (marks : List Mark) (index : ℕ) → index < length marks → length marks ≡ length nodes → (k : X) × (slice_get nodes index ≡ Some k)
-key_at nodes marks index lt marked = elim ((slice_get_cases nodes index).1) [
+pub node_at : {X : Type 0} (nodes : List X) (marks : List Mark) (index : ℕ) → index < length marks → length marks ≡ length nodes → (k : X) × (slice_get nodes index ≡ Some k)
+node_at nodes marks index lt marked = elim ((slice_get_cases nodes index).1) [
   | inl a ↦ (a.0, a.2)
   | inr n ↦ absurd (omega (arith, lt, marked, n.0))
 ]

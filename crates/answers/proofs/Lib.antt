@@ -8,6 +8,6 @@ pub mod Listed
 pub mod Building
 pub mod Ranked
 pub mod Tidying
-pub mod Unused
+pub mod UnusedChoices
 pub mod Written
 mod Examples

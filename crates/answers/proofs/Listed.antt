@@ -25,15 +25,16 @@ module _ {R P : Type 0} (is : R → Behaviour P) (b : Behaviour P) (q : Question
     (sorted : (i j : ℕ) → i ≤ j → j < length nodes → depth_at marks i ≤ depth_at marks j)
     (found : List Possible) (g : IsGathered b q nodes marks index found) (there : index < length marks) (done : d ≡ true)
     (state : StateOf R P) where
-  answers_as : (k : StateOf R P) → state ≡ k → list_any (λ (a : Possible). answers_eq a.answers.items k.answers) found ≡ list_any (λ (a : Possible). answers_eq a.answers.items state.answers) found
-  answers_as k e i = list_any (λ (a : Possible). answers_eq a.answers.items (sym e i).answers) found
+  -- equal states have the same answers listed or not
+  listed_alike : (k : StateOf R P) → state ≡ k → list_any (λ (a : Possible). answers_eq a.answers.items k.answers) found ≡ list_any (λ (a : Possible). answers_eq a.answers.items state.answers) found
+  listed_alike k e i = list_any (λ (a : Possible). answers_eq a.answers.items (sym e i).answers) found
 
   -- if the answers of the state at `index` are listed already, those of the states up to it are
   pub listed_before : (steps : List Step) → ((k : StateOf R P) → slice_get nodes index ≡ Some k → IsBuilding is b q k state steps [])
       → list_any (λ (a : Possible). answers_eq a.answers.items state.answers) found ≡ true → IsGathered b q nodes marks (index + 1) found
   listed_before steps walk listed = elim ((slice_get_cases nodes index).1) [
     | inl a ↦ let same = built_state is b q a.0 state steps (walk a.0 a.2) in
-        gathered_skip b q nodes marks sorted index found g a.0 a.2 (λ _. covered_listed b q nodes marks sorted index found g a.0 a.2 (answers_as a.0 same ∙ listed))
+        gathered_skip b q nodes marks sorted index found g a.0 a.2 (λ _. covered_listed b q nodes marks sorted index found g a.0 a.2 (listed_alike a.0 same ∙ listed))
     | inr n ↦ absurd (omega (arith, there, marked, n.0))
   ]
 
@@ -57,4 +58,4 @@ module _ {R P : Type 0} (is : R → Behaviour P) (b : Behaviour P) (q : Question
             schedule = subst (IsScheduleOf b q) (sym along) (done_schedule is b q steps k run (goal_done b q nodes goals marks marked by_goal index d read k stored done));
             answers = subst (λ (l : List Step). HasAnswers b q.value l a.answers.items) (sym along) (subst (HasAnswers b q.value steps) (sym has) (at_answers is b q steps k run.at));
           } in
-          gathered_push b q nodes marks sorted index found g k stored a sound has (ap length along ∙ long) (answers_as k same ∙ new)
+          gathered_push b q nodes marks sorted index found g k stored a sound has (ap length along ∙ long) (listed_alike k same ∙ new)

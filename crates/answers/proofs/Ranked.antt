@@ -1,11 +1,11 @@
--- Operations that end one after another, as `after` lets them: either all end, and none has to follow
--- itself; or some can't, and one has to.
+-- Operations that end one after another, as `after` lets them: either all end, and none has to
+-- follow itself; or some can't, and one has to.
 use Rattle.std.proofs.Common.{◌≡◌, ℕ, zero, suc, ◌+◌, ◌-◌, ◌<◌, ◌≤◌, ◌⊎◌, inl, inr, Bool, true, false, not, ◌&&◌, ◌||◌, List, [], ◌∷◌, ◌++◌, length, get_or, set, Option, Some, None, is_some, slice_get, replicate, refl, sym, ap, subst, ◌∙◌, true≢false, arith}
 use Rattle.std.specs.Prelude.{◌==◌, if◌then◌else◌, nat_lt}
 use Rattle.std.specs.Bool.{Decides}
 use Rattle.std.specs.Global.{Vec}
 use Rattle.std.specs.List.{list_all}
-use Rattle.std.proofs.lemmas.Bool.{cases_eq, cases_lt, ltb-true, ltb-false}
+use Rattle.std.proofs.lemmas.Bool.{and_parts, cases_eq, cases_lt, ltb-true, ltb-false}
 use Rattle.std.proofs.lemmas.Bool.Decides.{Decides-eqb}
 use Rattle.std.proofs.Common.{eq-eqb, length-append}
 use Rattle.std.proofs.lemmas.List.{get_or-set_same, get_or-set_other}
@@ -29,25 +29,27 @@ passes_at {X} test (y ∷ ys) i x h g = by (test y) refl h i g (λ j k l. passes
     by true e k (suc j) l later = later j k l
     by false e k j l later = absurd (true≢false (sym k))
 
-record Fails {X : Type 0} (test : X → Bool) (xs : List X) : Type 0 where
+-- some item fails a test
+record HasFailing {X : Type 0} (test : X → Bool) (xs : List X) : Type 0 where
   index : ℕ
   item : X
   stored : slice_get xs index ≡ Some item
   fails : test item ≡ false
 
 -- if not each item passes a test, some item fails it
-failing : {X : Type 0} (test : X → Bool) (xs : List X) → list_all test xs ≡ false → Fails test xs
-failing test [] h = absurd (true≢false h)
-failing {X} test (y ∷ ys) h = by (test y) refl h (failing test ys)
+some_fails : {X : Type 0} (test : X → Bool) (xs : List X) → list_all test xs ≡ false → HasFailing test xs
+some_fails test [] h = absurd (true≢false h)
+some_fails {X} test (y ∷ ys) h = by (test y) refl h (some_fails test ys)
   where
-    by : (b : Bool) → test y ≡ b → (b && list_all test ys) ≡ false → (list_all test ys ≡ false → Fails test ys) → Fails test (y ∷ ys)
+    by : (b : Bool) → test y ≡ b → (b && list_all test ys) ≡ false → (list_all test ys ≡ false → HasFailing test ys) → HasFailing test (y ∷ ys)
     by true e k later = let f = later k in record { index = suc f.index; item = f.item; stored = f.stored; fails = f.fails }
     by false e k later = record { index = 0; item = y; stored = refl; fails = e }
 
-past : {X : Type 0} (xs : List X) (i : ℕ) → slice_get xs i ≡ None → length xs ≤ i
-past [] i h = omega arith
-past (x ∷ xs) zero h = absurd (none-some x (sym h))
-past (x ∷ xs) (suc i) h = let l = past xs i h in omega (arith, l)
+-- if a list has no item i, it ends at i or before
+none_past_end : {X : Type 0} (xs : List X) (i : ℕ) → slice_get xs i ≡ None → length xs ≤ i
+none_past_end [] i h = omega arith
+none_past_end (x ∷ xs) zero h = absurd (none-some x (sym h))
+none_past_end (x ∷ xs) (suc i) h = let l = none_past_end xs i h in omega (arith, l)
 
 -- the rank of operation n of process p is raised to a limit
 abbrev raised : (ℕ → ℕ → ℕ) → ℕ → ℕ → ℕ → ℕ → ℕ → ℕ
@@ -115,9 +117,11 @@ module _ (q : Question) where
     follows = λ k a get lt. let n = none a.later.process in absurd (omega (arith, lt, n));
   }
 
-  allowed_then : (ended : ℕ → ℕ) (p : ℕ) (a : After) → allows ended p a ≡ true → a.later.process ≡ p → a.later.index ≡ ended p
+  -- if `a` lets process p invoke its next operation, which is the later one of `a`, the earlier one
+  -- has ended
+  earlier_ended : (ended : ℕ → ℕ) (p : ℕ) (a : After) → allows ended p a ≡ true → a.later.process ≡ p → a.later.index ≡ ended p
       → a.earlier.index < ended a.earlier.process
-  allowed_then ended p a h e f =
+  earlier_ended ended p a h e f =
       let path : allows ended p a ≡ nat_lt a.earlier.index (ended a.earlier.process) =
       λ j. not ((eq-eqb a.later.process p e j) && (eq-eqb a.later.index (ended p) f j)) || nat_lt a.earlier.index (ended a.earlier.process) in
       ltb-true a.earlier.index (ended a.earlier.process) (sym path ∙ h)
@@ -137,8 +141,9 @@ module _ (q : Question) where
             let same : ended r ≡ ended p = ap ended e in
             inr (e, omega (arith, lt, one, same, high))
 
-    grows : (r i : ℕ) → i < ended r → i < ended' r
-    grows r i lt = elim (cases_eq r p) [
+    -- an operation that had ended has ended
+    still_ended : (r i : ℕ) → i < ended r → i < ended' r
+    still_ended r i lt = elim (cases_eq r p) [
       | inl e ↦ let one : ended' r ≡ ended p + 1 = ap ended' e ∙ more in
           let same : ended r ≡ ended p = ap ended e in
           omega (arith, lt, one, same)
@@ -148,65 +153,61 @@ module _ (q : Question) where
     abbrev new_rank : ℕ → ℕ → ℕ
     new_rank = raised was.rank was.limit p (ended p)
 
-    at_old : (r i : ℕ) → i < ended r → new_rank r i ≡ was.rank r i
-    at_old r i lt = raised_elsewhere was.rank was.limit p (ended p) r i (λ e f. let same : ended r ≡ ended p = ap ended e in omega (arith, lt, f, same))
+    rank_of_old : (r i : ℕ) → i < ended r → new_rank r i ≡ was.rank r i
+    rank_of_old r i lt = raised_elsewhere was.rank was.limit p (ended p) r i (λ e f. let same : ended r ≡ ended p = ap ended e in omega (arith, lt, f, same))
 
-    at_last : (r i : ℕ) → r ≡ p → i ≡ ended p → new_rank r i ≡ was.limit
-    at_last r i e f = raised_here was.rank was.limit p (ended p) r i e f
+    rank_of_last : (r i : ℕ) → r ≡ p → i ≡ ended p → new_rank r i ≡ was.limit
+    rank_of_last r i e f = raised_here was.rank was.limit p (ended p) r i e f
 
     pub ranked_more : IsRankedTo ended'
     ranked_more = record {
       rank = new_rank;
       limit = was.limit + 1;
       below = λ r i lt. elim (old_or_last r i lt) [
-        | inl low ↦ let e = at_old r i low in let was_below = was.below r i low in omega (arith, e, was_below)
-        | inr last ↦ let e = at_last r i last.0 last.1 in omega (arith, e)
+        | inl low ↦ let e = rank_of_old r i low in let was_below = was.below r i low in omega (arith, e, was_below)
+        | inr last ↦ let e = rank_of_last r i last.0 last.1 in omega (arith, e)
       ];
       in_order = λ r i lt. elim (old_or_last r (i + 1) lt) [
-        | inl low ↦ let one = at_old r i (omega (arith, low)) in
-            let two = at_old r (i + 1) low in
+        | inl low ↦ let one = rank_of_old r i (omega (arith, low)) in
+            let two = rank_of_old r (i + 1) low in
             let ordered = was.in_order r i low in
             omega (arith, one, two, ordered)
         | inr last ↦ let same : ended r ≡ ended p = ap ended last.0 in
             let at = last.1 in
             let low : i < ended r = omega (arith, same, at) in
-            let one = at_old r i low in
-            let two = at_last r (i + 1) last.0 last.1 in
+            let one = rank_of_old r i low in
+            let two = rank_of_last r (i + 1) last.0 last.1 in
             let was_below = was.below r i low in
             omega (arith, one, two, was_below)
       ];
       follows = λ k a get lt. elim (old_or_last a.later.process a.later.index lt) [
         | inl low ↦ let f = was.follows k a get low in
-            let one = at_old a.earlier.process a.earlier.index f.0 in
-            let two = at_old a.later.process a.later.index low in
+            let one = rank_of_old a.earlier.process a.earlier.index f.0 in
+            let two = rank_of_old a.later.process a.later.index low in
             let ordered = f.1 in
-            (grows a.earlier.process a.earlier.index f.0, omega (arith, one, two, ordered))
-        | inr last ↦ let low = allowed_then ended p a (passes_at (allows ended p) q.after.items k a free get) last.0 last.1 in
-            let one = at_old a.earlier.process a.earlier.index low in
-            let two = at_last a.later.process a.later.index last.0 last.1 in
+            (still_ended a.earlier.process a.earlier.index f.0, omega (arith, one, two, ordered))
+        | inr last ↦ let low = earlier_ended ended p a (passes_at (allows ended p) q.after.items k a free get) last.0 last.1 in
+            let one = rank_of_old a.earlier.process a.earlier.index low in
+            let two = rank_of_last a.later.process a.later.index last.0 last.1 in
             let was_below = was.below a.earlier.process a.earlier.index low in
-            (grows a.earlier.process a.earlier.index low, omega (arith, one, two, was_below))
+            (still_ended a.earlier.process a.earlier.index low, omega (arith, one, two, was_below))
       ];
     }
 
   module _ (named : list_all (are_named q) q.after.items ≡ true) where
-    both : (s t : Bool) → (s && t) ≡ true → (s ≡ true) × (t ≡ true)
-    both true true h = (refl, refl)
-    both true false h = absurd (true≢false (sym h))
-    both false t h = absurd (true≢false (sym h))
-
-    are_there : (k : ℕ) (a : After) → slice_get q.after.items k ≡ Some a
+    -- both operations that item k of `after` names exist
+    both_exist : (k : ℕ) (a : After) → slice_get q.after.items k ≡ Some a
         → (a.later.index < length (operations_of q a.later.process)) × (a.earlier.index < length (operations_of q a.earlier.process))
-    are_there k a get =
-        let n = both (nat_lt a.later.index (length (operations_of q a.later.process))) (nat_lt a.earlier.index (length (operations_of q a.earlier.process)))
+    both_exist k a get =
+        let n = and_parts (nat_lt a.later.index (length (operations_of q a.later.process))) (nat_lt a.earlier.index (length (operations_of q a.earlier.process)))
         (passes_at (are_named q) q.after.items k a named get) in
         (ltb-true _ _ n.0, ltb-true _ _ n.1)
 
-    acyclic_if_all : (ended : ℕ → ℕ) → IsRankedTo ended → ((p : ℕ) → ended p ≡ length (operations_of q p)) → IsAcyclic q
-    acyclic_if_all ended was all = record {
+    acyclic_if_all_ended : (ended : ℕ → ℕ) → IsRankedTo ended → ((p : ℕ) → ended p ≡ length (operations_of q p)) → IsAcyclic q
+    acyclic_if_all_ended ended was all = record {
       rank = was.rank;
       in_order = λ p i lt. let n = all p in was.in_order p i (omega (arith, lt, n));
-      follows = λ k a get. let n = all a.later.process in let there = (are_there k a get).0 in (was.follows k a get (omega (arith, n, there))).1;
+      follows = λ k a get. let n = all a.later.process in let there = (both_exist k a get).0 in (was.follows k a get (omega (arith, n, there))).1;
     }
 
     -- a process whose next operation can't end has to wait for another one
@@ -226,7 +227,7 @@ module _ (q : Question) where
         parts true false u h = absurd (true≢false h)
         parts false t u h = absurd (true≢false h)
 
-        waiting : Fails (allows ended p) q.after.items → IsBlocked ended p
+        waiting : HasFailing (allows ended p) q.after.items → IsBlocked ended p
         waiting f =
             let a = f.item in
             let n = parts (a.later.process == p) (a.later.index == ended p) (nat_lt a.earlier.index (ended a.earlier.process)) f.fails in
@@ -240,14 +241,15 @@ module _ (q : Question) where
             }
 
         by : (b : Bool) → list_all (allows ended p) q.after.items ≡ b → (if b then slice_get (operations_of q p) (ended p) else None) ≡ None → IsBlocked ended p
-        by true e h = let beyond = past (operations_of q p) (ended p) h in absurd (omega (arith, lt, beyond))
-        by false e h = waiting (failing (allows ended p) q.after.items e)
+        by true e h = let beyond = none_past_end (operations_of q p) (ended p) h in absurd (omega (arith, lt, beyond))
+        by false e h = waiting (some_fails (allows ended p) q.after.items e)
 
     module _ (ended : ℕ → ℕ) (stuck : (p : ℕ) → ended p < length (operations_of q p) → next_of q ended p ≡ None) (acyclic : IsAcyclic q) where
-      up : (j : ℕ) (p i : ℕ) → i ≤ j → j < length (operations_of q p) → acyclic.rank p i ≤ acyclic.rank p j
-      up zero p i le lt = let e : i ≡ 0 = omega (arith, le) in subst (λ n. acyclic.rank p i ≤ acyclic.rank p n) e (omega arith)
-      up (suc j) p i le lt = elim (cases_lt i (suc j)) [
-        | inl low ↦ let one = up j p i (omega (arith, low)) (omega (arith, lt)) in
+      -- a process's later operations have no smaller ranks
+      ranks_rise : (j : ℕ) (p i : ℕ) → i ≤ j → j < length (operations_of q p) → acyclic.rank p i ≤ acyclic.rank p j
+      ranks_rise zero p i le lt = let e : i ≡ 0 = omega (arith, le) in subst (λ n. acyclic.rank p i ≤ acyclic.rank p n) e (omega arith)
+      ranks_rise (suc j) p i le lt = elim (cases_lt i (suc j)) [
+        | inl low ↦ let one = ranks_rise j p i (omega (arith, low)) (omega (arith, lt)) in
             let e : j + 1 ≡ suc j = omega arith in
             let two : acyclic.rank p j < acyclic.rank p (suc j) = subst (λ n. acyclic.rank p j < acyclic.rank p n) e (acyclic.in_order p j (omega (arith, lt))) in
             omega (arith, one, two)
@@ -261,13 +263,14 @@ module _ (q : Question) where
       descend (suc n) p lt h =
           let w = blocked ended p (stuck p lt) lt in
           let a = w.after in
-          let there = (are_there w.index a w.stored).1 in
+          let there = (both_exist w.index a w.stored).1 in
           let waits = w.waits in
           let less = acyclic.follows w.index a w.stored in
           let here : acyclic.rank a.later.process a.later.index ≡ acyclic.rank p (ended p) = λ i. acyclic.rank (w.who i) (w.which i) in
-          let least = up a.earlier.index a.earlier.process (ended a.earlier.process) waits there in
+          let least = ranks_rise a.earlier.index a.earlier.process (ended a.earlier.process) waits there in
           descend n a.earlier.process (omega (arith, waits, there)) (omega (arith, less, here, least, h))
 
+      -- each process has ended all its operations
       pub none_left : (p : ℕ) → ended p < length (operations_of q p) → ⊥
       none_left p lt = descend (acyclic.rank p (ended p) + 1) p lt (omega arith)
 
@@ -279,7 +282,7 @@ module _ (q : Question) where
         → Decides verdict ((p : ℕ) → p < processes → ended p ≡ length (operations_of q p))
         → Decides verdict (IsAcyclic q)
     decides_acyclic ended processes verdict lists was few none d = (
-      λ h. acyclic_if_all ended was (everywhere (d.0 h)),
+      λ h. acyclic_if_all_ended ended was (everywhere (d.0 h)),
       λ acyclic. d.1 (λ p lt. elim (cases_lt (ended p) (length (operations_of q p))) [
         | inl low ↦ absurd (none_left ended (λ r less. none r (there r less)) acyclic p low)
         | inr high ↦ let most = few p in omega (arith, most, high)
@@ -309,22 +312,22 @@ module _ (answers : List (List Outcome)) (p : ℕ) (there : p < length answers) 
   abbrev with_one : List (List Outcome)
   with_one = set answers p (get_or answers p [] ++ Written ∷ [])
 
-  pub one_more : ended_counts with_one p ≡ ended_counts answers p + 1
-  one_more = ap length (get_or-set_same answers p (get_or answers p [] ++ Written ∷ []) [] there) ∙ length-append (get_or answers p []) (Written ∷ [])
+  pub one_more_ended : ended_counts with_one p ≡ ended_counts answers p + 1
+  one_more_ended = ap length (get_or-set_same answers p (get_or answers p [] ++ Written ∷ []) [] there) ∙ length-append (get_or answers p []) (Written ∷ [])
 
   pub others_kept : (r : ℕ) → (r ≡ p → ⊥) → ended_counts with_one r ≡ ended_counts answers r
   others_kept r other = ap length (get_or-set_other answers p r (get_or answers p [] ++ Written ∷ []) [] other)
 
   module _ (q : Question) (free : is_some (next_of q (ended_counts answers) p) ≡ true) where
-    pub more_ranked : IsRankedTo q (ended_counts answers) → IsRankedTo q (ended_counts with_one)
-    more_ranked was = ranked_more q (ended_counts answers) (ended_counts with_one) p was one_more others_kept (free_parts q (ended_counts answers) p free).1.0
+    pub ranked_with_one : IsRankedTo q (ended_counts answers) → IsRankedTo q (ended_counts with_one)
+    ranked_with_one was = ranked_more q (ended_counts answers) (ended_counts with_one) p was one_more_ended others_kept (free_parts q (ended_counts answers) p free).1.0
 
-    pub more_few : ((r : ℕ) → ended_counts answers r ≤ length (operations_of q r)) → (r : ℕ) → ended_counts with_one r ≤ length (operations_of q r)
-    more_few few r = elim (cases_eq r p) [
+    pub few_with_one : ((r : ℕ) → ended_counts answers r ≤ length (operations_of q r)) → (r : ℕ) → ended_counts with_one r ≤ length (operations_of q r)
+    few_with_one few r = elim (cases_eq r p) [
       | inl e ↦ subst (λ n. ended_counts with_one n ≤ length (operations_of q n)) (sym e)
           (let parts = free_parts q (ended_counts answers) p free in
           let within = slice_get_within (operations_of q p) (ended_counts answers p) parts.0 parts.1.1 in
-          omega (arith, one_more, within))
+          omega (arith, one_more_ended, within))
       | inr other ↦ let same = others_kept r other in let was = few r in omega (arith, same, was)
     ]
 

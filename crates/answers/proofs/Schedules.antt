@@ -14,43 +14,45 @@ use Rattle.frames.specs.declared.types.Step.TheVariants as step
 use Rattle.frames.specs.Behaviour.{Behaviour, IsLawful}
 use Rattle.frames.specs.Steps.{process_of}
 use Rattle.frames.specs.Voids.{IsVoid}
-use Rattle.frames.specs.laws.Steps.{process_there, void_unless_enabled}
+use Rattle.frames.specs.laws.Steps.{process_exists, void_unless_enabled}
 use Rattle.frames.specs.Configuration.{fits_step, is_enabled, stepped, events_of, history}
-use Rattle.frames.specs.Recorded.{Alone, AllFit, shown}
+use Rattle.frames.specs.Recorded.{Alone, AllFit, configuration_after}
 use Rattle.breadth_first.specs.Paths.{Moves, Reaches}
 use Rattle.answers.specs.declared.question.Question.{Question}
 use Rattle.answers.specs.Questions.{all_events, events_in, events_after, outcomes_by, AreAllowed}
-use Rattle.answers.specs.States.{StateOf, IsStateAfter, IsStateOfRun, alone, first_state, advanced, ended_counts, invoking_step, step_by, moved, moved_if}
-use Rattle.answers.proofs.Events.{fit_push, ended_append, shown_more, events_more, events_other}
+use Rattle.answers.specs.States.{StateOf, IsStateAfter, IsStateOfRun, configuration_alone, first_state, advanced, ended_counts, invoking_step, step_by, moved, moved_if}
+use Rattle.answers.proofs.Events.{fit_push, outcomes_by_append, shown_more, events_more, events_other}
 use Rattle.answers.proofs.Allowed.{IsPermitted, named_permitted, allowed_append, allowed_later, enabled_permitted, permitted_allowed, ended_before}
 
 -- at first no process has answers
-nothing_at : (n p : ℕ) → ◌≡◌ {A = List Outcome} (get_or (replicate n []) p []) []
-nothing_at zero p = refl
-nothing_at (suc n) zero = refl
-nothing_at (suc n) (suc p) = nothing_at n p
+no_answers_at : (n p : ℕ) → ◌≡◌ {A = List Outcome} (get_or (replicate n []) p []) []
+no_answers_at zero p = refl
+no_answers_at (suc n) zero = refl
+no_answers_at (suc n) (suc p) = no_answers_at n p
 
 module _ {R P : Type 0} (is : R → Behaviour P) (b : Behaviour P) (value : ℕ) where
+  -- the initial state is the one after no steps
   pub at_first : (r : R) → is r ≡ b → IsStateAfter is b value [] (first_state b value r)
   at_first r e = record {
     behaves = e;
     shows = refl;
     each = length-replicate b.processes [];
-    answered = λ p. nothing_at b.processes p;
+    answered = λ p. no_answers_at b.processes p;
   }
 
-  -- the same outcomes end in a step of x and in that step after the steps
-  same_events : (steps : List Step) (x : StateOf R P) (s : Step) → IsStateAfter is b value steps x → events_of b x.configuration s ≡ events_of b (shown b value steps) s
+  -- a step of x has the same events as that step after the steps
+  same_events : (steps : List Step) (x : StateOf R P) (s : Step) → IsStateAfter is b value steps x → events_of b x.configuration s ≡ events_of b (configuration_after b value steps) s
   same_events steps x s at = ap (λ (c : Alone P). events_of b c s) at.shows
 
   answered_more : (steps : List Step) (x : StateOf R P) (s : Step) (p : ℕ) → IsStateAfter is b value steps x
       → slice_index_or x.answers p [] ++ outcomes_by p (events_in (events_of b x.configuration s)) ≡ outcomes_by p (events_after b value (steps ++ s ∷ []))
   answered_more steps x s p at =
       (λ i. at.answered p i ++ outcomes_by p (events_in (same_events steps x s at i)))
-      ∙ (sym (ended_append p (events_after b value steps) (events_in (events_of b (shown b value steps) s)))
+      ∙ (sym (outcomes_by_append p (events_after b value steps) (events_in (events_of b (configuration_after b value steps) s)))
       ∙ ap (outcomes_by p) (sym (events_more b value steps s)))
 
   module _ (Holds : Memory → Type 0) (Reach : ℕ → Op → P → Type 0) (lawful : IsLawful b Holds Reach) where
+    -- a step that fits leads to the state after it
     pub at_more : (steps : List Step) (x : StateOf R P) (s : Step) → IsStateAfter is b value steps x → fits_step b s ≡ true → IsStateAfter is b value (steps ++ s ∷ []) (advanced b x s)
     at_more steps x s at fits = record {
       behaves = at.behaves;
@@ -63,7 +65,7 @@ module _ {R P : Type 0} (is : R → Behaviour P) (b : Behaviour P) (value : ℕ)
         added = slice_index_or x.answers (process_of s) [] ++ outcomes_by (process_of s) (events_in (events_of b x.configuration s))
 
         there : process_of s < length x.answers
-        there = let lt = process_there b Holds Reach lawful s fits in let e = at.each in omega (arith, lt, e)
+        there = let lt = process_exists b Holds Reach lawful s fits in let e = at.each in omega (arith, lt, e)
 
         own : (p : ℕ) → p ≡ process_of s → get_or (set x.answers (process_of s) added) p [] ≡ outcomes_by p (events_after b value (steps ++ s ∷ []))
         own p e =
@@ -83,7 +85,7 @@ module _ {R P : Type 0} (is : R → Behaviour P) (b : Behaviour P) (value : ℕ)
   -- a step that isn't enabled leaves the state as it is
   pub at_same : (steps : List Step) (x : StateOf R P) (s : Step) → IsStateAfter is b value steps x → is_enabled x.configuration s ≡ false → IsStateAfter is b value (steps ++ s ∷ []) x
   at_same steps x s at off =
-      let void : IsVoid b (alone x.configuration) s = void_unless_enabled b (alone x.configuration) s off in
+      let void : IsVoid b (configuration_alone x.configuration) s = void_unless_enabled b (configuration_alone x.configuration) s off in
       record {
         behaves = at.behaves;
         shows = sym void.leaves ∙ (ap (λ (c : Alone P). stepped b c s) at.shows ∙ sym (shown_more b value steps s));
@@ -94,18 +96,18 @@ module _ {R P : Type 0} (is : R → Behaviour P) (b : Behaviour P) (value : ℕ)
       }
 
   module _ (q : Question) where
-    -- the moves of a question
-    abbrev pub leads : StateOf R P → ℕ → Option (StateOf R P)
-    leads x l = moved (is x.configuration.register) q x l
+    -- the state to which label l leads from x
+    abbrev pub labelled_move : StateOf R P → ℕ → Option (StateOf R P)
+    labelled_move x l = moved (is x.configuration.register) q x l
 
-    no_choice : (p c : ℕ) → fits_step b (step.Go p (suc (suc c))) ≡ true → ⊥
-    no_choice p c h = let lt = ltb-true (suc (suc c)) 2 (and_parts (nat_lt p b.processes) (nat_lt (suc (suc c)) 2) h).1 in omega (arith, lt)
+    no_third_choice : (p c : ℕ) → fits_step b (step.Go p (suc (suc c))) ≡ true → ⊥
+    no_third_choice p c h = let lt = ltb-true (suc (suc c)) 2 (and_parts (nat_lt p b.processes) (nat_lt (suc (suc c)) 2) h).1 in omega (arith, lt)
 
     -- a step that p and `kind` name, and that fits and is enabled, is a move, by label p * 4 + kind
-    named : (p kind : ℕ) (x : StateOf R P) (s : Step) → kind < 4 → is x.configuration.register ≡ b → p < b.processes
+    named_moves : (p kind : ℕ) (x : StateOf R P) (s : Step) → kind < 4 → is x.configuration.register ≡ b → p < b.processes
         → step_by q x.answers p kind ≡ Some s → fits_step b s ≡ true → is_enabled x.configuration s ≡ true
-        → Moves (b.processes * 4) leads x (advanced b x s)
-    named p kind x s low e lt names fits on = (
+        → Moves (b.processes * 4) labelled_move x (advanced b x s)
+    named_moves p kind x s low e lt names fits on = (
       p * 4 + kind,
       (
         omega (arith, lt, low),
@@ -117,13 +119,13 @@ module _ {R P : Type 0} (is : R → Behaviour P) (b : Behaviour P) (value : ℕ)
 
     -- a permitted step that fits and is enabled is a move
     pub permitted_moves : (x : StateOf R P) (s : Step) → is x.configuration.register ≡ b → process_of s < b.processes
-        → IsPermitted q (ended_counts x.answers) s → fits_step b s ≡ true → is_enabled x.configuration s ≡ true → Moves (b.processes * 4) leads x (advanced b x s)
-    permitted_moves x (step.Write p v) e lt h fits on = named p 2 x (step.Write p v) (omega arith) e lt (ap (option_map (invoking_step p)) h) fits on
-    permitted_moves x (step.Read p) e lt h fits on = named p 2 x (step.Read p) (omega arith) e lt (ap (option_map (invoking_step p)) h) fits on
-    permitted_moves x (step.Go p zero) e lt h fits on = named p 0 x (step.Go p zero) (omega arith) e lt refl fits on
-    permitted_moves x (step.Go p (suc zero)) e lt h fits on = named p 1 x (step.Go p (suc zero)) (omega arith) e lt refl fits on
-    permitted_moves x (step.Go p (suc (suc c))) e lt h fits on = absurd (no_choice p c fits)
-    permitted_moves x (step.Stop p) e lt h fits on = named p 3 x (step.Stop p) (omega arith) e lt (ap (λ t. if t then Some (step.Stop p) else None) h) fits on
+        → IsPermitted q (ended_counts x.answers) s → fits_step b s ≡ true → is_enabled x.configuration s ≡ true → Moves (b.processes * 4) labelled_move x (advanced b x s)
+    permitted_moves x (step.Write p v) e lt h fits on = named_moves p 2 x (step.Write p v) (omega arith) e lt (ap (option_map (invoking_step p)) h) fits on
+    permitted_moves x (step.Read p) e lt h fits on = named_moves p 2 x (step.Read p) (omega arith) e lt (ap (option_map (invoking_step p)) h) fits on
+    permitted_moves x (step.Go p zero) e lt h fits on = named_moves p 0 x (step.Go p zero) (omega arith) e lt refl fits on
+    permitted_moves x (step.Go p (suc zero)) e lt h fits on = named_moves p 1 x (step.Go p (suc zero)) (omega arith) e lt refl fits on
+    permitted_moves x (step.Go p (suc (suc c))) e lt h fits on = absurd (no_third_choice p c fits)
+    permitted_moves x (step.Stop p) e lt h fits on = named_moves p 3 x (step.Stop p) (omega arith) e lt (ap (λ t. if t then Some (step.Stop p) else None) h) fits on
 
     -- the numbers of ended operations are the same by the state's answers and by the events
     same_counts : (steps : List Step) (x : StateOf R P) → IsStateAfter is b value steps x → ended_counts x.answers ≡ ended_before q (events_after b value steps)
@@ -153,12 +155,12 @@ module _ {R P : Type 0} (is : R → Behaviour P) (b : Behaviour P) (value : ℕ)
             at = at_more Holds Reach lawful steps x s run.at fits;
             fit = fit_push b steps s run.fit fits;
             allowed = subst (AreAllowed q []) (sym (events_more b value steps s))
-                (allowed_append q [] before (events_in (events_of b (shown b value steps) s)) run.allowed (permitted_allowed q before b (shown b value steps) s may_be));
+                (allowed_append q [] before (events_in (events_of b (configuration_after b value steps) s)) run.allowed (permitted_allowed q before b (configuration_after b value steps) s may_be));
           }
 
       -- a move from the state after some steps makes one more step
       pub run_moves : (steps : List Step) (x z : StateOf R P) (l : ℕ) (s : Step) → IsStateOfRun is b value q steps x → step_by q x.answers (l / 4) (l % 4) ≡ Some s
-          → leads x l ≡ Some z → IsStateOfRun is b value q (steps ++ s ∷ []) z
+          → labelled_move x l ≡ Some z → IsStateOfRun is b value q (steps ++ s ∷ []) z
       run_moves steps x z l s run names mv =
           let t = step_taken x z (step_by q x.answers (l / 4) (l % 4)) (ap (λ (a : Behaviour P). moved a q x l) (sym run.at.behaves) ∙ mv) in
           let same : t.0 ≡ s = same_Some t.0 s (sym t.1.0 ∙ names) in
@@ -171,12 +173,12 @@ module _ {R P : Type 0} (is : R → Behaviour P) (b : Behaviour P) (value : ℕ)
         pub moves : ℕ
         pub at : IsStateAfter is b value steps state
         pub few : moves ≤ most
-        pub reached : Reaches (b.processes * 4) leads start moves state
+        pub reached : Reaches (b.processes * 4) labelled_move start moves state
 
       -- a state reached by n moves leads, by at most as many moves as there are further steps, to
       -- the state after them
-      pub walk : (start : StateOf R P) (rest steps : List Step) (x : StateOf R P) (n : ℕ) → IsStateAfter is b value steps x → Reaches (b.processes * 4) leads start n x
-          → AllFit b rest → AreAllowed q (events_after b value steps) (all_events (history b (shown b value steps) rest))
+      pub walk : (start : StateOf R P) (rest steps : List Step) (x : StateOf R P) (n : ℕ) → IsStateAfter is b value steps x → Reaches (b.processes * 4) labelled_move start n x
+          → AllFit b rest → AreAllowed q (events_after b value steps) (all_events (history b (configuration_after b value steps) rest))
           → IsWalked start (steps ++ rest) (n + length rest)
       walk start [] steps x n at reached fit allowed = record {
         state = x;
@@ -192,13 +194,13 @@ module _ {R P : Type 0} (is : R → Behaviour P) (b : Behaviour P) (value : ℕ)
           fits = fit 0 s (omega arith)
 
           events : List Event
-          events = events_in (events_of b (shown b value steps) s)
+          events = events_in (events_of b (configuration_after b value steps) s)
 
-          later : AreAllowed q (events_after b value (steps ++ s ∷ [])) (all_events (history b (shown b value (steps ++ s ∷ [])) rest))
+          later : AreAllowed q (events_after b value (steps ++ s ∷ [])) (all_events (history b (configuration_after b value (steps ++ s ∷ [])) rest))
           later =
-              subst (λ l. AreAllowed q l (all_events (history b (shown b value (steps ++ s ∷ [])) rest))) (sym (events_more b value steps s))
+              subst (λ l. AreAllowed q l (all_events (history b (configuration_after b value (steps ++ s ∷ [])) rest))) (sym (events_more b value steps s))
               (subst (λ (c : Alone P). AreAllowed q (events_after b value steps ++ events) (all_events (history b c rest))) (sym (shown_more b value steps s))
-              (allowed_later q (events_after b value steps) events (all_events (history b (stepped b (shown b value steps) s) rest)) allowed))
+              (allowed_later q (events_after b value steps) events (all_events (history b (stepped b (configuration_after b value steps) s) rest)) allowed))
 
           joined : (most : ℕ) → most ≤ n + length (s ∷ rest) → IsWalked start ((steps ++ s ∷ []) ++ rest) most → IsWalked start (steps ++ s ∷ rest) (n + length (s ∷ rest))
           joined most le w = record {
@@ -209,15 +211,15 @@ module _ {R P : Type 0} (is : R → Behaviour P) (b : Behaviour P) (value : ℕ)
             reached = w.reached;
           }
 
-          moves : is_enabled x.configuration s ≡ true → Moves (b.processes * 4) leads x (advanced b x s)
+          moves : is_enabled x.configuration s ≡ true → Moves (b.processes * 4) labelled_move x (advanced b x s)
           moves on =
-              let same : is_enabled (shown b value steps) s ≡ true = ap (λ (c : Alone P). is_enabled c s) (sym at.shows) ∙ on in
-              let may : IsPermitted q (ended_before q (events_after b value steps)) s = enabled_permitted q (events_after b value steps) b (shown b value steps) s (all_events (history b (stepped b (shown b value steps) s) rest)) same allowed in
-              permitted_moves x s at.behaves (process_there b Holds Reach lawful s fits)
+              let same : is_enabled (configuration_after b value steps) s ≡ true = ap (λ (c : Alone P). is_enabled c s) (sym at.shows) ∙ on in
+              let may : IsPermitted q (ended_before q (events_after b value steps)) s = enabled_permitted q (events_after b value steps) b (configuration_after b value steps) s (all_events (history b (stepped b (configuration_after b value steps) s) rest)) same allowed in
+              permitted_moves x s at.behaves (process_exists b Holds Reach lawful s fits)
               (subst (λ (f : ℕ → ℕ). IsPermitted q f s) (sym (same_counts steps x at)) may) fits on
 
           by : (on : Bool) → is_enabled x.configuration s ≡ on
-              → ((y : StateOf R P) (m : ℕ) → IsStateAfter is b value (steps ++ s ∷ []) y → Reaches (b.processes * 4) leads start m y → IsWalked start ((steps ++ s ∷ []) ++ rest) (m + length rest))
+              → ((y : StateOf R P) (m : ℕ) → IsStateAfter is b value (steps ++ s ∷ []) y → Reaches (b.processes * 4) labelled_move start m y → IsWalked start ((steps ++ s ∷ []) ++ rest) (m + length rest))
               → IsWalked start (steps ++ s ∷ rest) (n + length (s ∷ rest))
           by true on go = joined (suc n + length rest) (omega arith) (go (advanced b x s) (suc n) (at_more Holds Reach lawful steps x s at fits) (x, (reached, moves on)))
           by false off go = joined (n + length rest) (omega arith) (go x n (at_same steps x s at off) reached)

@@ -22,16 +22,16 @@ use Rattle.answers.proofs.Schedules.{run_first, run_more}
 
 module _ {R P : Type 0} (is : R → Behaviour P) (b : Behaviour P) (q : Question) where
   -- the initial state is the one after no steps
-  pub no_steps : (r : R) (x : StateOf R P) (steps : List Step) → is r ≡ b → x ≡ first_state b q.value r → steps ≡ [] → IsStateOfRun is b q.value q steps x
-  no_steps r x steps e first none =
+  pub draft_first : (r : R) (x : StateOf R P) (steps : List Step) → is r ≡ b → x ≡ first_state b q.value r → steps ≡ [] → IsStateOfRun is b q.value q steps x
+  draft_first r x steps e first none =
       subst (λ (s : List Step). IsStateOfRun is b q.value q s x) (sym none)
       (subst (IsStateOfRun is b q.value q []) (sym first) (run_first is b q.value q r e))
 
   -- one more step that the question lets a process make leads to the state after it
-  pub one_more : (Holds : Memory → Type 0) (Reach : ℕ → Op → P → Type 0) → IsLawful b Holds Reach → (steps more : List Step) (x z : StateOf R P) (p kind : ℕ) (s : Step)
+  pub draft_more : (Holds : Memory → Type 0) (Reach : ℕ → Op → P → Type 0) → IsLawful b Holds Reach → (steps more : List Step) (x z : StateOf R P) (p kind : ℕ) (s : Step)
       → IsStateOfRun is b q.value q steps x → step_by q x.answers p kind ≡ Some s → fits_step (is x.configuration.register) s ≡ true
       → more ≡ steps ++ s ∷ [] → z ≡ advanced (is x.configuration.register) x s → IsStateOfRun is b q.value q more z
-  one_more Holds Reach lawful steps more x z p kind s run names fits e made =
+  draft_more Holds Reach lawful steps more x z p kind s run names fits e made =
       let fits_b : fits_step b s ≡ true = ap (λ (a : Behaviour P). fits_step a s) (sym run.at.behaves) ∙ fits in
       let made_b : z ≡ advanced b x s = made ∙ ap (λ (a : Behaviour P). advanced a x s) run.at.behaves in
       subst (λ (l : List Step). IsStateOfRun is b q.value q l z) (sym e)
@@ -54,17 +54,17 @@ new_or_old (d ∷ ds) zero (suc j) y x h = inr h
 new_or_old (d ∷ ds) (suc i) zero y x h = inr h
 new_or_old (d ∷ ds) (suc i) (suc j) y x h = elim (new_or_old ds i j y x h) [ inl p ↦ inl (ap suc p.0, p.1) | inr o ↦ inr o ]
 
-there : {X : Type 0} (xs : List X) (i : ℕ) (y x : X) → slice_get xs i ≡ Some x → slice_get (slice_set xs i y) i ≡ Some y
-there [] i y x h = absurd (none-some x h)
-there (d ∷ ds) zero y x h = refl
-there (d ∷ ds) (suc i) y x h = there ds i y x h
+set_here : {X : Type 0} (xs : List X) (i : ℕ) (y x : X) → slice_get xs i ≡ Some x → slice_get (slice_set xs i y) i ≡ Some y
+set_here [] i y x h = absurd (none-some x h)
+set_here (d ∷ ds) zero y x h = refl
+set_here (d ∷ ds) (suc i) y x h = set_here ds i y x h
 
-elsewhere : {X : Type 0} (xs : List X) (i j : ℕ) (y x : X) → (j ≡ i → ⊥) → slice_get xs j ≡ Some x → slice_get (slice_set xs i y) j ≡ Some x
-elsewhere [] i j y x ne h = absurd (none-some x h)
-elsewhere (d ∷ ds) zero zero y x ne h = absurd (ne refl)
-elsewhere (d ∷ ds) zero (suc j) y x ne h = h
-elsewhere (d ∷ ds) (suc i) zero y x ne h = h
-elsewhere (d ∷ ds) (suc i) (suc j) y x ne h = elsewhere ds i j y x (λ e. ne (ap suc e)) h
+set_elsewhere : {X : Type 0} (xs : List X) (i j : ℕ) (y x : X) → (j ≡ i → ⊥) → slice_get xs j ≡ Some x → slice_get (slice_set xs i y) j ≡ Some x
+set_elsewhere [] i j y x ne h = absurd (none-some x h)
+set_elsewhere (d ∷ ds) zero zero y x ne h = absurd (ne refl)
+set_elsewhere (d ∷ ds) zero (suc j) y x ne h = h
+set_elsewhere (d ∷ ds) (suc i) zero y x ne h = h
+set_elsewhere (d ∷ ds) (suc i) (suc j) y x ne h = set_elsewhere ds i j y x (λ e. ne (ap suc e)) h
 
 -- Item i of the list, a, is replaced by z, which has the same answers and as many other steps.
 module _ {P : Type 0} (b : Behaviour P) (q : Question) (found : List Possible) (i : ℕ) (a z : Possible) (stored : slice_get found i ≡ Some a)
@@ -76,8 +76,8 @@ module _ {P : Type 0} (b : Behaviour P) (q : Question) (found : List Possible) (
     | inr o ↦ (c, (o, refl))
   ]
 
-  pub other_steps : AllAnswered b q (slice_set found i z)
-  other_steps = record {
+  pub still_all_answered : AllAnswered b q (slice_set found i z)
+  still_all_answered = record {
     sound = λ j c h. elim (new_or_old found i j z c h) [ inl p ↦ subst (HasItsSchedule b q) p.1 sound | inr o ↦ all.sound j c o ];
     complete = λ steps schedule. still steps (all.complete steps schedule);
     once = λ j k c d h l e.
@@ -95,14 +95,14 @@ module _ {P : Type 0} (b : Behaviour P) (q : Question) (found : List Possible) (
             record {
               index = i;
               possible = z;
-              stored = there found i z a stored;
+              stored = set_here found i z a stored;
               answers = subst (HasAnswers b q.value steps) (sym (answers ∙ ap (λ (n : Possible). n.answers.items) same)) l.answers;
               shortest = omega (arith, long, as_long, short);
             }
         | inr ne ↦ record {
           index = l.index;
           possible = l.possible;
-          stored = elsewhere found i l.index z l.possible ne l.stored;
+          stored = set_elsewhere found i l.index z l.possible ne l.stored;
           answers = l.answers;
           shortest = l.shortest;
         }

@@ -19,8 +19,8 @@ pub record IsListed {P : Type 0} (b : Behaviour P) (q : Question) (found : List 
   pub answers : HasAnswers b q.value steps possible.answers.items
   pub shortest : length possible.steps.items ≤ length steps
 
--- Just the possible answers are listed, each once, with a schedule as short as any: each list has its
--- schedule; and whatever the schedule of what is asked, its answers are listed.
+-- Just the possible answers are listed, each once, with a schedule as short as any: each list has
+-- its schedule; and whatever the schedule of what is asked, its answers are listed.
 pub record AllAnswered {P : Type 0} (b : Behaviour P) (q : Question) (found : List Possible) : Type 0 where
   pub sound : (i : ℕ) (a : Possible) → slice_get found i ≡ Some a → HasItsSchedule b q a
   pub complete : (steps : List Step) → IsScheduleOf b q steps → IsListed b q found steps

@@ -24,17 +24,17 @@ pub record IsCovered {R P : Type 0} (found : List Possible) (k : StateOf R P) (d
 
 -- the answers of the done states before index `at` are listed, each once, with a schedule of theirs
 -- no longer than the paths to these states and to any later state
-pub record IsGathered {R P : Type 0} (b : Behaviour P) (q : Question) (keys : List (StateOf R P)) (marks : List Mark) (at : ℕ) (found : List Possible) : Type 0 where
+pub record IsGathered {R P : Type 0} (b : Behaviour P) (q : Question) (nodes : List (StateOf R P)) (marks : List Mark) (at : ℕ) (found : List Possible) : Type 0 where
   pub sound : (i : ℕ) (a : Possible) → slice_get found i ≡ Some a → HasItsSchedule b q a
-  pub early : (i : ℕ) (a : Possible) → slice_get found i ≡ Some a → (j : ℕ) → at ≤ j → j < length keys → length a.steps.items ≤ depth_at marks j
-  pub covers : (j : ℕ) (k : StateOf R P) → j < at → slice_get keys j ≡ Some k → AreAllOver b q k → IsCovered found k (depth_at marks j)
+  pub early : (i : ℕ) (a : Possible) → slice_get found i ≡ Some a → (j : ℕ) → at ≤ j → j < length nodes → length a.steps.items ≤ depth_at marks j
+  pub covers : (j : ℕ) (k : StateOf R P) → j < at → slice_get nodes j ≡ Some k → AreAllOver b q k → IsCovered found k (depth_at marks j)
   pub once : (i j : ℕ) (a c : Possible) → slice_get found i ≡ Some a → slice_get found j ≡ Some c → a.answers.items ≡ c.answers.items → i ≡ j
 
--- these steps lead to `state`, from which the marks that are left lead to `key`
-pub record IsBuilding {R P : Type 0} (is : R → Behaviour P) (b : Behaviour P) (q : Question) (key state : StateOf R P) (steps : List Step) (left : List Mark) : Type 0 where
+-- these steps lead to `state`, from which the marks that are left lead to `end`
+pub record IsBuilding {R P : Type 0} (is : R → Behaviour P) (b : Behaviour P) (q : Question) (end state : StateOf R P) (steps : List Step) (left : List Mark) : Type 0 where
   pub nodes : List (StateOf R P)
   pub run : IsStateOfRun is b q.value q steps state
-  pub leads : LeadsBy (b.processes * 4) (λ x l. moved (is x.configuration.register) q x l) nodes state left key
+  pub leads : LeadsBy (b.processes * 4) (λ x l. moved (is x.configuration.register) q x l) nodes state left end
 
 module _ {R P : Type 0} (is : R → Behaviour P) (E : R → R → Bool) (F : P → P → Bool) (q : Question) (r : R) where
   -- the states that the question's moves reach from the initial state of register r: their keys,

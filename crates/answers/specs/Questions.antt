@@ -1,5 +1,5 @@
--- Which answers the schedules of given operations have, and what it means that a list has all of
--- them, each with a shortest schedule.
+-- Questions: the schedules of what is asked, the answers that they have, and whether a question
+-- fits a register.
 use Rattle.std.specs.Prelude.{◌≡◌, ℕ, ◌+◌, ◌<◌, ◌≤◌, ◌==◌, ◌&&◌, ◌||◌, not, nat_lt, Bool, true, ⊤, ◌⊎◌, List, [], ◌∷◌, ◌++◌, Option, None, Some, length, slice_get, slice_index_or, if◌then◌else◌}
 use Rattle.std.specs.Global.{Vec}
 use Rattle.std.specs.List.{list_all, list_any}
@@ -12,7 +12,7 @@ use Rattle.frames.specs.declared.types.StepEvents.{StepEvents}
 use Rattle.frames.specs.declared.types.Step.{Step}
 use Rattle.frames.specs.Behaviour.{Behaviour}
 use Rattle.frames.specs.Configuration.{running_at, is_stopped, history}
-use Rattle.frames.specs.Recorded.{AllFit, first_configuration, shown}
+use Rattle.frames.specs.Recorded.{AllFit, first_configuration, configuration_after}
 use Rattle.answers.specs.declared.question.After.{After}
 use Rattle.answers.specs.declared.question.Nth.{Nth}
 use Rattle.answers.specs.declared.question.Question.{Question}
@@ -35,8 +35,8 @@ all_events (events ∷ later) = events_in events ++ all_events later
 abbrev pub events_after : {P : Type 0} → Behaviour P → ℕ → List Step → List Event
 events_after b value steps = all_events (history b (first_configuration b value) steps)
 
--- the outcome of process p's operation that ends in this event, as a list of one item; an empty list
--- if none ends
+-- the outcome of process p's operation that ends in this event, as a list of one item; an empty
+-- list if none ends
 abbrev pub outcomes_in : ℕ → Event → List Outcome
 outcomes_in p (Got q v) = if q == p then Value v ∷ [] else []
 outcomes_in p (Wrote q) = if q == p then Written ∷ [] else []
@@ -57,8 +57,8 @@ operations_in (Some list) = list.items
 abbrev pub operations_of : Question → ℕ → List Op
 operations_of q p = operations_in (slice_get q.operations.items p)
 
--- Whether `a` lets process p invoke its next operation, if each process r has ended `ended r` of its
--- operations: if that is the later operation of `a`, the earlier one has ended.
+-- Whether `a` lets process p invoke its next operation, if each process r has ended `ended r` of
+-- its operations: if that is the later operation of `a`, the earlier one has ended.
 abbrev pub allows : (ℕ → ℕ) → ℕ → After → Bool
 allows ended p a = not (a.later.process == p && a.later.index == ended p) || nat_lt a.earlier.index (ended a.earlier.process)
 
@@ -68,14 +68,14 @@ abbrev pub next_of : Question → (ℕ → ℕ) → ℕ → Option Op
 next_of q ended p = if list_all (allows ended p) q.after.items then slice_get (operations_of q p) (ended p) else None
 
 -- whether process p may stop
-abbrev pub stops_in : Question → ℕ → Bool
-stops_in q p = list_any (λ r. p == r) q.may_stop.items
+abbrev pub process_may_stop : Question → ℕ → Bool
+process_may_stop q p = list_any (λ r. p == r) q.may_stop.items
 
--- After the events `before`, an event is allowed. An invocation has to be that of the process's next
--- operation, and only some processes may stop.
+-- After the events `before`, an event is allowed. An invocation has to be that of the process's
+-- next operation, and only some processes may stop.
 abbrev pub IsAllowed : Question → List Event → Event → Type 0
 IsAllowed q before (Invoke p o) = next_of q (λ r. length (outcomes_by r before)) p ≡ Some o
-IsAllowed q before (Stop p) = stops_in q p ≡ true
+IsAllowed q before (Stop p) = process_may_stop q p ≡ true
 IsAllowed q before _ = ⊤
 
 -- each of these events is allowed after `before` and the ones that precede it
@@ -86,13 +86,14 @@ AreAllowed q before (e ∷ later) = IsAllowed q before e × AreAllowed q (before
 -- Process p has stopped, or it is idle and all its operations have ended.
 abbrev pub IsThrough : {P : Type 0} → Behaviour P → Question → List Step → ℕ → Type 0
 IsThrough b q steps p =
-    (is_stopped p (shown b q.value steps) ≡ true)
-    ⊎ ((running_at p (shown b q.value steps) ≡ None)
+    (is_stopped p (configuration_after b q.value steps) ≡ true)
+    ⊎ ((running_at p (configuration_after b q.value steps) ≡ None)
     × (length (outcomes_by p (events_after b q.value steps)) ≡ length (operations_of q p)))
 
 -- A schedule of what is asked: fitting steps, in which each process invokes just its operations, in
--- order, and each after those that it has to follow; only processes that may stop do; and in the end
--- each process that hasn't stopped has ended all its operations. Void steps may be among the steps.
+-- order, and each after those that it has to follow; only processes that may stop do; and in the
+-- end each process that hasn't stopped has ended all its operations. Void steps may be among the
+-- steps.
 pub record IsScheduleOf {P : Type 0} (b : Behaviour P) (q : Question) (steps : List Step) : Type 0 where
   pub fit : AllFit b steps
   pub allowed : AreAllowed q [] (events_after b q.value steps)
@@ -112,8 +113,8 @@ abbrev pub are_named : Question → After → Bool
 are_named q a = is_named q a.later && is_named q a.earlier
 
 -- The operations a question has are the register's: its initial value is one of the register's
--- values, there are no more lists than processes, each operation fits its process, and `after` names
--- operations that are asked.
+-- values, there are no more lists than processes, each operation fits its process, and `after`
+-- names operations that are asked.
 pub record AreOperationsOf {P : Type 0} (b : Behaviour P) (q : Question) : Type 0 where
   pub value : q.value < b.values
   pub lists : length q.operations.items ≤ b.processes
@@ -121,8 +122,8 @@ pub record AreOperationsOf {P : Type 0} (b : Behaviour P) (q : Question) : Type 
   pub named : list_all (are_named q) q.after.items ≡ true
 
 -- No operation has to follow itself: operations have ranks, greater ones after smaller ones. Each
--- operation's rank is greater than that of the same process's operation before it, and than those of
--- the operations that it has to follow.
+-- operation's rank is greater than that of the same process's operation before it, and than those
+-- of the operations that it has to follow.
 pub record IsAcyclic (q : Question) : Type 0 where
   pub rank : ℕ → ℕ → ℕ
   pub in_order : (p i : ℕ) → i + 1 < length (operations_of q p) → rank p i < rank p (i + 1)

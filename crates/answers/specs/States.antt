@@ -12,9 +12,9 @@ use Rattle.frames.specs.declared.types.Step.TheVariants as step
 use Rattle.frames.specs.Behaviour.{Behaviour}
 use Rattle.frames.specs.Steps.{process_of}
 use Rattle.frames.specs.Configuration.{Configuration, initial_configuration, running_at, is_stopped, fits_step, is_enabled, stepped, events_of}
-use Rattle.frames.specs.Recorded.{Alone, AllFit, shown}
+use Rattle.frames.specs.Recorded.{Alone, AllFit, configuration_after}
 use Rattle.answers.specs.declared.question.Question.{Question}
-use Rattle.answers.specs.Questions.{outcomes_by, events_in, events_after, next_of, operations_of, stops_in, AreAllowed}
+use Rattle.answers.specs.Questions.{outcomes_by, events_in, events_after, next_of, operations_of, process_may_stop, AreAllowed}
 
 -- a configuration, and for each process the outcomes of the operations that it has ended
 pub record StateOf (R P : Type 0) : Type 0 where
@@ -53,16 +53,16 @@ step_by q answers p kind =
     if kind == 0 then Some (step.Go p 0) else
     if kind == 1 then Some (step.Go p 1) else
     if kind == 2 then option_map (invoking_step p) (next_of q (ended_counts answers) p) else
-    if stops_in q p then Some (step.Stop p) else None
+    if process_may_stop q p then Some (step.Stop p) else None
 
 -- whether the event is the choice of a hit read
-abbrev pub records_choice : Option Event → Bool
-records_choice (Some (Chosen p bit value)) = true
-records_choice _ = false
+abbrev pub is_choice_event : Option Event → Bool
+is_choice_event (Some (Chosen p bit value)) = true
+is_choice_event _ = false
 
 -- whether a step with these events reports a choice, which is then its first event
 abbrev pub has_choice : StepEvents → Bool
-has_choice events = records_choice events.first
+has_choice events = is_choice_event events.first
 
 -- the state after the step, if there is one that fits and is enabled
 abbrev pub moved_if : {R P : Type 0} → Behaviour P → StateOf R P → Option Step → Option (StateOf R P)
@@ -86,13 +86,13 @@ abbrev pub AreAllOver : {R P : Type 0} → Behaviour P → Question → StateOf 
 AreAllOver b q x = (p : ℕ) → p < b.processes → is_over q x p ≡ true
 
 -- the configuration without its register
-abbrev pub alone : {R P : Type 0} → Configuration R P → Alone P
-alone c = record { register = tt; memory = c.memory; running = c.running; stopped = c.stopped }
+abbrev pub configuration_alone : {R P : Type 0} → Configuration R P → Alone P
+configuration_alone c = record { register = tt; memory = c.memory; running = c.running; stopped = c.stopped }
 
 -- x is the state after these steps; `is` gives the behaviour of a register
 pub record IsStateAfter {R P : Type 0} (is : R → Behaviour P) (b : Behaviour P) (value : ℕ) (steps : List Step) (x : StateOf R P) : Type 0 where
   pub behaves : is x.configuration.register ≡ b
-  pub shows : alone x.configuration ≡ shown b value steps
+  pub shows : configuration_alone x.configuration ≡ configuration_after b value steps
   pub each : length x.answers ≡ b.processes
   pub answered : (p : ℕ) → slice_index_or x.answers p [] ≡ outcomes_by p (events_after b value steps)
 

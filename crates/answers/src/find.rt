@@ -71,12 +71,12 @@ fn walk_along<'q, R: Register>(
     start: State<R>,
     path: &[Mark],
 ) -> Result<Walk<R>, AllocError>
-    requires { (key : StateOf R R.Pending) × IsBuilding R.behaviour
-        (R.behaviour moves.now.register) moves.now.question.now key start [] path.now }
-    ensures led { IfOk result (λ w. (key : StateOf R R.Pending)
-        → IsBuilding R.behaviour (R.behaviour moves.now.register) moves.now.question.now key
+    requires { (end : StateOf R R.Pending) × IsBuilding R.behaviour
+        (R.behaviour moves.now.register) moves.now.question.now end start [] path.now }
+    ensures led { IfOk result (λ w. (end : StateOf R R.Pending)
+        → IsBuilding R.behaviour (R.behaviour moves.now.register) moves.now.question.now end
         start [] path.now
-        → IsBuilding R.behaviour (R.behaviour moves.now.register) moves.now.question.now key
+        → IsBuilding R.behaviour (R.behaviour moves.now.register) moves.now.question.now end
         w.state w.steps.items []) }
     ensures long { IfOk result (λ w. length w.steps.items ≡ length path.now) }
 {
@@ -264,9 +264,9 @@ fn answer<'q, R: Register>(alloc: Global, moves: &Moves<'q, R>, most: u32) -> Re
 /// The most states that a search may be allowed.
 pub const MOST_STATES: u32 = 16_777_216;
 
-/// All answers that schedules of what is asked have, each once, with a shortest schedule. `Unfit` if
-/// the question doesn't fit the register, or `most_states` isn't 1 to `MOST_STATES`; `TooMany` if
-/// more than `most_states` states are reachable; `Memory` if memory runs out.
+/// All answers that schedules of what is asked have, each once, with a shortest schedule. `Unfit`
+/// if the question doesn't fit the register, or `most_states` isn't 1 to `MOST_STATES`; `TooMany`
+/// if more than `most_states` states are reachable; `Memory` if memory runs out.
 pub fn find<R: Register>(
     alloc: Global,
     register: &R,

@@ -20,7 +20,7 @@ fn all_fit<R: Register>(register: &R, p: u32, list: &[Op]) -> bool
 }
 
 /// Whether each operation of process `p` fits it.
-fn suits<R: Register>(register: &R, question: &Question, p: u32) -> bool
+fn operations_fit<R: Register>(register: &R, question: &Question, p: u32) -> bool
     ensures { result ≡ list_all ((R.behaviour register.now).suits p)
         (operations_of question.now p) }
 {
@@ -31,13 +31,13 @@ fn suits<R: Register>(register: &R, question: &Question, p: u32) -> bool
 }
 
 /// Whether each operation fits its process.
-fn all_suit<R: Register>(register: &R, question: &Question) -> bool
+fn all_operations_fit<R: Register>(register: &R, question: &Question) -> bool
     requires { length question.now.operations.items ≤ (R.behaviour register.now).processes }
     ensures { Decides result ((p : ℕ) → list_all ((R.behaviour register.now).suits p)
         (operations_of question.now p) ≡ true) }
 {
     for p in 0..register.processes() {
-        if !suits(register, question, p) {
+        if !operations_fit(register, question, p) {
             return false;
         }
     }
@@ -79,7 +79,7 @@ fn is_well_formed<R: Register>(register: &R, question: &Question) -> bool
     if question.operations.len() > register.processes() as usize {
         return false;
     }
-    if !all_suit(register, question) {
+    if !all_operations_fit(register, question) {
         return false;
     }
     all_named(question)

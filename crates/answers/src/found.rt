@@ -3,8 +3,8 @@
 use crate::outcomes::Outcomes;
 use frames::types::Step;
 
-/// Answers that are possible: for each process the outcomes of the operations that it ends. And a
-/// schedule that has them; none that has them is shorter.
+/// Possible answers, for each process the outcomes of the operations that it ends, and a shortest
+/// schedule that has them.
 #[derive(Drop)]
 pub struct Possible {
     pub answers: Vec<Outcomes>,

@@ -1,4 +1,5 @@
-//! All answers: which answers the schedules of given operations have, each with a shortest schedule.
+//! All answers: which answers the schedules of given operations have, each with a shortest
+//! schedule.
 #![tactic(auto)]
 
 mod cycles;

@@ -3,7 +3,7 @@
 ghost use Rattle.std.specs.Prelude.{◌≡◌, ◌<◌, ◌++◌, [], true, false, IfOk, OnOk, slice_get, slice_index_or, slice_set};
 ghost use Rattle.std.specs.List.{list_all};
 ghost use Rattle.frames.specs.Configuration.{events_of, is_enabled, fits_step};
-ghost use Rattle.answers.specs.Questions.{allows, next_of, operations_of, stops_in, outcomes_by, event_in, events_in};
+ghost use Rattle.answers.specs.Questions.{allows, next_of, operations_of, process_may_stop, outcomes_by, event_in, events_in};
 ghost use Rattle.answers.specs.States.{advanced, ended_counts, has_choice, invoking_step, option_list, step_by, with_events};
 
 use crate::done::is_done;
@@ -34,7 +34,7 @@ impl<'q, R: Register> Graph for Moves<'q, R> {
     type Key = StateKey;
 
     ghost use Rattle.answers.specs.Graphs.{IsStateOf, moves_of};
-    ghost use Rattle.answers.specs.laws.KeyLaws.{same_keys, state_after};
+    ghost use Rattle.answers.specs.laws.KeyLaws.{same_keys, holds_after_move};
     ghost use Rattle.answers.specs.laws.StateLaws.{moved_alike};
 
     ghost shape = { λ g. moves_of R.behaviour g.question.now g.register };
@@ -78,7 +78,7 @@ impl<'q, R: Register> Graph for Moves<'q, R> {
 
     ghost alike = { λ g. moved_alike R.PartialEq.eq R.Pending.PartialEq.eq R.same_pending R.behaviour R.alike g.question.now };
 
-    ghost holds_after = { λ g. state_after R.behaviour g.register (R.Holds g.register) (R.Reaches g.register) (R.lawful g.register) g.question.now };
+    ghost holds_after = { λ g. holds_after_move R.behaviour g.register (R.Holds g.register) (R.Reaches g.register) (R.lawful g.register) g.question.now };
 
     ghost same_key = { λ g. same_keys R.behaviour g.register (R.Holds g.register) (R.Reaches g.register) (R.lawful g.register) (R.point g.register) (R.reports g.register) R.PartialEq.eq R.Eq.laws R.Pending.PartialEq.eq R.same_pending };
 }
@@ -143,7 +143,7 @@ pub(crate) fn next_op(question: &Question, answers: &[Outcomes], p: u32) -> Opti
 
 /// Whether process `p` may stop.
 fn may_stop(question: &Question, p: u32) -> bool
-    ensures { result ≡ stops_in question.now p }
+    ensures { result ≡ process_may_stop question.now p }
 {
     question.may_stop.contains(&p)
 }
@@ -158,8 +158,8 @@ fn invoking_step(p: u32, op: Op) -> Step
     }
 }
 
-/// The step of process `p` that `kind` names: a bit action with choice 0 or 1, the invocation of its
-/// next operation, or a stop.
+/// The step of process `p` that `kind` names: a bit action with choice 0 or 1, the invocation of
+/// its next operation, or a stop.
 pub(crate) fn step_by(
     question: &Question,
     answers: &[Outcomes],
@@ -228,11 +228,11 @@ pub(crate) fn copies(alloc: Global, answers: &[Outcomes]) -> Result<Vec<Outcomes
 pub(crate) fn ends(p: u32, events: StepEvents) -> bool
     ensures { result ≡ false → outcomes_by p (events_in events) ≡ [] }
 {
-    outcomes_in(p, events.first).is_some() || outcomes_in(p, events.second).is_some()
+    outcome_in(p, events.first).is_some() || outcome_in(p, events.second).is_some()
 }
 
 /// The outcome of process `p`'s operation that ends in this event, if one does.
-fn outcomes_in(p: u32, event: Option<Event>) -> Option<Outcome>
+fn outcome_in(p: u32, event: Option<Event>) -> Option<Outcome>
     ensures { option_list result ≡ outcomes_by p (event_in event) }
 {
     match event? {
@@ -270,7 +270,7 @@ fn add_ended(own: &mut Outcomes, p: u32, events: StepEvents) -> Result<(), Alloc
 fn add(outcomes: &mut Outcomes, p: u32, event: Option<Event>) -> Result<(), AllocError>
     ensures { OnOk result (outcomes.new ≡ outcomes.old ++ outcomes_by p (event_in event)) }
 {
-    match outcomes_in(p, event) {
+    match outcome_in(p, event) {
         Some(outcome) => outcomes.push(outcome),
         None => Ok(()),
     }

@@ -50,7 +50,7 @@ fn rival<R: Register>(drafts: &[Draft<R>], draft: &Draft<R>) -> Option<usize>
     }
 }
 
-/// Keeps a draft: in place of its rival if it is easier to read than that, and else if it has none.
+/// Keeps a draft if it has no rival, or in place of its rival if it is easier to read.
 fn keep<R: Register>(drafts: &mut Vec<Draft<R>>, draft: Draft<R>) -> Result<(), AllocError> {
     match rival(drafts, &draft) {
         Some(index) => {

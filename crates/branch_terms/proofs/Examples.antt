@@ -16,8 +16,8 @@ and_then (Err e) command = Err e
 abbrev plenty : Limits
 plenty = record { cells = 65536; branches = 64; log = 1024 }
 
-abbrev four : Limits
-four = record { cells = 4; branches = 64; log = 1024 }
+abbrev four_cells : Limits
+four_cells = record { cells = 4; branches = 64; log = 1024 }
 
 abbrev pub main : List ℕ
 main = codes "main"
@@ -58,11 +58,11 @@ remove-insert : and_then (remove_cell (opening_forest (write ∷ go ∷ go ∷ [
 remove-insert = refl
 
 -- a detach makes new cells, which may exceed the limit: 2 new, with 4 made and a limit of 4
-cells-full : and_then (fork four (opening_forest (read ∷ read ∷ read ∷ read ∷ [])) main 2 a) (λ f. detach four f a) ≡ Err Full
+cells-full : and_then (fork four_cells (opening_forest (read ∷ read ∷ read ∷ read ∷ [])) main 2 a) (λ f. detach four_cells f a) ≡ Err Full
 cells-full = refl
 
 -- an insert of a fifth cell exceeds the limit of 4
-fifth-cell : insert four (opening_forest (read ∷ read ∷ read ∷ read ∷ [])) main 0 read ≡ Err Full
+fifth-cell : insert four_cells (opening_forest (read ∷ read ∷ read ∷ read ∷ [])) main 0 read ≡ Err Full
 fifth-cell = refl
 
 -- a detached branch has its own cells, so that a replace in another branch doesn't change it
@@ -76,42 +76,42 @@ detach-replace = refl
 abbrev limb : List ℕ → ℕ → ℕ → List Step → Limb
 limb name from shared steps = record { name = name; from = from; shared = shared; steps = steps }
 
-abbrev bench : List Limb
-bench = limb (codes "main") 0 0 (Read 1 ∷ Write 0 1 ∷ []) ∷ limb (codes "a") 0 1 (Go 1 0 ∷ []) ∷ limb (codes "b") 1 2 (Go 1 1 ∷ []) ∷ []
+abbrev three_limbs : List Limb
+three_limbs = limb (codes "main") 0 0 (Read 1 ∷ Write 0 1 ∷ []) ∷ limb (codes "a") 0 1 (Go 1 0 ∷ []) ∷ limb (codes "b") 1 2 (Go 1 1 ∷ []) ∷ []
 
 abbrev then_limbs : Result Forest Refusal → List Limb
 then_limbs (Ok f) = limbs f
 then_limbs (Err e) = []
 
-lawful : are_lawful_after [] bench ≡ true
+lawful : are_lawful_after [] three_limbs ≡ true
 lawful = refl
 
-again : limbs (forest_of bench) ≡ bench
-again = refl
+limbs_of_own_forest : limbs (forest_of three_limbs) ≡ three_limbs
+limbs_of_own_forest = refl
 
-inserted : then_limbs (insert plenty (forest_of bench) (codes "a") 1 (Write 0 0))
+inserted : then_limbs (insert plenty (forest_of three_limbs) (codes "a") 1 (Write 0 0))
     ≡ limb (codes "main") 0 0 (Read 1 ∷ Write 0 1 ∷ []) ∷ limb (codes "a") 0 1 (Write 0 0 ∷ Go 1 0 ∷ []) ∷ limb (codes "b") 1 3 (Go 1 1 ∷ []) ∷ []
 inserted = refl
 
-dropped : then_limbs (and_then (insert plenty (forest_of bench) (codes "a") 1 (Write 0 0)) (λ f. drop_branch f (codes "a")))
+dropped : then_limbs (and_then (insert plenty (forest_of three_limbs) (codes "a") 1 (Write 0 0)) (λ f. drop_branch f (codes "a")))
     ≡ limb (codes "main") 0 0 (Read 1 ∷ Write 0 1 ∷ []) ∷ limb (codes "b") 0 1 (Write 0 0 ∷ Go 1 0 ∷ Go 1 1 ∷ []) ∷ []
 dropped = refl
 
-abbrev bad : List ℕ → ℕ → ℕ → List Limb
-bad name from shared =
+abbrev with_third_limb : List ℕ → ℕ → ℕ → List Limb
+with_third_limb name from shared =
     limb (codes "main") 0 0 (Read 1 ∷ Write 0 1 ∷ []) ∷ limb (codes "a") 0 1 (Go 1 0 ∷ []) ∷ limb name from shared (Go 1 1 ∷ []) ∷ []
 
-not_its_own : are_lawful_after [] (bad (codes "b") 1 1) ≡ false
-not_its_own = refl
+last_shared_not_own : are_lawful_after [] (with_third_limb (codes "b") 1 1) ≡ false
+last_shared_not_own = refl
 
-too_long : are_lawful_after [] (bad (codes "b") 0 3) ≡ false
-too_long = refl
+shares_too_many : are_lawful_after [] (with_third_limb (codes "b") 0 3) ≡ false
+shares_too_many = refl
 
-same_name : are_lawful_after [] (bad (codes "a") 1 2) ≡ false
+same_name : are_lawful_after [] (with_third_limb (codes "a") 1 2) ≡ false
 same_name = refl
 
-three_cells : loaded (record { cells = 3; branches = 64; log = 1 }) bench ≡ Err Full
+three_cells : loaded (record { cells = 3; branches = 64; log = 1 }) three_limbs ≡ Err Full
 three_cells = refl
 
-two_branches : loaded (record { cells = 4; branches = 2; log = 1 }) bench ≡ Err TooManyBranches
+two_branches : loaded (record { cells = 4; branches = 2; log = 1 }) three_limbs ≡ Err TooManyBranches
 two_branches = refl

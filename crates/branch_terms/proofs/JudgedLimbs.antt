@@ -17,31 +17,31 @@ new_if_free ls name taken short formed is =
 -- Limb l is at index i of a list. If l may not follow the limbs before it, the list isn't lawful;
 -- if l may, the limbs after it decide.
 module _ (ls : List Limb) (i : ℕ) (l : Limb) (less : i < length ls) (at : get_or ls i l ≡ l) where
-  next : are_lawful_after (take i ls) (drop i ls) ≡ (is_new_name (take i ls) l.name && (may_share (take i ls) l && are_lawful_after (take (i + 1) ls) (drop (i + 1) ls)))
-  next =
+  lawful_from_limb : are_lawful_after (take i ls) (drop i ls) ≡ (is_new_name (take i ls) l.name && (may_share (take i ls) l && are_lawful_after (take (i + 1) ls) (drop (i + 1) ls)))
+  lawful_from_limb =
       ap (are_lawful_after (take i ls)) (drop_more ls i l less ∙ ap (λ x. x ∷ drop (i + 1) ls) at)
       ∙ ap (λ earlier. is_new_name (take i ls) l.name && (may_share (take i ls) l && are_lawful_after earlier (drop (i + 1) ls)))
       (sym (take_more ls i l less ∙ ap (λ x. take i ls ++ x ∷ []) at))
 
-  by : (new may later : Bool) → (new && may) ≡ true → (new && (may && later)) ≡ later
-  by true true later h = refl
-  by true false later h = cc
-  by false may later h = cc
+  and_of_true : (new may later : Bool) → (new && may) ≡ true → (new && (may && later)) ≡ later
+  and_of_true true true later h = refl
+  and_of_true true false later h = cc
+  and_of_true false may later h = cc
 
-  not_by : (new may later : Bool) → (new && may) ≡ false → (new && (may && later)) ≡ false
-  not_by true true later h = cc
-  not_by true false later h = refl
-  not_by false may later h = refl
+  and_of_false : (new may later : Bool) → (new && may) ≡ false → (new && (may && later)) ≡ false
+  and_of_false true true later h = cc
+  and_of_false true false later h = refl
+  and_of_false false may later h = refl
 
   -- if l may follow, the limbs after it decide whether all limbs are lawful
-  pub goes_on : are_lawful_after (take i ls) (drop i ls) ≡ are_lawful_after [] ls → (is_new_name (take i ls) l.name && may_share (take i ls) l) ≡ true
+  pub rest_decides : are_lawful_after (take i ls) (drop i ls) ≡ are_lawful_after [] ls → (is_new_name (take i ls) l.name && may_share (take i ls) l) ≡ true
       → are_lawful_after (take (i + 1) ls) (drop (i + 1) ls) ≡ are_lawful_after [] ls
-  goes_on whole follows = sym (by (is_new_name (take i ls) l.name) (may_share (take i ls) l) (are_lawful_after (take (i + 1) ls) (drop (i + 1) ls)) follows) ∙ sym next ∙ whole
+  rest_decides whole follows = sym (and_of_true (is_new_name (take i ls) l.name) (may_share (take i ls) l) (are_lawful_after (take (i + 1) ls) (drop (i + 1) ls)) follows) ∙ sym lawful_from_limb ∙ whole
 
   -- if l may not follow, not all limbs are lawful
-  pub ends_here : are_lawful_after (take i ls) (drop i ls) ≡ are_lawful_after [] ls → (is_new_name (take i ls) l.name && may_share (take i ls) l) ≡ false
+  pub unlawful_limb_decides : are_lawful_after (take i ls) (drop i ls) ≡ are_lawful_after [] ls → (is_new_name (take i ls) l.name && may_share (take i ls) l) ≡ false
       → false ≡ are_lawful_after [] ls
-  ends_here whole follows = sym (not_by (is_new_name (take i ls) l.name) (may_share (take i ls) l) (are_lawful_after (take (i + 1) ls) (drop (i + 1) ls)) follows) ∙ sym next ∙ whole
+  unlawful_limb_decides whole follows = sym (and_of_false (is_new_name (take i ls) l.name) (may_share (take i ls) l) (are_lawful_after (take (i + 1) ls) (drop (i + 1) ls)) follows) ∙ sym lawful_from_limb ∙ whole
 
 -- if the limbs from index i on decide whether all are lawful, and there are none, all are lawful
 pub all_lawful : (ls : List Limb) (i : ℕ) → length ls ≤ i → are_lawful_after (take i ls) (drop i ls) ≡ are_lawful_after [] ls → true ≡ are_lawful_after [] ls

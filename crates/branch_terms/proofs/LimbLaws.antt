@@ -8,7 +8,7 @@ use Rattle.schedule_steps.specs.declared.types.Step.{Step}
 use Rattle.branch_terms.specs.declared.slot.Slot.{Slot}
 use Rattle.branch_terms.specs.declared.limb.Limb.{Limb}
 use Rattle.branch_terms.specs.Forest.{Forest, Branch, branch, numbered, slots_in, step_of, cell_in}
-use Rattle.branch_terms.specs.Limbs.{has_slot, is_in_branches, shared_with, first_with, limb_of, limbs_after, limbs, slots_on, grown, grow, no_branches, forest_of, limb_length, cells_of, is_own_of, is_new_name, may_share, are_lawful_after, AreLawfulLimbs}
+use Rattle.branch_terms.specs.Limbs.{has_slot, is_in_branches, shared_with, first_with, limb_of, limbs_after, limbs, slots_on, grown, grow, no_branches, forest_of, limb_length, own_cell_count, is_own_of, is_new_name, may_share, are_lawful_after, AreLawfulLimbs}
 use Rattle.branch_terms.proofs.LimbLists.{slot-append, slot_not_from, numbered_below, slots_in-front, slots_in-last, slots_in-past, any_from, any_none, first_is, StopsAt, prefix_is, all_in, has_taken, cell_in-has, cell_in-taken, cell_in-own, steps-numbered}
 use Rattle.branch_terms.proofs.Lists.{by_order, slice_get-last, slice_get_left}
 use Rattle.branch_terms.proofs.LimbLists.{length-numbered}
@@ -67,15 +67,15 @@ module _ (earlier : List Limb) (f : Forest) (l : Limb) (h : HasGrown earlier f) 
   abbrev stem : List Slot
   stem = slots_in bs l.from
 
-  pub short : l.shared ≤ length stem
-  short = may_share_parts earlier l (l.shared ≤ length stem) may (λ n. omega (arith, n.shared))
+  pub shared_within_stem : l.shared ≤ length stem
+  shared_within_stem = may_share_parts earlier l (l.shared ≤ length stem) may (λ n. omega (arith, n.shared))
       (λ s. let e = h.sizes l.from s.stem s.there in let w = s.within in omega arith)
 
   abbrev front : List Slot
   front = take l.shared stem
 
   length-front : length front ≡ l.shared
-  length-front = length-take-le l.shared stem short
+  length-front = length-take-le l.shared stem shared_within_stem
 
   fresh : (x : ℕ) → f.made ≤ x → (j : ℕ) → has_slot x (slots_in bs j) ≡ false
   fresh x old j = slot_not_from x (slots_in bs j) (λ e. let less = h.given j x e in omega arith)
@@ -120,8 +120,8 @@ module _ (earlier : List Limb) (f : Forest) (l : Limb) (h : HasGrown earlier f) 
   length-new : length (slots_on f l) ≡ limb_length l
   length-new = length-append front (numbered f.made l.steps) ∙ ap (λ n. n + length (numbered f.made l.steps)) length-front ∙ ap (λ n. l.shared + n) (length-numbered f.made l.steps)
 
-  new_given : (x : ℕ) → has_slot x (slots_on f l) ≡ true → x < f.made + length l.steps
-  new_given x e = by (has_slot x front) refl
+  new_below_made : (x : ℕ) → has_slot x (slots_on f l) ≡ true → x < f.made + length l.steps
+  new_below_made x e = by (has_slot x front) refl
     where
       split : (has_slot x front || has_slot x (numbered f.made l.steps)) ≡ true
       split = sym (slot-append x front (numbered f.made l.steps)) ∙ e
@@ -167,7 +167,7 @@ module _ (earlier : List Limb) (f : Forest) (l : Limb) (h : HasGrown earlier f) 
       given i x g =
           by_order i (length earlier) (x < f.made + length l.steps)
           (λ less. let old = h.given i x (subst (λ s. has_slot x s ≡ true) (front_slots i less) g) in omega arith)
-          (λ e. new_given x (subst (λ s. has_slot x s ≡ true) (last_slots i e) g))
+          (λ e. new_below_made x (subst (λ s. has_slot x s ≡ true) (last_slots i e) g))
           (λ more. absurd (true≢false (sym (subst (λ s. has_slot x s ≡ true) (past_slots i more) g))))
 
       own_last : (i j k : ℕ) → i ≡ length earlier → j < i → l.shared ≤ k → k < limb_length l
@@ -175,7 +175,7 @@ module _ (earlier : List Limb) (f : Forest) (l : Limb) (h : HasGrown earlier f) 
       own_last i j k e less more few =
           subst (λ s. has_slot (cell_in s k) (slots_in (bs ++ new ∷ []) j) ≡ false) (sym (last_slots i e))
           (subst (λ s. has_slot (cell_in (slots_on f l) k) s ≡ false) (sym (front_slots j (omega arith)))
-          (fresh (cell_in (slots_on f l) k) (cell_in-own stem l.shared f.made k l.steps short more few) j))
+          (fresh (cell_in (slots_on f l) k) (cell_in-own stem l.shared f.made k l.steps shared_within_stem more few) j))
 
       own : (i j k : ℕ) (p : Limb) → slice_get (earlier ++ l ∷ []) i ≡ Some p → j < i → p.shared ≤ k → k < limb_length p
           → has_slot (cell_in (slots_in (bs ++ new ∷ []) i) k) (slots_in (bs ++ new ∷ []) j) ≡ false
@@ -209,7 +209,7 @@ pub limbs_again : (ls : List Limb) → AreLawfulLimbs ls → limbs (forest_of ls
 limbs_again ls lawful = limbs_more [] no_branches ls grown_none refl lawful
 
 -- after limbs are added, the number of cells made is greater by the number of their own cells
-grow_made : (f : Forest) (ls : List Limb) → (grow f ls).made ≡ f.made + cells_of ls
+grow_made : (f : Forest) (ls : List Limb) → (grow f ls).made ≡ f.made + own_cell_count ls
 grow_made f [] = omega arith
 grow_made f (l ∷ ls) = grow_made (grown f l) ls ∙ omega arith
 
@@ -218,7 +218,7 @@ grow_count : (f : Forest) (ls : List Limb) → length (grow f ls).branches ≡ l
 grow_count f [] = omega arith
 grow_count f (l ∷ ls) = grow_count (grown f l) ls ∙ omega (arith, length-append f.branches (branch l.name (slots_on f l) ∷ []))
 
-pub forest_made : (ls : List Limb) → (forest_of ls).made ≡ cells_of ls
+pub forest_made : (ls : List Limb) → (forest_of ls).made ≡ own_cell_count ls
 forest_made ls = grow_made no_branches ls ∙ omega arith
 
 pub forest_count : (ls : List Limb) → length (forest_of ls).branches ≡ length ls

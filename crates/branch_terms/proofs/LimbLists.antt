@@ -150,14 +150,14 @@ cell_in-taken [] ys (suc n) k less few = absurd (omega arith)
 cell_in-taken (s ∷ xs) ys (suc n) zero less few = refl
 cell_in-taken (s ∷ xs) ys (suc n) (suc k) less few = cell_in-taken xs ys n k (omega arith) (omega arith)
 
-cell_in-numbered : (n k : ℕ) (steps : List Step) → k < length steps → n ≤ cell_in (numbered n steps) k
-cell_in-numbered n k [] h = absurd (omega arith)
-cell_in-numbered n zero (s ∷ ss) h = omega arith
-cell_in-numbered n (suc k) (s ∷ ss) h = let r = cell_in-numbered (suc n) k ss (omega arith) in omega arith
+numbered_not_below : (n k : ℕ) (steps : List Step) → k < length steps → n ≤ cell_in (numbered n steps) k
+numbered_not_below n k [] h = absurd (omega arith)
+numbered_not_below n zero (s ∷ ss) h = omega arith
+numbered_not_below n (suc k) (s ∷ ss) h = let r = numbered_not_below (suc n) k ss (omega arith) in omega arith
 
 -- a cell after the first n, which are shared, has a new number: one that is at least `made`
 pub cell_in-own : (xs : List Slot) (n made k : ℕ) (steps : List Step) → n ≤ length xs → n ≤ k → k < n + length steps → made ≤ cell_in (take n xs ++ numbered made steps) k
-cell_in-own xs zero made k steps few more less = cell_in-numbered made k steps (omega arith)
+cell_in-own xs zero made k steps few more less = numbered_not_below made k steps (omega arith)
 cell_in-own [] (suc n) made k steps few more less = absurd (omega arith)
 cell_in-own (s ∷ xs) (suc n) made zero steps few more less = absurd (omega arith)
 cell_in-own (s ∷ xs) (suc n) made (suc k) steps few more less = cell_in-own xs n made k steps (omega arith) (omega arith) (omega arith)

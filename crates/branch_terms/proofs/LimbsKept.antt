@@ -11,9 +11,9 @@ use Rattle.branch_terms.specs.Forest.{Forest, Branch, branch, numbered, slots_in
 use Rattle.branch_terms.specs.Limbs.{has_slot, holds, is_in_branches, shared_with, first_with, limb_of, limbs_after, limbs, slots_on, grown, grow, no_branches, forest_of}
 use Rattle.branch_terms.specs.Renumbering.{IsRenumbered, is_one_cell}
 use Rattle.branch_terms.proofs.LimbLists.{slots_in-front, slots_in-last, slots_in-past, any_from, IsFirst, first_has, all_in, has_taken, cell_in-has, cell_in-taken, steps-numbered}
-use Rattle.branch_terms.proofs.LimbLaws.{HasGrown, grown_none, short, grown_more, limbs_after-put}
+use Rattle.branch_terms.proofs.LimbLaws.{HasGrown, grown_none, shared_within_stem, grown_more, limbs_after-put}
 use Rattle.branch_terms.proofs.LimbsLawful.{AreSameUpTo, slots_in-left, slots_in-next, place_of_cell, passes_at, limb_may_share}
-use Rattle.branch_terms.proofs.Lists.{by_order, cell_in_at, slice_get_some, turned, alike}
+use Rattle.branch_terms.proofs.Lists.{by_order, cell_in_at, slice_get_some, nat_eq_symmetric, nat_eq_alike}
 use Rattle.branch_terms.proofs.LimbLists.{length-numbered}
 use Rattle.std.proofs.lemmas.Option.{slice_get_within}
 
@@ -133,14 +133,14 @@ module _ (earlier : List Branch) (b : Branch) (agree : (j : ℕ) → j < length 
       omega arith
 
 -- the forest with these branches; `made` is 0, since `IsRenumbered` ignores it
-abbrev front : List Branch → Forest
-front branches = record { branches = branches; made = 0 }
+abbrev forest_with : List Branch → Forest
+forest_with branches = record { branches = branches; made = 0 }
 
 -- Two sides that are equal except for the numbers of cells: the branches `earlier`, and the forest
 -- g. Branch b is added to the first side, and the limb of b to the second.
 module _ (earlier : List Branch) (b : Branch) (agree : (j : ℕ) → j < length earlier → AreSameUpTo b.slots (slots_in earlier j))
     (once : AreSameUpTo b.slots b.slots)
-    (g : Forest) (has_grown : HasGrown (limbs_after [] earlier) g) (kept : IsRenumbered (front earlier) g) where
+    (g : Forest) (has_grown : HasGrown (limbs_after [] earlier) g) (kept : IsRenumbered (forest_with earlier) g) where
   -- the limb of b
   abbrev l : Limb
   l = limb_of earlier b
@@ -163,7 +163,7 @@ module _ (earlier : List Branch) (b : Branch) (agree : (j : ℕ) → j < length 
 
   -- there are at least as many of these cells as the limb shares
   enough : l.shared ≤ length origin
-  enough = short (limbs_after [] earlier) g l has_grown (limb_may_share earlier b agree)
+  enough = shared_within_stem (limbs_after [] earlier) g l has_grown (limb_may_share earlier b agree)
 
   -- both sides have the same number of branches before b and its limb are added
   count : length earlier ≡ length g.branches
@@ -305,14 +305,14 @@ module _ (earlier : List Branch) (b : Branch) (agree : (j : ℕ) → j < length 
   -- place with an old cell
   cells_apart : (i k j m : ℕ) → IsOwn i k → IsOld j m → is_one_cell before i k j m ≡ is_one_cell after i k j m
   cells_apart i k j m p q =
-      alike (cell_in (slots_in before i) k) (cell_in (slots_in before j) m) (cell_in (slots_in after i) k) (cell_in (slots_in after j) m)
+      nat_eq_alike (cell_in (slots_in before i) k) (cell_in (slots_in before j) m) (cell_in (slots_in after i) k) (cell_in (slots_in after j) m)
       (λ e. absurd (own_apart earlier b agree k q.j m (omega (arith, p.place)) p.within q.within (sym p.left ∙ e ∙ q.left)))
       (λ e. absurd (omega (arith, e, p.right, old_below j m q)))
 
   -- two places with own cells have the same cell only if they are the same place, on both sides
   cells_own : (i k j m : ℕ) → IsOwn i k → IsOwn j m → is_one_cell before i k j m ≡ is_one_cell after i k j m
   cells_own i k j m p q =
-      alike (cell_in (slots_in before i) k) (cell_in (slots_in before j) m) (cell_in (slots_in after i) k) (cell_in (slots_in after j) m)
+      nat_eq_alike (cell_in (slots_in before i) k) (cell_in (slots_in before j) m) (cell_in (slots_in after i) k) (cell_in (slots_in after j) m)
       (λ e. let one = same_place b.slots b.slots once k m p.within q.within (sym p.left ∙ e ∙ q.left) in omega (arith, one, p.place, q.place, p.right, q.right))
       (λ e. let one : k ≡ m = omega (arith, e, p.place, q.place, p.right, q.right) in p.left ∙ ap (cell_in b.slots) one ∙ sym q.left)
 
@@ -322,19 +322,19 @@ module _ (earlier : List Branch) (b : Branch) (agree : (j : ℕ) → j < length 
       let P = is_one_cell before i k j m ≡ is_one_cell after i k j m in
       places i k P inside
       (λ p. places j m P within (cells_old i k j m p)
-      (λ q. turned (cell_in (slots_in before i) k) (cell_in (slots_in before j) m) ∙ cells_apart j m i k q p
-      ∙ turned (cell_in (slots_in after j) m) (cell_in (slots_in after i) k)))
+      (λ q. nat_eq_symmetric (cell_in (slots_in before i) k) (cell_in (slots_in before j) m) ∙ cells_apart j m i k q p
+      ∙ nat_eq_symmetric (cell_in (slots_in after j) m) (cell_in (slots_in after i) k)))
       (λ p. places j m P within (cells_apart i k j m p) (cells_own i k j m p))
 
   -- with b and its limb, both sides are still equal except for the numbers of cells
-  kept_more : IsRenumbered (front before) (grown g l)
+  kept_more : IsRenumbered (forest_with before) (grown g l)
   kept_more = record { names = names_more; steps = steps_more; cells = cells_more }
 
 -- if the first branches of a forest and the forest g are equal except for the numbers of cells, so
 -- are all its branches and g with the limbs of the others added
 kept_from : (f : Forest) → IsForest f → (earlier rest : List Branch) → f.branches ≡ earlier ++ rest → (g : Forest)
-    → HasGrown (limbs_after [] earlier) g → IsRenumbered (front earlier) g → IsRenumbered (front f.branches) (grow g (limbs_after earlier rest))
-kept_from f h earlier [] e g has_grown kept = subst (λ bs. IsRenumbered (front bs) g) (sym (append-nil earlier) ∙ sym e) kept
+    → HasGrown (limbs_after [] earlier) g → IsRenumbered (forest_with earlier) g → IsRenumbered (forest_with f.branches) (grow g (limbs_after earlier rest))
+kept_from f h earlier [] e g has_grown kept = subst (λ bs. IsRenumbered (forest_with bs) g) (sym (append-nil earlier) ∙ sym e) kept
 kept_from f h earlier (b ∷ bs) e g has_grown kept =
     let here : slots_in f.branches (length earlier) ≡ b.slots = ap (λ l. slots_in l (length earlier)) e ∙ slots_in-next earlier bs b in
     let agree : (j : ℕ) → j < length earlier → AreSameUpTo b.slots (slots_in earlier j) = λ j less.
@@ -348,7 +348,7 @@ kept_from f h earlier (b ∷ bs) e g has_grown kept =
     (kept_more earlier b agree once g has_grown kept)
 
 -- two forests with no branches are equal
-kept_none : IsRenumbered (front []) no_branches
+kept_none : IsRenumbered (forest_with []) no_branches
 kept_none = record { names = refl; steps = λ i. refl; cells = λ i k j m inside within. refl }
 
 -- the forest of a forest's limbs is that forest, except for the numbers of its cells

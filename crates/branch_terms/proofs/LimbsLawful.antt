@@ -7,6 +7,7 @@ use Rattle.std.proofs.lemmas.Bool.Decides.{nat_tests}
 use Rattle.std.proofs.lemmas.Bool.{or_right, and_parts, and_from}
 use Rattle.std.proofs.lemmas.Option.{slice_get_within}
 use Rattle.std.proofs.lemmas.List.{length-map, map-append, length-take-le}
+use Rattle.std.proofs.lemmas.List.Sums.{prefix_len-le-length}
 use Rattle.branch_terms.specs.declared.slot.Slot.{Slot}
 use Rattle.branch_terms.specs.Forest.{Forest, Branch, slots_in, step_of, cell_in, name_of, name_in, AreNamedApart, IsForest}
 use Rattle.branch_terms.specs.Limbs.{has_slot, holds, is_in_branches, shared_with, first_with, limb_of, limbs_after, limbs, limb_length, is_own_of, is_new_name, has_name, may_share, are_lawful_after, is_name, HaveNames, AreLawfulLimbs}
@@ -55,14 +56,6 @@ module _ {X : Type 0} (test : X → Bool) where
       by rest true f (suc j) g less = rest j s g (omega arith)
       by rest false f j g less = absurd (omega arith)
 
-  prefix_most : (xs : List X) → prefix_len test xs ≤ length xs
-  prefix_most [] = omega arith
-  prefix_most (x ∷ xs) = by (prefix_most xs) (test x)
-    where
-      by : prefix_len test xs ≤ length xs → (b : Bool) → cond b (1 + prefix_len test xs) 0 ≤ suc (length xs)
-      by rest true = omega arith
-      by rest false = omega arith
-
 pub limbs_at : (pre bs : List Branch) (i : ℕ) (b : Branch) → slice_get bs i ≡ Some b → slice_get (limbs_after pre bs) i ≡ Some (limb_of (pre ++ take i bs) b)
 limbs_at pre [] i b e = cc
 limbs_at pre (c ∷ bs) zero b e = let same : c ≡ b = cc in ap (λ z. Some (limb_of pre z)) same ∙ ap (λ l. Some (limb_of l b)) (sym (append-nil pre))
@@ -74,7 +67,7 @@ all_three a b c h g e = and_from a (b && c) h (and_from b c g e)
 length_of_limb : (earlier : List Branch) (b : Branch) → limb_length (limb_of earlier b) ≡ length b.slots
 length_of_limb earlier b =
     let n = shared_with earlier b.slots in
-    let most = prefix_most (is_in_branches earlier) b.slots in
+    let most = prefix_len-le-length (is_in_branches earlier) b.slots in
     let rest : length (map step_of (drop n b.slots)) ≡ length (drop n b.slots) = length-map (drop n b.slots) step_of in
     let len = length-drop n b.slots in
     omega arith
@@ -114,7 +107,7 @@ module _ (earlier : List Branch) (b : Branch) (agree : (j : ℕ) → j < length 
         let slots = slots_at earlier stem c.0 c.1 in
         let p = place_of_cell s.cell c.0.slots (subst (λ xs. has_slot s.cell xs ≡ true) slots first.has_it) in
         let up : take (suc k) b.slots ≡ take (suc p.0) c.0.slots = subst (λ xs. AreSameUpTo b.slots xs) slots (agree stem first.within) k p.0 s p.1 here p.2 (sym p.3) in
-        let most = prefix_most (is_in_branches earlier) b.slots in
+        let most = prefix_len-le-length (is_in_branches earlier) b.slots in
         let left : length (take (suc k) b.slots) ≡ suc k = length-take-le (suc k) b.slots (omega arith) in
         let right : length (take (suc p.0) c.0.slots) ≡ suc p.0 = length-take-le (suc p.0) c.0.slots (slice_get_within c.0.slots p.0 p.1 p.2) in
         let places : p.0 ≡ k = let e : length (take (suc k) b.slots) ≡ length (take (suc p.0) c.0.slots) = ap length up in omega arith in
@@ -124,7 +117,7 @@ module _ (earlier : List Branch) (b : Branch) (agree : (j : ℕ) → j < length 
       → ((nat_eq (first_with earlier b.slots k) 0 && nat_eq k 0) || is_own_of (slice_get (limbs_after [] earlier) (first_with earlier b.slots k)) k) ≡ true
   shares_at zero e = refl
   shares_at (suc k) e =
-      let most = prefix_most (is_in_branches earlier) b.slots in
+      let most = prefix_len-le-length (is_in_branches earlier) b.slots in
       let s = slice_get_some b.slots k (omega arith) in
       let cell : cell_in b.slots k ≡ s.0.cell = cell_in_at b.slots k s.0 s.1 in
       or_right (nat_eq (first_with earlier b.slots (suc k)) 0 && nat_eq (suc k) 0) (is_own_of (slice_get (limbs_after [] earlier) (first_with earlier b.slots (suc k))) (suc k))
@@ -146,9 +139,9 @@ limb_names : (name : List ℕ) (pre bs : List Branch) → list_any (has_name nam
 limb_names name pre [] = refl
 limb_names name pre (b ∷ bs) = ap (λ z. pointwise nat_eq name b.name || z) (limb_names name (pre ++ b ∷ []) bs)
 
-none_before : {X : Type 0} (p : X → Bool) (xs ys : List X) → length xs ≤ position_or_len p (xs ++ ys) → list_any p xs ≡ false
-none_before p [] ys h = refl
-none_before p (x ∷ xs) ys h = by (none_before p xs ys) (p x) refl h
+none_before_position : {X : Type 0} (p : X → Bool) (xs ys : List X) → length xs ≤ position_or_len p (xs ++ ys) → list_any p xs ≡ false
+none_before_position p [] ys h = refl
+none_before_position p (x ∷ xs) ys h = by (none_before_position p xs ys) (p x) refl h
   where
     by : (length xs ≤ position_or_len p (xs ++ ys) → list_any p xs ≡ false) → (b : Bool) → p x ≡ b
         → suc (length xs) ≤ cond (not (p x)) (1 + position_or_len p (xs ++ ys)) 0 → list_any p (x ∷ xs) ≡ false
@@ -173,7 +166,7 @@ name_is_new bs cs b apart formed =
     let place = position_is (pointwise nat_eq b.name) (map name_of (bs ++ b ∷ cs)) (length bs) own in
     let len = length-map bs name_of in
     let same : position_or_len (pointwise nat_eq b.name) (map name_of bs ++ map name_of (b ∷ cs)) ≡ length bs = ap (position_or_len (pointwise nat_eq b.name)) (sym names) ∙ place in
-    let none : list_any (pointwise nat_eq b.name) (map name_of bs) ≡ false = none_before (pointwise nat_eq b.name) (map name_of bs) (map name_of (b ∷ cs)) (omega arith) in
+    let none : list_any (pointwise nat_eq b.name) (map name_of bs) ≡ false = none_before_position (pointwise nat_eq b.name) (map name_of bs) (map name_of (b ∷ cs)) (omega arith) in
     ap (λ c. c && not (list_any (has_name b.name) (limbs_after [] bs))) formed ∙ ap not (limb_names b.name [] bs ∙ none)
 
 lawful_from : (f : Forest) → IsForest f → HaveNames f.branches → (earlier rest : List Branch) → f.branches ≡ earlier ++ rest

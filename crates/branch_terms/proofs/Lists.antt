@@ -10,22 +10,22 @@ pub by_order : (i n : ℕ) (P : Type 0) → (i < n → P) → (i ≡ n → P) �
 by_order i n P below same above = elim (cases_order i n) [ inl e ↦ same e | inr (inl h) ↦ below h | inr (inr h) ↦ above h ]
 
 -- two tests of equality have the same result if each equality implies the other
-pub alike : (a b c d : ℕ) → (a ≡ b → c ≡ d) → (c ≡ d → a ≡ b) → nat_eq a b ≡ nat_eq c d
-alike a b c d there back = by (nat_eq a b) refl
+pub nat_eq_alike : (a b c d : ℕ) → (a ≡ b → c ≡ d) → (c ≡ d → a ≡ b) → nat_eq a b ≡ nat_eq c d
+nat_eq_alike a b c d there back = by (nat_eq a b) refl
   where
     by : (x : Bool) → nat_eq a b ≡ x → nat_eq a b ≡ nat_eq c d
     by true e = e ∙ sym (eq-eqb c d (there (eqb-true a b e)))
     by false e = e ∙ sym (ne_eqb c d (λ g. eqb-false a b e (back g)))
 
-pub turned : (x y : ℕ) → nat_eq x y ≡ nat_eq y x
-turned x y = alike x y y x (λ e. sym e) (λ e. sym e)
+pub nat_eq_symmetric : (x y : ℕ) → nat_eq x y ≡ nat_eq y x
+nat_eq_symmetric x y = nat_eq_alike x y y x (λ e. sym e) (λ e. sym e)
 
 -- two optional keys that compare equal are the same
-pub same_key : (a b : Option ℕ) → option_eq nat_eq a b ≡ true → a ≡ b
-same_key None None e = refl
-same_key None (Some k) e = cc
-same_key (Some j) None e = cc
-same_key (Some j) (Some k) e = ap Some (eqb-true j k e)
+pub keys_from_eq : (a b : Option ℕ) → option_eq nat_eq a b ≡ true → a ≡ b
+keys_from_eq None None e = refl
+keys_from_eq None (Some k) e = cc
+keys_from_eq (Some j) None e = cc
+keys_from_eq (Some j) (Some k) e = ap Some (eqb-true j k e)
 
 pub slice_get_some : {X : Type 0} (xs : List X) (i : ℕ) → i < length xs → (x : X) × (slice_get xs i ≡ Some x)
 slice_get_some [] i h = absurd (omega arith)

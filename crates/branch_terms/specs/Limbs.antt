@@ -83,9 +83,9 @@ abbrev pub limb_length : Limb → ℕ
 limb_length l = l.shared + length l.steps
 
 -- the number of own cells of several limbs in total, which is the number of their steps
-abbrev pub cells_of : List Limb → ℕ
-cells_of [] = 0
-cells_of (l ∷ ls) = length l.steps + cells_of ls
+abbrev pub own_cell_count : List Limb → ℕ
+own_cell_count [] = 0
+own_cell_count (l ∷ ls) = length l.steps + own_cell_count ls
 
 -- whether a name has the form of a branch's name: a lower-case letter, then at most 15 lower-case
 -- letters or digits
@@ -136,6 +136,6 @@ FitLimits limits ls = All (λ l. (l.from < limits.branches) × (l.shared ≤ lim
 -- cells; or else TooManyBranches if there are more limbs than the limit of branches
 abbrev pub loaded : Limits → List Limb → Result Forest Refusal
 loaded limits ls =
-    if nat_lt limits.cells (cells_of ls) then Err Full
+    if nat_lt limits.cells (own_cell_count ls) then Err Full
     else (if nat_lt limits.branches (length ls) then Err TooManyBranches
     else Ok (forest_of ls))

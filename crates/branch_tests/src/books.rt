@@ -14,7 +14,7 @@ mod refused_writes;
 mod rows;
 
 use self::commands::go;
-use crate::charts::single::{Kept, only_run, page_once, text_once};
+use crate::charts::single::{KeyedRun, only_run, page_once, text_once};
 use cutoff::install::Installation;
 use cutoff::plan::Job;
 use frames::register::Register;
@@ -210,17 +210,17 @@ fn jobs_of(alloc: Global, book: &Book<Safe>, branch: &Name) -> Result<Vec<Job<Sa
 }
 
 /// The run of the only job in a branch's plan; `None` unless there is just one job.
-fn made_for(
+fn only_run_of(
     alloc: Global,
     book: &Book<Safe>,
     branch: &Name,
-) -> Result<Option<Kept<Safe>>, Refusal> {
+) -> Result<Option<KeyedRun<Safe>>, Refusal> {
     let jobs = jobs_of(alloc, book, branch)?;
     only_run(alloc, &jobs)
 }
 
 /// Offers a run, and returns whether it was installed.
-fn installs(book: &mut Book<Safe>, made: Kept<Safe>) -> bool {
+fn installs(book: &mut Book<Safe>, made: KeyedRun<Safe>) -> bool {
     let (key, run) = made;
     book.install(key, run) == Installation::Installed
 }
@@ -228,7 +228,7 @@ fn installs(book: &mut Book<Safe>, made: Kept<Safe>) -> bool {
 /// Runs the only job of a branch, and installs the run. Returns whether there was just one job, and
 /// the run was installed.
 fn installs_only(alloc: Global, book: &mut Book<Safe>, branch: &Name) -> Result<bool, Refusal> {
-    match made_for(alloc, book, branch)? {
+    match only_run_of(alloc, book, branch)? {
         Some(made) => Ok(installs(book, made)),
         None => Ok(false),
     }
@@ -257,7 +257,7 @@ fn counts(book: &Book<Safe>, edits: u64) -> bool {
 }
 
 /// Asks a book, and returns whether the result is the expected one.
-fn answers(alloc: Global, book: &mut Book<Safe>, ask: &Ask<'_>) -> Result<bool, Refusal> {
+fn is_expected(alloc: Global, book: &mut Book<Safe>, ask: &Ask<'_>) -> Result<bool, Refusal> {
     match ask {
         Ask::Replies(command, reply) => Ok(answer(alloc, book, 0, None, command) == *reply),
         Ask::Refuses(command, refusal) => {
@@ -291,7 +291,7 @@ fn first_wrong(
     asks: &[Ask<'_>],
 ) -> Result<Option<usize>, Refusal> {
     for (i, ask) in asks.iter().enumerate() {
-        if !answers(alloc, book, ask)? {
+        if !is_expected(alloc, book, ask)? {
             return Ok(Some(i));
         }
     }
@@ -300,7 +300,7 @@ fn first_wrong(
 
 /// The index of the first ask with a wrong result, in a book with these steps on `main`; the number
 /// of asks if the book's log doesn't have `entries` entries after them.
-fn tried(
+fn first_wrong_in_new_book(
     alloc: Global,
     limits: Limits,
     steps: &[Step],

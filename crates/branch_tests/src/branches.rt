@@ -7,7 +7,7 @@ ghost use Rattle.branch_terms.specs.declared.limits.TheConstants.{MOST_CELLS_MAD
 
 mod limbs;
 
-use crate::given::{Branch, Change, Edit, GO, GO_ON, READ, edited_by, name, none_wrong};
+use crate::given::{Branch, Change, Edit, GO, GO_CHOICE_1, READ, make_edits, name, none_wrong};
 use frames::types::Step;
 use schedule_trie::limits::Limits;
 use schedule_trie::name::Name;
@@ -46,7 +46,7 @@ fn is_well_formed(text: &[u8]) -> Option<bool> {
 
 /// Whether names have at most 16 bytes, and a new branch's name is a lower-case letter, followed by
 /// lower-case letters or digits.
-fn names_are_reported() -> bool {
+fn name_rules_hold() -> bool {
     is_well_formed(b"abcdefghijklmnop") == Some(true)
         && is_well_formed(b"abcdefghijklmnopq").is_none()
         && is_well_formed(b"a1") == Some(true)
@@ -57,7 +57,7 @@ fn names_are_reported() -> bool {
 
 #[test]
 fn names(rt: HostRuntime) {
-    assert!(rt; names_are_reported());
+    assert!(rt; name_rules_hold());
 }
 
 /// Whether a name equals its clone, and differs from `other`.
@@ -109,7 +109,7 @@ fn holds_alone(trie: &Trie<u32>, keys: &[SegKey]) -> bool {
 }
 
 /// What is checked of a trie that has these steps on `main`, after edits.
-fn tried(
+fn reported_of_new(
     rt: &impl Abort,
     alloc: Global,
     steps: &[Step],
@@ -125,7 +125,7 @@ fn reported_after(
     trie: &mut Trie<u32>,
     edits: &[Edit],
 ) -> Result<Reported, Refusal> {
-    edited_by(rt, alloc, trie, edits)?;
+    make_edits(rt, alloc, trie, edits)?;
     reported_of(alloc, trie, &name(rt, b"main"))
 }
 
@@ -173,7 +173,7 @@ const CUTS: [Cut; 15] = [
 ];
 
 /// What is checked of a trie that has `count` reads on `main`, after the change, if any.
-fn changed(
+fn reported_of_reads(
     rt: &impl Abort,
     alloc: Global,
     count: u32,
@@ -181,15 +181,15 @@ fn changed(
 ) -> Result<Reported, Refusal> {
     let steps = reads(alloc, count).expect(rt, "memory");
     match change {
-        Some(change) => tried(rt, alloc, &steps, &[(Branch::Main, change)]),
-        None => tried(rt, alloc, &steps, &[]),
+        Some(change) => reported_of_new(rt, alloc, &steps, &[(Branch::Main, change)]),
+        None => reported_of_new(rt, alloc, &steps, &[]),
     }
 }
 
 /// The index of the first row with wrong numbers.
 fn first_wrong(rt: &impl Abort, alloc: Global) -> Result<Option<usize>, Refusal> {
     for (i, (count, change, expected)) in CUTS.iter().enumerate() {
-        let reported = changed(rt, alloc, *count, *change)?;
+        let reported = reported_of_reads(rt, alloc, *count, *change)?;
         if (reported.segments, reported.steps.len(), reported.made) != *expected {
             return Ok(Some(i));
         }
@@ -207,13 +207,13 @@ fn cuts(rt: HostRuntime) {
 const DETACH_REPLACE: [Edit; 3] = [
     (Branch::Main, Change::Fork(2, Branch::A)),
     (Branch::A, Change::Detach),
-    (Branch::Main, Change::Replace(1, GO_ON)),
+    (Branch::Main, Change::Replace(1, GO_CHOICE_1)),
 ];
 
 /// Whether `main` has the new step after `DETACH_REPLACE`, and one or two segments.
 fn has_the_new_step(rt: &impl Abort, alloc: Global) -> Result<bool, Refusal> {
-    let reported = tried(rt, alloc, &[READ, GO], &DETACH_REPLACE)?;
-    let steps: &[Step] = &[READ, GO_ON];
+    let reported = reported_of_new(rt, alloc, &[READ, GO], &DETACH_REPLACE)?;
+    let steps: &[Step] = &[READ, GO_CHOICE_1];
     Ok(reported.steps.as_slice() == steps && (reported.segments == 1 || reported.segments == 2))
 }
 
@@ -264,7 +264,7 @@ fn branches_and_drops(alloc: Global, order: Order) -> Result<Vec<Edit>, AllocErr
 fn leaves_nothing(rt: &impl Abort, alloc: Global, order: Order) -> Result<bool, Refusal> {
     let steps = reads(alloc, 1023).expect(rt, "memory");
     let edits = branches_and_drops(alloc, order).expect(rt, "memory");
-    Ok(tried(rt, alloc, &steps, &edits)?.is_alone)
+    Ok(reported_of_new(rt, alloc, &steps, &edits)?.is_alone)
 }
 
 /// The index of the first of three orders of drops after which a segment is left that isn't

@@ -14,7 +14,7 @@ pub(crate) const READ: Step = Step::Read { p: 1 };
 pub(crate) const GO: Step = Step::Go { p: 1, c: 0 };
 
 /// The next bit action of process 1, with choice 1.
-pub(crate) const GO_ON: Step = Step::Go { p: 1, c: 1 };
+pub(crate) const GO_CHOICE_1: Step = Step::Go { p: 1, c: 1 };
 
 pub(crate) fn name(rt: &impl Abort, text: &[u8]) -> Name {
     Name::new(text).expect(rt, "a short name")
@@ -34,12 +34,12 @@ pub(crate) fn name_of(rt: &impl Abort, alloc: Global, branch: Branch) -> Name {
         Branch::Main => name(rt, b"main"),
         Branch::A => name(rt, b"a"),
         Branch::B => name(rt, b"b"),
-        Branch::Other(number) => numbered(rt, alloc, number),
+        Branch::Other(number) => numbered_name(rt, alloc, number),
     }
 }
 
 /// The name of a branch by its number: the letter `b`, and the number.
-fn numbered(rt: &impl Abort, alloc: Global, number: u32) -> Name {
+fn numbered_name(rt: &impl Abort, alloc: Global, number: u32) -> Name {
     let text = format!(in alloc; "b{number}").expect(rt, "memory");
     name(rt, text.as_bytes())
 }
@@ -59,7 +59,12 @@ pub(crate) enum Change {
 pub(crate) type Edit = (Branch, Change);
 
 /// Makes an edit.
-fn edited(rt: &impl Abort, alloc: Global, trie: &mut Trie<u32>, edit: Edit) -> Result<(), Refusal> {
+fn make_edit(
+    rt: &impl Abort,
+    alloc: Global,
+    trie: &mut Trie<u32>,
+    edit: Edit,
+) -> Result<(), Refusal> {
     let (branch, change) = edit;
     let branch = name_of(rt, alloc, branch);
     match change {
@@ -72,14 +77,14 @@ fn edited(rt: &impl Abort, alloc: Global, trie: &mut Trie<u32>, edit: Edit) -> R
 }
 
 /// Makes edits one after the other.
-pub(crate) fn edited_by(
+pub(crate) fn make_edits(
     rt: &impl Abort,
     alloc: Global,
     trie: &mut Trie<u32>,
     edits: &[Edit],
 ) -> Result<(), Refusal> {
     for edit in edits {
-        edited(rt, alloc, trie, *edit)?;
+        make_edit(rt, alloc, trie, *edit)?;
     }
     Ok(())
 }

@@ -16,11 +16,11 @@ move zero l = Some 1
 move (suc n) l = None
 
 -- the nodes that its search from 0 finds, and their marks
-abbrev keys : List ℕ
-keys = 0 ∷ 1 ∷ []
+abbrev two_nodes : List ℕ
+two_nodes = 0 ∷ 1 ∷ []
 
-abbrev marks : List Mark
-marks = mark_of_start ∷ record { parent = 0; label = 0; depth = 1 } ∷ []
+abbrev two_marks : List Mark
+two_marks = mark_of_start ∷ record { parent = 0; label = 0; depth = 1 } ∷ []
 
 -- label 0 leads from 0 to 1
 Moves-holds : Moves 1 move 0 1
@@ -42,52 +42,52 @@ Reaches-fails h = from h.0 h.1.0 h.1.1.1.1
     from zero r e = let one : 1 ≡ 0 = same_Some 1 0 (ap (λ n. move n r.1.1.0) (sym r.1.0) ∙ r.1.1.1.1) in absurd (omega (arith, one))
     from (suc x) r e = none-some 1 e
 
-two_made : (i k : ℕ) → 0 < i → slice_get keys i ≡ Some k → IsMade 1 move keys marks i k
+two_made : (i k : ℕ) → 0 < i → slice_get two_nodes i ≡ Some k → IsMade 1 move two_nodes two_marks i k
 two_made zero k lt s = absurd (omega (arith, lt))
 two_made (suc zero) k lt s = record { parent = 0; earlier = omega arith; stored = refl; labelled = omega arith; made = s; deeper = refl }
 two_made (suc (suc i)) k lt s = absurd (none-some k s)
 
 -- these are the marks of the nodes 0 and 1
-path_to-holds : (nodes : List ℕ) × IsTrail 1 move nodes marks
-path_to-holds = (keys, record { marked = refl; first = refl; made = two_made })
+path_to-holds : (nodes : List ℕ) × IsTrail 1 move nodes two_marks
+path_to-holds = (two_nodes, record { marked = refl; first = refl; made = two_made })
 
 -- a mark of depth 1 can't be the first on a trail of any nodes
 path_to-fails : ((nodes : List ℕ) × IsTrail 1 move nodes (record { parent = 0; label = 0; depth = 1 } ∷ [])) → ⊥
 path_to-fails h = let deep : 1 ≡ 0 = h.1.first in absurd (omega (arith, deep))
 
 -- the mark of node 1 leads from 0 to 1
-LeadsBy-holds : LeadsBy 1 move keys 0 (record { parent = 0; label = 0; depth = 1 } ∷ []) 1
+LeadsBy-holds : LeadsBy 1 move two_nodes 0 (record { parent = 0; label = 0; depth = 1 } ∷ []) 1
 LeadsBy-holds = (1, ((refl, (omega arith, refl)), refl))
 
 -- a mark whose parent is node 1 doesn't lead from 0
-LeadsBy-fails : LeadsBy 1 move keys 0 (record { parent = 1; label = 0; depth = 1 } ∷ []) 1 → ⊥
+LeadsBy-fails : LeadsBy 1 move two_nodes 0 (record { parent = 1; label = 0; depth = 1 } ∷ []) 1 → ⊥
 LeadsBy-fails h = let other : 1 ≡ 0 = same_Some 1 0 h.1.0.0 in absurd (omega (arith, other))
 
 -- node 1 is found one move from 0
-IsFound-holds : IsFound 1 move nat_eq keys marks 1 1
-IsFound-holds = record { index = 1; key = 1; stored = refl; same = refl; within = omega arith }
+IsFound-holds : IsFound 1 move nat_eq two_nodes two_marks 1 1
+IsFound-holds = record { index = 1; node = 1; stored = refl; same = refl; within = omega arith }
 
-not_at_once : (i k : ℕ) → slice_get keys i ≡ Some k → nat_eq 1 k ≡ true → depth_at marks i ≤ 0 → ⊥
+not_at_once : (i k : ℕ) → slice_get two_nodes i ≡ Some k → nat_eq 1 k ≡ true → depth_at two_marks i ≤ 0 → ⊥
 not_at_once zero k s e w = true≢false (sym e ∙ ap (nat_eq 1) (sym (same_Some 0 k s)))
 not_at_once (suc zero) k s e w = absurd (omega (arith, w))
 not_at_once (suc (suc i)) k s e w = none-some k s
 
 -- node 1 isn't found without a move
-IsFound-fails : IsFound 1 move nat_eq keys marks 1 0 → ⊥
-IsFound-fails h = not_at_once h.index h.key h.stored h.same h.within
+IsFound-fails : IsFound 1 move nat_eq two_nodes two_marks 1 0 → ⊥
+IsFound-fails h = not_at_once h.index h.node h.stored h.same h.within
 
-two_reached : (i k : ℕ) → slice_get keys i ≡ Some k → (n : ℕ) × Reaches 1 move 0 n k
+two_reached : (i k : ℕ) → slice_get two_nodes i ≡ Some k → (n : ℕ) × Reaches 1 move 0 n k
 two_reached zero k s = (0, sym (same_Some 0 k s))
 two_reached (suc zero) k s = (1, (0, (refl, (0, (omega arith, s)))))
 two_reached (suc (suc i)) k s = absurd (none-some k s)
 
-two_distinct : IsDistinct nat_eq keys
+two_distinct : IsDistinct nat_eq two_nodes
 unfolding IsDistinct
 two_distinct = ((refl, tt), (tt, tt))
 
 -- two nodes are reachable from 0, more than the one that is allowed
 AreTooMany-holds : AreTooMany 1 move nat_eq 0 1
-AreTooMany-holds = record { nodes = keys; distinct = two_distinct; reached = two_reached; many = omega arith }
+AreTooMany-holds = record { nodes = two_nodes; distinct = two_distinct; reached = two_reached; many = omega arith }
 
 only_start : (n y : ℕ) → Reaches 0 move 0 n y → y ≡ 0
 only_start zero y h = h
@@ -109,8 +109,8 @@ AreTooMany-fails : AreTooMany 0 move nat_eq 0 1 → ⊥
 AreTooMany-fails h = one_start h.nodes h.distinct h.reached h.many
 
 -- a graph without labels, whose keys are its nodes
-abbrev alone : Shape ℕ ℕ
-alone = record { labels = 0; move = move; origin = 0; key = λ n. n; is_goal = λ n. false }
+abbrev no_labels : Shape ℕ ℕ
+no_labels = record { labels = 0; move = move; origin = 0; key = λ n. n; is_goal = λ n. false }
 
 same_moves : (x y : ℕ) → nat_eq x y ≡ true → (l z : ℕ) → move x l ≡ Some z → (w : ℕ) × ((move y l ≡ Some w) × (nat_eq z w ≡ true))
 same_moves x y e l z m = (z, (ap (λ n. move n l) (sym ((Decides-eqb x y).0 e)) ∙ m, nat_eq_equiv.refl z))
@@ -127,7 +127,7 @@ start_expanded =
     }
 
 -- its search finds the start alone
-IsWholeSearch-holds : IsWholeSearch alone nat_eq (λ n. Unit {0}) (0 ∷ []) (false ∷ []) (mark_of_start ∷ [])
+IsWholeSearch-holds : IsWholeSearch no_labels nat_eq (λ n. Unit {0}) (0 ∷ []) (false ∷ []) (mark_of_start ∷ [])
 IsWholeSearch-holds = record {
   nodes = 0 ∷ [];
   kept = record { by_key = refl; by_goal = refl; hold = λ i x h. tt };
@@ -139,5 +139,5 @@ none_starts [] e s = none-some 0 s
 none_starts (x ∷ nodes) e s = let long : 0 ≡ length (map (λ n. n) (x ∷ nodes)) = ap length e in absurd (omega (arith, long))
 
 -- a search without keys has missed the start
-IsWholeSearch-fails : IsWholeSearch alone nat_eq (λ n. Unit {0}) [] [] [] → ⊥
+IsWholeSearch-fails : IsWholeSearch no_labels nat_eq (λ n. Unit {0}) [] [] [] → ⊥
 IsWholeSearch-fails h = none_starts h.nodes h.kept.by_key h.all.starts

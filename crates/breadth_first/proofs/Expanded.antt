@@ -8,7 +8,7 @@ use Rattle.std.specs.List.{IsDistinct, list_any}
 use Rattle.std.specs.Cmp.{IsEquivalence}
 use Rattle.breadth_first.specs.declared.mark.Mark.{Mark}
 use Rattle.breadth_first.specs.Paths.{mark_of_start, noted_mark, depth_at, Moves, Reaches, IsMade, IsTrail, IsFound, IsExpanding, IsFollowed, IsAllReached, AreTooMany}
-use Rattle.breadth_first.proofs.Pushed.{stays, added, old_or_new, place_of}
+use Rattle.breadth_first.proofs.Pushed.{kept_by_push, pushed_last, old_or_new, passing_place}
 
 pub mark_stays : (marks : List Mark) (m : Mark) (i : ℕ) → i < length marks → noted_mark (marks ++ m ∷ []) i ≡ noted_mark marks i
 mark_stays marks m i h = get_or_append_left marks (m ∷ []) mark_of_start i h
@@ -27,8 +27,8 @@ unfolding IsDistinct
 distinct_none eq = tt
 
 module _ {N : Type 0} (labels : ℕ) (move : N → ℕ → Option N) where
-  module _ (keys : List N) (marks : List Mark) (m : Mark) (y : N) (t : IsTrail labels move keys marks) where
-    made_stays : (i : ℕ) (k : N) → i < length keys → IsMade labels move keys marks i k → IsMade labels move (keys ++ y ∷ []) (marks ++ m ∷ []) i k
+  module _ (nodes : List N) (marks : List Mark) (m : Mark) (y : N) (t : IsTrail labels move nodes marks) where
+    made_stays : (i : ℕ) (k : N) → i < length nodes → IsMade labels move nodes marks i k → IsMade labels move (nodes ++ y ∷ []) (marks ++ m ∷ []) i k
     made_stays i k lt h =
         let here : i < length marks = omega (arith, t.marked) in
         let e : noted_mark (marks ++ m ∷ []) i ≡ noted_mark marks i = mark_stays marks m i here in
@@ -37,34 +37,34 @@ module _ {N : Type 0} (labels : ℕ) (move : N → ℕ → Option N) where
         record {
           parent = h.parent;
           earlier = subst (λ (n : Mark). n.parent < i) (sym e) h.earlier;
-          stored = subst (λ (n : Mark). slice_get (keys ++ y ∷ []) n.parent ≡ Some h.parent) (sym e) (stays keys y (noted_mark marks i).parent h.parent h.stored);
+          stored = subst (λ (n : Mark). slice_get (nodes ++ y ∷ []) n.parent ≡ Some h.parent) (sym e) (kept_by_push nodes y (noted_mark marks i).parent h.parent h.stored);
           labelled = subst (λ (n : Mark). n.label < labels) (sym e) h.labelled;
           made = subst (λ (n : Mark). move h.parent n.label ≡ Some k) (sym e) h.made;
           deeper = ap (λ n. n.depth) e ∙ (h.deeper ∙ ap (λ d. d + 1) (sym (ap (depth_at (marks ++ m ∷ [])) up ∙ depth_stays marks m (noted_mark marks i).parent before)));
         }
 
     -- a trail stays one if a node is added with a mark that says how it was made
-    pub trail_added : (x : N) → slice_get keys m.parent ≡ Some x → m.label < labels → move x m.label ≡ Some y
-        → m.depth ≡ depth_at marks m.parent + 1 → 0 < length keys → IsTrail labels move (keys ++ y ∷ []) (marks ++ m ∷ [])
+    pub trail_added : (x : N) → slice_get nodes m.parent ≡ Some x → m.label < labels → move x m.label ≡ Some y
+        → m.depth ≡ depth_at marks m.parent + 1 → 0 < length nodes → IsTrail labels move (nodes ++ y ∷ []) (marks ++ m ∷ [])
     trail_added x at lab moves deep some = record {
-      marked = omega (arith, t.marked, length_push keys y, length_push marks m);
+      marked = omega (arith, t.marked, length_push nodes y, length_push marks m);
       first = depth_stays marks m 0 (omega (arith, t.marked)) ∙ t.first;
-      made = λ i k pos h. elim (old_or_new keys y i k h) [
-        | inl p ↦ made_stays i k (slice_get_within keys i k p) (t.made i k pos p)
+      made = λ i k pos h. elim (old_or_new nodes y i k h) [
+        | inl p ↦ made_stays i k (slice_get_within nodes i k p) (t.made i k pos p)
         | inr q ↦ new i k q.0 q.1
       ];
     }
       where
-        new : (i : ℕ) (k : N) → i ≡ length keys → k ≡ y → IsMade labels move (keys ++ y ∷ []) (marks ++ m ∷ []) i k
+        new : (i : ℕ) (k : N) → i ≡ length nodes → k ≡ y → IsMade labels move (nodes ++ y ∷ []) (marks ++ m ∷ []) i k
         new i k e f =
             let last : length marks ≡ i = omega (arith, t.marked) in
             let g : noted_mark (marks ++ m ∷ []) i ≡ m = mark_added marks m i last in
-            let low : m.parent < length keys = slice_get_within keys m.parent x at in
+            let low : m.parent < length nodes = slice_get_within nodes m.parent x at in
             let before : m.parent < length marks = omega (arith, t.marked) in
             record {
               parent = x;
               earlier = subst (λ (n : Mark). n.parent < i) (sym g) (omega arith);
-              stored = subst (λ (n : Mark). slice_get (keys ++ y ∷ []) n.parent ≡ Some x) (sym g) (stays keys y m.parent x at);
+              stored = subst (λ (n : Mark). slice_get (nodes ++ y ∷ []) n.parent ≡ Some x) (sym g) (kept_by_push nodes y m.parent x at);
               labelled = subst (λ (n : Mark). n.label < labels) (sym g) lab;
               made = subst (λ (n : Mark). move x n.label ≡ Some k) (sym g) (moves ∙ ap Some (sym f));
               deeper = ap (λ n. n.depth) g ∙ (deep ∙ ap (λ d. d + 1) (sym (ap (λ n. depth_at (marks ++ m ∷ []) n.parent) g ∙ depth_stays marks m m.parent before)));
@@ -72,94 +72,94 @@ module _ {N : Type 0} (labels : ℕ) (move : N → ℕ → Option N) where
 
   module _ (eq : N → N → Bool) where
     -- what is found stays found
-    pub found_stays : (keys : List N) (marks : List Mark) (m : Mark) (y z : N) (d : ℕ) → length marks ≡ length keys
-        → IsFound labels move eq keys marks z d → IsFound labels move eq (keys ++ y ∷ []) (marks ++ m ∷ []) z d
-    found_stays keys marks m y z d len f =
-        let inside : f.index < length keys = slice_get_within keys f.index f.key f.stored in
+    pub found_stays : (nodes : List N) (marks : List Mark) (m : Mark) (y z : N) (d : ℕ) → length marks ≡ length nodes
+        → IsFound labels move eq nodes marks z d → IsFound labels move eq (nodes ++ y ∷ []) (marks ++ m ∷ []) z d
+    found_stays nodes marks m y z d len f =
+        let inside : f.index < length nodes = slice_get_within nodes f.index f.node f.stored in
         let e : depth_at (marks ++ m ∷ []) f.index ≡ depth_at marks f.index = depth_stays marks m f.index (omega arith) in
-        record { index = f.index; key = f.key; stored = stays keys y f.index f.key f.stored; same = f.same; within = omega (arith, f.within) }
+        record { index = f.index; node = f.node; stored = kept_by_push nodes y f.index f.node f.stored; same = f.same; within = omega (arith, f.within) }
 
     -- the node that is added is found
-    pub found_added : IsEquivalence eq → (keys : List N) (marks : List Mark) (m : Mark) (y : N) → length marks ≡ length keys
-        → IsFound labels move eq (keys ++ y ∷ []) (marks ++ m ∷ []) y m.depth
-    found_added laws keys marks m y len =
-        let e : depth_at (marks ++ m ∷ []) (length keys) ≡ m.depth = depth_added marks m (length keys) len in
-        record { index = length keys; key = y; stored = added keys y; same = laws.refl y; within = omega arith }
+    pub found_added : IsEquivalence eq → (nodes : List N) (marks : List Mark) (m : Mark) (y : N) → length marks ≡ length nodes
+        → IsFound labels move eq (nodes ++ y ∷ []) (marks ++ m ∷ []) y m.depth
+    found_added laws nodes marks m y len =
+        let e : depth_at (marks ++ m ∷ []) (length nodes) ≡ m.depth = depth_added marks m (length nodes) len in
+        record { index = length nodes; node = y; stored = pushed_last nodes y; same = laws.refl y; within = omega arith }
 
     -- a node that is there is found, at most one deeper than the node at `at`
-    pub found_there : (keys : List N) (marks : List Mark) (at : ℕ) (y : N) → IsExpanding labels move eq keys marks at → at < length keys
-        → list_any (eq y) keys ≡ true → IsFound labels move eq keys marks y (depth_at marks at + 1)
-    found_there keys marks at y s lt h =
-        let p = place_of (eq y) keys h in
-        record { index = p.0; key = p.1.0; stored = p.1.1.0; same = p.1.1.1; within = s.near p.0 lt (slice_get_within keys p.0 p.1.0 p.1.1.0) }
+    pub found_old : (nodes : List N) (marks : List Mark) (at : ℕ) (y : N) → IsExpanding labels move eq nodes marks at → at < length nodes
+        → list_any (eq y) nodes ≡ true → IsFound labels move eq nodes marks y (depth_at marks at + 1)
+    found_old nodes marks at y s lt h =
+        let p = passing_place (eq y) nodes h in
+        record { index = p.0; node = p.1.0; stored = p.1.1.0; same = p.1.1.1; within = s.near p.0 lt (slice_get_within nodes p.0 p.1.0 p.1.1.0) }
 
     -- the node y is added with the mark m: it is made from the node x, at the index m.parent
-    module _ (keys : List N) (marks : List Mark) (m : Mark) (y x : N) (s : IsExpanding labels move eq keys marks m.parent)
-        (at : slice_get keys m.parent ≡ Some x) (deep : m.depth ≡ depth_at marks m.parent + 1) where
+    module _ (nodes : List N) (marks : List Mark) (m : Mark) (y x : N) (s : IsExpanding labels move eq nodes marks m.parent)
+        (at : slice_get nodes m.parent ≡ Some x) (deep : m.depth ≡ depth_at marks m.parent + 1) where
       -- an index is an old one, whose depth stays, or the new one, one deeper than m.parent
-      abbrev Place : ℕ → Type 0
-      Place j = ((j < length keys) × (depth_at (marks ++ m ∷ []) j ≡ depth_at marks j))
-          ⊎ ((j ≡ length keys) × (depth_at (marks ++ m ∷ []) j ≡ depth_at marks m.parent + 1))
+      abbrev IsOldOrNew : ℕ → Type 0
+      IsOldOrNew j = ((j < length nodes) × (depth_at (marks ++ m ∷ []) j ≡ depth_at marks j))
+          ⊎ ((j ≡ length nodes) × (depth_at (marks ++ m ∷ []) j ≡ depth_at marks m.parent + 1))
 
-      place : (j : ℕ) → j < length (keys ++ y ∷ []) → Place j
-      place j lt = elim (cases_lt j (length keys)) [
+      old_or_new_index : (j : ℕ) → j < length (nodes ++ y ∷ []) → IsOldOrNew j
+      old_or_new_index j lt = elim (cases_lt j (length nodes)) [
         | inl low ↦ inl (low, depth_stays marks m j (omega (arith, s.trail.marked, low)))
-        | inr high ↦ last (omega (arith, high, length_push keys y))
+        | inr high ↦ last (omega (arith, high, length_push nodes y))
       ]
         where
-          last : j ≡ length keys → Place j
+          last : j ≡ length nodes → IsOldOrNew j
           last e = inr (e, depth_added marks m j (omega (arith, s.trail.marked)) ∙ deep)
 
-      sorted_at : (i j : ℕ) → i ≤ j → Place i → Place j → depth_at (marks ++ m ∷ []) i ≤ depth_at (marks ++ m ∷ []) j
+      sorted_at : (i j : ℕ) → i ≤ j → IsOldOrNew i → IsOldOrNew j → depth_at (marks ++ m ∷ []) i ≤ depth_at (marks ++ m ∷ []) j
       sorted_at i j le (inl a) (inl b) = let h = s.sorted i j le b.0 in omega (arith, a.1, b.1)
-      sorted_at i j le (inl a) (inr b) = let h = s.near i (slice_get_within keys m.parent x at) a.0 in omega (arith, a.1, b.1)
+      sorted_at i j le (inl a) (inr b) = let h = s.near i (slice_get_within nodes m.parent x at) a.0 in omega (arith, a.1, b.1)
       sorted_at i j le (inr a) (inl b) = absurd (omega (arith, a.0, b.0))
       sorted_at i j le (inr a) (inr b) = omega (arith, a.1, b.1)
 
-      near_at : (j : ℕ) → Place j → depth_at (marks ++ m ∷ []) m.parent ≡ depth_at marks m.parent → depth_at (marks ++ m ∷ []) j ≤ depth_at (marks ++ m ∷ []) m.parent + 1
-      near_at j (inl a) here = let h = s.near j (slice_get_within keys m.parent x at) a.0 in omega (arith, a.1)
+      near_at : (j : ℕ) → IsOldOrNew j → depth_at (marks ++ m ∷ []) m.parent ≡ depth_at marks m.parent → depth_at (marks ++ m ∷ []) j ≤ depth_at (marks ++ m ∷ []) m.parent + 1
+      near_at j (inl a) here = let h = s.near j (slice_get_within nodes m.parent x at) a.0 in omega (arith, a.1)
       near_at j (inr a) here = omega (arith, a.1)
 
-      expanded_at : (i : ℕ) (k z : N) → i < m.parent → slice_get (keys ++ y ∷ []) i ≡ Some k → Moves labels move k z
-          → IsFound labels move eq (keys ++ y ∷ []) (marks ++ m ∷ []) z (depth_at (marks ++ m ∷ []) i + 1)
-      expanded_at i k z lt h mv = elim (old_or_new keys y i k h) [
-        | inl p ↦ subst (IsFound labels move eq (keys ++ y ∷ []) (marks ++ m ∷ []) z)
-            (ap (λ d. d + 1) (sym (depth_stays marks m i (omega (arith, s.trail.marked, slice_get_within keys i k p)))))
-            (found_stays keys marks m y z (depth_at marks i + 1) s.trail.marked (s.expanded i k lt p z mv))
-        | inr q ↦ absurd (omega (arith, lt, q.0, slice_get_within keys m.parent x at))
+      expanded_at : (i : ℕ) (k z : N) → i < m.parent → slice_get (nodes ++ y ∷ []) i ≡ Some k → Moves labels move k z
+          → IsFound labels move eq (nodes ++ y ∷ []) (marks ++ m ∷ []) z (depth_at (marks ++ m ∷ []) i + 1)
+      expanded_at i k z lt h mv = elim (old_or_new nodes y i k h) [
+        | inl p ↦ subst (IsFound labels move eq (nodes ++ y ∷ []) (marks ++ m ∷ []) z)
+            (ap (λ d. d + 1) (sym (depth_stays marks m i (omega (arith, s.trail.marked, slice_get_within nodes i k p)))))
+            (found_stays nodes marks m y z (depth_at marks i + 1) s.trail.marked (s.expanded i k lt p z mv))
+        | inr q ↦ absurd (omega (arith, lt, q.0, slice_get_within nodes m.parent x at))
       ]
 
-      pub expanding_added : IsEquivalence eq → m.label < labels → move x m.label ≡ Some y → list_any (eq y) keys ≡ false
-          → IsExpanding labels move eq (keys ++ y ∷ []) (marks ++ m ∷ []) m.parent
+      pub expanding_added : IsEquivalence eq → m.label < labels → move x m.label ≡ Some y → list_any (eq y) nodes ≡ false
+          → IsExpanding labels move eq (nodes ++ y ∷ []) (marks ++ m ∷ []) m.parent
       expanding_added laws lab moves new =
-          let low : m.parent < length keys = slice_get_within keys m.parent x at in
+          let low : m.parent < length nodes = slice_get_within nodes m.parent x at in
           let here : depth_at (marks ++ m ∷ []) m.parent ≡ depth_at marks m.parent = depth_stays marks m m.parent (omega (arith, s.trail.marked)) in
           record {
-            trail = trail_added keys marks m y s.trail x at lab moves deep (omega arith);
-            distinct = IsDistinct-push laws keys y s.distinct new;
-            sorted = λ i j le lt. sorted_at i j le (place i (omega arith)) (place j lt);
-            near = λ j _ lt. near_at j (place j lt) here;
+            trail = trail_added nodes marks m y s.trail x at lab moves deep (omega arith);
+            distinct = IsDistinct-push laws nodes y s.distinct new;
+            sorted = λ i j le lt. sorted_at i j le (old_or_new_index i (omega arith)) (old_or_new_index j lt);
+            near = λ j _ lt. near_at j (old_or_new_index j lt) here;
             expanded = λ i k lt h z mv. expanded_at i k z lt h mv;
           }
 
   -- a node is no deeper than its index
-  pub depth_low : (keys : List N) (marks : List Mark) → IsTrail labels move keys marks → (f i : ℕ) (k : N) → i < f → slice_get keys i ≡ Some k → depth_at marks i ≤ i
-  depth_low keys marks t zero i k lt h = absurd (omega (arith, lt))
-  depth_low keys marks t (suc f) zero k lt h = omega (arith, t.first)
-  depth_low keys marks t (suc f) (suc i) k lt h =
+  pub depth_low : (nodes : List N) (marks : List Mark) → IsTrail labels move nodes marks → (f i : ℕ) (k : N) → i < f → slice_get nodes i ≡ Some k → depth_at marks i ≤ i
+  depth_low nodes marks t zero i k lt h = absurd (omega (arith, lt))
+  depth_low nodes marks t (suc f) zero k lt h = omega (arith, t.first)
+  depth_low nodes marks t (suc f) (suc i) k lt h =
       let m = t.made (suc i) k (omega arith) h in
-      let r = depth_low keys marks t f (noted_mark marks (suc i)).parent m.parent (omega (arith, lt, m.earlier)) m.stored in
+      let r = depth_low nodes marks t f (noted_mark marks (suc i)).parent m.parent (omega (arith, lt, m.earlier)) m.stored in
       omega (arith, m.deeper, m.earlier, r)
 
   -- each node on a trail is reached by as many moves as are noted
-  pub reached_along : (start : N) (keys : List N) (marks : List Mark) → IsTrail labels move keys marks → slice_get keys 0 ≡ Some start
-      → (f i : ℕ) (k : N) → i < f → slice_get keys i ≡ Some k → Reaches labels move start (depth_at marks i) k
-  reached_along start keys marks t s zero i k lt h = absurd (omega (arith, lt))
-  reached_along start keys marks t s (suc f) zero k lt h =
+  pub reached_along : (start : N) (nodes : List N) (marks : List Mark) → IsTrail labels move nodes marks → slice_get nodes 0 ≡ Some start
+      → (f i : ℕ) (k : N) → i < f → slice_get nodes i ≡ Some k → Reaches labels move start (depth_at marks i) k
+  reached_along start nodes marks t s zero i k lt h = absurd (omega (arith, lt))
+  reached_along start nodes marks t s (suc f) zero k lt h =
       subst (λ d. Reaches labels move start d k) (sym t.first) (same_Some k start (sym h ∙ s))
-  reached_along start keys marks t s (suc f) (suc i) k lt h =
+  reached_along start nodes marks t s (suc f) (suc i) k lt h =
       let m = t.made (suc i) k (omega arith) h in
-      let r = reached_along start keys marks t s f (noted_mark marks (suc i)).parent m.parent (omega (arith, lt, m.earlier)) m.stored in
+      let r = reached_along start nodes marks t s f (noted_mark marks (suc i)).parent m.parent (omega (arith, lt, m.earlier)) m.stored in
       let mv : Moves labels move m.parent k = ((noted_mark marks (suc i)).label, (m.labelled, m.made)) in
       let both : Reaches labels move start (suc (depth_at marks (noted_mark marks (suc i)).parent)) k = (m.parent, (r, mv)) in
       subst (λ d. Reaches labels move start d k) (sym (m.deeper ∙ add-one (depth_at marks (noted_mark marks (suc i)).parent))) both
@@ -167,41 +167,41 @@ module _ {N : Type 0} (labels : ℕ) (move : N → ℕ → Option N) where
   module _ (eq : N → N → Bool) (laws : IsEquivalence eq)
       (alike : (x y : N) → eq x y ≡ true → (l : ℕ) (z : N) → move x l ≡ Some z → (w : N) × ((move y l ≡ Some w) × (eq z w ≡ true))) where
     -- whatever is reached is found, once all moves are followed
-    pub found_all : (start : N) (keys : List N) (marks : List Mark) (at : ℕ) → IsExpanding labels move eq keys marks at → length keys ≤ at
-        → slice_get keys 0 ≡ Some start → (n : ℕ) (y : N) → Reaches labels move start n y → IsFound labels move eq keys marks y n
-    found_all start keys marks at s all first zero y e =
-        record { index = 0; key = start; stored = first; same = subst (λ z. eq z start ≡ true) (sym e) (laws.refl start); within = omega (arith, s.trail.first) }
-    found_all start keys marks at s all first (suc n) y r =
-        let f = found_all start keys marks at s all first n r.0 r.1.0 in
-        let a = alike r.0 f.key f.same r.1.1.0 y r.1.1.1.1 in
-        let mv : Moves labels move f.key a.0 = (r.1.1.0, (r.1.1.1.0, a.1.0)) in
-        let g = s.expanded f.index f.key (omega (arith, all, slice_get_within keys f.index f.key f.stored)) f.stored a.0 mv in
-        record { index = g.index; key = g.key; stored = g.stored; same = laws.congr y a.0 g.key a.1.1 ∙ g.same; within = omega (arith, g.within, f.within) }
+    pub found_all : (start : N) (nodes : List N) (marks : List Mark) (at : ℕ) → IsExpanding labels move eq nodes marks at → length nodes ≤ at
+        → slice_get nodes 0 ≡ Some start → (n : ℕ) (y : N) → Reaches labels move start n y → IsFound labels move eq nodes marks y n
+    found_all start nodes marks at s all first zero y e =
+        record { index = 0; node = start; stored = first; same = subst (λ z. eq z start ≡ true) (sym e) (laws.refl start); within = omega (arith, s.trail.first) }
+    found_all start nodes marks at s all first (suc n) y r =
+        let f = found_all start nodes marks at s all first n r.0 r.1.0 in
+        let a = alike r.0 f.node f.same r.1.1.0 y r.1.1.1.1 in
+        let mv : Moves labels move f.node a.0 = (r.1.1.0, (r.1.1.1.0, a.1.0)) in
+        let g = s.expanded f.index f.node (omega (arith, all, slice_get_within nodes f.index f.node f.stored)) f.stored a.0 mv in
+        record { index = g.index; node = g.node; stored = g.stored; same = laws.congr y a.0 g.node a.1.1 ∙ g.same; within = omega (arith, g.within, f.within) }
 
     -- once all moves are followed, all is found
-    pub all_reached : (start : N) (keys : List N) (marks : List Mark) (at : ℕ) → IsExpanding labels move eq keys marks at → length keys ≤ at
-        → slice_get keys 0 ≡ Some start → IsAllReached labels move eq start keys marks
-    all_reached start keys marks at s all first = record {
+    pub all_reached : (start : N) (nodes : List N) (marks : List Mark) (at : ℕ) → IsExpanding labels move eq nodes marks at → length nodes ≤ at
+        → slice_get nodes 0 ≡ Some start → IsAllReached labels move eq start nodes marks
+    all_reached start nodes marks at s all first = record {
       starts = first;
       trail = s.trail;
       distinct = s.distinct;
       sorted = s.sorted;
-      sound = λ i k h. reached_along start keys marks s.trail first (suc i) i k (omega arith) h;
-      complete = found_all start keys marks at s all first;
+      sound = λ i k h. reached_along start nodes marks s.trail first (suc i) i k (omega arith) h;
+      complete = found_all start nodes marks at s all first;
     }
 
     -- one more node is too many
-    pub too_many : (start : N) (keys : List N) (marks : List Mark) (at l : ℕ) (x y : N) (most : ℕ) → IsExpanding labels move eq keys marks at
-        → slice_get keys 0 ≡ Some start → slice_get keys at ≡ Some x → l < labels → move x l ≡ Some y → list_any (eq y) keys ≡ false → most ≤ length keys
+    pub too_many : (start : N) (noted : List N) (marks : List Mark) (at l : ℕ) (x y : N) (most : ℕ) → IsExpanding labels move eq noted marks at
+        → slice_get noted 0 ≡ Some start → slice_get noted at ≡ Some x → l < labels → move x l ≡ Some y → list_any (eq y) noted ≡ false → most ≤ length noted
         → AreTooMany labels move eq start most
-    too_many start keys marks at l x y most s first here lt moves new full = record {
-      nodes = keys ++ y ∷ [];
-      distinct = IsDistinct-push laws keys y s.distinct new;
-      reached = λ i k h. elim (old_or_new keys y i k h) [
-        | inl p ↦ (depth_at marks i, reached_along start keys marks s.trail first (suc i) i k (omega arith) p)
-        | inr q ↦ last k q.1 (reached_along start keys marks s.trail first (suc at) at x (omega arith) here)
+    too_many start noted marks at l x y most s first here lt moves new full = record {
+      nodes = noted ++ y ∷ [];
+      distinct = IsDistinct-push laws noted y s.distinct new;
+      reached = λ i k h. elim (old_or_new noted y i k h) [
+        | inl p ↦ (depth_at marks i, reached_along start noted marks s.trail first (suc i) i k (omega arith) p)
+        | inr q ↦ last k q.1 (reached_along start noted marks s.trail first (suc at) at x (omega arith) here)
       ];
-      many = omega (arith, length_push keys y, full);
+      many = omega (arith, length_push noted y, full);
     }
       where
         last : (k : N) → k ≡ y → Reaches labels move start (depth_at marks at) x → (n : ℕ) × Reaches labels move start n k
@@ -233,40 +233,40 @@ module _ {N : Type 0} (labels : ℕ) (move : N → ℕ → Option N) where
         low j e = let a : depth_at (mark_of_start ∷ []) j ≡ depth_at (mark_of_start ∷ []) 0 = ap (depth_at (mark_of_start ∷ [])) e in omega (arith, a)
 
     -- a move to y is followed: y is noted, unless an equal node was there
-    module _ (keys : List N) (marks : List Mark) (at l d : ℕ) (x y : N) (s : IsExpanding labels move eq keys marks at) where
-      pub followed_there : slice_get keys at ≡ Some x → move x l ≡ Some y → list_any (eq y) keys ≡ true
-          → IsFollowed labels move eq keys marks keys marks at l
-      followed_there here moves there = record {
+    module _ (nodes : List N) (marks : List Mark) (at l d : ℕ) (x y : N) (s : IsExpanding labels move eq nodes marks at) where
+      pub followed_old : slice_get nodes at ≡ Some x → move x l ≡ Some y → list_any (eq y) nodes ≡ true
+          → IsFollowed labels move eq nodes marks nodes marks at l
+      followed_old here moves there = record {
         expanding = s;
         grown = λ i z h. h;
         kept = λ z n f. f;
         depth = refl;
-        discovered = λ z w h mv. found_same z w h mv (found_there eq keys marks at y s (slice_get_within keys at x here) there);
+        discovered = λ z w h mv. found_same z w h mv (found_old eq nodes marks at y s (slice_get_within nodes at x here) there);
       }
         where
-          found_same : (z w : N) → slice_get keys at ≡ Some z → move z l ≡ Some w → IsFound labels move eq keys marks y (depth_at marks at + 1)
-              → IsFound labels move eq keys marks w (depth_at marks at + 1)
+          found_same : (z w : N) → slice_get nodes at ≡ Some z → move z l ≡ Some w → IsFound labels move eq nodes marks y (depth_at marks at + 1)
+              → IsFound labels move eq nodes marks w (depth_at marks at + 1)
           found_same z w h mv f =
               let e : z ≡ x = same_Some z x (sym h ∙ here) in
               let k : w ≡ y = same_Some w y (sym mv ∙ (ap (λ n. move n l) e ∙ moves)) in
-              subst (λ n. IsFound labels move eq keys marks n (depth_at marks at + 1)) (sym k) f
+              subst (λ n. IsFound labels move eq nodes marks n (depth_at marks at + 1)) (sym k) f
 
-      pub followed_new : slice_get keys at ≡ Some x → l < labels → move x l ≡ Some y → d ≡ depth_at marks at + 1 → list_any (eq y) keys ≡ false
-          → IsFollowed labels move eq keys marks (keys ++ y ∷ []) (marks ++ (record { parent = at; label = l; depth = d }) ∷ []) at l
+      pub followed_new : slice_get nodes at ≡ Some x → l < labels → move x l ≡ Some y → d ≡ depth_at marks at + 1 → list_any (eq y) nodes ≡ false
+          → IsFollowed labels move eq nodes marks (nodes ++ y ∷ []) (marks ++ (record { parent = at; label = l; depth = d }) ∷ []) at l
       followed_new here lab moves deep new =
           let m : Mark = record { parent = at; label = l; depth = d } in
           record {
-            expanding = expanding_added eq keys marks m y x s here deep laws lab moves new;
-            grown = λ i z h. stays keys y i z h;
-            kept = λ z n f. found_stays eq keys marks m y z n s.trail.marked f;
-            depth = depth_stays marks m at (omega (arith, s.trail.marked, slice_get_within keys at x here));
-            discovered = λ z w h mv. found_same z w h mv (found_added eq laws keys marks m y s.trail.marked);
+            expanding = expanding_added eq nodes marks m y x s here deep laws lab moves new;
+            grown = λ i z h. kept_by_push nodes y i z h;
+            kept = λ z n f. found_stays eq nodes marks m y z n s.trail.marked f;
+            depth = depth_stays marks m at (omega (arith, s.trail.marked, slice_get_within nodes at x here));
+            discovered = λ z w h mv. found_same z w h mv (found_added eq laws nodes marks m y s.trail.marked);
           }
         where
-          found_same : (z w : N) → slice_get keys at ≡ Some z → move z l ≡ Some w
-              → IsFound labels move eq (keys ++ y ∷ []) (marks ++ (record { parent = at; label = l; depth = d }) ∷ []) y d
-              → IsFound labels move eq (keys ++ y ∷ []) (marks ++ (record { parent = at; label = l; depth = d }) ∷ []) w (depth_at marks at + 1)
+          found_same : (z w : N) → slice_get nodes at ≡ Some z → move z l ≡ Some w
+              → IsFound labels move eq (nodes ++ y ∷ []) (marks ++ (record { parent = at; label = l; depth = d }) ∷ []) y d
+              → IsFound labels move eq (nodes ++ y ∷ []) (marks ++ (record { parent = at; label = l; depth = d }) ∷ []) w (depth_at marks at + 1)
           found_same z w h mv f =
               let e : z ≡ x = same_Some z x (sym h ∙ here) in
               let k : w ≡ y = same_Some w y (sym mv ∙ (ap (λ n. move n l) e ∙ moves)) in
-              record { index = f.index; key = f.key; stored = f.stored; same = subst (λ n. eq n f.key ≡ true) (sym k) f.same; within = omega (arith, f.within, deep) }
+              record { index = f.index; node = f.node; stored = f.stored; same = subst (λ n. eq n f.node ≡ true) (sym k) f.same; within = omega (arith, f.within, deep) }

@@ -5,7 +5,7 @@ use Rattle.std.proofs.lemmas.Option.{same_Some, slice_get_within}
 use Rattle.breadth_first.specs.declared.mark.Mark.{Mark}
 use Rattle.breadth_first.specs.Shape.{Shape}
 use Rattle.breadth_first.specs.Paths.{depth_at, Moves, IsFound, IsExpanding}
-use Rattle.breadth_first.specs.Searches.{IsSearching, IsSearch, IsSearchAt, IsStepped}
+use Rattle.breadth_first.specs.Searches.{IsSearching, IsSearch, IsSearchAt, IsSearchAfter}
 use Rattle.breadth_first.proofs.Followed.{discovered_more}
 
 module _ {N K : Type 0} (g : Shape N K) (eq : N → N → Bool) (Holds : N → Type 0) (x : N) (at : ℕ) where
@@ -26,7 +26,7 @@ module _ {N K : Type 0} (g : Shape N K) (eq : N → N → Bool) (Holds : N → T
 
       pub labels_more : (new_keys : List K) (new_goals : List Bool) (new_marks : List Mark) (new_queue : List N)
           → ((nodes : List N) → slice_get nodes at ≡ Some x → IsSearching g eq Holds nodes keys goals marks queue (at + 1) at
-          → IsStepped g eq Holds nodes marks new_keys new_goals new_marks new_queue at l)
+          → IsSearchAfter g eq Holds nodes marks new_keys new_goals new_marks new_queue at l)
           → IsExpandingLabels new_keys new_goals new_marks new_queue (l + 1)
       labels_more new_keys new_goals new_marks new_queue step =
           let t = step s.nodes s.here s.searching in

@@ -13,17 +13,17 @@ grown_same xs ys at x grown lt h = elim ((slice_get_cases xs at).1) [
   | inr b ↦ absurd (omega (arith, lt, b.0))
 ]
 
-module _ {N : Type 0} (labels : ℕ) (move : N → ℕ → Option N) (eq : N → N → Bool) (keys new_keys : List N) (marks new_marks : List Mark) (at l : ℕ)
-    (f : IsFollowed labels move eq keys marks new_keys new_marks at l) where
-  pub discovered_more : at < length keys
-      → ((x y : N) (i : ℕ) → i < l → slice_get keys at ≡ Some x → move x i ≡ Some y → IsFound labels move eq keys marks y (depth_at marks at + 1))
-      → (x y : N) (i : ℕ) → i < l + 1 → slice_get new_keys at ≡ Some x → move x i ≡ Some y → IsFound labels move eq new_keys new_marks y (depth_at new_marks at + 1)
+module _ {N : Type 0} (labels : ℕ) (move : N → ℕ → Option N) (eq : N → N → Bool) (nodes new_nodes : List N) (marks new_marks : List Mark) (at l : ℕ)
+    (f : IsFollowed labels move eq nodes marks new_nodes new_marks at l) where
+  pub discovered_more : at < length nodes
+      → ((x y : N) (i : ℕ) → i < l → slice_get nodes at ≡ Some x → move x i ≡ Some y → IsFound labels move eq nodes marks y (depth_at marks at + 1))
+      → (x y : N) (i : ℕ) → i < l + 1 → slice_get new_nodes at ≡ Some x → move x i ≡ Some y → IsFound labels move eq new_nodes new_marks y (depth_at new_marks at + 1)
   discovered_more here discovered x y i lt h mv =
-      let old : slice_get keys at ≡ Some x = grown_same keys new_keys at x f.grown here h in
-      subst (IsFound labels move eq new_keys new_marks y) (ap (λ d. d + 1) (sym f.depth)) (elim (cases_lt i l) [
+      let old : slice_get nodes at ≡ Some x = grown_same nodes new_nodes at x f.grown here h in
+      subst (IsFound labels move eq new_nodes new_marks y) (ap (λ d. d + 1) (sym f.depth)) (elim (cases_lt i l) [
         | inl low ↦ f.kept y (depth_at marks at + 1) (discovered x y i low old mv)
         | inr high ↦ last i (omega (arith, lt, high)) x y old mv
       ])
     where
-      last : (i : ℕ) → i ≡ l → (x y : N) → slice_get keys at ≡ Some x → move x i ≡ Some y → IsFound labels move eq new_keys new_marks y (depth_at marks at + 1)
+      last : (i : ℕ) → i ≡ l → (x y : N) → slice_get nodes at ≡ Some x → move x i ≡ Some y → IsFound labels move eq new_nodes new_marks y (depth_at marks at + 1)
       last i e x y old mv = f.discovered x y old (sym (ap (move x) e) ∙ mv)

@@ -7,22 +7,22 @@ use Rattle.std.proofs.lemmas.Option.{none-some, slice_get_within}
 use Rattle.breadth_first.specs.declared.mark.Mark.{Mark}
 use Rattle.breadth_first.specs.Shape.{Shape}
 use Rattle.breadth_first.specs.Paths.{mark_of_start, depth_at, AreTooMany}
-use Rattle.breadth_first.specs.Searches.{IsOldNode, IsNewNode, AreKeysOf, IsSearching, IsSearch, IsSearchAt, IsStepped, IsWholeSearch}
+use Rattle.breadth_first.specs.Searches.{IsOldNode, IsNewNode, AreKeysOf, IsSearching, IsSearch, IsSearchAt, IsSearchAfter, IsWholeSearch}
 use Rattle.breadth_first.proofs.Pushed.{old_or_new}
-use Rattle.breadth_first.proofs.Expanded.{all_reached, followed_there, followed_new, too_many}
-use Rattle.breadth_first.proofs.Started.{HasBegun, begun, no_more}
+use Rattle.breadth_first.proofs.Expanded.{all_reached, followed_old, followed_new, too_many}
+use Rattle.breadth_first.proofs.Started.{HasBegun, has_begun, not_too_many}
 
 -- the first of the items from index n on
-front : {X : Type 0} (xs : List X) (n : ℕ) (x : X) (rest : List X) → drop n xs ≡ x ∷ rest → (slice_get xs n ≡ Some x) × (rest ≡ drop (suc n) xs)
-front [] zero x rest h = cc
-front [] (suc n) x rest h = cc
-front (y ∷ ys) zero x rest h = (cc, cc)
-front (y ∷ ys) (suc n) x rest h = front ys n x rest h
+head_of_drop : {X : Type 0} (xs : List X) (n : ℕ) (x : X) (rest : List X) → drop n xs ≡ x ∷ rest → (slice_get xs n ≡ Some x) × (rest ≡ drop (suc n) xs)
+head_of_drop [] zero x rest h = cc
+head_of_drop [] (suc n) x rest h = cc
+head_of_drop (y ∷ ys) zero x rest h = (cc, cc)
+head_of_drop (y ∷ ys) (suc n) x rest h = head_of_drop ys n x rest h
 
 -- a list that stays the same without its first item is empty
-none_in : {X : Type 0} (xs : List X) → xs ≡ drop 1 xs → length xs ≡ 0
-none_in [] h = refl
-none_in (x ∷ xs) h = let e : length (x ∷ xs) ≡ length xs = ap length h in absurd (omega (arith, e))
+empty_if_rest_same : {X : Type 0} (xs : List X) → xs ≡ drop 1 xs → length xs ≡ 0
+empty_if_rest_same [] h = refl
+empty_if_rest_same (x ∷ xs) h = let e : length (x ∷ xs) ≡ length xs = ap length h in absurd (omega (arith, e))
 
 module _ {N K : Type 0} (g : Shape N K) (eq : N → N → Bool) (eq_key : K → K → Bool) (Holds : N → Type 0) where
   -- a node equal to y is among the nodes exactly if a key equal to y's is among their keys
@@ -42,8 +42,8 @@ module _ {N K : Type 0} (g : Shape N K) (eq : N → N → Bool) (eq_key : K → 
   pub kept_none : AreKeysOf g eq Holds [] [] []
   kept_none = record { by_key = refl; by_goal = refl; hold = λ i x s. absurd (none-some x s) }
 
-  pub as_many : (nodes : List N) (keys : List K) (goals : List Bool) → AreKeysOf g eq Holds nodes keys goals → length keys ≡ length nodes
-  as_many nodes keys goals k = ap length k.by_key ∙ length-map nodes g.key
+  pub as_many_keys : (nodes : List N) (keys : List K) (goals : List Bool) → AreKeysOf g eq Holds nodes keys goals → length keys ≡ length nodes
+  as_many_keys nodes keys goals k = ap length k.by_key ∙ length-map nodes g.key
 
   -- a search that has discovered the start alone
   pub search_begun : (same : (x y : N) → Holds x → Holds y → eq_key (g.key x) (g.key y) ≡ eq x y) (laws : IsEquivalence eq)
@@ -56,7 +56,7 @@ module _ {N K : Type 0} (g : Shape N K) (eq : N → N → Bool) (eq_key : K → 
       absurd (true≢false (sym t.old ∙ ap (list_any (eq_key (g.key start))) nk))
   search_begun same laws alike start most e h no_keys keys no_goals goals no_marks marks no_queue queue nk ng nm nq (inr t) =
       let room = t.room in
-      let b : HasBegun g.labels g.move eq laws alike start (start ∷ []) marks most = begun g.labels g.move eq laws alike start [] (start ∷ []) [] marks most refl refl
+      let b : HasBegun g.labels g.move eq laws alike start (start ∷ []) marks most = has_begun g.labels g.move eq laws alike start [] (start ∷ []) [] marks most refl refl
       (inr (refl, (refl, (t.marks_grow ∙ ap (λ (m : List Mark). m ++ mark_of_start ∷ []) nm, omega (arith, room))))) in
       let none : length no_keys ≡ 0 = ap length nk in
       let one : length keys ≡ length no_keys + 1 = ap length t.keys_grow ∙ length_push no_keys (g.key start) in (
@@ -70,27 +70,27 @@ module _ {N K : Type 0} (g : Shape N K) (eq : N → N → Bool) (eq_key : K → 
       )
 
   module _ (nodes : List N) (keys : List K) (goals : List Bool) (marks : List Mark) (queue : List N) (at : ℕ) (s : IsSearching g eq Holds nodes keys goals marks queue (at + 1) at) where
-    pub stepped : (same : (x y : N) → Holds x → Holds y → eq_key (g.key x) (g.key y) ≡ eq x y) (laws : IsEquivalence eq)
+    pub search_after : (same : (x y : N) → Holds x → Holds y → eq_key (g.key x) (g.key y) ≡ eq x y) (laws : IsEquivalence eq)
         (alike : (x y : N) → eq x y ≡ true → (l : ℕ) (z : N) → g.move x l ≡ Some z → (w : N) × ((g.move y l ≡ Some w) × (eq z w ≡ true)))
         (x y : N) (l d most : ℕ) → Holds y → slice_get nodes at ≡ Some x → l < g.labels → g.move x l ≡ Some y → d ≡ depth_at marks at + 1
         → (new_keys : List K) (new_goals : List Bool) (new_marks : List Mark) (new_queue : List N)
         → (IsOldNode g eq_key y keys new_keys goals new_goals marks new_marks queue new_queue
         ⊎ IsNewNode g eq_key y (record { parent = at; label = l; depth = d }) most keys new_keys goals new_goals marks new_marks queue new_queue)
-        → IsStepped g eq Holds nodes marks new_keys new_goals new_marks new_queue at l
-    stepped same laws alike x y l d most h here lab moves deep new_keys new_goals new_marks new_queue (inl t) =
+        → IsSearchAfter g eq Holds nodes marks new_keys new_goals new_marks new_queue at l
+    search_after same laws alike x y l d most h here lab moves deep new_keys new_goals new_marks new_queue (inl t) =
         let there : list_any (eq y) nodes ≡ true = sym (any_key same y nodes h s.kept.hold) ∙ (ap (list_any (eq_key (g.key y))) (sym s.kept.by_key) ∙ t.old) in
-        let f = followed_there g.labels g.move eq laws alike nodes marks at l d x y s.expanding here moves there in
-        let stay : IsStepped g eq Holds nodes marks keys goals marks queue at l = record { new_nodes = nodes; searching = s; followed = f } in
-        subst (λ (k : List K). IsStepped g eq Holds nodes marks k new_goals new_marks new_queue at l) (sym t.keys_stay)
-        (subst (λ (k : List Bool). IsStepped g eq Holds nodes marks keys k new_marks new_queue at l) (sym t.goals_stay)
-        (subst (λ (k : List Mark). IsStepped g eq Holds nodes marks keys goals k new_queue at l) (sym t.marks_stay)
-        (subst (λ (k : List N). IsStepped g eq Holds nodes marks keys goals marks k at l) (sym t.queue_stays) stay)))
-    stepped same laws alike x y l d most h here lab moves deep new_keys new_goals new_marks new_queue (inr t) =
+        let f = followed_old g.labels g.move eq laws alike nodes marks at l d x y s.expanding here moves there in
+        let stay : IsSearchAfter g eq Holds nodes marks keys goals marks queue at l = record { new_nodes = nodes; searching = s; followed = f } in
+        subst (λ (k : List K). IsSearchAfter g eq Holds nodes marks k new_goals new_marks new_queue at l) (sym t.keys_stay)
+        (subst (λ (k : List Bool). IsSearchAfter g eq Holds nodes marks keys k new_marks new_queue at l) (sym t.goals_stay)
+        (subst (λ (k : List Mark). IsSearchAfter g eq Holds nodes marks keys goals k new_queue at l) (sym t.marks_stay)
+        (subst (λ (k : List N). IsSearchAfter g eq Holds nodes marks keys goals marks k at l) (sym t.queue_stays) stay)))
+    search_after same laws alike x y l d most h here lab moves deep new_keys new_goals new_marks new_queue (inr t) =
         let new : list_any (eq y) nodes ≡ false = sym (any_key same y nodes h s.kept.hold) ∙ (ap (list_any (eq_key (g.key y))) (sym s.kept.by_key) ∙ t.new) in
         let m : Mark = record { parent = at; label = l; depth = d } in
         let f = followed_new g.labels g.move eq laws alike nodes marks at l d x y s.expanding here lab moves deep new in
         let low = slice_get_within nodes at x here in
-        subst (λ (k : List Mark). IsStepped g eq Holds nodes marks new_keys new_goals k new_queue at l) (sym t.marks_grow) (record {
+        subst (λ (k : List Mark). IsSearchAfter g eq Holds nodes marks new_keys new_goals k new_queue at l) (sym t.marks_grow) (record {
           new_nodes = nodes ++ y ∷ [];
           searching = record {
             expanding = f.expanding;
@@ -108,14 +108,14 @@ module _ {N K : Type 0} (g : Shape N K) (eq : N → N → Bool) (eq_key : K → 
         → list_any (eq_key (g.key y)) keys ≡ false → most ≤ length keys → AreTooMany g.labels g.move eq g.origin most
     too_many_discovered same laws alike x y l most h here lab moves new full =
         let fresh : list_any (eq y) nodes ≡ false = sym (any_key same y nodes h s.kept.hold) ∙ (ap (list_any (eq_key (g.key y))) (sym s.kept.by_key) ∙ new) in
-        let many = as_many nodes keys goals s.kept in
+        let many = as_many_keys nodes keys goals s.kept in
         too_many g.labels g.move eq laws alike g.origin nodes marks at l x y most s.expanding s.first here lab moves fresh (omega (arith, full, many))
 
   module _ (keys : List K) (goals : List Bool) (marks : List Mark) (queue : List N) (at : ℕ) (s : IsSearch g eq Holds keys goals marks queue at at) where
     -- the first node of the queue is expanded next
     pub popped : (x : N) (rest : List N) → queue ≡ x ∷ rest → IsSearchAt g eq Holds x keys goals marks rest at
     popped x rest e =
-        let f = front s.nodes at x rest (sym s.searching.waiting ∙ e) in
+        let f = head_of_drop s.nodes at x rest (sym s.searching.waiting ∙ e) in
         record {
           nodes = s.nodes;
           here = f.0;
@@ -141,7 +141,7 @@ module _ {N K : Type 0} (g : Shape N K) (eq : N → N → Bool) (eq_key : K → 
         (alike : (x y : N) → eq x y ≡ true → (l : ℕ) (z : N) → g.move x l ≡ Some z → (w : N) × ((g.move y l ≡ Some w) × (eq z w ≡ true)))
         → queue ≡ drop 1 queue → IsWholeSearch g eq Holds keys goals marks
     searched_empty laws alike e =
-        let none : length queue ≡ 0 = none_in queue e in
+        let none : length queue ≡ 0 = empty_if_rest_same queue e in
         let left : length queue ≡ length s.nodes - at = ap length s.searching.waiting ∙ length-drop at s.nodes in
         searched_all laws alike (omega (arith, none, left))
 
@@ -149,11 +149,11 @@ module _ {N K : Type 0} (g : Shape N K) (eq : N → N → Bool) (eq_key : K → 
     pub searched_full : (laws : IsEquivalence eq)
         (alike : (x y : N) → eq x y ≡ true → (l : ℕ) (z : N) → g.move x l ≡ Some z → (w : N) × ((g.move y l ≡ Some w) × (eq z w ≡ true)))
         → length keys ≤ at → IsWholeSearch g eq Holds keys goals marks
-    searched_full laws alike few = let many = as_many s.nodes keys goals s.searching.kept in searched_all laws alike (omega (arith, few, many))
+    searched_full laws alike few = let many = as_many_keys s.nodes keys goals s.searching.kept in searched_all laws alike (omega (arith, few, many))
 
-  pub no_more_keys : (laws : IsEquivalence eq)
+  pub not_too_many_keys : (laws : IsEquivalence eq)
       (alike : (x y : N) → eq x y ≡ true → (l : ℕ) (z : N) → g.move x l ≡ Some z → (w : N) × ((g.move y l ≡ Some w) × (eq z w ≡ true)))
       (keys : List K) (goals : List Bool) (marks : List Mark) (most : ℕ) → IsWholeSearch g eq Holds keys goals marks → length keys ≤ most → AreTooMany g.labels g.move eq g.origin most → ⊥
-  no_more_keys laws alike keys goals marks most r few =
-      let many = as_many r.nodes keys goals r.kept in
-      no_more g.labels g.move eq laws alike g.origin r.nodes marks most r.all (omega (arith, few, many))
+  not_too_many_keys laws alike keys goals marks most r few =
+      let many = as_many_keys r.nodes keys goals r.kept in
+      not_too_many g.labels g.move eq laws alike g.origin r.nodes marks most r.all (omega (arith, few, many))

@@ -51,7 +51,7 @@ module _ {N K : Type 0} (g : Shape N K) where
 
     -- the move by the label l from the node at index `at` is followed: the search after it,
     -- with keys, goals and queue (`IsFollowed` is of nodes and marks alone)
-    pub record IsStepped (nodes : List N) (marks : List Mark) (new_keys : List K) (new_goals : List Bool) (new_marks : List Mark) (new_queue : List N) (at l : ℕ) : Type 0 where
+    pub record IsSearchAfter (nodes : List N) (marks : List Mark) (new_keys : List K) (new_goals : List Bool) (new_marks : List Mark) (new_queue : List N) (at l : ℕ) : Type 0 where
       pub new_nodes : List N
       pub searching : IsSearching new_nodes new_keys new_goals new_marks new_queue (at + 1) at
       pub followed : IsFollowed g.labels g.move eq nodes marks new_nodes new_marks at l

@@ -1,4 +1,4 @@
-//! What a search notes of a node, and why it may have no answer.
+//! What a search notes of a node, and why a search may fail.
 
 /// How a node was discovered: the index of the node before it, the label of the move from there,
 /// and the number of moves from the start. The start's mark is all zeros.
@@ -9,7 +9,7 @@ pub struct Mark {
     pub depth: u32,
 }
 
-/// Why a search has no answer.
+/// Why a search fails.
 #[derive(Clone, Copy, Debug, PartialEq, Eq)]
 pub enum Unreached {
     /// More nodes are reachable than are allowed.

@@ -21,11 +21,11 @@ pub fn path_to<G: Graph>(
     requires there { index < length marks.now }
     ensures leads { IfOk result (λ path. (nodes : List G.Node)
         → IsTrail (G.shape graph.now).labels (G.shape graph.now).move nodes marks.now
-        → (start key : G.Node)
+        → (start node : G.Node)
         → slice_get nodes 0 ≡ Some start
-        → slice_get nodes index ≡ Some key
+        → slice_get nodes index ≡ Some node
         → LeadsBy (G.shape graph.now).labels (G.shape graph.now).move nodes
-        start path.items key) }
+        start path.items node) }
     ensures long { IfOk result (λ path. length path.items ≡ depth_at marks.now index) }
 {
     let mut path = Vec::new(alloc);

@@ -1,9 +1,9 @@
-//! The search.
+//! The search: all nodes that are reachable from a start, nearer ones first.
 
 ghost use Rattle.std.specs.Prelude.{◌≡◌, ℕ, ◌+◌, ◌<◌, ◌≤◌, true, false, ◌⊎◌, Some, Err, List, [], ◌∷◌, ◌++◌, length, slice_get, OnOk, IfOk};
 ghost use Rattle.std.specs.List.{list_any};
 ghost use Rattle.breadth_first.specs.Paths.{AreTooMany};
-ghost use Rattle.breadth_first.specs.Searches.{IsOldNode, IsNewNode, IsSearching, IsSearch, IsSearchAt, IsStepped, IsWholeSearch};
+ghost use Rattle.breadth_first.specs.Searches.{IsOldNode, IsNewNode, IsSearching, IsSearch, IsSearchAt, IsSearchAfter, IsWholeSearch};
 ghost use Rattle.breadth_first.specs.declared.mark.Unreached.TheVariants.{TooMany};
 
 use crate::graph::{Arrival, Graph};
@@ -191,7 +191,7 @@ fn follow<G: Graph>(
         → IsSearching (G.shape graph.now) G.Node.eq (G.Holds graph.now) nodes
         search.old.reached.keys.keys search.old.reached.goals.items
         search.old.reached.marks.items search.old.queue.items (at + 1) at
-        → IsStepped (G.shape graph.now) G.Node.eq (G.Holds graph.now) nodes
+        → IsSearchAfter (G.shape graph.now) G.Node.eq (G.Holds graph.now) nodes
         search.old.reached.marks.items
         search.new.reached.keys.keys search.new.reached.goals.items
         search.new.reached.marks.items search.new.queue.items at label) }

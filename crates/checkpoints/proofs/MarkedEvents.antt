@@ -8,15 +8,15 @@ use Rattle.checkpoints.specs.Reports.{events_with, left_after, reported_events, 
 
 -- whatever steps, marks and events follow, these steps have the events that `marks` and `events`
 -- give, and the steps that follow have those that theirs give
-abbrev pub AreFirst : List Step → List Mark → List Event → Type 0
-AreFirst steps marks events = (ss : List Step) (ms : List Mark) (es : List Event) → reported_events (steps ++ ss) (marks ++ ms) (events ++ es) ≡ reported_events steps marks events ++ reported_events ss ms es
+abbrev pub AreReadFirst : List Step → List Mark → List Event → Type 0
+AreReadFirst steps marks events = (ss : List Step) (ms : List Mark) (es : List Event) → reported_events (steps ++ ss) (marks ++ ms) (events ++ es) ≡ reported_events steps marks events ++ reported_events ss ms es
 
 -- these marks and events give the events `all` of these steps, also if others follow
 pub record AreMarksOf (steps : List Step) (marks : List Mark) (events : List Event) (all : List StepEvents) : Type 0 where
   pub reports : reported_events steps marks events ≡ all
-  pub kept : AreFirst steps marks events
+  pub read_first : AreReadFirst steps marks events
 
-module _ (steps : List Step) (marks : List Mark) (events : List Event) (s : Step) (mark : Mark) (kept : List Event) (one : StepEvents) (is : AreFirst steps marks events) (gives : ReportsOne s mark kept one) where
+module _ (steps : List Step) (marks : List Mark) (events : List Event) (s : Step) (mark : Mark) (kept : List Event) (one : StepEvents) (is : AreReadFirst steps marks events) (gives : ReportsOne s mark kept one) where
   abbrev pub so_far : List StepEvents
   so_far = reported_events steps marks events
 
@@ -26,8 +26,8 @@ module _ (steps : List Step) (marks : List Mark) (events : List Event) (s : Step
       ∙ ap (λ e. so_far ++ events_with s mark e ∷ []) (sym (append-nil kept))
       ∙ ap (λ e. so_far ++ e ∷ []) (gives []).0
 
-  more_kept : AreFirst (steps ++ s ∷ []) (marks ++ mark ∷ []) (events ++ kept)
-  more_kept ss ms es =
+  more_read_first : AreReadFirst (steps ++ s ∷ []) (marks ++ mark ∷ []) (events ++ kept)
+  more_read_first ss ms es =
       ap (λ l. reported_events l ((marks ++ mark ∷ []) ++ ms) ((events ++ kept) ++ es)) (append_assoc steps (s ∷ []) ss)
       ∙ ap (λ l. reported_events (steps ++ s ∷ ss) l ((events ++ kept) ++ es)) (append_assoc marks (mark ∷ []) ms)
       ∙ ap (reported_events (steps ++ s ∷ ss) (marks ++ mark ∷ ms)) (append_assoc events kept es)
@@ -38,15 +38,15 @@ module _ (steps : List Step) (marks : List Mark) (events : List Event) (s : Step
       ∙ sym (ap (λ l. l ++ reported_events ss ms es) more_reported)
 
   pub one_reported : AreMarksOf (steps ++ s ∷ []) (marks ++ mark ∷ []) (events ++ kept) (so_far ++ one ∷ [])
-  one_reported = record { reports = more_reported; kept = more_kept }
+  one_reported = record { reports = more_reported; read_first = more_read_first }
 
 -- the marks and events of these steps, with those of one more step, are those of all these steps
-pub reported_more : (steps made : List Step) (marks more : List Mark) (events later : List Event) (s : Step) (one : StepEvents) → AreFirst steps marks events → made ≡ steps ++ s ∷ []
+pub reported_more : (steps made : List Step) (marks more : List Mark) (events later : List Event) (s : Step) (one : StepEvents) → AreReadFirst steps marks events → made ≡ steps ++ s ∷ []
     → IsStepAdded s one marks more events later → AreMarksOf made more later (reported_events steps marks events ++ one ∷ [])
 reported_more steps made marks more events later s one is is_made added =
     let all : List StepEvents = reported_events steps marks events ++ one ∷ [] in
     subst (λ l. AreMarksOf l more later all) (sym is_made) (subst (λ l. AreMarksOf (steps ++ s ∷ []) l later all) (sym added.marked)
-    (subst (λ l. AreMarksOf (steps ++ s ∷ []) (marks ++ added.mark ∷ []) l all) (sym added.added) (one_reported steps marks events s added.mark added.kept one is added.reports)))
+    (subst (λ l. AreMarksOf (steps ++ s ∷ []) (marks ++ added.mark ∷ []) l all) (sym added.added) (one_reported steps marks events s added.mark added.stored one is added.reports)))
 
 -- the events of the first n steps are the first n items of the events of all steps
 pub front_reported : (n : ℕ) (steps : List Step) (marks : List Mark) (events : List Event) → reported_events (take n steps) marks events ≡ take n (reported_events steps marks events)

@@ -43,8 +43,8 @@ module _ (step : Step) (left rest : List Step) (first : left ≡ step ∷ rest) 
   pub rest_fits : {P : Type 0} (b : Behaviour P) → AllFit b left → AllFit b rest
   rest_fits b all = All-tail (λ s. fits_step b s ≡ true) step rest (subst (AllFit b) first all)
 
-  pub step_kept : (steps more : List Step) → more ≡ steps ++ step ∷ [] → more ++ rest ≡ steps ++ left
-  step_kept steps more is_more = ap (λ l. l ++ rest) is_more ∙ append_assoc steps (step ∷ []) rest ∙ sym (ap (λ l. steps ++ l) first)
+  pub still_all_steps : (steps more : List Step) → more ≡ steps ++ step ∷ [] → more ++ rest ≡ steps ++ left
+  still_all_steps steps more is_more = ap (λ l. l ++ rest) is_more ∙ append_assoc steps (step ∷ []) rest ∙ sym (ap (λ l. steps ++ l) first)
 
 -- the steps that are left are `step`, which leads from c to d, then `rest`
 module _ {R P : Type 0} (b : Behaviour P) (c d : Configuration R P) (step : Step) (left rest : List Step) (first : left ≡ step ∷ rest) where
@@ -58,8 +58,9 @@ module _ {R P : Type 0} (b : Behaviour P) (c d : Configuration R P) (step : Step
       ∙ ap (λ e. reported ++ e ∷ history b d rest) is ∙ ap (λ e. reported ++ events_of b c step ∷ history b e rest) after
       ∙ sym (ap (λ l. reported ++ history b c l) first)
 
--- a replay of the steps `whole` from `entry` has reached `now` with the events `reported`; the steps
--- `left` are still to be made: from `now` they lead to the end of `whole`, with its other events
+-- a replay of the steps `whole` from `entry` has reached `now` with the events `reported`; the
+-- steps `left` are still to be made: from `now` they lead to the end of `whole`, with its other
+-- events
 pub record IsUnderWay {R P : Type 0} (is : R → Behaviour P) (entry now : Configuration R P) (whole left : List Step) (reported : List StepEvents) : Type 0 where
   pub register : now.register ≡ entry.register
   pub fit : AllFit (is entry.register) left
@@ -67,10 +68,10 @@ pub record IsUnderWay {R P : Type 0} (is : R → Behaviour P) (entry now : Confi
   pub events : reported ++ history (is entry.register) now left ≡ history (is entry.register) entry whole
 
 -- a replay that is under way stays so when c's register makes the next step, from c to d
-pub goes_on : {R P : Type 0} (is : R → Behaviour P) (entry c d : Configuration R P) (step : Step) (whole left rest : List Step) (reported more : List StepEvents) (one : StepEvents)
+pub still_under_way : {R P : Type 0} (is : R → Behaviour P) (entry c d : Configuration R P) (step : Step) (whole left rest : List Step) (reported more : List StepEvents) (one : StepEvents)
     → left ≡ step ∷ rest → d ≡ stepped (is c.register) c step → one ≡ events_of (is c.register) c step → more ≡ reported ++ one ∷ []
     → IsUnderWay is entry c whole left reported → IsUnderWay is entry d whole rest more
-goes_on is entry c d step whole left rest reported more one first after events is_more so_far =
+still_under_way is entry c d step whole left rest reported more one first after events is_more so_far =
     let b = is entry.register in
     let goes : d ≡ stepped b c step = after ∙ ap (λ r. stepped (is r) c step) so_far.register in
     let reports : one ≡ events_of b c step = events ∙ ap (λ r. events_of (is r) c step) so_far.register in

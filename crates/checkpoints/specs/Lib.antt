@@ -1,3 +1,3 @@
-pub mod Kept
+pub mod StoredEvents
 pub mod Segment
 pub mod Reports

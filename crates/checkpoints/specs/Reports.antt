@@ -12,7 +12,7 @@ use Rattle.frames.specs.Steps.{process_of}
 use Rattle.checkpoints.specs.declared.mark.Mark.{Mark}
 use Rattle.checkpoints.specs.declared.mark.Mark.TheVariants.{Nothing, First, Second, Both, Invoked, Wrote, Busy, Idle, Stopped, GotZero, GotOne}
 use Rattle.checkpoints.specs.declared.events.Reported.{Reported}
-use Rattle.checkpoints.specs.Kept.{kept_events}
+use Rattle.checkpoints.specs.StoredEvents.{stored_events}
 
 -- if the step invokes an operation, the event of this invocation; `None` for other steps
 abbrev pub invocation : Step → Option Event
@@ -68,7 +68,7 @@ reported_events (s ∷ steps) (mark ∷ marks) events = events_with s mark event
 
 -- the events of each of the steps that are stored together in t
 abbrev pub reported_in : Reported → List StepEvents
-reported_in t = reported_events t.steps.items t.marks.items (kept_events t.events.items)
+reported_in t = reported_events t.steps.items t.marks.items (stored_events t.events.items)
 
 -- the step s, with its mark and its stored events `kept`, gives the events `one`: whatever stored
 -- events follow `kept`, reading this step's events gives `one`, and leaves all that follow `kept`
@@ -79,7 +79,7 @@ ReportsOne s mark kept one = (later : List Event) → (events_with s mark (kept 
 -- `later` are `events` followed by those of `one` that the mark doesn't determine
 pub record IsStepAdded (s : Step) (one : StepEvents) (marks more : List Mark) (events later : List Event) : Type 0 where
   pub mark : Mark
-  pub kept : List Event
-  pub reports : ReportsOne s mark kept one
+  pub stored : List Event
+  pub reports : ReportsOne s mark stored one
   pub marked : more ≡ marks ++ mark ∷ []
-  pub added : later ≡ events ++ kept
+  pub added : later ≡ events ++ stored

@@ -4,7 +4,7 @@ ghost use Rattle.std.specs.Prelude.{◌≡◌, [], ◌∷◌, ◌++◌, List, If
 ghost use Rattle.frames.specs.Recorded.{at_index, indexed};
 ghost use Rattle.frames.specs.declared.types.Step.{Step as StepSpec};
 ghost use Rattle.checkpoints.specs.declared.mark.Mark.{Mark as MarkSpec};
-ghost use Rattle.checkpoints.specs.Kept.{kept_events};
+ghost use Rattle.checkpoints.specs.StoredEvents.{stored_events};
 ghost use Rattle.checkpoints.specs.Reports as spec;
 
 use crate::kept::{Kept, event_of, kept_of};
@@ -56,12 +56,12 @@ pub struct EventWalk<'a> {
 impl<'a> Model for EventWalk<'a> {
     ghost use Rattle.std.specs.Prelude.{List};
     ghost use Rattle.frames.specs.declared.types.StepEvents.{StepEvents};
-    ghost use Rattle.checkpoints.specs.Kept.{kept_events};
+    ghost use Rattle.checkpoints.specs.StoredEvents.{stored_events};
     ghost use Rattle.checkpoints.specs.Reports.{reported_events};
 
     ghost Value = { List StepEvents };
 
-    ghost view = { λ w. reported_events w.steps.now w.marks.now (kept_events w.events.now) };
+    ghost view = { λ w. reported_events w.steps.now w.marks.now (stored_events w.events.now) };
 }
 
 impl Reported {
@@ -70,7 +70,7 @@ impl Reported {
     pub(crate) fn new(steps: Vec<Step>, marks: Vec<Mark>, events: Vec<Kept>) -> Reported
         ensures steps { result.steps.items ≡ steps.items }
         ensures reported { spec.reported_in result
-            ≡ spec.reported_events steps.items marks.items (kept_events events.items) }
+            ≡ spec.reported_events steps.items marks.items (stored_events events.items) }
     {
         let mut events = events;
         if events.capacity() - events.len() > MORE_EVENTS {
@@ -195,7 +195,7 @@ pub(crate) fn push_reported(
 ) -> Result<(), AllocError>
     requires mark { vec_len marks.old < vec_capacity marks.old }
     ensures added { OnOk result (spec.IsStepAdded step reported marks.old.items marks.new.items
-        (kept_events events.old.items) (kept_events events.new.items)) }
+        (stored_events events.old.items) (stored_events events.new.items)) }
     ensures marks { OnOk result (vec_len marks.new ≡ vec_len marks.old + 1) }
     ensures marks_room { vec_capacity marks.new ≡ vec_capacity marks.old }
 {
@@ -230,7 +230,7 @@ pub(crate) fn push_reported(
 #[inline(always)]
 fn push_kept(events: &mut Vec<Kept>, event: Event) -> Result<(), AllocError>
     ensures { OnOk result
-        (kept_events events.new.items ≡ kept_events events.old.items ++ event ∷ []) }
+        (stored_events events.new.items ≡ stored_events events.old.items ++ event ∷ []) }
 {
     if events.len() == events.capacity() {
         take_room(events)?;
@@ -253,8 +253,8 @@ fn take_room(events: &mut Vec<Kept>) -> Result<(), AllocError>
 #[inline(always)]
 fn split(step: Step, mark: Mark, events: &[Kept]) -> (StepEvents, &[Kept])
     ensures { (steps : List StepSpec) (marks : List MarkSpec)
-        → spec.reported_events (step ∷ steps) (mark ∷ marks) (kept_events events.now)
-        ≡ result.0 ∷ spec.reported_events steps marks (kept_events result.1.now) }
+        → spec.reported_events (step ∷ steps) (mark ∷ marks) (stored_events events.now)
+        ≡ result.0 ∷ spec.reported_events steps marks (stored_events result.1.now) }
 {
     match mark {
         Mark::First => {
@@ -277,8 +277,8 @@ fn split(step: Step, mark: Mark, events: &[Kept]) -> (StepEvents, &[Kept])
 /// The next event, if one is left, and the events after it.
 #[inline(always)]
 fn take_next(events: &[Kept]) -> (Option<Event>, &[Kept])
-    ensures next { result.0 ≡ spec.next_event (kept_events events.now) }
-    ensures following { kept_events result.1.now ≡ spec.later_events (kept_events events.now) }
+    ensures next { result.0 ≡ spec.next_event (stored_events events.now) }
+    ensures following { stored_events result.1.now ≡ spec.later_events (stored_events events.now) }
 {
     match events.split_first() {
         Some((kept, following)) => (Some(event_of(*kept)), following),

@@ -2,7 +2,7 @@
 
 ghost use Rattle.std.specs.Prelude.{◌≡◌};
 ghost use Rattle.frames.specs.declared.types.Event.TheVariants as recorded;
-ghost use Rattle.checkpoints.specs.Kept as spec;
+ghost use Rattle.checkpoints.specs.StoredEvents as spec;
 
 use frames::types::{Event, Layer, Op, Reason};
 

@@ -37,8 +37,8 @@ use Rattle.clap.proofs.CallerLemmas.{default_present, entry_by_id, same_rules_by
 use Rattle.command_line.specs.CommandLine.{IsAskedBy, IsRunInvocation, Says, Explains, option_number, number_rule, workers_rule, cells_rule, branches_rule, default_options, faults_of, file_word, file_rule, options_of, save_path, program, save_rule}
 
 -- the parser of a number from `least` to `most`
-abbrev number : ℕ → ℕ → ValueParser
-number least most = value_parser.Signed (pos least) (pos most)
+abbrev number_parser : ℕ → ℕ → ValueParser
+number_parser least most = value_parser.Signed (pos least) (pos most)
 
 -- the option with this id has a text: a number from `least` to `most`, without a minus sign
 abbrev ReadsNumber : Text → ℕ → ℕ → Found → Type 0
@@ -55,19 +55,19 @@ module _ (id : Text) (least most : ℕ) (named : 0 < length id) where
   abbrev KeepsNumber : Command → Type 0
   KeepsNumber c = (j : ℕ) (x : Arg) → j < length (args_of c) → slice_index_or (args_of c) j x ≡ x
       → bytes_eq x.id.now id ≡ true
-      → (x.action ≡ Some Set) × (x.value_parser ≡ Some (number least most)) × (1 ≤ least_values x) × (x.val_delim ≡ None)
+      → (x.action ≡ Some Set) × (x.value_parser ≡ Some (number_parser least most)) × (1 ≤ least_values x) × (x.val_delim ≡ None)
 
-  passes : (c : Command) (t : Text) → KeepsNumber c → PassesArg c id t → IsSignedIn (pos least) (pos most) t
-  passes c t keeps p =
-      let is : parser_of p.1 ≡ number least most = ap parser_of_value (keeps p.0 p.1 p.2 p.3 p.4.0).1 in
+  passing_in_range : (c : Command) (t : Text) → KeepsNumber c → PassesArg c id t → IsSignedIn (pos least) (pos most) t
+  passing_in_range c t keeps p =
+      let is : parser_of p.1 ≡ number_parser least most = ap parser_of_value (keeps p.0 p.1 p.2 p.3 p.4.0).1 in
       subst (λ (q : ValueParser). Accepts p.1.ignore_case q t) is p.4.1
 
-  reads : (c : Command) (r : Reading) → KeepsNumber c → HasReading c id r → r ≡ reading_of (number least most)
-  reads c r keeps p =
-      let is : parser_of p.1 ≡ number least most = ap parser_of_value (keeps p.0 p.1 p.2 p.3 p.4.0).1 in
+  reading_of_number : (c : Command) (r : Reading) → KeepsNumber c → HasReading c id r → r ≡ reading_of (number_parser least most)
+  reading_of_number c r keeps p =
+      let is : parser_of p.1 ≡ number_parser least most = ap parser_of_value (keeps p.0 p.1 p.2 p.3 p.4.0).1 in
       sym p.4.1 ∙ ap reading_of is
 
-  text_of_entry : (f : Found) (x : MatchedArg) (t : Text) → matched_of f id ≡ Some x → x.reading ≡ reading_of (number least most)
+  text_of_entry : (f : Found) (x : MatchedArg) (t : Text) → matched_of f id ≡ Some x → x.reading ≡ reading_of (number_parser least most)
       → option_map (λ s. without_minus s.now) (slice_get x.vals.items 0) ≡ Some t → one_text f id ≡ Some t
   text_of_entry f x t found is v = rw (found, is) v
 
@@ -86,9 +86,9 @@ module _ (id : Text) (least most : ℕ) (named : 0 < length id) where
         | inl g ↦ absurd (no_group g)
         | inr vals ↦ subst (λ (w : Text). All (λ v. PassesArg c w v.now) e.1.vals.items) key vals
       ] in
-      let is : e.1.reading ≡ reading_of (number least most) = elim pass.4 [
+      let is : e.1.reading ≡ reading_of (number_parser least most) = elim pass.4 [
         | inl g ↦ absurd (no_group g)
-        | inr h ↦ reads c e.1.reading keeps (subst (λ (w : Text). HasReading c w e.1.reading) key h)
+        | inr h ↦ reading_of_number c e.1.reading keeps (subst (λ (w : Text). HasReading c w e.1.reading) key h)
       ] in
       let some : 0 < length e.1.vals.items = elim pass.1 [
         | inl h ↦ absurd (no_group h.0)
@@ -108,7 +108,7 @@ module _ (id : Text) (least most : ℕ) (named : 0 < length id) where
             ]
       ] in
       let first = first_read (λ v. PassesArg c id v.now) e.1.vals.items all some in
-      (first.0.now, text_of_entry f e.1 (without_minus first.0.now) found is first.1, passes c first.0.now keeps first.2)
+      (first.0.now, text_of_entry f e.1 (without_minus first.0.now) found is first.1, passing_in_range c first.0.now keeps first.2)
 
 -- an id that has an entry is found
 has_entry : (xs : List Entry) (id : Text) (i : ℕ) → i < length xs → ((d : Entry) → bytes_eq (slice_index_or xs i d).0.now id ≡ true)
@@ -131,36 +131,36 @@ has_entry (e ∷ es) id i lt at = go (bytes_eq e.0.now id) refl i lt at (has_ent
 
 -- ---- plain facts
 
-nothing : {X : Type 0} (xs : List X) → is_empty xs ≡ true → xs ≡ []
-nothing [] e = refl
-nothing (x ∷ xs) e = absurd (omega (arith, eqb-true _ _ e))
+nil_if_empty : {X : Type 0} (xs : List X) → is_empty xs ≡ true → xs ≡ []
+nil_if_empty [] e = refl
+nil_if_empty (x ∷ xs) e = absurd (omega (arith, eqb-true _ _ e))
 
-isnt : (b : Bool) → not b ≡ true → b ≡ false
-isnt true e = cc
-isnt false e = refl
+false_if_not : (b : Bool) → not b ≡ true → b ≡ false
+false_if_not true e = cc
+false_if_not false e = refl
 
-none : {X : Type 0} (o : Option X) → not (is_some o) ≡ true → o ≡ None
-none None e = refl
-none (Some x) e = cc
+none_if_not_some : {X : Type 0} (o : Option X) → not (is_some o) ≡ true → o ≡ None
+none_if_not_some None e = refl
+none_if_not_some (Some x) e = cc
 
 some_text : (xs : List (Bor Text)) (t : Text) → texts xs ≡ t ∷ [] → 0 < length xs
 some_text [] t e = absurd (omega (arith, ap length e))
 some_text (x ∷ xs) t e = omega arith
 
 no_arg_groups : (x : Arg) → (rule_of x).is_simple ≡ true → x.groups.items ≡ []
-no_arg_groups x e = nothing x.groups.items (both _ _ (both _ _ (both _ _ e).1).1).0
+no_arg_groups x e = nil_if_empty x.groups.items (both _ _ (both _ _ (both _ _ e).1).1).0
 
 no_delimiter : (y : Arg) → (rule_of y).is_simple ≡ true → y.val_delim ≡ None
 no_delimiter y e =
     let overrides = both (is_empty y.overrides.items) _ e in
     let conditions = both (is_empty y.default_vals_ifs.items) _ overrides.1 in
     let groups = both (is_empty y.groups.items) _ conditions.1 in
-    none y.val_delim (both (not (is_some y.val_delim)) _ groups.1).0
+    none_if_not_some y.val_delim (both (not (is_some y.val_delim)) _ groups.1).0
 
--- a list that isn't empty has an element
-some : {X : Type 0} (xs : List X) → 0 < length xs → X
-some [] lt = absurd (omega (arith, lt))
-some (x ∷ xs) lt = x
+-- the first item of a list that isn't empty
+first_item : {X : Type 0} (xs : List X) → 0 < length xs → X
+first_item [] lt = absurd (omega (arith, lt))
+first_item (x ∷ xs) lt = x
 
 -- ---- the options, each by its index among the arguments
 
@@ -216,78 +216,80 @@ unfolding clap_on_literals
 is_free_program = refl
 
 -- a command of this program's shape is simple and free
-pub free : (c : Command) → app_of c ≡ program → is_simple_and_free (app_of c) ≡ true
-free c shape = ap is_simple_and_free shape ∙ is_free_program
+pub simple_and_free : (c : Command) → app_of c ≡ program → is_simple_and_free (app_of c) ≡ true
+simple_and_free c shape = ap is_simple_and_free shape ∙ is_free_program
 
 -- `r` is what `t` is read as, as an unsigned number of 32 bits
 abbrev pub ReadsU32 : Text → Result ℕ ParseIntError → Type 0
 ReadsU32 t r = ParsesUnsigned 32 10 t r × ExplainsUnsignedError 10 t r × HasUnsignedDigitsIfOk t r
 
 module _ (c : Command) (m : ArgMatches) (shape : app_of c ≡ program) (p : IsParsedFrom c m) where
-  plain : (app_of c).top.is_plain ≡ true
-  plain = ap (λ (a : App). a.top.is_plain) shape
+  plain_top : (app_of c).top.is_plain ≡ true
+  plain_top = ap (λ (a : App). a.top.is_plain) shape
 
   no_globals : (out-Command c).has_globals ≡ false
-  no_globals = isnt _ (both _ _ (both _ _ (both _ _ plain).1).1).0
+  no_globals = false_if_not _ (both _ _ (both _ _ (both _ _ plain_top).1).1).0
 
   no_groups : groups_of c ≡ []
-  no_groups = nothing _ (both _ _ plain).0
+  no_groups = nil_if_empty _ (both _ _ plain_top).0
 
   -- the rules of the arguments, in order, are `all_rules`
   rules_are : map rule_of (args_of c) ≡ all_rules
   rules_are = ap (λ (a : App). a.top.rules) shape
 
-  as_many : length (args_of c) ≡ length all_rules
-  as_many = sym (length-map (args_of c) rule_of) ∙ ap length rules_are
+  as_many_args : length (args_of c) ≡ length all_rules
+  as_many_args = sym (length-map (args_of c) rule_of) ∙ ap length rules_are
 
   an_arg : Arg
-  an_arg = some (args_of c) (omega (arith, as_many))
+  an_arg = first_item (args_of c) (omega (arith, as_many_args))
 
   has_rule : (k : ℕ) (d : Arg) → k < length all_rules → rule_of (slice_index_or (args_of c) k d) ≡ rule_at k
   has_rule k d lt =
-      sym (get_or-map rule_of (args_of c) k d file_rule (rw as_many lt)) ∙ ap (λ (rs : List Rule). slice_index_or rs k file_rule) rules_are
+      sym (get_or-map rule_of (args_of c) k d file_rule (rw as_many_args lt)) ∙ ap (λ (rs : List Rule). slice_index_or rs k file_rule) rules_are
 
   names_none : NamesNoGroup c
   names_none k d lt =
-      let low : k < length all_rules = rw as_many at lt in
+      let low : k < length all_rules = rw as_many_args at lt in
       no_arg_groups (slice_index_or (args_of c) k d) (ap (λ (r : Rule). r.is_simple) (has_rule k d low) ∙ (each_rule k low).0)
 
   -- if the matches have a text for the option with this id, r is what this text is read as
   abbrev pub Gives : Text → Option ℕ → Type 0
   Gives id r = (t : Text) → one_text (found_of m) id ≡ Some t → ReadsOne ReadsU32 t r
 
-  rows : (words : List Text) → HasMatchesOf (app_of c) words m → rows_of (found_of m) ≡ matches_of program words
-  rows words has = (has (ap is_simple shape ∙ is_plain_program)).0 ∙ ap (λ (a : App). matches_of a words) shape
+  rows_are_matches : (words : List Text) → HasMatchesOf (app_of c) words m → rows_of (found_of m) ≡ matches_of program words
+  rows_are_matches words has = (has (ap is_simple shape ∙ is_plain_program)).0 ∙ ap (λ (a : App). matches_of a words) shape
 
   -- the argument of an option, whose id no other argument has
   module _ {id : Text} {least most : ℕ} (o : IsOption id least most) where
     abbrev arg : Arg
     arg = slice_index_or (args_of c) o.place an_arg
 
-    place : o.place < length (args_of c)
-    place = rw as_many o.within
+    place_within : o.place < length (args_of c)
+    place_within = rw as_many_args o.within
 
-    rule : rule_of arg ≡ number_rule id least most o.default
-    rule = has_rule o.place an_arg o.within ∙ o.rule
+    rule_is : rule_of arg ≡ number_rule id least most o.default
+    rule_is = has_rule o.place an_arg o.within ∙ o.rule
 
-    simple : (rule_of arg).is_simple ≡ true
-    simple = ap (λ (r : Rule). r.is_simple) rule
+    is_simple_rule : (rule_of arg).is_simple ≡ true
+    is_simple_rule = ap (λ (r : Rule). r.is_simple) rule_is
 
     id_is : arg.id.now ≡ id
-    id_is = ap (λ (r : Rule). r.id) rule
+    id_is = ap (λ (r : Rule). r.id) rule_is
 
-    first : first_with id ≡ Some o.place
-    first = ap (λ (r : Rule). first_with r.id) (sym o.rule) ∙ (each_rule o.place o.within).1
+    first_is_place : first_with id ≡ Some o.place
+    first_is_place = ap (λ (r : Rule). first_with r.id) (sym o.rule) ∙ (each_rule o.place o.within).1
 
-    only : (j : ℕ) (e : Arg) → j < length (args_of c) → bytes_eq (slice_index_or (args_of c) j e).id.now arg.id.now ≡ true → j ≡ o.place
-    only j e lt same =
-        let low : j < length all_rules = rw as_many at lt in
+    -- no other argument has the option's id
+    only_at_place : (j : ℕ) (e : Arg) → j < length (args_of c) → bytes_eq (slice_index_or (args_of c) j e).id.now arg.id.now ≡ true → j ≡ o.place
+    only_at_place j e lt same =
+        let low : j < length all_rules = rw as_many_args at lt in
         let is : (rule_at j).id ≡ id =
         ap (λ (r : Rule). r.id) (sym (has_rule j e low)) ∙ (bytes_eq-Decides _ _).0 same ∙ id_is in
-        ap (λ o. unwrap_or o 0) (sym (each_rule j low).1 ∙ ap first_with is ∙ first)
+        ap (λ o. unwrap_or o 0) (sym (each_rule j low).1 ∙ ap first_with is ∙ first_is_place)
 
-    own : IsAuto arg → ⊥
-    own auto = elim auto [
+    -- the argument isn't that of the help or the version
+    not_auto : IsAuto arg → ⊥
+    not_auto auto = elim auto [
       | inl h ↦
           let bad : true ≡ false = sym ((bytes_eq-Decides _ _).1 (sym id_is ∙ h)) ∙ o.no_help in
           cc
@@ -296,40 +298,40 @@ module _ (c : Command) (m : ArgMatches) (shape : app_of c ≡ program) (p : IsPa
           cc
     ]
 
-    keeps : KeepsNumber id least most o.named p.built
-    keeps j z lt at key =
+    keeps_number : KeepsNumber id least most o.named p.built
+    keeps_number j z lt at key =
         let same : bytes_eq z.id.now arg.id.now ≡ true = rw id_is key in
-        let kept = same_rules_by_id c m p o.place an_arg place only own j z lt at same in
-        let is_set : arg.action ≡ Some Set = ap (λ (r : Rule). r.action) rule in
-        let is_number : arg.value_parser ≡ Some (number least most) = ap (λ (r : Rule). r.parser) rule in
-        let one : least_values arg ≡ 1 = ap (λ (r : Rule). (unwrap_or_range r.range).start_inclusive) rule in
-        (kept.action Set is_set, kept.parser (number least most) is_number, kept.least is_set (omega (arith, one)), kept.val_delim ∙ no_delimiter arg simple)
+        let kept = same_rules_by_id c m p o.place an_arg place_within only_at_place not_auto j z lt at same in
+        let is_set : arg.action ≡ Some Set = ap (λ (r : Rule). r.action) rule_is in
+        let is_number : arg.value_parser ≡ Some (number_parser least most) = ap (λ (r : Rule). r.parser) rule_is in
+        let one : least_values arg ≡ 1 = ap (λ (r : Rule). (unwrap_or_range r.range).start_inclusive) rule_is in
+        (kept.action Set is_set, kept.parser (number_parser least most) is_number, kept.least is_set (omega (arith, one)), kept.val_delim ∙ no_delimiter arg is_simple_rule)
 
     has_default : WantsDefault arg
-    has_default = (nothing arg.default_vals_ifs.items (both _ _ (both _ _ simple).1).0, some_text (items_of arg.default_vals) o.default (ap (λ (r : Rule). r.defaults) rule))
+    has_default = (nil_if_empty arg.default_vals_ifs.items (both _ _ (both _ _ is_simple_rule).1).0, some_text (items_of arg.default_vals) o.default (ap (λ (r : Rule). r.defaults) rule_is))
 
-    found : HasId (found_of m) id
-    found =
-        let has = default_present c m p no_globals o.place an_arg place has_default in
+    has_id : HasId (found_of m) id
+    has_id =
+        let has = default_present c m p no_globals o.place an_arg place_within has_default in
         rw id_is at has
 
-    read : ReadsNumber id least most (found_of m)
-    read =
-        let entry = has_entry (found_of m).entries.items id found.0 found.1 found.2 in
+    reads_number : ReadsNumber id least most (found_of m)
+    reads_number =
+        let entry = has_entry (found_of m).entries.items id has_id.0 has_id.1 has_id.2 in
         let parsed = p.parsed (p.from.globals ∙ no_globals) in
         let e = entry_by_id (EntryPasses p.built) (found_of m).entries.items id entry.0 parsed.values entry.1 in
         let key : e.0.0.now ≡ id = (bytes_eq-Decides _ _).0 e.2 in
         let groups : groups_of p.built ≡ [] = (p.from.same_groups names_none).1 ∙ no_groups in
-        entry_reads id least most o.named p.built (found_of m) e.0 keeps groups key (entry.1 ∙ ap Some (sym e.1)) e.3
+        entry_reads id least most o.named p.built (found_of m) e.0 keeps_number groups key (entry.1 ∙ ap Some (sym e.1)) e.3
 
     -- a number is always read, in the option's range
     in_range : (r : Option ℕ) → Gives id r → (n : ℕ) × (r ≡ Some n) × (least ≤ n) × (n ≤ most)
     in_range r gives =
-        signed_reads ParseIntError ReadsU32 32 least most read.0 r (gives (without_minus read.0) read.1) (λ u x g. g.0) (omega (arith, o.fits)) read.2
+        signed_reads ParseIntError ReadsU32 32 least most reads_number.0 r (gives (without_minus reads_number.0) reads_number.1) (λ u x g. g.0) (omega (arith, o.fits)) reads_number.2
 
     -- the matches always give a number for the option
-    pub never : Gives id None → ⊥
-    never gives =
+    pub number_always_given : Gives id None → ⊥
+    number_always_given gives =
         let bad : None ≡ Some (in_range None gives).0 = (in_range None gives).1 in
         cc
 
@@ -339,10 +341,10 @@ module _ (c : Command) (m : ArgMatches) (shape : app_of c ≡ program) (p : IsPa
     number_given words n has gives =
         let got = in_range (Some n) gives in
         let same : n ≡ got.0 = ap (λ o. unwrap_or o 0) got.1 in
-        let digits = without_minus read.0 in
-        let number_is : n ≡ digits_value 10 (without_leading_plus digits) = (gives digits read.1).0.1 in
+        let digits = without_minus reads_number.0 in
+        let number_is : n ≡ digits_value 10 (without_leading_plus digits) = (gives digits reads_number.1).0.1 in
         let at : one_of id (matches_of program words) ≡ Some digits =
-        ap (one_of id) (sym (rows words has)) ∙ sym (one_text-rows (found_of m) id) ∙ read.1 in
+        ap (one_of id) (sym (rows_are_matches words has)) ∙ sym (one_text-rows (found_of m) id) ∙ reads_number.1 in
         let is : n ≡ option_number id words = rw at number_is in
         (is, omega (arith, same, got.2), omega (arith, same, got.3))
 
@@ -356,9 +358,9 @@ module _ (c : Command) (m : ArgMatches) (shape : app_of c ≡ program) (p : IsPa
       let branches_are = number_given branches words l has gives_branches in
       record {
         taken = ap (λ (a : App). fault_of a words) (sym shape) ∙ taken;
-        file_is = file_is ∙ first_value-rows (found_of m) (codes "FILE") ∙ ap (first_of (codes "FILE")) (rows words has);
+        file_is = file_is ∙ first_value-rows (found_of m) (codes "FILE") ∙ ap (first_of (codes "FILE")) (rows_are_matches words has);
         options_are = λ i. record { workers = workers_are.0 i; cells = cells_are.0 i; branches = branches_are.0 i };
-        save_is = save_is ∙ first_value-rows (found_of m) (codes "save") ∙ ap (first_of (codes "save")) (rows words has);
+        save_is = save_is ∙ first_value-rows (found_of m) (codes "save") ∙ ap (first_of (codes "save")) (rows_are_matches words has);
         limits = record {
           few_workers = workers_are.2;
           some_cells = cells_are.1;

@@ -10,14 +10,14 @@ use Rattle.conversation.proofs.Fronts.{front_more}
 use Rattle.conversation.specs.declared.limits.TheConstants.{KEPT_BYTES}
 
 -- these marks, except that the mark of line n is `memory`
-abbrev mark : Marks → ℕ → Bool → Marks
-mark marks n memory k = cond (nat_eq k n) memory (marks k)
+abbrev with_mark : Marks → ℕ → Bool → Marks
+with_mark marks n memory k = cond (nat_eq k n) memory (marks k)
 
-mark_here : (marks : Marks) (n : ℕ) (memory : Bool) → mark marks n memory n ≡ memory
-mark_here marks n memory = ap (λ b. cond b memory (marks n)) (eq-eqb n n refl)
+with_mark_here : (marks : Marks) (n : ℕ) (memory : Bool) → with_mark marks n memory n ≡ memory
+with_mark_here marks n memory = ap (λ b. cond b memory (marks n)) (eq-eqb n n refl)
 
-mark_before : (marks : Marks) (n : ℕ) (memory : Bool) (k : ℕ) → k < n → marks k ≡ mark marks n memory k
-mark_before marks n memory k h = ap (λ b. cond b memory (marks k)) (sym (other k n h))
+with_mark_before : (marks : Marks) (n : ℕ) (memory : Bool) (k : ℕ) → k < n → marks k ≡ with_mark marks n memory k
+with_mark_before marks n memory k h = ap (λ b. cond b memory (marks k)) (sym (other k n h))
   where
     other : (i j : ℕ) → i < j → nat_eq i j ≡ false
     other i j l = grind (arith, nat_tests)
@@ -25,28 +25,28 @@ mark_before marks n memory k h = ap (λ b. cond b memory (marks k)) (sym (other 
 -- ---- the whole lines of a text
 
 -- all lines but the last of `whole ++ rest ∷ []` are `whole`
-but_last : (whole : List (List ℕ)) (rest : List ℕ) → all_but_last (whole ++ rest ∷ []) ≡ whole
-but_last [] rest = refl
-but_last (line ∷ []) rest = refl
-but_last (line ∷ next ∷ lines) rest = ap (λ (ls : List (List ℕ)). line ∷ ls) (but_last (next ∷ lines) rest)
+all_but_last-append : (whole : List (List ℕ)) (rest : List ℕ) → all_but_last (whole ++ rest ∷ []) ≡ whole
+all_but_last-append [] rest = refl
+all_but_last-append (line ∷ []) rest = refl
+all_but_last-append (line ∷ next ∷ lines) rest = ap (λ (ls : List (List ℕ)). line ∷ ls) (all_but_last-append (next ∷ lines) rest)
 
 -- the lines `ls` begin with the lines `whole`, and there is at least one more
-record GoesOn (whole ls : List (List ℕ)) : Type 0 where
+record BeginsWithLines (whole ls : List (List ℕ)) : Type 0 where
   pub next : List ℕ
   pub others : List (List ℕ)
   pub same : ls ≡ whole ++ next ∷ others
 
 -- if a text has these whole lines and a last one, a longer text begins with the same whole lines
-go_on : (seen more : List ℕ) (whole : List (List ℕ)) (rest : List ℕ) → lines_of seen ≡ whole ++ rest ∷ [] → GoesOn whole (lines_of (seen ++ more))
-go_on seen [] whole rest e = record { next = rest; others = []; same = ap lines_of (append-nil seen) ∙ e }
-go_on seen (b ∷ more) whole rest e = step (is_line_end b) refl (λ w r cut. go_on (seen ++ b ∷ []) more w r cut)
+begins_with_whole : (seen more : List ℕ) (whole : List (List ℕ)) (rest : List ℕ) → lines_of seen ≡ whole ++ rest ∷ [] → BeginsWithLines whole (lines_of (seen ++ more))
+begins_with_whole seen [] whole rest e = record { next = rest; others = []; same = ap lines_of (append-nil seen) ∙ e }
+begins_with_whole seen (b ∷ more) whole rest e = step (is_line_end b) refl (λ w r cut. begins_with_whole (seen ++ b ∷ []) more w r cut)
   where
     joined : lines_of (seen ++ b ∷ more) ≡ lines_of ((seen ++ b ∷ []) ++ more)
     joined = ap lines_of (sym (append_assoc seen (b ∷ []) more))
 
     step : (t : Bool) → is_line_end b ≡ t
-        → ((w : List (List ℕ)) (r : List ℕ) → lines_of (seen ++ b ∷ []) ≡ w ++ r ∷ [] → GoesOn w (lines_of ((seen ++ b ∷ []) ++ more)))
-        → GoesOn whole (lines_of (seen ++ b ∷ more))
+        → ((w : List (List ℕ)) (r : List ℕ) → lines_of (seen ++ b ∷ []) ≡ w ++ r ∷ [] → BeginsWithLines w (lines_of ((seen ++ b ∷ []) ++ more)))
+        → BeginsWithLines whole (lines_of (seen ++ b ∷ more))
     step true h later =
         let cut : lines_of (seen ++ b ∷ []) ≡ (whole ++ rest ∷ []) ++ [] ∷ [] = split-push_cut is_line_end seen b h ∙ ap (λ ls. ls ++ [] ∷ []) e in
         let on = later (whole ++ rest ∷ []) [] cut in
@@ -91,19 +91,19 @@ module _ {W : Type 0} (define : Definition W) where
       module _ (t : HasAnswered define start seen world lines line text) where
         -- the answers so far are those to the whole lines seen
         pub answered_whole : text ≡ answers_to define start (whole_lines seen) t.marks
-        answered_whole = t.same_text ∙ ap (λ ls. answers_to define start ls t.marks) (sym (ap all_but_last t.cut ∙ but_last t.whole t.rest))
+        answered_whole = t.same_text ∙ ap (λ ls. answers_to define start ls t.marks) (sym (ap all_but_last t.cut ∙ all_but_last-append t.whole t.rest))
 
         -- the answers so far are also those to the first whole lines of any longer text that is
         -- seen later
         pub answered_first : (more : List ℕ) → text ≡ answers_to define start (take (length t.whole) (whole_lines (seen ++ more))) t.marks
         answered_first more =
-            let on = go_on seen more t.whole t.rest t.cut in
+            let on = begins_with_whole seen more t.whole t.rest t.cut in
             t.same_text ∙ ap (λ ls. answers_to define start ls t.marks) (sym (ap (λ ls. take (length t.whole) (all_but_last ls)) on.same ∙ first_lines t.whole on.next on.others))
 
         -- after more bytes in which no line ends, nothing more is answered
-        pub answered_on : (bytes : List ℕ) (new_lines : ℕ) (new_line new_text : List ℕ) → HasNoEnd bytes
+        pub no_line_answered : (bytes : List ℕ) (new_lines : ℕ) (new_line new_text : List ℕ) → HasNoEnd bytes
             → new_lines ≡ lines → new_line ≡ kept_with line bytes → new_text ≡ text → HasAnswered define start (seen ++ bytes) world new_lines new_line new_text
-        answered_on bytes new_lines new_line new_text h n l same = record {
+        no_line_answered bytes new_lines new_line new_text h n l same = record {
           marks = t.marks;
           whole = t.whole;
           rest = t.rest ++ bytes;
@@ -136,19 +136,19 @@ module _ {W : Type 0} (define : Definition W) (front : (memory : Bool) (number :
       p = after_lines define start t.whole t.marks
 
       new_marks : Marks
-      new_marks = mark t.marks (lines + 1) a.memory
+      new_marks = with_mark t.marks (lines + 1) a.memory
 
       counted : p.lines ≡ length t.whole
       counted = omega (arith, count_lines define t.marks t.whole (beginning start))
 
       same_before : after_lines define start t.whole new_marks ≡ p
       same_before = sym (same_marks define t.marks new_marks t.whole (beginning start)
-          (λ k le. mark_before t.marks (lines + 1) a.memory k (omega (arith, counted, t.same_lines))))
+          (λ k le. with_mark_before t.marks (lines + 1) a.memory k (omega (arith, counted, t.same_lines))))
 
       answered : define (new_marks (p.lines + 1)) (p.lines + 1) t.rest p.world ≡ record { world = new_world; text = a.text }
       answered =
           ap (λ n. define (new_marks (n + 1)) (n + 1) t.rest p.world) (sym t.same_lines)
-          ∙ ap (λ m. define m (lines + 1) t.rest p.world) (mark_here t.marks (lines + 1) a.memory)
+          ∙ ap (λ m. define m (lines + 1) t.rest p.world) (with_mark_here t.marks (lines + 1) a.memory)
           ∙ ap (λ w. define a.memory (lines + 1) t.rest w) (sym t.same_world)
           ∙ sym (front a.memory (lines + 1) t.rest world)
           ∙ ap (λ l. define a.memory (lines + 1) l world) (sym t.kept)

@@ -108,8 +108,8 @@ module _ {W : Type 0} (define : Definition W) (start : W) where
           }
 
     -- between pieces no answer is held back, so all that was read is answered
-    pub answered_onto : (out : List ℕ) → out ≡ [] → HasAnswered define start r.seen world lines line (r.text ++ out)
-    answered_onto out e = record {
+    pub answered_between_pieces : (out : List ℕ) → out ≡ [] → HasAnswered define start r.seen world lines line (r.text ++ out)
+    answered_between_pieces out e = record {
       marks = r.reported.marks;
       whole = r.reported.whole;
       rest = r.reported.rest;
@@ -123,13 +123,13 @@ module _ {W : Type 0} (define : Definition W) (start : W) where
     -- the end: the last line is answered too
     module _ (reads_front : (memory : Bool) (number : ℕ) (line : List ℕ) (w : W) → define memory number (take KEPT_BYTES line) w ≡ define memory number line w)
         (ended : IsAtEnd after.unread) (short : count < MOST_SCRIPT_BYTES) (new_world : W) (sent out : List ℕ) (none : sent ≡ []) (a : IsLineAnswer define (lines + 1) line world new_world sent out) where
-      onto : IsLineAnswer define (lines + 1) line world new_world r.text (r.text ++ out)
-      onto =
+      last_line_added : IsLineAnswer define (lines + 1) line world new_world r.text (r.text ++ out)
+      last_line_added =
           let b = line_answer_append define (lines + 1) line world new_world sent out r.text a in
           record { memory = b.memory; text = b.text; answered = b.answered; added = b.added ∙ ap (λ xs. (r.text ++ xs) ++ b.text) none ∙ ap (λ xs. xs ++ b.text) (append-nil r.text) }
 
       all : HasAnsweredAll define start r.seen new_world (lines + 1) (r.text ++ out)
-      all = answered_all define reads_front start r.seen world lines line r.text r.reported new_world (r.text ++ out) onto
+      all = answered_all define reads_front start r.seen world lines line r.text r.reported new_world (r.text ++ out) last_line_added
 
       pub all_answered : (last : Option (List ℕ)) → Appends after.written last out → Leaves define start new_world before (streams after.unread last)
       all_answered last w = record {

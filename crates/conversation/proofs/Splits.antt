@@ -5,8 +5,8 @@ use Rattle.std.proofs.lemmas.List.Splits.{slice_split-cons_yes, slice_split-cons
 
 module _ (p : ℕ → Bool) where
   -- a text has at least one part
-  pub split_some : (xs : List ℕ) → 0 < length (slice_split p xs)
-  split_some xs = omega (arith, length-slice_split p xs)
+  pub split_nonempty : (xs : List ℕ) → 0 < length (slice_split p xs)
+  split_nonempty xs = omega (arith, length-slice_split p xs)
 
   onto_first-append : (x : ℕ) (parts more : List (List ℕ)) → 0 < length parts → onto_first x (parts ++ more) ≡ onto_first x parts ++ more
   onto_first-append x [] more h = absurd (omega (arith, h))
@@ -19,7 +19,7 @@ module _ (p : ℕ → Bool) where
       ap (λ s. cond (p x) ([] ∷ s) (onto_first x s)) (split-push_cut xs y h)
       ∙ elim (p x) as (λ b. cond b ([] ∷ (slice_split p xs ++ [] ∷ [])) (onto_first x (slice_split p xs ++ [] ∷ [])) ≡ cond b ([] ∷ slice_split p xs) (onto_first x (slice_split p xs)) ++ [] ∷ []) [
         | true ↦ refl
-        | false ↦ onto_first-append x (slice_split p xs) ([] ∷ []) (split_some xs)
+        | false ↦ onto_first-append x (slice_split p xs) ([] ∷ []) (split_nonempty xs)
       ]
 
   -- the parts with one more byte at the end of the last
@@ -47,8 +47,8 @@ module _ (p : ℕ → Bool) where
   split-push_last (x ∷ xs) y h =
       ap (λ s. cond (p x) ([] ∷ s) (onto_first x s)) (split-push_last xs y h)
       ∙ elim (p x) as (λ b. cond b ([] ∷ onto_last y (slice_split p xs)) (onto_first x (onto_last y (slice_split p xs))) ≡ onto_last y (cond b ([] ∷ slice_split p xs) (onto_first x (slice_split p xs)))) [
-        | true ↦ onto_last-cons y (slice_split p xs) (split_some xs)
-        | false ↦ onto_last-onto_first x y (slice_split p xs) (split_some xs)
+        | true ↦ onto_last-cons y (slice_split p xs) (split_nonempty xs)
+        | false ↦ onto_last-onto_first x y (slice_split p xs) (split_nonempty xs)
       ]
 
   -- a byte that isn't a separator, added to a text, is at the end of the text's last part

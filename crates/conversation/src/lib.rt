@@ -1,6 +1,6 @@
 //! Conversations: a script is read in pieces, and the answers to its lines are written. The caller
-//! supplies the closure that answers one line. A file that a program needs first is read whole, and
-//! one to save to is written whole.
+//! supplies the closure that answers one line. The file that a program opens is read whole, and the
+//! file that it saves to is written whole.
 #![tactic(auto)]
 
 pub mod answering;

@@ -11,7 +11,7 @@ use Rattle.schedule_trie.proofs.lists.KeyPositions.{parting}
 use Rattle.schedule_trie.proofs.lists.NoRepeats.{has-in}
 use Rattle.schedule_trie.proofs.branches.Shared.{same_front}
 use Rattle.cutoff.specs.Fitting.{StoredRun, RunFits, KeepsRuns, IsChecked, IsOnWayTo, checked_segment, run_of, run_at, slots_at, steps_at}
-use Rattle.cutoff.specs.Links.{IsGiven, IsStored, IsTrueSegment, IsLinked, run_checked}
+use Rattle.cutoff.specs.Links.{IsGiven, IsStored, IsStoredIn, IsLinked, run_checked}
 use Rattle.cutoff.specs.Prefixes.{HasTrueRun, RunsDown, RunsTo, IsMarked, AreFresh, exit_or_start, exit_or}
 use Rattle.cutoff.specs.Charts.{Charted, IsCharted, StepsFit}
 use Rattle.cutoff.proofs.Fits.{register_kept, exit_same, stored_at}
@@ -19,7 +19,7 @@ use Rattle.cutoff.proofs.Prefixes.{down_after}
 use Rattle.cutoff.proofs.SameBranches.{cut_kept}
 use Rattle.cutoff.proofs.Walks.{by_key}
 
--- `checked_segment` changes neither the cells nor the run of a segment, and keeps `IsTrueSegment`
+-- `checked_segment` changes neither the cells nor the run of a segment, and keeps `IsStoredIn`
 module _ {R P : Type 0} (number : Option ℕ) where
   slots_checked : (o : Option (SegmentOf (StoredRun R P))) → option_map (λ p. p.slots) (option_map (checked_segment number) o) ≡ option_map (λ p. p.slots) o
   slots_checked None = refl
@@ -42,10 +42,10 @@ module _ {R P : Type 0} (number : Option ℕ) where
   note_checked None s e = cc
   note_checked (Some p) s e = ap (option_map (λ s. record { run = s.run; id = s.id; link = s.link; checked = number })) e
 
-  true_segment-checked : (E : R → R → Bool) (h : R) (exits : List (Configuration ⊤ P)) → IsGiven (length exits) number → (o : Option (SegmentOf (StoredRun R P)))
-      → IsTrueSegment E h exits o → IsTrueSegment E h exits (option_map (checked_segment number) o)
-  true_segment-checked E h exits given None t = tt
-  true_segment-checked E h exits given (Some p) t = by p.note t
+  stored_in-checked : (E : R → R → Bool) (h : R) (exits : List (Configuration ⊤ P)) → IsGiven (length exits) number → (o : Option (SegmentOf (StoredRun R P)))
+      → IsStoredIn E h exits o → IsStoredIn E h exits (option_map (checked_segment number) o)
+  stored_in-checked E h exits given None t = tt
+  stored_in-checked E h exits given (Some p) t = by p.note t
     where
       by : (n : Option (StoredRun R P)) → MatchOption n ⊤ (IsStored E h exits (map step_of p.slots))
           → MatchOption (option_map (λ s. record { run = s.run; id = s.id; link = s.link; checked = number }) n) ⊤ (IsStored E h exits (map step_of p.slots))
@@ -85,9 +85,9 @@ module _ {R P : Type 0} (old new : TrieOf (StoredRun R P)) (number : Option ℕ)
   linked_checked E h next c l given = record { exits = l.exits; as_many = l.as_many; each = λ k. by k (checked.each k); reached_exit = l.reached_exit }
     where
       by : (k : ℕ) → (segment_at new.segments k ≡ segment_at old.segments k) ⊎ (IsOnWayTo old key k × (segment_at new.segments k ≡ option_map (checked_segment number) (segment_at old.segments k)))
-          → IsTrueSegment E h l.exits (segment_at new.segments k)
-      by k (inl e) = subst (IsTrueSegment E h l.exits) (sym e) (l.each k)
-      by k (inr e) = subst (IsTrueSegment E h l.exits) (sym e.1) (true_segment-checked number E h l.exits given (segment_at old.segments k) (l.each k))
+          → IsStoredIn E h l.exits (segment_at new.segments k)
+      by k (inl e) = subst (IsStoredIn E h l.exits) (sym e) (l.each k)
+      by k (inr e) = subst (IsStoredIn E h l.exits) (sym e.1) (stored_in-checked number E h l.exits given (segment_at old.segments k) (l.each k))
 
   module _ (E : R → R → Bool) (is : R → Behaviour P) where
     true_same : (c : Configuration R P) (k : ℕ) → HasTrueRun E is old c k → HasTrueRun E is new c k
@@ -126,8 +126,8 @@ module _ {R P : Type 0} (E : R → R → Bool) (is : R → Behaviour P) (alike :
   down_part c (j ∷ front) k back end home d =
       (d.0, down_part (replayed (is start.register) c (steps_at trie j)) front k back end (ap is (register_kept (is start.register) c (steps_at trie j)) ∙ home) d.1)
 
-  on_way : IsCut trie → (key k : ℕ) → IsSome (segment_at trie.segments key) → IsMarked E is trie start (Some key) → IsOnWayTo trie key k → IsMarked E is trie start (Some k)
-  on_way whole key k there marked way = λ i h.
+  marked_on_way : IsCut trie → (key k : ℕ) → IsSome (segment_at trie.segments key) → IsMarked E is trie start (Some key) → IsOnWayTo trie key k → IsMarked E is trie start (Some k)
+  marked_on_way whole key k there marked way = λ i h.
       let live = whole.live key there in
       let keys = keys_in trie.branches live.0 in
       let p = parting keys key live.1 in
@@ -146,9 +146,9 @@ module _ {R P : Type 0} (E : R → R → Bool) (is : R → Behaviour P) (alike :
 -- way to that segment
 module _ {R P : Type 0} (E : R → R → Bool) (is : R → Behaviour P) (alike : (x y : R) → E x y ≡ true → is x ≡ is y) (next : ℕ) (key : ℕ) (c : Charted R P) (new : TrieOf (StoredRun R P)) (s : StoredRun R P)
     (noted : note_of (segment_at c.trie.segments key) ≡ Some s) (checked : IsChecked c.trie new s.checked key) where
-  there : (o : Option (SegmentOf (StoredRun R P))) → note_of o ≡ Some s → IsSome o
-  there None e = cc
-  there (Some p) e = refl
+  noted_there : (o : Option (SegmentOf (StoredRun R P))) → note_of o ≡ Some s → IsSome o
+  noted_there None e = cc
+  noted_there (Some p) e = refl
 
   fresh_still : IsCut c.trie → IsMarked E is c.trie c.start (Some key) → (fresh : Option ℕ) → AreFresh E is c.trie c.start fresh → AreFresh E is new c.start fresh
   fresh_still whole marked None f = tt
@@ -159,18 +159,18 @@ module _ {R P : Type 0} (E : R → R → Bool) (is : R → Behaviour P) (alike :
           → IsMarked E is new c.start (Some k)
       by k a number late (inl e) = marked_still c.trie new s.checked key checked E is c.start k (f k a (ap (λ o. run_checked (note_of o)) (sym e) ∙ number) late)
       by k a number late (inr e) =
-          marked_still c.trie new s.checked key checked E is c.start k (on_way E is alike c.trie c.start whole key k (there (segment_at c.trie.segments key) noted) marked e.0)
+          marked_still c.trie new s.checked key checked E is c.start k (marked_on_way E is alike c.trie c.start whole key k (noted_there (segment_at c.trie.segments key) noted) marked e.0)
 
   pub charted_checked : (fresh : Option ℕ) → IsCharted E is next fresh (Some key) c → IsCharted E is next fresh (Some key) (record { trie = new; start = c.start; value = c.value })
   charted_checked fresh was = record {
     within = was.within;
     begins = was.begins;
     fits = subst (StepsFit (is c.start.register)) (sym checked.unchanged) was.fits;
-    whole = cut_kept c.trie new (λ k. ⊥) (checked_keeps c.trie new s.checked key checked) was.whole;
+    cut = cut_kept c.trie new (λ k. ⊥) (checked_keeps c.trie new s.checked key checked) was.cut;
     linked = linked_checked c.trie new s.checked key checked E c.start.register next _ was.linked
         (stored_at E c.start.register was.linked.exits c.trie key s (was.linked.each key) noted).checked;
     marked = marked_still c.trie new s.checked key checked E is c.start key was.marked;
-    fresh_marked = fresh_still was.whole was.marked fresh was.fresh_marked;
+    fresh_marked = fresh_still was.cut was.marked fresh was.fresh_marked;
   }
 
 -- `IsChecked` before any run is passed, and after one more
@@ -178,30 +178,30 @@ module _ {R P : Type 0} where
   pub none_checked : (trie : TrieOf (StoredRun R P)) (number : Option ℕ) (key : ℕ) → IsChecked trie trie number key
   none_checked trie number key = record { branches = refl; limits = refl; unchanged = refl; each = λ k. inl refl }
 
-  twice : (number : Option ℕ) (o : Option (SegmentOf (StoredRun R P))) → option_map (checked_segment number) (option_map (checked_segment number) o) ≡ option_map (checked_segment number) o
-  twice number None = refl
-  twice number (Some p) = by p.note
+  checked_twice : (number : Option ℕ) (o : Option (SegmentOf (StoredRun R P))) → option_map (checked_segment number) (option_map (checked_segment number) o) ≡ option_map (checked_segment number) o
+  checked_twice number None = refl
+  checked_twice number (Some p) = by p.note
     where
       by : (n : Option (StoredRun R P)) → option_map (checked_segment number) (option_map (checked_segment number) (Some (segment p.slots n))) ≡ option_map (checked_segment number) (Some (segment p.slots n))
       by None = refl
       by (Some s) = refl
 
-  renoted : (number : Option ℕ) (s again : StoredRun R P) → again.run ≡ s.run → again.id ≡ s.id → again.link ≡ s.link → again.checked ≡ number → (o : Option (SegmentOf (StoredRun R P))) → note_of o ≡ Some s
+  with_note_checked : (number : Option ℕ) (s again : StoredRun R P) → again.run ≡ s.run → again.id ≡ s.id → again.link ≡ s.link → again.checked ≡ number → (o : Option (SegmentOf (StoredRun R P))) → note_of o ≡ Some s
       → option_map (with_note (Some again)) o ≡ option_map (checked_segment number) o
-  renoted number s again run id link checked None e = refl
-  renoted number s again run id link checked (Some p) e =
+  with_note_checked number s again run id link checked None e = refl
+  with_note_checked number s again run id link checked (Some p) e =
       ap (λ n. Some (segment p.slots n))
       ((λ i. Some (record { run = run i; id = id i; link = link i; checked = checked i })) ∙ sym (ap (option_map (λ s. record { run = s.run; id = s.id; link = s.link; checked = number })) e))
 
   module _ (old trie new : TrieOf (StoredRun R P)) (number : Option ℕ) (key k : ℕ) (s again : StoredRun R P) (was : IsChecked old trie number key) (there : note_of (segment_at trie.segments k) ≡ Some s)
       (run : again.run ≡ s.run) (id : again.id ≡ s.id) (link : again.link ≡ s.link) (checked : again.checked ≡ number) (noted : IsNoted trie new k (Some again)) (way : IsOnWayTo old key k) where
-    here : segment_at new.segments k ≡ option_map (checked_segment number) (segment_at old.segments k)
-    here = noted.here ∙ renoted number s again run id link checked (segment_at trie.segments k) there ∙ by (was.each k)
+    checked_here : segment_at new.segments k ≡ option_map (checked_segment number) (segment_at old.segments k)
+    checked_here = noted.here ∙ with_note_checked number s again run id link checked (segment_at trie.segments k) there ∙ by (was.each k)
       where
         by : (segment_at trie.segments k ≡ segment_at old.segments k) ⊎ (IsOnWayTo old key k × (segment_at trie.segments k ≡ option_map (checked_segment number) (segment_at old.segments k)))
             → option_map (checked_segment number) (segment_at trie.segments k) ≡ option_map (checked_segment number) (segment_at old.segments k)
         by (inl e) = ap (option_map (checked_segment number)) e
-        by (inr e) = ap (option_map (checked_segment number)) e.1 ∙ twice number (segment_at old.segments k)
+        by (inr e) = ap (option_map (checked_segment number)) e.1 ∙ checked_twice number (segment_at old.segments k)
 
     pub more_checked : IsChecked old new number key
     more_checked = record {
@@ -209,7 +209,7 @@ module _ {R P : Type 0} where
       limits = noted.limits ∙ was.limits;
       unchanged = noted.unchanged ∙ was.unchanged;
       each = λ j. by_key j k _
-          (λ e. inr (subst (IsOnWayTo old key) (sym e) way, ap (segment_at new.segments) e ∙ here ∙ ap (λ z. option_map (checked_segment number) (segment_at old.segments z)) (sym e)))
+          (λ e. inr (subst (IsOnWayTo old key) (sym e) way, ap (segment_at new.segments) e ∙ checked_here ∙ ap (λ z. option_map (checked_segment number) (segment_at old.segments z)) (sym e)))
           (λ ne. still j (noted.others j ne) (was.each j));
     }
       where

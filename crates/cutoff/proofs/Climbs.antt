@@ -18,7 +18,7 @@ use Rattle.cutoff.specs.Fitting.{StoredRun, steps_at}
 use Rattle.cutoff.specs.Links.{without_register, run_number, IsExitOf, IsStored, IsLinked}
 use Rattle.cutoff.specs.Plans.{FitsDownTo, FitsDown}
 use Rattle.cutoff.specs.Prefixes.{note_named}
-use Rattle.cutoff.proofs.Fits.{alone_same, stored_at, register_kept, same_symm, same_trans, same_from_alone, exit_same, fits_from_note, no_note_no_fit}
+use Rattle.cutoff.proofs.Fits.{without_register_same, stored_at, register_kept, same_symm, same_trans, same_with_register, exit_same, fits_from_note, no_note_no_fit}
 
 not_first : (key k : ℕ) (ks : List ℕ) → has key (k ∷ ks) ≡ false → key ≡ k → ⊥
 not_first key k ks h e = true≢false (sym (ap (λ x. x || has key ks) (eq-eqb key k e)) ∙ h)
@@ -48,16 +48,16 @@ module _ {R P : Type 0} (E : R → R → Bool) (b : Behaviour P) (trie : TrieOf 
       inr (not_first key k front lacks, down.0, down_whole (replayed b c (steps_at trie k)) front back (not_below key k front lacks) steps down.1)
 
 -- if no run is stored at the last of these keys, stored runs don't fit all of them
-down_noted : {R P : Type 0} (E : R → R → Bool) (b : Behaviour P) (trie : TrieOf (StoredRun R P)) (k : ℕ) (entry c : Configuration R P) (front : List ℕ)
+down_missing : {R P : Type 0} (E : R → R → Bool) (b : Behaviour P) (trie : TrieOf (StoredRun R P)) (k : ℕ) (entry c : Configuration R P) (front : List ℕ)
     → note_of (segment_at trie.segments k) ≡ None → FitsDownTo E b trie c (front ++ k ∷ []) entry → ⊥
-down_noted E b trie k entry c [] none d = no_note_no_fit E trie c k none d.0
-down_noted E b trie k entry c (j ∷ front) none d = down_noted E b trie k entry (replayed b c (steps_at trie j)) front none d.1
+down_missing E b trie k entry c [] none d = no_note_no_fit E trie c k none d.0
+down_missing E b trie k entry c (j ∷ front) none d = down_missing E b trie k entry (replayed b c (steps_at trie j)) front none d.1
 
-pub climb_noted : {R P : Type 0} (E : R → R → Bool) (b : Behaviour P) (trie : TrieOf (StoredRun R P)) (k : ℕ) (entry c : Configuration R P) (keys : List ℕ) (at : Option ℕ)
+pub climb_missing : {R P : Type 0} (E : R → R → Bool) (b : Behaviour P) (trie : TrieOf (StoredRun R P)) (k : ℕ) (entry c : Configuration R P) (keys : List ℕ) (at : Option ℕ)
     → at ≡ Some k → HasClimbedTo keys at → note_of (segment_at trie.segments k) ≡ None → FitsDownTo E b trie c (keys_to keys at) entry → ⊥
-climb_noted E b trie k entry c keys at here there none d =
+climb_missing E b trie k entry c keys at here there none d =
     let p = parting keys k (subst (HasClimbedTo keys) here there) in
-    down_noted E b trie k entry c p.front none
+    down_missing E b trie k entry c p.front none
     (subst (λ l. FitsDownTo E b trie c l entry) p.to (subst (λ o. FitsDownTo E b trie c (keys_to keys o) entry) here d))
 
 -- if runs down to k lead to `entry`, the run s at k ends there, and those above lead to s's entry
@@ -86,12 +86,12 @@ module _ {R P : Type 0} (E : R → R → Bool) (per : IsPartialEquivalence E) (b
   pub ends_same : IsRun b s.run → (without_register entry ≡ without_register s.run.exit) → E entry.register s.run.entry.register ≡ true → SameConfiguration E entry s.run.exit
   ends_same true_run same own =
       let kept : s.run.exit.register ≡ s.run.entry.register = ap (λ c. c.register) true_run.exit ∙ register_kept b s.run.entry s.run.steps in
-      same_from_alone E entry s.run.exit (subst (λ r. E entry.register r ≡ true) (sym kept) own) same
+      same_with_register E entry s.run.exit (subst (λ r. E entry.register r ≡ true) (sym kept) own) same
 
 -- a stored run with the link a begins at the exit of the run with the number a
-pub link_came : {R P : Type 0} (E : R → R → Bool) (h : R) (exits : List (Configuration ⊤ P)) (segment : List Step) (s : StoredRun R P) → IsStored E h exits segment s
+pub linked_entry : {R P : Type 0} (E : R → R → Bool) (h : R) (exits : List (Configuration ⊤ P)) (segment : List Step) (s : StoredRun R P) → IsStored E h exits segment s
     → (a : ℕ) → s.link ≡ Some a → (slice_get exits a ≡ Some (without_register s.run.entry)) × (E s.run.entry.register h ≡ true)
-link_came E h exits segment s links a linked = (subst (λ o. IsExitOf exits o (without_register s.run.entry)) linked links.link, links.own)
+linked_entry E h exits segment s links a linked = (subst (λ o. IsExitOf exits o (without_register s.run.entry)) linked links.link, links.own)
 
 -- one step up in a climb: if runs down to the segment k lead to `entry`, the run at k ends there,
 -- and those above lead to the entry of the run at k
@@ -107,25 +107,31 @@ module _ {R P : Type 0} (E : R → R → Bool) (per : IsPartialEquivalence E) (i
       (down_before E per is alike b trie k s noted true_run entry start p.front refl (subst (λ l. FitsDownTo E b trie start l entry) p.to d)).0
 
   module _ (above : Option ℕ) (step : IsStepUp keys k above) where
-    pub climb_down : FitsDownTo E b trie start (keys_up_to k keys) entry → FitsDownTo E b trie start (keys_to keys above) s.run.entry
-    climb_down d =
+    pub climb_above : FitsDownTo E b trie start (keys_up_to k keys) entry → FitsDownTo E b trie start (keys_to keys above) s.run.entry
+    climb_above d =
         (down_before E per is alike b trie k s noted true_run entry start (keys_to keys above) refl (subst (λ l. FitsDownTo E b trie start l entry) step.is d)).1
 
 -- no key is twice on a branch
 pub path_once : {T : Type 0} (trie : TrieOf T) → IsCut trie → (i : ℕ) → Once (keys_in trie.branches i)
 path_once trie whole i = Once-from_linked whole.shares.above (keys_in trie.branches i) (whole.shares.linked i)
 
+-- in a list without repeats, a key isn't among those after it
+pub once_after : (front : List ℕ) (key : ℕ) (back : List ℕ) → Once (front ++ key ∷ back) → has key back ≡ false
+once_after [] key back o = o.0
+once_after (k ∷ front) key back o = once_after front key back o.1
+
 -- the keys down to one of a branch's keys are at most as many as all its keys
-pub few_to : (keys : List ℕ) (last : Option ℕ) → HasClimbedTo keys last → length (keys_to keys last) ≤ length keys
-few_to keys None h = omega arith
-few_to keys (Some k) h =
+pub keys_to_few : (keys : List ℕ) (last : Option ℕ) → HasClimbedTo keys last → length (keys_to keys last) ≤ length keys
+keys_to_few keys None h = omega arith
+keys_to_few keys (Some k) h =
     let p = parting keys k h in
     let to : length (keys_up_to k keys) ≡ length p.front + 1 = ap length p.to ∙ length-append p.front (k ∷ []) in
     let all : length keys ≡ length p.front + length (k ∷ p.back) = ap length p.is ∙ length-append p.front (k ∷ p.back) in
     omega (arith, to, all)
 
-pub some_to : (keys : List ℕ) (k : ℕ) → has k keys ≡ true → 0 < length (keys_up_to k keys)
-some_to keys k h =
+-- the keys down to a key of the branch are at least one
+pub keys_up_to_some : (keys : List ℕ) (k : ℕ) → has k keys ≡ true → 0 < length (keys_up_to k keys)
+keys_up_to_some keys k h =
     let p = parting keys k h in
     let to : length (keys_up_to k keys) ≡ length p.front + 1 = ap length p.to ∙ length-append p.front (k ∷ []) in
     omega (arith, to)
@@ -133,17 +139,18 @@ some_to keys k h =
 -- a climb that has passed all keys is above the first
 past_first : (keys : List ℕ) (at : Option ℕ) (counter all : ℕ) → HasClimbedTo keys at → counter + length (keys_to keys at) ≤ all → all ≤ counter → at ≡ None
 past_first keys None counter all h short past = refl
-past_first keys (Some k) counter all h short past = let some = some_to keys k h in absurd (omega (arith, some))
+past_first keys (Some k) counter all h short past = let some = keys_up_to_some keys k h in absurd (omega (arith, some))
 
 -- a climb that has made as many steps as the branch has keys, or more, is above the first
 pub past_all : (keys : List ℕ) (last at : Option ℕ) (counter end : ℕ) → HasClimbedTo keys last → length keys ≤ end → HasClimbedTo keys at → counter + length (keys_to keys at) ≤ length (keys_to keys last)
     → end ≤ counter → at ≡ None
 past_all keys last at counter end there made reached short past =
-    let few = few_to keys last there in
+    let few = keys_to_few keys last there in
     past_first keys at counter (length (keys_to keys last)) reached short (omega (arith, few, made, past))
 
-pub shorter : (keys : List ℕ) (k : ℕ) (above : Option ℕ) → IsStepUp keys k above → length (keys_up_to k keys) ≡ length (keys_to keys above) + 1
-shorter keys k above step = ap length step.is ∙ length-append (keys_to keys above) (k ∷ [])
+-- one step up leaves one key less
+pub step_up_shorter : (keys : List ℕ) (k : ℕ) (above : Option ℕ) → IsStepUp keys k above → length (keys_up_to k keys) ≡ length (keys_to keys above) + 1
+step_up_shorter keys k above step = ap length step.is ∙ length-append (keys_to keys above) (k ∷ [])
 
 -- `above` is the key right above `key`: what runs down to `above` say of a run at `key`
 module _ {R P : Type 0} (E : R → R → Bool) (per : IsPartialEquivalence E) (is : R → Behaviour P) (alike : (x y : R) → E x y ≡ true → is x ≡ is y)
@@ -178,18 +185,18 @@ down_steps E b trie key run c (k ∷ ks) (inl f) = f.1.steps ∙ ap (steps_at tr
 down_steps E b trie key run c (k ∷ ks) (inr f) = down_steps E b trie key run (replayed b c (steps_at trie k)) ks f.2
 
 -- the run stored at `above` ends at `entry`, so that run's number is that of a run with this exit
-pub number_came : {R P : Type 0} (E : R → R → Bool) (per : IsPartialEquivalence E) (is : R → Behaviour P) (alike : (x y : R) → E x y ≡ true → is x ≡ is y)
+pub number_linked : {R P : Type 0} (E : R → R → Bool) (per : IsPartialEquivalence E) (is : R → Behaviour P) (alike : (x y : R) → E x y ≡ true → is x ≡ is y)
     (trie : TrieOf (StoredRun R P)) (start entry : Configuration R P) (keys : List ℕ) (above : Option ℕ) (next : ℕ) (o : Option (StoredRun R P)) → HasClimbedTo keys above
     → note_named trie above ≡ o → IfSome o (λ s. IsRun (is s.run.entry.register) s.run)
     → FitsDownTo E (is start.register) trie start (keys_to keys above) entry → IsLinked E start.register next None (without_register start) trie
     → IsLinked E start.register next (run_number o) (without_register entry) trie
-number_came E per is alike trie start entry keys above next None h e true_run d l = record { exits = l.exits; as_many = l.as_many; each = l.each; reached_exit = tt }
-number_came E per is alike trie start entry keys None next (Some s) h e true_run d l = cc
-number_came E per is alike trie start entry keys (Some k) next (Some s) h e true_run d l =
+number_linked E per is alike trie start entry keys above next None h e true_run d l = record { exits = l.exits; as_many = l.as_many; each = l.each; reached_exit = tt }
+number_linked E per is alike trie start entry keys None next (Some s) h e true_run d l = cc
+number_linked E per is alike trie start entry keys (Some k) next (Some s) h e true_run d l =
     let same = climb_ends E per is alike trie start entry keys k s e true_run h d in
     record {
       exits = l.exits;
       as_many = l.as_many;
       each = l.each;
-      reached_exit = subst (IsExitOf l.exits s.id) (sym (alone_same E entry s.run.exit same)) (stored_at E start.register l.exits trie k s (l.each k) e).id;
+      reached_exit = subst (IsExitOf l.exits s.id) (sym (without_register_same E entry s.run.exit same)) (stored_at E start.register l.exits trie k s (l.each k) e).id;
     }

@@ -1,4 +1,4 @@
--- If all steps fit, they fit after each command.
+-- If all steps of a forest fit, they fit after each edit (`Edits.antt` has replacements).
 use Rattle.std.proofs.Common.{◌≡◌, ℕ, zero, suc, ◌+◌, Bool, true, false, nat_eq, nat_le, nat_lt, not, cond, List, [], ◌∷◌, ◌++◌, length, map, take, Option, Some, None, Result, Ok, Err, sym, subst}
 use Rattle.std.specs.List.{remove, list_any}
 use Rattle.std.specs.Cmp.Lexicographic.{pointwise}
@@ -18,14 +18,14 @@ use Rattle.cutoff.specs.Charts.{StepsFit}
 use Rattle.cutoff.proofs.Edits.{FitAll, fits_everywhere, at_cell_fits}
 use Rattle.branch_terms.proofs.LimbLists.{steps-numbered}
 
--- the result of a command that wasn't refused
-pub passed : (refused : Bool) (e : Refusal) (r : Result Forest Refusal) (g : Forest) → cond refused (Err e) r ≡ Ok g → r ≡ Ok g
-passed true e r g h = absurd (cc)
-passed false e r g h = h
+-- the result of an edit that wasn't refused
+pub result_if_ok : (refused : Bool) (e : Refusal) (r : Result Forest Refusal) (g : Forest) → cond refused (Err e) r ≡ Ok g → r ≡ Ok g
+result_if_ok true e r g h = absurd (cc)
+result_if_ok false e r g h = h
 
-found : (o : Option ℕ) (command : ℕ → Result Forest Refusal) (g : Forest) → on_found o command ≡ Ok g → (i : ℕ) × (command i ≡ Ok g)
-found None command g h = absurd (cc)
-found (Some i) command g h = (i, h)
+found_index : (o : Option ℕ) (command : ℕ → Result Forest Refusal) (g : Forest) → on_found o command ≡ Ok g → (i : ℕ) × (command i ≡ Ok g)
+found_index None command g h = absurd (cc)
+found_index (Some i) command g h = (i, h)
 
 module _ {P : Type 0} (b : Behaviour P) where
   pub none_fit : FitAll b []
@@ -95,10 +95,10 @@ module _ {P : Type 0} (b : Behaviour P) where
   pub insert_fits : (limits : Limits) (f g : Forest) (name : List ℕ) (place : ℕ) (step : Step) → fits_step b step ≡ true → StepsFit b f → insert limits f name place step ≡ Ok g
       → StepsFit b g
   insert_fits limits f g name place step new fits e =
-      let at = found (index_of f.branches name) (insert_at limits f place step) g e in
+      let at = found_index (index_of f.branches name) (insert_at limits f place step) g e in
       let same : Ok (inserted f at.0 place step) ≡ Ok g =
-      passed (nat_le limits.cells f.made) Full (Ok (inserted f at.0 place step)) g
-      (passed (nat_lt (length (slots_in f.branches at.0)) place) NoPlace (cond (nat_le limits.cells f.made) (Err Full) (Ok (inserted f at.0 place step))) g at.1) in
+      result_if_ok (nat_le limits.cells f.made) Full (Ok (inserted f at.0 place step)) g
+      (result_if_ok (nat_lt (length (slots_in f.branches at.0)) place) NoPlace (cond (nat_le limits.cells f.made) (Err Full) (Ok (inserted f at.0 place step))) g at.1) in
       let forests : inserted f at.0 place step ≡ g = cc in
       subst (StepsFit b) forests (by at.0 (nat_eq place (length (slots_in f.branches at.0))))
     where
@@ -115,29 +115,29 @@ module _ {P : Type 0} (b : Behaviour P) where
 
   pub fork_fits : (limits : Limits) (f g : Forest) (name : List ℕ) (place : ℕ) (new : List ℕ) → StepsFit b f → fork limits f name place new ≡ Ok g → StepsFit b g
   fork_fits limits f g name place new fits e =
-      let at = found (index_of f.branches name) (fork_at limits f place new) g e in
+      let at = found_index (index_of f.branches name) (fork_at limits f place new) g e in
       let forked : Forest = record { branches = f.branches ++ branch new (take place (slots_in f.branches at.0)) ∷ []; made = f.made } in
       let same : Ok forked ≡ Ok g =
-      passed (nat_le limits.branches (length f.branches)) TooManyBranches _ g
-      (passed (nat_lt (length (slots_in f.branches at.0)) place) NoPlace _ g
-      (passed (not (is_well_formed new)) BadName _ g
-      (passed (list_any (pointwise nat_eq new) (map name_of f.branches)) NameTaken _ g at.1))) in
+      result_if_ok (nat_le limits.branches (length f.branches)) TooManyBranches _ g
+      (result_if_ok (nat_lt (length (slots_in f.branches at.0)) place) NoPlace _ g
+      (result_if_ok (not (is_well_formed new)) BadName _ g
+      (result_if_ok (list_any (pointwise nat_eq new) (map name_of f.branches)) NameTaken _ g at.1))) in
       let forests : forked ≡ g = cc in
       subst (StepsFit b) forests
       (fits_one_more f.branches (branch new (take place (slots_in f.branches at.0))) fits (fits_take place (slots_in f.branches at.0) (fits at.0)))
 
   pub detach_fits : (limits : Limits) (f g : Forest) (name : List ℕ) → StepsFit b f → detach limits f name ≡ Ok g → StepsFit b g
   detach_fits limits f g name fits e =
-      let at = found (index_of f.branches name) (detach_at limits f) g e in
+      let at = found_index (index_of f.branches name) (detach_at limits f) g e in
       let detached : Forest = record { branches = only_in at.0 (renumbered f.made) f.branches; made = f.made + length (slots_in f.branches at.0) } in
-      let same : Ok detached ≡ Ok g = passed (nat_lt limits.cells (f.made + length (slots_in f.branches at.0))) Full _ g at.1 in
+      let same : Ok detached ≡ Ok g = result_if_ok (nat_lt limits.cells (f.made + length (slots_in f.branches at.0))) Full _ g at.1 in
       let forests : detached ≡ g = cc in
       subst (StepsFit b) forests (fits_only_in (renumbered f.made) (fits_renumbered f.made) f.branches at.0 fits)
 
   pub drop_fits : (f g : Forest) (name : List ℕ) → StepsFit b f → drop_branch f name ≡ Ok g → StepsFit b g
   drop_fits f g name fits e =
-      let at = found (index_of f.branches name) (drop_at f) g e in
+      let at = found_index (index_of f.branches name) (drop_at f) g e in
       let dropped : Forest = record { branches = remove f.branches at.0; made = f.made } in
-      let same : Ok dropped ≡ Ok g = passed (nat_le (length f.branches) 1) LastBranch _ g at.1 in
+      let same : Ok dropped ≡ Ok g = result_if_ok (nat_le (length f.branches) 1) LastBranch _ g at.1 in
       let forests : dropped ≡ g = cc in
       subst (StepsFit b) forests (fits_one_less f.branches at.0 fits)

@@ -9,7 +9,7 @@ use Rattle.schedule_trie.specs.Trie.{TrieOf, segment_at, slots_of, note_of}
 use Rattle.schedule_trie.proofs.lists.NoRepeats.{has-head, has-tail}
 use Rattle.checkpoints.specs.Segment.{SegmentRun}
 use Rattle.cutoff.specs.Fitting.{StoredRun, RunPart, RunFits, Fits, run_of, steps_at}
-use Rattle.cutoff.specs.Settles.{IsWork, Settles}
+use Rattle.cutoff.specs.Settles.{ReplaysIfNeeded, Settles}
 use Rattle.cutoff.specs.EarlyCutoff.{AreKept, AreFitted, replayed_through, StopsEarly}
 
 module _ {R P : Type 0} (E : R → R → Bool) (b : Behaviour P) where
@@ -25,10 +25,11 @@ module _ {R P : Type 0} (E : R → R → Bool) (b : Behaviour P) where
       )
 
   module _ (old new : TrieOf (StoredRun R P)) where
-    no_work : (c : Configuration R P) (k : ℕ) (run : SegmentRun R P) (n : ℕ) → Fits E old c k → IsWork E old c k run n → n ≡ 0
+    no_work : (c : Configuration R P) (k : ℕ) (run : SegmentRun R P) (n : ℕ) → Fits E old c k → ReplaysIfNeeded E old c k run n → n ≡ 0
     no_work c k run n fits (inl w) = w.2
     no_work c k run n fits (inr w) = absurd (w.0 fits)
 
+    -- a settle along segments that stored runs fit replays nothing
     none_replayed : (c : Configuration R P) (place : ℕ) (ks : List ℕ) (parts : List (RunPart R P)) (n : ℕ) → AreFitted b old E c ks
         → Settles E b old new c place ks parts n → n ≡ 0
     none_replayed c place [] parts n f s = s.1
@@ -39,6 +40,8 @@ module _ {R P : Type 0} (E : R → R → Bool) (b : Behaviour P) where
         let sum : n ≡ s.0 + s.1 = s.2 in
         omega arith
 
+    -- if runs fit the segments `below`, a settle along `above` and then `below` replays only steps
+    -- of `above`
     all_above : (c : Configuration R P) (place : ℕ) (above below : List ℕ) (parts : List (RunPart R P)) (n : ℕ) → AreFitted b old E (replayed_through b old c above) below
         → Settles E b old new c place (above ++ below) parts n → Settles E b old new c place above (take (length above) parts) n
     all_above c place [] below parts n f s = (refl, none_replayed c place below parts n f s)

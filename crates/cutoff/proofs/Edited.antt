@@ -22,36 +22,36 @@ edited_fits b limits f g (Fork name place made) new fits e = fork_fits b limits 
 edited_fits b limits f g (Detach name) new fits e = detach_fits b limits f g name fits e
 edited_fits b limits f g (Drop name) new fits e = drop_fits b f g name fits e
 
-notes_by : {T : Type 0} (edit : Edit) (old new : TrieOf T) → KeepsNotesBy edit old new → KeepsNotes old new
-notes_by (Insert name place step) old new h = h.0.notes
-notes_by (Remove name place) old new h = h.notes
-notes_by (Replace name place step) old new h = h.notes
-notes_by (Fork name place made) old new h = h.notes
-notes_by (Detach name) old new h = h.0
-notes_by (Drop name) old new h = h.0
+keeps_notes : {T : Type 0} (edit : Edit) (old new : TrieOf T) → KeepsNotesBy edit old new → KeepsNotes old new
+keeps_notes (Insert name place step) old new h = h.0.notes
+keeps_notes (Remove name place) old new h = h.notes
+keeps_notes (Replace name place step) old new h = h.notes
+keeps_notes (Fork name place made) old new h = h.notes
+keeps_notes (Detach name) old new h = h.0
+keeps_notes (Drop name) old new h = h.0
 
 -- the invariant of a chart after an edit of its trie that was made or refused
-pub charted : {R P Y : Type 0} (E : R → R → Bool) (is : R → Behaviour P) (next : ℕ) (fresh mark : Option ℕ) (c : Charted R P) (new : TrieOf (StoredRun R P)) (edit : Edit) (result : Result Y Refusal)
+pub charted_edited : {R P Y : Type 0} (E : R → R → Bool) (is : R → Behaviour P) (next : ℕ) (fresh mark : Option ℕ) (c : Charted R P) (new : TrieOf (StoredRun R P)) (edit : Edit) (result : Result Y Refusal)
     → IsCharted E is next fresh mark c → FitsEdit (is c.start.register) edit → OnOk result (IsEdited c.trie new edit) → IfErr result (IsUnedited c.trie new edit)
     → IsCharted E is next None None (record { trie = new; start = c.start; value = c.value })
-charted E is next fresh mark c new edit (Ok y) was brings ok err =
+charted_edited E is next fresh mark c new edit (Ok y) was brings ok err =
     record {
       within = was.within;
       begins = was.begins;
       fits = edited_fits (is c.start.register) c.trie.limits (forest c.trie) (forest new) edit brings was.fits ok.forest;
-      whole = ok.cut;
-      linked = linked_kept E c.start.register next None (without_register c.start) c.trie new (notes_by edit c.trie new ok.notes) was.linked;
+      cut = ok.cut;
+      linked = linked_kept E c.start.register next None (without_register c.start) c.trie new (keeps_notes edit c.trie new ok.notes) was.linked;
       marked = tt;
       fresh_marked = tt;
     }
-charted E is next fresh mark c new edit (Err e) was brings ok err =
+charted_edited E is next fresh mark c new edit (Err e) was brings ok err =
     subst (λ d. IsCharted E is next None None (record { trie = d; start = c.start; value = c.value })) (sym err.unchanged) (charted_marked E is next fresh mark None None c tt tt was)
 
 -- an edit of the trie, made or refused, is one of the chart
-pub chart_edited : {R P : Type 0} (c d : Charted R P) (new : TrieOf (StoredRun R P)) (edit : Edit) (result : Result (Unit {0}) Refusal) → c ≡ d
+pub edits_from_trie : {R P : Type 0} (c d : Charted R P) (new : TrieOf (StoredRun R P)) (edit : Edit) (result : Result (Unit {0}) Refusal) → c ≡ d
     → OnOk result (IsEdited c.trie new edit) → IfErr result (IsUnedited c.trie new edit) → Edits d (record { trie = new; start = c.start; value = c.value }) edit result
-chart_edited c d new edit (Ok y) same ok err =
+edits_from_trie c d new edit (Ok y) same ok err =
     subst (λ v. Edits v (record { trie = new; start = c.start; value = c.value }) edit (Ok y)) same (ok, (refl, refl))
-chart_edited c d new edit (Err e) same ok err =
+edits_from_trie c d new edit (Err e) same ok err =
     subst (λ v. Edits v (record { trie = new; start = c.start; value = c.value }) edit (Err e)) same
     (err.why, λ i. record { trie = err.unchanged i; start = c.start; value = c.value })

@@ -1,4 +1,5 @@
--- After an edit, all steps fit and stored runs are linked, if it was so before.
+-- After a replacement all steps fit, and after each edit stored runs are linked, if it was so
+-- before. A new chart has its invariant.
 use Rattle.std.proofs.Common.{◌≡◌, ℕ, zero, suc, ◌<◌, Bool, true, false, nat_eq, nat_le, nat_lt, cond, List, [], ◌∷◌, ◌++◌, length, map, Option, Some, None, Ok, Err, MatchOption, refl, sym, ap, subst}
 use Rattle.std.specs.Prelude.{⊤}
 use Rattle.std.specs.List.{All}
@@ -16,7 +17,7 @@ use Rattle.schedule_trie.specs.Trie.{TrieOf, SegmentOf, segment_at, note_of, for
 use Rattle.branch_terms.proofs.LimbLists.{steps-numbered}
 use Rattle.schedule_trie.proofs.segments.Notes.{notes_kept}
 use Rattle.cutoff.specs.Fitting.{StoredRun}
-use Rattle.cutoff.specs.Links.{IsStored, IsTrueSegment, IsLinked}
+use Rattle.cutoff.specs.Links.{IsStored, IsStoredIn, IsLinked}
 use Rattle.cutoff.specs.Charts.{IsCharted, StepsFit}
 
 -- a property of each item of two lists
@@ -29,10 +30,10 @@ module _ {X : Type 0} (Q : X → Type 0) where
   all_right [] ys all = all
   all_right (x ∷ xs) ys all = all_right xs ys (All-tail Q x (xs ++ ys) all)
 
--- a command that may be refused gave the forest g, so it wasn't refused, and g is its result
-if_ok : (refused : Bool) (e : Refusal) (f g : Forest) → cond refused (Err e) (Ok f) ≡ Ok g → f ≡ g
-if_ok true e f g h = cc
-if_ok false e f g h = cc
+-- an edit that may be refused gave the forest g, so it wasn't refused, and g is its result
+forest_if_ok : (refused : Bool) (e : Refusal) (f g : Forest) → cond refused (Err e) (Ok f) ≡ Ok g → f ≡ g
+forest_if_ok true e f g h = cc
+forest_if_ok false e f g h = cc
 
 -- steps that fit
 module _ {P : Type 0} (b : Behaviour P) where
@@ -62,7 +63,7 @@ module _ {P : Type 0} (b : Behaviour P) where
   at_cell_fits f g place change keeps fits None e = cc
   at_cell_fits f g place change keeps fits (Some i) e =
       let same : record { branches = everywhere (change (cell_in (slots_in f.branches i) place)) f.branches; made = f.made } ≡ g =
-      if_ok (nat_le (length (slots_in f.branches i)) place) NoPlace _ g e in
+      forest_if_ok (nat_le (length (slots_in f.branches i)) place) NoPlace _ g e in
       subst (StepsFit b) same (fits_everywhere (change (cell_in (slots_in f.branches i) place)) (keeps (cell_in (slots_in f.branches i) place)) f.branches fits)
 
   pub replace_fits : (f g : Forest) (name : List ℕ) (place : ℕ) (step : Step) → fits_step b step ≡ true → StepsFit b f → replace_step f name place step ≡ Ok g → StepsFit b g
@@ -73,31 +74,31 @@ module _ {P : Type 0} (b : Behaviour P) where
   opening_fits steps h (suc i) = All-nil (λ s. fits_step b s ≡ true)
 
   pub opened_fits : (limits : Limits) (steps : List Step) (f : Forest) → AllFit b steps → opened limits steps ≡ Ok f → StepsFit b f
-  opened_fits limits steps f h e = subst (StepsFit b) (if_ok (nat_lt limits.cells (length steps)) Full (opening_forest steps) f e) (opening_fits steps h)
+  opened_fits limits steps f h e = subst (StepsFit b) (forest_if_ok (nat_lt limits.cells (length steps)) Full (opening_forest steps) f e) (opening_fits steps h)
 
 -- stored runs that are linked (`IsLinked`)
 module _ {R P : Type 0} (E : R → R → Bool) (h : R) (exits : List (Configuration ⊤ P)) where
-  pub true_segment-unnoted : (o : Option (SegmentOf (StoredRun R P))) → note_of o ≡ None → IsTrueSegment E h exits o
-  true_segment-unnoted None e = tt
-  true_segment-unnoted (Some p) e = subst (λ n. MatchOption n ⊤ (IsStored E h exits (map step_of p.slots))) (sym e) tt
+  pub stored_in-unnoted : (o : Option (SegmentOf (StoredRun R P))) → note_of o ≡ None → IsStoredIn E h exits o
+  stored_in-unnoted None e = tt
+  stored_in-unnoted (Some p) e = subst (λ n. MatchOption n ⊤ (IsStored E h exits (map step_of p.slots))) (sym e) tt
 
 pub linked_kept : {R P : Type 0} (E : R → R → Bool) (h : R) (next : ℕ) (above : Option ℕ) (c : Configuration ⊤ P) (old new : TrieOf (StoredRun R P)) → KeepsNotes old new
     → IsLinked E h next above c old → IsLinked E h next above c new
 linked_kept E h next above c old new notes l =
-    record { exits = l.exits; as_many = l.as_many; each = notes_kept (IsTrueSegment E h l.exits) (true_segment-unnoted E h l.exits) old new notes l.each; reached_exit = l.reached_exit }
+    record { exits = l.exits; as_many = l.as_many; each = notes_kept (IsStoredIn E h l.exits) (stored_in-unnoted E h l.exits) old new notes l.each; reached_exit = l.reached_exit }
 
 -- a new chart has the invariant
-pub started : {R P : Type 0} (E : R → R → Bool) (is : R → Behaviour P) (register : R) (value : ℕ) (trie : TrieOf (StoredRun R P)) (start : Configuration R P)
+pub charted_new : {R P : Type 0} (E : R → R → Bool) (is : R → Behaviour P) (register : R) (value : ℕ) (trie : TrieOf (StoredRun R P)) (start : Configuration R P)
     → value < (is register).values → StepsFit (is register) (forest trie) → IsCut trie → IsBlank trie → start ≡ initial_configuration (is register) register value
     → IsCharted E is 0 None None (record { trie = trie; start = start; value = value })
-started {R} {P} E is register value trie start within fits whole blank e =
+charted_new {R} {P} E is register value trie start within fits whole blank e =
     let r : register ≡ start.register = sym (ap (λ c. c.register) e) in
     record {
       within = subst (λ x. value < (is x).values) r within;
       begins = subst (λ x. start ≡ initial_configuration (is x) x value) r e;
       fits = subst (λ x. StepsFit (is x) (forest trie)) r fits;
-      whole = whole;
-      linked = record { exits = []; as_many = refl; each = λ k. true_segment-unnoted E start.register [] (segment_at trie.segments k) (blank k); reached_exit = tt };
+      cut = whole;
+      linked = record { exits = []; as_many = refl; each = λ k. stored_in-unnoted E start.register [] (segment_at trie.segments k) (blank k); reached_exit = tt };
       marked = tt;
       fresh_marked = tt;
     }

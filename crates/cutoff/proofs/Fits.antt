@@ -11,7 +11,7 @@ use Rattle.checkpoints.specs.Segment.{SegmentRun, IsRun}
 use Rattle.schedule_trie.specs.Forest.{step_of}
 use Rattle.schedule_trie.specs.Trie.{TrieOf, SegmentOf, segment_at, slots_of, note_of}
 use Rattle.cutoff.specs.Fitting.{StoredRun, run_of, RunFits, Fits, steps_at, run_at}
-use Rattle.cutoff.specs.Links.{without_register, IsStored, IsTrueSegment}
+use Rattle.cutoff.specs.Links.{without_register, IsStored, IsStoredIn}
 
 -- a replay keeps the register
 pub register_kept : {R P : Type 0} (b : Behaviour P) (c : Configuration R P) (steps : List Step) → (replayed b c steps).register ≡ c.register
@@ -19,22 +19,22 @@ register_kept b c [] = refl
 register_kept b c (s ∷ steps) = register_kept b (stepped b c s) steps
 
 -- what a replay makes of the rest doesn't depend on the register
-alone_replayed : {R P : Type 0} (b : Behaviour P) (c : Configuration R P) (steps : List Step) → without_register (replayed b c steps) ≡ replayed b (without_register c) steps
-alone_replayed b c [] = refl
-alone_replayed b c (s ∷ steps) = alone_replayed b (stepped b c s) steps
+replayed_without_register : {R P : Type 0} (b : Behaviour P) (c : Configuration R P) (steps : List Step) → without_register (replayed b c steps) ≡ replayed b (without_register c) steps
+replayed_without_register b c [] = refl
+replayed_without_register b c (s ∷ steps) = replayed_without_register b (stepped b c s) steps
 
 module _ {R P : Type 0} (E : R → R → Bool) where
-  pub alone_same : (a c : Configuration R P) → SameConfiguration E a c → without_register a ≡ without_register c
-  alone_same a c e = λ i. record { register = tt; memory = e.memory i; running = e.running i; stopped = e.stopped i }
+  pub without_register_same : (a c : Configuration R P) → SameConfiguration E a c → without_register a ≡ without_register c
+  without_register_same a c e = λ i. record { register = tt; memory = e.memory i; running = e.running i; stopped = e.stopped i }
 
-  pub same_from_alone : (a c : Configuration R P) → E a.register c.register ≡ true → without_register a ≡ without_register c → SameConfiguration E a c
-  same_from_alone a c r e = record { register = r; memory = ap (λ d. d.memory) e; running = ap (λ d. d.running) e; stopped = ap (λ d. d.stopped) e }
+  pub same_with_register : (a c : Configuration R P) → E a.register c.register ≡ true → without_register a ≡ without_register c → SameConfiguration E a c
+  same_with_register a c r e = record { register = r; memory = ap (λ d. d.memory) e; running = ap (λ d. d.running) e; stopped = ap (λ d. d.stopped) e }
 
   pub replayed_same : (b : Behaviour P) (a c : Configuration R P) (steps : List Step) → SameConfiguration E a c → SameConfiguration E (replayed b a steps) (replayed b c steps)
   replayed_same b a c steps e =
-      same_from_alone (replayed b a steps) (replayed b c steps)
+      same_with_register (replayed b a steps) (replayed b c steps)
       (subst (λ r. E r (replayed b c steps).register ≡ true) (sym (register_kept b a steps)) (subst (λ r. E a.register r ≡ true) (sym (register_kept b c steps)) e.register))
-      (alone_replayed b a steps ∙ ap (λ d. replayed b d steps) (alone_same a c e) ∙ sym (alone_replayed b c steps))
+      (replayed_without_register b a steps ∙ ap (λ d. replayed b d steps) (without_register_same a c e) ∙ sym (replayed_without_register b c steps))
 
   module _ (per : IsPartialEquivalence E) where
     pub same_symm : (a c : Configuration R P) → SameConfiguration E a c → SameConfiguration E c a
@@ -66,12 +66,12 @@ module _ {R P : Type 0} (E : R → R → Bool) where
       let exit : run.exit ≡ replayed b run.entry segment = true_run.exit ∙ ap (λ x. replayed x run.entry run.steps) same ∙ ap (replayed b run.entry) f.steps in
       subst (λ d. SameConfiguration E d (replayed b c segment)) (sym exit) (replayed_same b run.entry c segment f.entry)
 
-  -- if `IsTrueSegment` holds of the segment k, `IsStored` holds of the run stored there
+  -- if `IsStoredIn` holds of the segment k, `IsStored` holds of the run stored there
   module _ (h : R) (exits : List (Configuration ⊤ P)) (trie : TrieOf (StoredRun R P)) (k : ℕ) (s : StoredRun R P) where
-    pub stored_at : IsTrueSegment E h exits (segment_at trie.segments k) → note_of (segment_at trie.segments k) ≡ Some s → IsStored E h exits (steps_at trie k) s
+    pub stored_at : IsStoredIn E h exits (segment_at trie.segments k) → note_of (segment_at trie.segments k) ≡ Some s → IsStored E h exits (steps_at trie k) s
     stored_at = by (segment_at trie.segments k)
       where
-        by : (o : Option (SegmentOf (StoredRun R P))) → IsTrueSegment E h exits o → note_of o ≡ Some s → IsStored E h exits (map step_of (slots_of o)) s
+        by : (o : Option (SegmentOf (StoredRun R P))) → IsStoredIn E h exits o → note_of o ≡ Some s → IsStored E h exits (map step_of (slots_of o)) s
         by None t e = cc
         by (Some p) t e = subst (λ n. MatchOption n ⊤ (IsStored E h exits (map step_of p.slots))) e t
 

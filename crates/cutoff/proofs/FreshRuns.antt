@@ -19,13 +19,9 @@ use Rattle.cutoff.specs.Settles.{IsSegmentSettled}
 use Rattle.cutoff.specs.Prefixes.{RunsDown, RunsTo, IsMarked, AreFresh, note_named, exit_or_start, exit_or}
 use Rattle.cutoff.proofs.Fits.{stored_at}
 use Rattle.cutoff.proofs.Walks.{by_key}
-use Rattle.cutoff.proofs.Climbs.{path_once}
-use Rattle.cutoff.proofs.RestWalks.{IsGoing, going_next, reached_next, down_kept, noted_cells}
+use Rattle.cutoff.proofs.Climbs.{path_once, once_after}
+use Rattle.cutoff.proofs.RestWalks.{IsRestWalk, rest_walk_next, reached_next, down_kept, noted_cells}
 use Rattle.cutoff.proofs.SameBranches.{cut_kept}
-
-once_after : (front : List ℕ) (key : ℕ) (back : List ℕ) → Once (front ++ key ∷ back) → has key back ≡ false
-once_after [] key back o = o.0
-once_after (k ∷ front) key back o = once_after front key back o.1
 
 lacks_front : (key : ℕ) (front back : List ℕ) → has key (front ++ back) ≡ false → has key front ≡ false
 lacks_front key front back h =
@@ -43,14 +39,15 @@ module _ {R P : Type 0} (E : R → R → Bool) (is : R → Behaviour P) (old new
   still_down : (c : Configuration R P) (keys : List ℕ) (end : Configuration R P) → has key keys ≡ false → RunsDown E is old b c keys end → RunsDown E is new b c keys end
   still_down c keys end lacks = down_kept E is old new b c keys end (λ j h. noted.others j (λ e. true≢false (sym (subst (λ z. has z keys ≡ true) e h) ∙ lacks)))
 
-  -- true runs still fit down some segments after a run is stored at `key`, if true runs fit down to `key`
-  glued : (c : Configuration R P) (front back : List ℕ) (end stop : Configuration R P) → has key back ≡ false
+  -- true runs still fit down some segments after a run is stored at `key`, if true runs fit down
+  -- to `key`
+  still_down_through : (c : Configuration R P) (front back : List ℕ) (end stop : Configuration R P) → has key back ≡ false
       → RunsDown E is old b c (front ++ key ∷ back) end → RunsDown E is new b c (front ++ key ∷ []) stop → RunsDown E is new b c (front ++ key ∷ back) end
-  glued c [] back end stop lacks was to =
+  still_down_through c [] back end stop lacks was to =
       (to.0, subst (λ l. RunsDown E is new b (replayed b c l) back end) (steps_kept key) (still_down (replayed b c (steps_at old key)) back end lacks was.1))
-  glued c (k ∷ front) back end stop lacks was to = (
+  still_down_through c (k ∷ front) back end stop lacks was to = (
     to.0,
-    glued (replayed b c (steps_at new k)) front back end stop lacks
+    still_down_through (replayed b c (steps_at new k)) front back end stop lacks
         (subst (λ l. RunsDown E is old b (replayed b c l) (front ++ key ∷ back) end) (steps_kept k) was.1) to.1,
   )
 
@@ -73,7 +70,7 @@ module _ {R P : Type 0} (E : R → R → Bool) (is : R → Behaviour P) (old new
           let to = subst (λ ss. RunsTo E is new start (Some key) (keys_in ss i)) noted.branches
           (at_key i (subst (λ ss. has key (keys_in ss i) ≡ true) (sym noted.branches) there)) in
           subst (λ l. RunsDown E is new b start l end) (sym q.is)
-          (glued start q.front q.back end (exit_or_start new start (Some key)) lacks (subst (λ l. RunsDown E is old b start l end) q.is down)
+          (still_down_through start q.front q.back end (exit_or_start new start (Some key)) lacks (subst (λ l. RunsDown E is old b start l end) q.is down)
           (subst (λ l. RunsDown E is new b start l (exit_or_start new start (Some key))) up to))
 
   -- a segment stays marked, if the one whose run is new is marked
@@ -96,7 +93,8 @@ module _ {R P : Type 0} (E : R → R → Bool) (is : R → Behaviour P) (old new
       by_key k key _ (λ e. subst (λ z. IsMarked E is new start (Some z)) (sym e) at_key)
       (λ ne. mark_kept k ne at_key (was k a (sym (number_kept k ne) ∙ number) late))
 
--- no stored run was found to fit with a number that wasn't given, so runs with such numbers are fresh
+-- no stored run was found to fit with a number that wasn't given yet, so if nothing is fresh,
+-- `AreFresh` also holds from the next number on
 pub fresh_given : {R P : Type 0} (E : R → R → Bool) (is : R → Behaviour P) (trie : TrieOf (StoredRun R P)) (start : Configuration R P) (h : R) (next : ℕ) (c : Configuration ⊤ P) (fresh id : Option ℕ)
     → IsLinked E h next None c trie → (id ≡ None) ⊎ (id ≡ Some next) → AreFresh E is trie start fresh → AreFresh E is trie start (option_or fresh id)
 fresh_given E is trie start h next c (Some first) id linked given was = was
@@ -125,11 +123,11 @@ marked_from E is trie start i k whole down = λ j h.
 -- runs are fresh as before, after a walk settles its next segment
 pub fresh_next : {R P : Type 0} (E : R → R → Bool) (equal : IsEquivalence E) (per : IsPartialEquivalence E) (is : R → Behaviour P) (alike : (x y : R) → E x y ≡ true → is x ≡ is y)
     {old trie new : TrieOf (StoredRun R P)} {start : Configuration R P} {key count : ℕ} {back : List ℕ} {place n : ℕ} {above : Option ℕ} (i : ℕ) (all : List ℕ) (index : ℕ) (more : List ℕ)
-    → (g : IsGoing E is old trie start key count (keys_in old.branches i) (drop index all ++ more) back place n above) (h : index < length all) {o : Option (StoredRun R P)} {s : StoredRun R P} {work : ℕ}
+    → (g : IsRestWalk E is old trie start key count (keys_in old.branches i) (drop index all ++ more) back place n above) (h : index < length all) {o : Option (StoredRun R P)} {s : StoredRun R P} {work : ℕ}
     → note_named trie above ≡ o → IsSegmentSettled E trie new (exit_or start (option_map run_of o)) (get_or all index 0) s work × IsRun (is s.run.entry.register) s.run → IsCut old
     → (first : Option ℕ) → AreFresh E is trie start first → AreFresh E is new start first
 fresh_next E equal per is alike {old} {trie} {new} {start} i all index more g h {s = s} above_is settled whole first was =
-    let keeps = (going_next E equal per is alike all index more g h above_is settled).walk.keeps in
+    let keeps = (rest_walk_next E equal per is alike all index more g h above_is settled).walk.keeps in
     let k = get_or all index 0 in
     let marked = marked_from E is new start i k (cut_kept old new _ keeps whole)
     (subst (λ ss. (has k (keys_in ss i) ≡ true) × RunsTo E is new start (Some k) (keys_in ss i)) (sym keeps.branches) (reached_next E equal per is alike all index more g h above_is settled)) in

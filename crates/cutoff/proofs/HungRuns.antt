@@ -14,7 +14,7 @@ use Rattle.schedule_trie.proofs.lists.NoRepeats.{has-head, has-tail}
 use Rattle.cutoff.specs.Fitting.{StoredRun, run_of, RunFits, steps_at}
 use Rattle.cutoff.specs.Links.{without_register, IsLinked}
 use Rattle.cutoff.specs.Prefixes.{HasTrueRun, RunsDown, Hangs, IsHung, exit_or_start, exit_or}
-use Rattle.cutoff.proofs.Climbs.{link_came, link_same, ends_same}
+use Rattle.cutoff.proofs.Climbs.{linked_entry, link_same, ends_same}
 use Rattle.cutoff.proofs.Fits.{register_kept, run_fits_alike, exit_same, stored_at}
 
 module _ {R P : Type 0} (E : R → R → Bool) (is : R → Behaviour P) (trie : TrieOf (StoredRun R P)) where
@@ -37,7 +37,7 @@ module _ {R P : Type 0} (E : R → R → Bool) (is : R → Behaviour P) (trie : 
       let u = was.stored in
       let links_u = stored_at E start.register links.exits trie hung u (links.each hung) was.noted in
       let links_s = stored_at E start.register links.exits trie k s (links.each k) noted in
-      let came = link_came E start.register links.exits (steps_at trie hung) u links_u a (was.linked ∙ linked) in
+      let came = linked_entry E start.register links.exits (steps_at trie hung) u links_u a (was.linked ∙ linked) in
       let same = link_same E per (is s.run.entry.register) s u.run.entry start.register links.exits (steps_at trie k) links_s a numbered came.0 came.1 in
       let fits : RunFits E s.run.exit (steps_at trie hung) u.run = record { steps = links_u.covers; entry = ends_same E per (is s.run.entry.register) s u.run.entry true_run same.0 same.1 } in
       let first : HasTrueRun E is trie s.run.exit hung = record { stored = u; noted = was.noted; true_run = was.true_run; fits = fits } in

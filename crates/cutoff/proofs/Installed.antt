@@ -4,7 +4,6 @@ use Rattle.std.specs.Option.{option_map, option_or}
 use Rattle.std.specs.Cmp.{IsPartialEquivalence}
 use Rattle.frames.specs.Behaviour.{Behaviour}
 use Rattle.frames.specs.Configuration.{Configuration, replayed}
-use Rattle.frames.specs.Equality.{SameConfiguration}
 use Rattle.checkpoints.specs.Segment.{SegmentRun, IsRun}
 use Rattle.schedule_trie.specs.Forest.{step_of}
 use Rattle.schedule_trie.specs.Trie.{TrieOf, segment_at, note_of, keys_in, has, Once, IsCut, IsNoted}
@@ -14,7 +13,7 @@ use Rattle.cutoff.specs.Fitting.{StoredRun, KeepsRuns, run_of, steps_at, slots_a
 use Rattle.cutoff.specs.Links.{without_register, IsLinked}
 use Rattle.cutoff.specs.Charts.{Charted, IsCharted}
 use Rattle.cutoff.specs.Plans.{FitsDown}
-use Rattle.cutoff.specs.Prefixes.{RunsDown, RunsTo, IsMarked, RunGoesOn, exit_or_start, exit_or}
+use Rattle.cutoff.specs.Prefixes.{RunsDown, RunsTo, IsMarked, RunsLeadTo, exit_or_start, exit_or}
 use Rattle.cutoff.proofs.Fits.{register_kept}
 use Rattle.cutoff.proofs.Links.{linked_none, new_linked}
 use Rattle.cutoff.proofs.Walks.{by_key, noted_slots}
@@ -24,18 +23,14 @@ use Rattle.cutoff.proofs.Climbs.{path_once}
 use Rattle.cutoff.proofs.Prefixes.{down_more}
 use Rattle.cutoff.proofs.RestWalks.{down_kept, noted_at, noted_cells}
 
--- equal configurations are the same except for their registers
-pub alone_same : {R P : Type 0} {E : R → R → Bool} {c d : Configuration R P} → SameConfiguration E c d → without_register c ≡ without_register d
-alone_same s = λ i. record { register = tt; memory = s.memory i; running = s.running i; stopped = s.stopped i }
-
 module _ {R P : Type 0} (E : R → R → Bool) (b : Behaviour P) where
   -- a run that fits begins with a register equal to that of c, and has its segment's steps
-  pub down_owns : (trie : TrieOf (StoredRun R P)) (key : ℕ) (run : SegmentRun R P) (c : Configuration R P) (keys : List ℕ) → FitsDown E b trie key run c keys
+  pub register_and_steps : (trie : TrieOf (StoredRun R P)) (key : ℕ) (run : SegmentRun R P) (c : Configuration R P) (keys : List ℕ) → FitsDown E b trie key run c keys
       → (E run.entry.register c.register ≡ true) × (run.steps ≡ steps_at trie key)
-  down_owns trie key run c [] f = absurd f
-  down_owns trie key run c (k ∷ ks) (inl f) = (f.1.entry.register, f.1.steps ∙ ap (steps_at trie) (sym f.0))
-  down_owns trie key run c (k ∷ ks) (inr f) =
-      let rest = down_owns trie key run (replayed b c (steps_at trie k)) ks f.2 in
+  register_and_steps trie key run c [] f = absurd f
+  register_and_steps trie key run c (k ∷ ks) (inl f) = (f.1.entry.register, f.1.steps ∙ ap (steps_at trie) (sym f.0))
+  register_and_steps trie key run c (k ∷ ks) (inr f) =
+      let rest = register_and_steps trie key run (replayed b c (steps_at trie k)) ks f.2 in
       (subst (λ r. E run.entry.register r ≡ true) (register_kept b c (steps_at trie k)) rest.0, rest.1)
 
   pub noted_keeps : (old new : TrieOf (StoredRun R P)) (key : ℕ) (s : StoredRun R P) → IsNoted old new key (Some s) → KeepsRuns old new (λ k. Unit {0})
@@ -56,7 +51,7 @@ module _ {R P : Type 0} (E : R → R → Bool) (per : IsPartialEquivalence E) (i
   abbrev b : Behaviour P
   b = is start.register
 
-  pub mark_installed : RunGoesOn E is old start key s.run → IsMarked E is new start (Some key)
+  pub mark_installed : RunsLeadTo E is old start key s.run → IsMarked E is new start (Some key)
   mark_installed on = λ i h.
       let keys = keys_in old.branches i in
       let has_it : has key keys ≡ true = subst (λ ss. has key (keys_in ss i) ≡ true) noted.branches h in
@@ -80,22 +75,22 @@ given_id (inl e) = inl e.0
 given_id (inr e) = inr e.0
 
 pub charted_installed : {R P : Type 0} (E : R → R → Bool) (per : IsPartialEquivalence E) (is : R → Behaviour P) (alike : (x y : R) → E x y ≡ true → is x ≡ is y) (next after : ℕ) (fresh mark : Option ℕ) (c : Charted R P) (new : TrieOf (StoredRun R P)) (key : ℕ) (s : StoredRun R P) (run seen : SegmentRun R P) (keys : List ℕ) (id : Option ℕ)
-    → IsCharted E is next fresh mark c → FitsDown E (is c.start.register) c.trie key seen c.start keys → RunGoesOn E is c.trie c.start key seen → IsRun (is seen.entry.register) seen
+    → IsCharted E is next fresh mark c → FitsDown E (is c.start.register) c.trie key seen c.start keys → RunsLeadTo E is c.trie c.start key seen → IsRun (is seen.entry.register) seen
     → IsSome (segment_at c.trie.segments key) → seen ≡ run → s.run ≡ run → s.id ≡ id → s.checked ≡ id → (above : Option ℕ) → s.link ≡ above
     → (IsLinked E c.start.register next None (without_register c.start) c.trie → IsLinked E c.start.register next above (without_register seen.entry) c.trie) → IsNoted c.trie new key (Some s)
     → ((id ≡ None) × (after ≡ next)) ⊎ ((id ≡ Some next) × (after ≡ next + 1))
     → IsCharted E is after (option_or fresh id) (Some key) (record { trie = new; start = c.start; value = c.value })
 charted_installed {R} {P} E per is alike next after fresh mark c new key s run seen keys id was fits on true_run there same is_run number checked above link moved noted given =
-    let owns = down_owns E (is c.start.register) c.trie key s.run c.start keys (subst (λ r. FitsDown E (is c.start.register) c.trie key r c.start keys) (same ∙ sym is_run) fits) in
+    let owns = register_and_steps E (is c.start.register) c.trie key s.run c.start keys (subst (λ r. FitsDown E (is c.start.register) c.trie key r c.start keys) (same ∙ sym is_run) fits) in
     let linked =
     new_linked E c.start.register c.trie new key next above s.run.entry
     (subst (λ (r : SegmentRun R P). IsLinked E c.start.register next above (without_register r.entry) c.trie) (same ∙ sym is_run) (moved was.linked)) s noted after (checked ∙ sym number)
     owns.0 owns.1 link refl (subst (λ n. ((n ≡ None) × (after ≡ next)) ⊎ ((n ≡ Some next) × (after ≡ next + 1))) (sym number) given) in
     let marked =
-    mark_installed E per is alike c.trie new c.start key s was.whole noted there (subst (λ (r : SegmentRun R P). IsRun (is r.entry.register) r) (same ∙ sym is_run) true_run) owns.1
-    (subst (RunGoesOn E is c.trie c.start key) (same ∙ sym is_run) on) in
+    mark_installed E per is alike c.trie new c.start key s was.cut noted there (subst (λ (r : SegmentRun R P). IsRun (is r.entry.register) r) (same ∙ sym is_run) true_run) owns.1
+    (subst (RunsLeadTo E is c.trie c.start key) (same ∙ sym is_run) on) in
     let still =
-    fresh_kept E is c.trie new c.start key s was.whole noted (option_or fresh id) marked
+    fresh_kept E is c.trie new c.start key s was.cut noted (option_or fresh id) marked
     (fresh_given E is c.trie c.start c.start.register next (without_register c.start) fresh id was.linked (given_id given) was.fresh_marked) in
     charted_marked E is after None None (option_or fresh id) (Some key) (record { trie = new; start = c.start; value = c.value }) still marked
     (charted_kept E is next after fresh mark c new (λ k. Unit {0}) (noted_keeps E (is c.start.register) c.trie new key s noted)

@@ -12,11 +12,11 @@ use Rattle.schedule_trie.proofs.climbs.Climbs.{up_to-here}
 use Rattle.schedule_trie.proofs.branches.Lines.{slots_in_on}
 use Rattle.schedule_trie.proofs.lists.NoRepeats.{has-in}
 use Rattle.schedule_trie.proofs.lists.KeyPositions.{parting}
-use Rattle.cutoff.specs.Fitting.{StoredRun, RunPart, counted_of, reached, KeepsRuns}
+use Rattle.cutoff.specs.Fitting.{StoredRun, RunPart, part_of_stored, reached, KeepsRuns}
 use Rattle.cutoff.specs.Settles.{Settles, IsFilled, SettlesTo, IsSettledLast, last_part}
 use Rattle.cutoff.specs.Links.{without_register, IsLinked}
-use Rattle.cutoff.specs.Prefixes.{AreFresh, RunsTo, IsKnown, AreKeysAfter, IsMarked, IsPlaceIn, IsHung, IsLeft, note_named}
-use Rattle.cutoff.specs.Charts.{Charted, IsCharted, StepsFit, keys_or, keys_named, reached_by}
+use Rattle.cutoff.specs.Prefixes.{AreFresh, RunsTo, IsKnown, AreKeysAfter, IsMarked, IsPlaceIn, IsHung, IsLeftToSettle, note_named}
+use Rattle.cutoff.specs.Charts.{Charted, IsCharted, StepsFit, keys_at, keys_named, reached_by}
 use Rattle.cutoff.proofs.FreshRuns.{fresh_given}
 use Rattle.cutoff.proofs.SameBranches.{charted_kept, charted_marked}
 use Rattle.cutoff.proofs.Walks.{reached_none}
@@ -27,12 +27,12 @@ last_of_parts (q ∷ []) p = refl
 last_of_parts (q ∷ r ∷ before) p = last_of_parts (r ∷ before) p
 
 -- what is left of each branch with `key`, if runs hang from `top` down to `key`
-module _ {R P : Type 0} (E : R → R → Bool) (equal : IsEquivalence E) (is : R → Behaviour P) (trie : TrieOf (StoredRun R P)) (start : Configuration R P) (top key : ℕ) (known front : Option ℕ) (left : List ℕ)
+module _ {R P : Type 0} (E : R → R → Bool) (equal : IsEquivalence E) (is : R → Behaviour P) (trie : TrieOf (StoredRun R P)) (start : Configuration R P) (top key : ℕ) (known fitted : Option ℕ) (left : List ℕ)
     (hangs : (i : ℕ) → has key (keys_in trie.branches i) ≡ true → IsHung E is trie top key i) (down : IsKnown E is trie start top known) (last : Option ℕ) (below : List ℕ) (to : (i : ℕ) → has top (keys_in trie.branches i) ≡ true → HasClimbedTo (keys_in trie.branches i) last × (keys_up_to top (keys_in trie.branches i) ≡ keys_to (keys_in trie.branches i) last ++ below))
-    (following : AreKeysAfter trie last below known front left)
+    (following : AreKeysAfter trie last below known fitted left)
     (fits : StepsFit (is start.register) (forest trie)) where
-  pub left_in : (i count place : ℕ) → IsPlaceIn trie key count place i → IsLeft E is trie start front left top key count place i
-  left_in i count place lies =
+  pub left_to_settle : (i count place : ℕ) → IsPlaceIn trie key count place i → IsLeftToSettle E is trie start fitted left top key count place i
+  left_to_settle i count place lies =
       let on = hangs i lies.there in
       let up = to i on.there in
       let path = following.1 i up.0 in
@@ -42,33 +42,33 @@ module _ {R P : Type 0} (E : R → R → Bool) (equal : IsEquivalence E) (is : R
           lies = lies;
           reached = path.0;
           down = by following.0 on.there;
-          path = on.path ∙ ap (λ l. l ++ on.below) (up.1 ∙ path.1) ∙ append_assoc (keys_to (keys_in trie.branches i) front) left on.below;
+          path = on.path ∙ ap (λ l. l ++ on.below) (up.1 ∙ path.1) ∙ append_assoc (keys_to (keys_in trie.branches i) fitted) left on.below;
           fits = subst (λ l. AllFit (is start.register) (map step_of l)) (slots_in_on (segment_at trie.segments) trie.branches i) (fits i);
         };
       }
     where
-      by : (front ≡ known) ⊎ (front ≡ None) → has top (keys_in trie.branches i) ≡ true → RunsTo E is trie start front (keys_in trie.branches i)
+      by : (fitted ≡ known) ⊎ (fitted ≡ None) → has top (keys_in trie.branches i) ≡ true → RunsTo E is trie start fitted (keys_in trie.branches i)
       by (inl e) there = subst (λ o. RunsTo E is trie start o (keys_in trie.branches i)) (sym e) (down i there).1
       by (inr e) there =
           subst (λ o. RunsTo E is trie start o (keys_in trie.branches i)) (sym e)
           (record { register = equal.refl start.register; memory = refl; running = refl; stopped = refl })
 
 -- the segment in which a settle ended can be marked
-pub marked_now : {R P : Type 0} (E : R → R → Bool) (is : R → Behaviour P) (trie new : TrieOf (StoredRun R P)) (start : Configuration R P) (key count n : ℕ) → 0 < count → count ≤ length (slots_of (segment_at trie.segments key))
+pub marked_settled : {R P : Type 0} (E : R → R → Bool) (is : R → Behaviour P) (trie new : TrieOf (StoredRun R P)) (start : Configuration R P) (key count n : ℕ) → 0 < count → count ≤ length (slots_of (segment_at trie.segments key))
     → new.branches ≡ trie.branches → ((i m place : ℕ) → IsPlaceIn trie key m place i → SettlesTo E is trie new start key m place i n) → IsMarked E is new start (Some key)
-marked_now E is trie new start key count n some few same settles i h =
+marked_settled E is trie new start key count n some few same settles i h =
     let there = subst (λ s. has key (keys_in s i) ≡ true) same h in
     let p = parting (keys_in trie.branches i) key there in
     let lies : IsPlaceIn trie key count (length (line (segment_at trie.segments) p.front) + count) i = record {
       there = there;
       ends = record { front = p.front; is = p.to; sum = refl };
-      some = some;
-      few = few;
+      positive = some;
+      within = few;
     } in
     subst (λ s. RunsTo E is new start (Some key) (keys_in s i)) (sym same) (settles i count (length (line (segment_at trie.segments) p.front) + count) lies).down
 
--- a chart after a settle that keeps fresh runs as they were; `id` is the number that a run got next,
--- so runs with this number or a greater one are fresh too
+-- a chart after a settle that keeps fresh runs as they were; `id` is the number that a run got
+-- next, so runs with this number or a greater one are fresh too
 pub charted_settled : {R P : Type 0} (E : R → R → Bool) (is : R → Behaviour P) (next after : ℕ) (fresh mark id other : Option ℕ) (c : Charted R P) (new : TrieOf (StoredRun R P)) (Missed : ℕ → Type 0)
     → KeepsRuns c.trie new Missed → IsLinked E c.start.register after None (without_register c.start) new → (id ≡ None) ⊎ (id ≡ Some next)
     → ((first : Option ℕ) → AreFresh E is c.trie c.start first → AreFresh E is new c.start first) → IsMarked E is new c.start other → IsCharted E is next fresh mark c
@@ -89,8 +89,8 @@ place_found trie i place key offset lies positive = record {
     is = ap (keys_up_to key) lies.is ∙ up_to-here key lies.front lies.back lies.first;
     sum = let b = lies.before in some_more place positive b;
   };
-  some = omega arith;
-  few = let w = lies.within in omega (arith, w);
+  positive = omega arith;
+  within = let w = lies.within in omega (arith, w);
 }
   where
     some_more : (place : ℕ) → (place ≡ 0 → ⊥) → length (line (segment_at trie.segments) lies.front) + offset ≡ place - 1 → length (line (segment_at trie.segments) lies.front) + (offset + 1) ≡ place
@@ -98,9 +98,9 @@ place_found trie i place key offset lies positive = record {
     some_more (suc n) positive b = omega (arith, b)
 
 -- the offset of that cell is below each number that the place is below
-pub found_fits : {T : Type 0} (trie : TrieOf T) (i place key offset n : ℕ) → SpotIsAt (segment_at trie.segments) (keys_in trie.branches i) (place - 1) (key, offset) → (place ≡ 0 → ⊥)
+pub offset_below : {T : Type 0} (trie : TrieOf T) (i place key offset n : ℕ) → SpotIsAt (segment_at trie.segments) (keys_in trie.branches i) (place - 1) (key, offset) → (place ≡ 0 → ⊥)
     → place < n → (offset < n) × (offset + 1 < n)
-found_fits trie i place key offset n lies positive small = let sum = (place_found trie i place key offset lies positive).ends.sum in (omega arith, omega arith)
+offset_below trie i place key offset n lies positive small = let sum = (place_found trie i place key offset lies positive).ends.sum in (omega arith, omega arith)
 
 -- a settle of no cells returns no run, and replays nothing
 pub none_settled : {R P : Type 0} (E : R → R → Bool) (b : Behaviour P) (c : Charted R P) (name : List ℕ) (place : ℕ) → place ≡ 0 → IsSettledLast E b c c name place None 0
@@ -117,15 +117,15 @@ none_settled {R} {P} E b c name place none = (
 -- the result of a settle of the first `place` cells, which end in the segment `key`
 pub last_settled : {R P : Type 0} (E : R → R → Bool) (is : R → Behaviour P) (old new : Charted R P) (name : List ℕ) (place key count i n : ℕ) (o : Option (StoredRun R P))
     → index_of (forest old.trie).branches name ≡ Some i → SettlesTo E is old.trie new.trie old.start key count place i n → o ≡ note_named new.trie (Some key)
-    → IsSettledLast E (is old.start.register) old new name place (option_map (counted_of count) o) n
+    → IsSettledLast E (is old.start.register) old new name place (option_map (part_of_stored count) o) n
 last_settled E is old new name place key count i n o found s stored =
-    let named : keys_named old.trie name ≡ keys_in old.trie.branches i = ap (λ o. keys_or o old.trie.branches) found in (
+    let named : keys_named old.trie name ≡ keys_in old.trie.branches i = ap (λ o. keys_at o old.trie.branches) found in (
       s.parts,
       record {
         settles = subst (λ ks. Settles E (is old.start.register) old.trie new.trie old.start place (reached old.trie place ks) s.parts n) (sym named) s.settles;
         sum = s.sum;
       },
-      ap last_part s.last.is ∙ last_of_parts s.last.before (counted_of count s.last.stored) ∙ ap (option_map (counted_of count)) (sym (stored ∙ s.last.noted)),
+      ap last_part s.last.is ∙ last_of_parts s.last.before (part_of_stored count s.last.stored) ∙ ap (option_map (part_of_stored count)) (sym (stored ∙ s.last.noted)),
     )
 
 -- what a settle keeps or fills, with the branch given by its name instead of its index
@@ -134,6 +134,6 @@ pub keeps_named : {R P : Type 0} (E : R → R → Bool) (is : R → Behaviour P)
     → KeepsRuns old new (IsFilled E (is start.register) old new start (reached old place (keys_in old.branches i)))
     → KeepsRuns v.trie new (IsFilled E (is v.start.register) v.trie new v.start (reached_by v.trie name place))
 keeps_named {R} {P} E is v old new start value same name place i found keeps =
-    let named : keys_named old name ≡ keys_in old.branches i = ap (λ o. keys_or o old.branches) found in
+    let named : keys_named old name ≡ keys_in old.branches i = ap (λ o. keys_at o old.branches) found in
     subst (λ (w : Charted R P). KeepsRuns w.trie new (IsFilled E (is w.start.register) w.trie new w.start (reached_by w.trie name place))) same
     (subst (λ ks. KeepsRuns old new (IsFilled E (is start.register) old new start (reached old place ks))) (sym named) keeps)

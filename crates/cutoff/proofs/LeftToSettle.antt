@@ -16,7 +16,7 @@ use Rattle.cutoff.specs.Fitting.{StoredRun, run_of, run_at}
 use Rattle.cutoff.specs.Prefixes.{HasTrueRun, RunsDown, RunsTo, Hangs, IsKnown, IsMarked, AreKeysAfter, IsHung, exit_or_start, exit_or, run_named}
 use Rattle.cutoff.specs.Settles.{SettlesTo}
 use Rattle.cutoff.proofs.Prefixes.{down_same, down_more}
-use Rattle.cutoff.proofs.RestWalks.{IsGoing, hanging_settles}
+use Rattle.cutoff.proofs.RestWalks.{IsRestWalk, hanging_settles}
 
 -- `keys`, which a second climb lists, are the keys that hang below `top`
 module _ {R P : Type 0} (E : R → R → Bool) (is : R → Behaviour P) (old trie : TrieOf (StoredRun R P)) (top key i : ℕ) (last : Option ℕ) (keys : List ℕ) (same : trie.branches ≡ old.branches)
@@ -36,8 +36,8 @@ module _ {R P : Type 0} (E : R → R → Bool) (is : R → Behaviour P) (old tri
       let p = parting path top h.there in
       subst (λ l. has top l ≡ true) (sym h.path) (has-left top (keys_up_to top path) h.below (subst (λ l. has top l ≡ true) (sym p.to) (has-in top p.front [])))
 
-  pub again_left : h.below ≡ keys
-  again_left =
+  pub below_is_listed : h.below ≡ keys
+  below_is_listed =
       let ends : last ≡ Some top = stops i top there_now refl (subst (λ l. has top (keys_up_to key l) ≡ true) (sym path_same) on_path) in
       let now : keys_up_to key path ≡ keys_to path last ++ keys = subst (λ l. keys_up_to key l ≡ keys_to l last ++ keys) path_same (sym (append-nil (keys_up_to key (keys_in trie.branches i))) ∙ (following.1 i there_now).1) in
       append_cancel_left (keys_up_to top path) h.below keys (sym h.path ∙ now ∙ ap (λ o. keys_to path o ++ keys) ends)
@@ -53,7 +53,7 @@ module _ {R P : Type 0} (E : R → R → Bool) (is : R → Behaviour P) (old : T
 -- runs that hang are settled if the run that they hang from stays stored
 module _ {R P : Type 0} (E : R → R → Bool) (equal : IsEquivalence E) (per : IsPartialEquivalence E) (is : R → Behaviour P) (alike : (x y : R) → E x y ≡ true → is x ≡ is y)
     (old trie : TrieOf (StoredRun R P)) (start : Configuration R P) (key count i place n : ℕ) (back : List ℕ) where
-  pub kept_settles : (top : ℕ) (above : Option ℕ) (h : IsHung E is old top key i) → IsGoing E is old trie start key count (keys_in old.branches i) h.below back place n above
+  pub kept_settles : (top : ℕ) (above : Option ℕ) (h : IsHung E is old top key i) → IsRestWalk E is old trie start key count (keys_in old.branches i) h.below back place n above
       → run_named trie above ≡ run_named old above → SettlesTo E is old trie start key count place i n
   kept_settles top above h g kept =
       let keys = keys_in old.branches i in
@@ -62,7 +62,7 @@ module _ {R P : Type 0} (E : R → R → Bool) (equal : IsEquivalence E) (per : 
       hanging_settles E equal per is alike old trie start key count i place n h.below back above g (subst (λ c. Hangs E is old c h.below) came (h.hangs start))
 
   pub early_settles : (k : ℕ) (c : Configuration R P) (left : List ℕ) (here : HasTrueRun E is old c k) → Hangs E is old here.stored.run.exit left
-      → IsGoing E is old trie start key count (keys_in old.branches i) (left ++ []) back place n (Some k) → run_at trie k ≡ run_at old k
+      → IsRestWalk E is old trie start key count (keys_in old.branches i) (left ++ []) back place n (Some k) → run_at trie k ≡ run_at old k
       → SettlesTo E is old trie start key count place i n
   early_settles k c left here hangs g kept =
       let came : here.stored.run.exit ≡ exit_or_start trie start (Some k) = sym (ap (exit_or start) (kept ∙ ap (option_map run_of) here.noted)) in
@@ -86,17 +86,17 @@ module _ {R P : Type 0} (E : R → R → Bool) (per : IsPartialEquivalence E) (i
   last_from-append above [] below = refl
   last_from-append above (k ∷ keys) below = last_from-append (Some k) keys below
 
-  hung_runs : (top front i : ℕ) → IsHung E is trie top front i → has front (keys_in trie.branches i) ≡ true → RunsTo E is trie start (Some top) (keys_in trie.branches i)
-      → RunsTo E is trie start (Some front) (keys_in trie.branches i)
-  hung_runs top front i h there d =
+  hung_runs : (top bottom i : ℕ) → IsHung E is trie top bottom i → has bottom (keys_in trie.branches i) ≡ true → RunsTo E is trie start (Some top) (keys_in trie.branches i)
+      → RunsTo E is trie start (Some bottom) (keys_in trie.branches i)
+  hung_runs top bottom i h there d =
       let keys = keys_in trie.branches i in
-      let named : last_from (Some top) h.below ≡ Some front =
-      ap (λ o. last_from o h.below) (sym (last_reached keys (Some top) h.there)) ∙ sym (last_from-append None (keys_up_to top keys) h.below) ∙ ap (last_from None) (sym h.path) ∙ last_reached keys (Some front) there in
-      subst (λ o. RunsDown E is trie (is start.register) start (keys_up_to front keys) (exit_or_start trie start o)) named
+      let named : last_from (Some top) h.below ≡ Some bottom =
+      ap (λ o. last_from o h.below) (sym (last_reached keys (Some top) h.there)) ∙ sym (last_from-append None (keys_up_to top keys) h.below) ∙ ap (last_from None) (sym h.path) ∙ last_reached keys (Some bottom) there in
+      subst (λ o. RunsDown E is trie (is start.register) start (keys_up_to bottom keys) (exit_or_start trie start o)) named
       (subst (λ l. RunsDown E is trie (is start.register) start l (exit_or_start trie start (last_from (Some top) h.below))) (sym h.path)
       (hung_down (keys_up_to top keys) h.below (Some top) d (h.hangs start)))
 
-  -- if runs fit down to `top`, at which a climb ended, they fit down to `front`, at which it began
-  pub known_front : (key top front : ℕ) → ((i : ℕ) → has key (keys_in trie.branches i) ≡ true → has front (keys_in trie.branches i) ≡ true)
-      → ((i : ℕ) → has key (keys_in trie.branches i) ≡ true → IsHung E is trie top front i) → IsMarked E is trie start (Some top) → IsKnown E is trie start key (Some front)
-  known_front key top front there hung marked = λ i h. (there i h, hung_runs top front i (hung i h) (there i h) (marked i (hung i h).there))
+  -- if runs fit down to `top`, at which a climb ended, they fit down to `bottom`, at which it began
+  pub known_bottom : (key top bottom : ℕ) → ((i : ℕ) → has key (keys_in trie.branches i) ≡ true → has bottom (keys_in trie.branches i) ≡ true)
+      → ((i : ℕ) → has key (keys_in trie.branches i) ≡ true → IsHung E is trie top bottom i) → IsMarked E is trie start (Some top) → IsKnown E is trie start key (Some bottom)
+  known_bottom key top bottom there hung marked = λ i h. (there i h, hung_runs top bottom i (hung i h) (there i h) (marked i (hung i h).there))

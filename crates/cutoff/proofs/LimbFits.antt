@@ -8,9 +8,9 @@ use Rattle.schedule_trie.specs.declared.limits.Limits.{Limits}
 use Rattle.schedule_trie.specs.declared.refusal.Refusal.TheVariants.{Full, TooManyBranches}
 use Rattle.schedule_trie.specs.declared.slot.Slot.{Slot}
 use Rattle.schedule_trie.specs.Forest.{Forest, Branch, branch, numbered, slots_in}
-use Rattle.schedule_trie.specs.Limbs.{cells_of, forest_of, grow, grown, limb_of, limbs, limbs_after, loaded, no_branches, shared_with, slots_on}
+use Rattle.schedule_trie.specs.Limbs.{own_cell_count, forest_of, grow, grown, limb_of, limbs, limbs_after, loaded, no_branches, shared_with, slots_on}
 use Rattle.cutoff.specs.Charts.{LimbsFit, StepsFit}
-use Rattle.cutoff.proofs.Commands.{fits_both, fits_one_more, fits_tail, fits_take, none_fit, passed}
+use Rattle.cutoff.proofs.Commands.{fits_both, fits_one_more, fits_tail, fits_take, none_fit, result_if_ok}
 use Rattle.cutoff.proofs.Edits.{FitAll}
 use Rattle.branch_terms.proofs.LimbLists.{steps-numbered}
 
@@ -30,7 +30,7 @@ module _ {P : Type 0} (b : Behaviour P) where
   pub loaded_fits : (limits : Limits) (ls : List Limb) (f : Forest) → LimbsFit b ls → loaded limits ls ≡ Ok f → StepsFit b f
   loaded_fits limits ls f own e =
       let last : Ok (forest_of ls) ≡ Ok f =
-      passed (nat_lt limits.branches (length ls)) TooManyBranches _ f (passed (nat_lt limits.cells (cells_of ls)) Full _ f e) in
+      result_if_ok (nat_lt limits.branches (length ls)) TooManyBranches _ f (result_if_ok (nat_lt limits.cells (own_cell_count ls)) Full _ f e) in
       let same : forest_of ls ≡ f = cc in
       subst (StepsFit b) same (grow_fits no_branches ls (λ i. none_fit b) own)
 
@@ -39,12 +39,12 @@ module _ {P : Type 0} (b : Behaviour P) where
   fits_drop (suc n) [] fits = none_fit b
   fits_drop (suc n) (s ∷ slots) fits = fits_drop n slots (fits_tail b s slots fits)
 
-  after_fit : (earlier bs : List Branch) → ((i : ℕ) → FitAll b (slots_in bs i)) → LimbsFit b (limbs_after earlier bs)
-  after_fit earlier [] each = All-nil (λ l. AllFit b l.steps)
-  after_fit earlier (c ∷ bs) each =
+  limbs_after_fit : (earlier bs : List Branch) → ((i : ℕ) → FitAll b (slots_in bs i)) → LimbsFit b (limbs_after earlier bs)
+  limbs_after_fit earlier [] each = All-nil (λ l. AllFit b l.steps)
+  limbs_after_fit earlier (c ∷ bs) each =
       All-cons (λ l. AllFit b l.steps) (limb_of earlier c) (limbs_after (earlier ++ c ∷ []) bs)
-      (fits_drop (shared_with earlier c.slots) c.slots (each 0)) (after_fit (earlier ++ c ∷ []) bs (λ i. each (suc i)))
+      (fits_drop (shared_with earlier c.slots) c.slots (each 0)) (limbs_after_fit (earlier ++ c ∷ []) bs (λ i. each (suc i)))
 
   pub limbs_fit : {A E : Type 0} (f : Forest) (items : A → List Limb) (answer : Result A E) → StepsFit b f → IfOk answer (λ r. items r ≡ limbs f) → IfOk answer (λ r. LimbsFit b (items r))
-  limbs_fit f items (Ok r) each same = subst (LimbsFit b) (sym same) (after_fit [] f.branches each)
+  limbs_fit f items (Ok r) each same = subst (LimbsFit b) (sym same) (limbs_after_fit [] f.branches each)
   limbs_fit f items (Err e) each same = tt

@@ -9,7 +9,7 @@ use Rattle.frames.specs.Configuration.{Configuration}
 use Rattle.schedule_trie.specs.Forest.{step_of}
 use Rattle.schedule_trie.specs.Trie.{TrieOf, SegmentOf, segment_at, slots_of, with_note, IsNoted}
 use Rattle.cutoff.specs.Fitting.{StoredRun, steps_at}
-use Rattle.cutoff.specs.Links.{without_register, IsExitOf, IsGiven, IsStored, IsTrueSegment, IsLinked}
+use Rattle.cutoff.specs.Links.{without_register, IsExitOf, IsGiven, IsStored, IsStoredIn, IsLinked}
 use Rattle.branch_terms.proofs.Lists.{slice_get-last}
 
 -- a list's items stay if more follow
@@ -40,37 +40,37 @@ module _ {R P : Type 0} (E : R → R → Bool) (h : R) where
         checked = given-more exits more s.checked t.checked;
       }
 
-  pub true_segment-more : (exits more : List (Configuration ⊤ P)) (o : Option (SegmentOf (StoredRun R P))) → IsTrueSegment E h exits o → IsTrueSegment E h (exits ++ more) o
-  true_segment-more exits more None t = tt
-  true_segment-more exits more (Some p) t = by p.note t
+  pub stored_in-more : (exits more : List (Configuration ⊤ P)) (o : Option (SegmentOf (StoredRun R P))) → IsStoredIn E h exits o → IsStoredIn E h (exits ++ more) o
+  stored_in-more exits more None t = tt
+  stored_in-more exits more (Some p) t = by p.note t
     where
       by : (n : Option (StoredRun R P)) → MatchOption n ⊤ (IsStored E h exits (map step_of p.slots)) → MatchOption n ⊤ (IsStored E h (exits ++ more) (map step_of p.slots))
       by None t = tt
       by (Some s) t = stored-more exits more (map step_of p.slots) s t
 
-  true_segment-with_note : (exits : List (Configuration ⊤ P)) (s : StoredRun R P) (o : Option (SegmentOf (StoredRun R P))) → IsStored E h exits (map step_of (slots_of o)) s
-      → IsTrueSegment E h exits (option_map (with_note (Some s)) o)
-  true_segment-with_note exits s None t = tt
-  true_segment-with_note exits s (Some p) t = t
+  stored_in-with_note : (exits : List (Configuration ⊤ P)) (s : StoredRun R P) (o : Option (SegmentOf (StoredRun R P))) → IsStored E h exits (map step_of (slots_of o)) s
+      → IsStoredIn E h exits (option_map (with_note (Some s)) o)
+  stored_in-with_note exits s None t = tt
+  stored_in-with_note exits s (Some p) t = t
 
-  -- if `IsStored` holds of a run that is stored, `IsTrueSegment` still holds of each segment
-  pub true_segment-noted : (exits : List (Configuration ⊤ P)) (old new : TrieOf (StoredRun R P)) (k : ℕ) (s : StoredRun R P) → ((j : ℕ) → IsTrueSegment E h exits (segment_at old.segments j))
-      → IsNoted old new k (Some s) → IsStored E h exits (steps_at old k) s → (j : ℕ) → IsTrueSegment E h exits (segment_at new.segments j)
-  true_segment-noted exits old new k s each noted t j = by (nat_eq j k) refl
+  -- if `IsStored` holds of a run that is stored, `IsStoredIn` still holds of each segment
+  pub stored_in-noted : (exits : List (Configuration ⊤ P)) (old new : TrieOf (StoredRun R P)) (k : ℕ) (s : StoredRun R P) → ((j : ℕ) → IsStoredIn E h exits (segment_at old.segments j))
+      → IsNoted old new k (Some s) → IsStored E h exits (steps_at old k) s → (j : ℕ) → IsStoredIn E h exits (segment_at new.segments j)
+  stored_in-noted exits old new k s each noted t j = by (nat_eq j k) refl
     where
-      by : (b : Bool) → nat_eq j k ≡ b → IsTrueSegment E h exits (segment_at new.segments j)
+      by : (b : Bool) → nat_eq j k ≡ b → IsStoredIn E h exits (segment_at new.segments j)
       by true e =
           let same : j ≡ k = eqb-true j k e in
-          subst (λ i. IsTrueSegment E h exits (segment_at new.segments i)) (sym same) (subst (IsTrueSegment E h exits) (sym noted.here) (true_segment-with_note exits s (segment_at old.segments k) t))
+          subst (λ i. IsStoredIn E h exits (segment_at new.segments i)) (sym same) (subst (IsStoredIn E h exits) (sym noted.here) (stored_in-with_note exits s (segment_at old.segments k) t))
       by false e =
           let other : j ≡ k → ⊥ = λ same. true≢false (sym (eq-eqb j k same) ∙ e) in
-          subst (IsTrueSegment E h exits) (sym (noted.others j other)) (each j)
+          subst (IsStoredIn E h exits) (sym (noted.others j other)) (each j)
 
   module _ (old new : TrieOf (StoredRun R P)) (k next : ℕ) (above : Option ℕ) (c : Configuration R P) (l : IsLinked E h next above (without_register c) old) (s : StoredRun R P)
       (noted : IsNoted old new k (Some s)) where
     -- a run of which `IsStored` holds is stored; its exit is then the one that is reached
     pub taken_linked : IsStored E h l.exits (steps_at old k) s → IsLinked E h next s.id (without_register s.run.exit) new
-    taken_linked t = record { exits = l.exits; as_many = l.as_many; each = true_segment-noted l.exits old new k s l.each noted t; reached_exit = t.id }
+    taken_linked t = record { exits = l.exits; as_many = l.as_many; each = stored_in-noted l.exits old new k s l.each noted t; reached_exit = t.id }
 
     -- a new run is stored, with the next number or none; its exit is then the one that is reached
     pub new_linked : (after : ℕ) → s.checked ≡ s.id → E s.run.entry.register h ≡ true → s.run.steps ≡ steps_at old k → s.link ≡ above → s.run.entry ≡ c
@@ -80,7 +80,7 @@ module _ {R P : Type 0} (E : R → R → Bool) (h : R) where
         record {
           exits = l.exits;
           as_many = l.as_many ∙ sym none.1;
-          each = true_segment-noted l.exits old new k s l.each noted (record { own = own; covers = covers; id = came; link = link_came linked entry; checked = subst (IsGiven (length l.exits)) (sym (checked ∙ none.0)) tt });
+          each = stored_in-noted l.exits old new k s l.each noted (record { own = own; covers = covers; id = came; link = link_came linked entry; checked = subst (IsGiven (length l.exits)) (sym (checked ∙ none.0)) tt });
           reached_exit = came;
         }
       where
@@ -95,7 +95,7 @@ module _ {R P : Type 0} (E : R → R → Bool) (h : R) where
           exits = l.exits ++ without_register s.run.exit ∷ [];
           as_many = length-append l.exits (without_register s.run.exit ∷ []) ∙ ap (λ n. n + 1) l.as_many ∙ sym given.1;
           each =
-              true_segment-noted (l.exits ++ without_register s.run.exit ∷ []) old new k s (λ j. true_segment-more l.exits (without_register s.run.exit ∷ []) (segment_at old.segments j) (l.each j)) noted
+              stored_in-noted (l.exits ++ without_register s.run.exit ∷ []) old new k s (λ j. stored_in-more l.exits (without_register s.run.exit ∷ []) (segment_at old.segments j) (l.each j)) noted
               (record {
                 own = own;
                 covers = covers;

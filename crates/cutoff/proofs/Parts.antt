@@ -13,7 +13,7 @@ use Rattle.schedule_trie.specs.Forest.{index_of}
 use Rattle.schedule_trie.specs.Trie.{TrieOf, forest, keys_in}
 use Rattle.cutoff.specs.Fitting.{StoredRun, RunPart, KeepsRuns, steps_at, run_at, reached, part_of, parts_of}
 use Rattle.cutoff.specs.Settles.{Settles, IsSettled, IsSettledLast}
-use Rattle.cutoff.specs.Charts.{Charted, keys_or, keys_named}
+use Rattle.cutoff.specs.Charts.{Charted, keys_at, keys_named}
 use Rattle.cutoff.proofs.Walks.{part, part_last}
 
 module _ {R P : Type 0} where
@@ -60,8 +60,8 @@ module _ {R P : Type 0} where
 -- others are still to be read
 module _ {R P Z : Type 0} (trie : TrieOf (StoredRun R P)) (keys : List ℕ) (index rest : ℕ) (runs : List (Arc (SegmentRun R P) Z × ℕ)) (all : List (RunPart R P))
     (was : all ≡ map part_of runs ++ parts_of rest (map (run_at trie) (drop index keys))) where
-  opened : index < length keys → drop index keys ≡ get_or keys index 0 ∷ drop (index + 1) keys
-  opened h = let step : suc index ≡ index + 1 = omega arith in drop-cons keys index 0 h ∙ ap (λ j. get_or keys index 0 ∷ drop j keys) step
+  split_at_index : index < length keys → drop index keys ≡ get_or keys index 0 ∷ drop (index + 1) keys
+  split_at_index h = let step : suc index ≡ index + 1 = omega arith in drop-cons keys index 0 h ∙ ap (λ j. get_or keys index 0 ∷ drop j keys) step
 
   pub read_next : (items : List (Arc (SegmentRun R P) Z × ℕ)) (x : Arc (SegmentRun R P) Z × ℕ) → index < length keys → (rest ≡ 0 → ⊥) → run_at trie (get_or keys index 0) ≡ Some (arc_value x.0)
       → x.1 ≡ min rest (length (arc_value x.0).steps) → items ≡ runs ++ x ∷ [] → all ≡ map part_of items ++ parts_of (rest - x.1) (map (run_at trie) (drop (index + 1) keys))
@@ -69,7 +69,7 @@ module _ {R P Z : Type 0} (trie : TrieOf (StoredRun R P)) (keys : List ℕ) (ind
       let run = arc_value x.0 in
       let left = map (run_at trie) (drop (index + 1) keys) in
       let here : parts_of rest (map (run_at trie) (drop index keys)) ≡ part run x.1 ∷ parts_of (rest - x.1) left =
-      ap (λ l. parts_of rest (map (run_at trie) l)) (opened h) ∙ ap (λ o. parts_of rest (o ∷ left)) stored ∙ parts_next rest run left (some (nat_eq rest 0) refl) ∙ ap (λ m. part run m ∷ parts_of (rest - m) left) (sym count) in
+      ap (λ l. parts_of rest (map (run_at trie) l)) (split_at_index h) ∙ ap (λ o. parts_of rest (o ∷ left)) stored ∙ parts_next rest run left (some (nat_eq rest 0) refl) ∙ ap (λ m. part run m ∷ parts_of (rest - m) left) (sym count) in
       was ∙ ap (λ l. map part_of runs ++ l) here ∙ sym (append_assoc (map part_of runs) (part run x.1 ∷ []) (parts_of (rest - x.1) left))
       ∙ ap (λ l. l ++ parts_of (rest - x.1) left) (sym (ap (map part_of) pushed ∙ part_last runs x))
     where
@@ -85,7 +85,7 @@ module _ {R P Z : Type 0} (trie : TrieOf (StoredRun R P)) (keys : List ℕ) (ind
   read_past (inr none) = read_ends (ap (λ m. parts_of m (map (run_at trie) (drop index keys))) none ∙ parts_none (map (run_at trie) (drop index keys)))
 
   pub read_missing : index < length keys → run_at trie (get_or keys index 0) ≡ None → map part_of runs ≡ all
-  read_missing h missing = read_ends (ap (λ l. parts_of rest (map (run_at trie) l)) (opened h) ∙ ap (λ o. parts_of rest (o ∷ map (run_at trie) (drop (index + 1) keys))) missing)
+  read_missing h missing = read_ends (ap (λ l. parts_of rest (map (run_at trie) l)) (split_at_index h) ∙ ap (λ o. parts_of rest (o ∷ map (run_at trie) (drop (index + 1) keys))) missing)
 
 -- the runs read after a settle of the named branch's first `place` cells
 pub read_settled : {R P : Type 0} (E : R → R → Bool) (b : Behaviour P) (old new : Charted R P) (Missed : ℕ → Type 0) (trie : TrieOf (StoredRun R P)) (start : Configuration R P) (value : ℕ)
@@ -94,8 +94,8 @@ pub read_settled : {R P : Type 0} (E : R → R → Bool) (b : Behaviour P) (old 
     → IsSettled E b old new name place runs n
 read_settled {R} {P} E b old new Missed trie start value seen keeps name place index keys runs last n found along read s =
     let named : keys_named old.trie name ≡ keys =
-    ap (λ f. keys_or (index_of f.branches name) old.trie.branches) (sym keeps.forest_kept) ∙ ap (λ l. keys_or (index_of (forest new.trie).branches name) l) (sym keeps.branches)
-    ∙ ap (λ (c : Charted R P). keys_named c.trie name) (sym seen) ∙ ap (λ o. keys_or o trie.branches) found ∙ sym along in
+    ap (λ f. keys_at (index_of f.branches name) old.trie.branches) (sym keeps.forest_kept) ∙ ap (λ l. keys_at (index_of (forest new.trie).branches name) l) (sym keeps.branches)
+    ∙ ap (λ (c : Charted R P). keys_named c.trie name) (sym seen) ∙ ap (λ o. keys_at o trie.branches) found ∙ sym along in
     let same : s.0 ≡ runs =
     settled_parts E b old.trie new.trie old.start place (keys_named old.trie name) s.0 n s.1.settles ∙ ap (λ ks. parts_of place (map (run_at new.trie) ks)) named
     ∙ ap (λ (c : Charted R P). parts_of place (map (run_at c.trie) keys)) (sym seen) ∙ sym read in

@@ -1,4 +1,4 @@
--- Paths that share a segment, and the branches that have it.
+-- Paths of branches: their steps fit, and the key right above a key is the same on each.
 use Rattle.std.proofs.Common.{◌≡◌, ◌∷◌, ◌++◌, ℕ, List, [], Option, None, Some, map, sym, ap, subst, ◌∙◌}
 use Rattle.frames.specs.Behaviour.{Behaviour}
 use Rattle.frames.specs.Recorded.{AllFit}

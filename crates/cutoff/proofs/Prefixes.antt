@@ -15,7 +15,7 @@ use Rattle.cutoff.specs.Links.{without_register, run_number, IsLinkedAt}
 use Rattle.cutoff.specs.Prefixes.{HasTrueRun, RunsDown, RunsTo, IsKnown, note_named, exit_or_start, exit_or}
 use Rattle.cutoff.specs.Plans.{FitsDownTo}
 use Rattle.cutoff.proofs.Fits.{register_kept, same_trans, exit_same, stored_at, fits_to_note}
-use Rattle.cutoff.proofs.Walks.{linked_home}
+use Rattle.cutoff.proofs.Walks.{linked_equal}
 
 -- true runs that fit lead as far down after a change that keeps each segment's steps and true run
 pub down_after : {R P : Type 0} (E : R → R → Bool) (is : R → Behaviour P) (old new : TrieOf (StoredRun R P)) → ((k : ℕ) → steps_at old k ≡ steps_at new k)
@@ -34,9 +34,9 @@ module _ {R P : Type 0} (E : R → R → Bool) (per : IsPartialEquivalence E) (i
   down_same b c (k ∷ ks) a e s d = (d.0, down_same b (replayed b c (steps_at trie k)) ks a e s d.1)
 
   -- stored runs fit all keys at which true runs that fit are stored
-  pub runs_come : (b : Behaviour P) (c : Configuration R P) (keys : List ℕ) (end : Configuration R P) → RunsDown E is trie b c keys end → FitsDownTo E b trie c keys end
-  runs_come b c [] end d = d
-  runs_come b c (k ∷ ks) end d = (fits_to_note E trie c k d.0.stored d.0.noted d.0.fits, runs_come b (replayed b c (steps_at trie k)) ks end d.1)
+  pub runs_fit : (b : Behaviour P) (c : Configuration R P) (keys : List ℕ) (end : Configuration R P) → RunsDown E is trie b c keys end → FitsDownTo E b trie c keys end
+  runs_fit b c [] end d = d
+  runs_fit b c (k ∷ ks) end d = (fits_to_note E trie c k d.0.stored d.0.noted d.0.fits, runs_fit b (replayed b c (steps_at trie k)) ks end d.1)
 
   module _ (k : ℕ) (s : StoredRun R P) (noted : note_of (segment_at trie.segments k) ≡ Some s) (true_run : IsRun (is s.run.entry.register) s.run) (covers : s.run.steps ≡ steps_at trie k) where
     pub down_more : (b : Behaviour P) (c : Configuration R P) (keys : List ℕ) → is c.register ≡ b → RunsDown E is trie b c keys s.run.entry → RunsDown E is trie b c (keys ++ k ∷ []) s.run.exit
@@ -48,29 +48,29 @@ module _ {R P : Type 0} (E : R → R → Bool) (per : IsPartialEquivalence E) (i
 
     -- `above` is the key right above k: the runs down to k, by those down to `above`
     module _ (start : Configuration R P) (keys : List ℕ) (above : Option ℕ) (step : IsStepUp keys k above) where
-      come_here : exit_or_start trie start (Some k) ≡ s.run.exit
-      come_here = ap (λ n. exit_or start (option_map run_of n)) noted
+      exit_here : exit_or_start trie start (Some k) ≡ s.run.exit
+      exit_here = ap (λ n. exit_or start (option_map run_of n)) noted
 
-      pub up_new : RunsDown E is trie (is start.register) start (keys_to keys above) s.run.entry → RunsTo E is trie start (Some k) keys
-      up_new d =
+      pub runs_to_next : RunsDown E is trie (is start.register) start (keys_to keys above) s.run.entry → RunsTo E is trie start (Some k) keys
+      runs_to_next d =
           subst (λ l. RunsDown E is trie (is start.register) start l (exit_or_start trie start (Some k))) (sym step.is)
-          (subst (RunsDown E is trie (is start.register) start (keys_to keys above ++ k ∷ [])) (sym come_here) (down_more (is start.register) start (keys_to keys above) refl d))
+          (subst (RunsDown E is trie (is start.register) start (keys_to keys above ++ k ∷ [])) (sym exit_here) (down_more (is start.register) start (keys_to keys above) refl d))
 
       -- if runs fit down to the key k, they lead to each configuration equal to the exit of its run
-      pub up_same : (entry : Configuration R P) → SameConfiguration E entry s.run.exit → RunsTo E is trie start (Some k) keys
+      pub runs_to_equal : (entry : Configuration R P) → SameConfiguration E entry s.run.exit → RunsTo E is trie start (Some k) keys
           → RunsDown E is trie (is start.register) start (keys_up_to k keys) entry
-      up_same entry same d =
-          down_same (is start.register) start (keys_up_to k keys) entry (exit_or_start trie start (Some k)) (subst (SameConfiguration E entry) (sym come_here) same) d
+      runs_to_equal entry same d =
+          down_same (is start.register) start (keys_up_to k keys) entry (exit_or_start trie start (Some k)) (subst (SameConfiguration E entry) (sym exit_here) same) d
 
 -- if a climb is at the key k and not at the key f, the two differ
-pub other_key : (f k : ℕ) (at front : Option ℕ) → front ≡ Some f → at ≡ Some k → option_eq nat_eq at front ≡ false → f ≡ k → ⊥
-other_key f k at front e here differs same =
-    true≢false (sym (eq-eqb k f (sym same)) ∙ sym (ap (λ o. option_eq nat_eq o front) here ∙ ap (option_eq nat_eq (Some k)) e) ∙ differs)
+pub climb_key_differs : (f k : ℕ) (at stop : Option ℕ) → stop ≡ Some f → at ≡ Some k → option_eq nat_eq at stop ≡ false → f ≡ k → ⊥
+climb_key_differs f k at stop e here differs same =
+    true≢false (sym (eq-eqb k f (sym same)) ∙ sym (ap (λ o. option_eq nat_eq o stop) here ∙ ap (option_eq nat_eq (Some k)) e) ∙ differs)
 
-pub by_other : (f k : ℕ) (keys : List ℕ) → has f (keys ++ k ∷ []) ≡ true → (f ≡ k → ⊥) → has f keys ≡ true
-by_other f k [] h other = has_cases f k [] (has f [] ≡ true) h (λ e. absurd (other e)) (λ r. r)
-by_other f k (j ∷ keys) h other =
-    has_cases f j (keys ++ k ∷ []) (has f (j ∷ keys) ≡ true) h (λ e. subst (λ z. has f (z ∷ keys) ≡ true) e (has-head f keys)) (λ r. has-tail f j keys (by_other f k keys r other))
+pub has_unless_last : (f k : ℕ) (keys : List ℕ) → has f (keys ++ k ∷ []) ≡ true → (f ≡ k → ⊥) → has f keys ≡ true
+has_unless_last f k [] h other = has_cases f k [] (has f [] ≡ true) h (λ e. absurd (other e)) (λ r. r)
+has_unless_last f k (j ∷ keys) h other =
+    has_cases f j (keys ++ k ∷ []) (has f (j ∷ keys) ≡ true) h (λ e. subst (λ z. has f (z ∷ keys) ≡ true) e (has-head f keys)) (λ r. has-tail f j keys (has_unless_last f k keys r other))
 
 -- the exit of the run stored above, or the start: it is of the chart's register, and the run's
 -- number is that of a run with this exit
@@ -90,13 +90,13 @@ module _ {R P : Type 0} (E : R → R → Bool) (equal : IsEquivalence E) (per : 
   entry_linked None (Some s) noted kept = cc
   entry_linked (Some k) (Some s) noted kept =
       let own = entry_own (Some k) (Some s) noted kept in
-      linked_home E per start.register s.run.exit.register next s.id (without_register s.run.exit) trie (per.symm start.register s.run.exit.register ∙ own)
+      linked_equal E per start.register s.run.exit.register next s.id (without_register s.run.exit) trie (per.symm start.register s.run.exit.register ∙ own)
       (record { exits = linked.exits; as_many = linked.as_many; each = linked.each; reached_exit = (stored_at E start.register linked.exits trie k s (linked.each k) noted).id })
 
-  pub entry_came : (key : Option ℕ) (above : Option (StoredRun R P)) → note_named trie key ≡ above → IfSome above (λ s. IsRun (is s.run.entry.register) s.run)
+  pub config_linked : (key : Option ℕ) (above : Option (StoredRun R P)) → note_named trie key ≡ above → IfSome above (λ s. IsRun (is s.run.entry.register) s.run)
       → (config : Configuration R P) (number : Option ℕ) → config ≡ exit_or start (option_map run_of above) → number ≡ run_number above
       → IsLinkedAt E config next number trie × (E config.register start.register ≡ true)
-  entry_came key above noted kept config number came numbered = rw (came, numbered) (entry_linked key above noted kept, entry_own key above noted kept)
+  config_linked key above noted kept config number came numbered = rw (came, numbered) (entry_linked key above noted kept, entry_own key above noted kept)
 
 -- if there is no key, no run has to be known
 pub none_known : {R P : Type 0} (E : R → R → Bool) (equal : IsEquivalence E) (is : R → Behaviour P) (trie : TrieOf (StoredRun R P)) (start : Configuration R P) (key : ℕ) → IsKnown E is trie start key None

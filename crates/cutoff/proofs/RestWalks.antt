@@ -19,7 +19,7 @@ use Rattle.schedule_trie.proofs.limbs.OwnParts.{last_reached}
 use Rattle.schedule_trie.proofs.lists.KeyPositions.{parting}
 use Rattle.schedule_trie.proofs.edits.Pushes.{line-append}
 use Rattle.cutoff.specs.Fitting.{StoredRun, run_of, RunPart, RunFits, steps_at, run_at, reached}
-use Rattle.cutoff.specs.Settles.{IsWork, IsSegmentSettled, Settles, EndsWith, SettlesTo}
+use Rattle.cutoff.specs.Settles.{ReplaysIfNeeded, IsSegmentSettled, Settles, EndsWith, SettlesTo}
 use Rattle.cutoff.specs.Prefixes.{RunsDown, RunsTo, Hangs, EndsIn, IsRest, note_named, exit_or_start, exit_or}
 use Rattle.cutoff.proofs.Climbs.{path_once}
 use Rattle.cutoff.proofs.Fits.{register_kept, same_symm, run_fits_alike, fits_to_note, exit_same}
@@ -55,7 +55,7 @@ down_kept E is trie new b c (k ∷ ks) end same d =
 
 -- the walk has passed the key `above`, or is above the first key; the segments `left` are still to
 -- go
-pub record IsGoing {R P : Type 0} (E : R → R → Bool) (is : R → Behaviour P) (old trie : TrieOf (StoredRun R P)) (start : Configuration R P) (key count : ℕ)
+pub record IsRestWalk {R P : Type 0} (E : R → R → Bool) (is : R → Behaviour P) (old trie : TrieOf (StoredRun R P)) (start : Configuration R P) (key count : ℕ)
     (keys left back : List ℕ) (place n : ℕ) (above : Option ℕ) : Type 0 where
   pub done : List ℕ
   pub last : last_from None done ≡ above
@@ -68,16 +68,16 @@ pub record IsGoing {R P : Type 0} (E : R → R → Bool) (is : R → Behaviour P
   pub from : exit_of start parts ≡ exit_or_start trie start above
   pub ahead : EndsIn old key count rest left ⊎ ((left ≡ []) × (rest ≡ 0) × (above ≡ Some key) × EndsWith trie key count parts)
   pub once : Once keys
-  pub some : 0 < count
-  pub few : count ≤ length (slots_of (segment_at old.segments key))
+  pub positive : 0 < count
+  pub within : count ≤ length (slots_of (segment_at old.segments key))
 
 -- the place is `rest` cells further on, which is at least one
-more : {R P : Type 0} (old : TrieOf (StoredRun R P)) (key count rest : ℕ) (left : List ℕ) → 0 < count → EndsIn old key count rest left → 0 < rest
-more old key count rest left some ends = let s = ends.sum in omega arith
+rest_positive : {R P : Type 0} (old : TrieOf (StoredRun R P)) (key count rest : ℕ) (left : List ℕ) → 0 < count → EndsIn old key count rest left → 0 < rest
+rest_positive old key count rest left some ends = let s = ends.sum in omega arith
 
-none_left : (front : List ℕ) (key : ℕ) → [] ≡ front ++ key ∷ [] → ⊥
-none_left [] key e = cc
-none_left (k ∷ front) key e = cc
+not_empty : (front : List ℕ) (key : ℕ) → [] ≡ front ++ key ∷ [] → ⊥
+not_empty [] key e = cc
+not_empty (k ∷ front) key e = cc
 
 -- each segment has a step
 some_steps : {T : Type 0} (o : Option (SegmentOf T)) → IsSome o → IfSome o (λ p. (0 < length p.slots) × (length p.slots ≤ 128)) → 0 < length (map step_of (slots_of o))
@@ -87,7 +87,7 @@ some_steps (Some p) h s = let some = s.0 in let e : length (map step_of p.slots)
 -- the walk goes on after one more settled segment
 module _ {R P : Type 0} (E : R → R → Bool) (equal : IsEquivalence E) (per : IsPartialEquivalence E) (is : R → Behaviour P) (alike : (x y : R) → E x y ≡ true → is x ≡ is y)
     (old trie : TrieOf (StoredRun R P)) (start : Configuration R P) (key count : ℕ) (keys ks back : List ℕ) (k place n : ℕ) (above : Option ℕ)
-    (g : IsGoing E is old trie start key count keys (k ∷ ks) back place n above) where
+    (g : IsRestWalk E is old trie start key count keys (k ∷ ks) back place n above) where
   ends_here : EndsIn old key count g.rest (k ∷ ks)
   ends_here = by g.ahead
     where
@@ -95,21 +95,18 @@ module _ {R P : Type 0} (E : R → R → Bool) (equal : IsEquivalence E) (per : 
       by (inl e) = e
       by (inr f) = let none = f.0 in cc
 
-  pub wanted_here : g.rest ≡ 0 → ⊥
-  wanted_here e = let m = more old key count g.rest (k ∷ ks) g.some ends_here in omega arith
+  pub rest_not_zero : g.rest ≡ 0 → ⊥
+  rest_not_zero e = let m = rest_positive old key count g.rest (k ∷ ks) g.positive ends_here in omega arith
 
   pub small_left : length (steps_at trie k) ≤ 128
   small_left =
       let same : length (steps_at trie k) ≡ length (steps_at old k) = ap (λ o. length (map step_of (slots_of o))) (g.walk.ahead k (has-head k (ks ++ back))) in
       let s = g.walk.small k in omega (arith, same, s)
 
-  home : E (exit_or_start trie start above).register start.register ≡ true
-  home = subst (λ (d : Configuration R P). E d.register start.register ≡ true) g.from (subst (λ r. E (exit_of start g.parts).register r ≡ true) g.walk.home g.walk.same.register)
-
   pub fits_left : AllFit (is start.register) (steps_at trie k)
   fits_left =
-      subst (λ b. AllFit b (steps_at trie k)) (alike (exit_of start g.parts).register start.register (subst (λ r. E (exit_of start g.parts).register r ≡ true) g.walk.home g.walk.same.register))
-      (fits_here E equal per is alike old trie start keys (ks ++ back) k place g.rest n g.parts g.walk wanted_here)
+      subst (λ b. AllFit b (steps_at trie k)) (alike (exit_of start g.parts).register start.register (subst (λ r. E (exit_of start g.parts).register r ≡ true) g.walk.same_register g.walk.same.register))
+      (fits_here E equal per is alike old trie start keys (ks ++ back) k place g.rest n g.parts g.walk rest_not_zero)
 
   lacks_here : has k g.done ≡ false
   lacks_here = once_before g.done k (ks ++ back) (subst Once g.whole g.once)
@@ -127,14 +124,14 @@ module _ {R P : Type 0} (E : R → R → Bool) (equal : IsEquivalence E) (per : 
     steps_still : steps_at new k ≡ steps_at trie k
     steps_still = ap (map step_of) (noted_cells s (segment_at trie.segments k) (segment_at new.segments k) settled.noted.here)
 
-    come_here : exit_or_start new start (Some k) ≡ run.exit
-    come_here = ap (λ o. exit_or start (option_map run_of o)) noted_here
+    exit_here : exit_or_start new start (Some k) ≡ run.exit
+    exit_here = ap (λ o. exit_or start (option_map run_of o)) noted_here
 
     down_here : RunsDown E is new (is start.register) start (g.done ++ k ∷ []) (exit_or_start new start (Some k))
     down_here =
         let kept = down_kept E is trie new (is start.register) start g.done (exit_or_start trie start above)
         (λ j h. settled.noted.others j (λ e. true≢false (sym (subst (λ i. has i g.done ≡ true) e h) ∙ lacks_here))) g.down in
-        subst (RunsDown E is new (is start.register) start (g.done ++ k ∷ [])) (sym come_here)
+        subst (RunsDown E is new (is start.register) start (g.done ++ k ∷ [])) (sym exit_here)
         (down_more E per is alike new k s noted_here true_run (settled.fits.steps ∙ sym steps_still) (is start.register) start g.done refl
         (down_same E per is alike new (is start.register) start g.done run.entry (exit_or_start trie start above) settled.fits.entry kept))
 
@@ -142,7 +139,7 @@ module _ {R P : Type 0} (E : R → R → Bool) (equal : IsEquivalence E) (per : 
     pub kept_here : IsCut old → work ≡ 0 → run_at new k ≡ run_at old k
     kept_here whole none = by settled.work
       where
-        by : IsWork E trie (exit_or_start trie start above) k run work → run_at new k ≡ run_at old k
+        by : ReplaysIfNeeded E trie (exit_or_start trie start above) k run work → run_at new k ≡ run_at old k
         by (inl f) = ap (option_map run_of) noted_here ∙ sym f.1 ∙ ap (λ o. option_map run_of (note_of o)) (g.walk.ahead k (has-head k (ks ++ back)))
         by (inr f) =
             let some = some_steps (segment_at old.segments k) (g.walk.there k (has-head k (ks ++ back))) (whole.sizes k) in
@@ -150,33 +147,33 @@ module _ {R P : Type 0} (E : R → R → Bool) (equal : IsEquivalence E) (per : 
             let all : work ≡ length (steps_at trie k) = f.1 in
             absurd (omega arith)
 
-    abbrev counts : ℕ
-    counts = min g.rest (length run.steps)
+    abbrev count_here : ℕ
+    count_here = min g.rest (length run.steps)
 
-    walk_here : IsWalking E (is start.register) old new start keys (ks ++ back) place (g.rest - counts) (n + work) (g.parts ++ record { run = run; count = counts } ∷ [])
+    walk_here : IsWalking E (is start.register) old new start keys (ks ++ back) place (g.rest - count_here) (n + work) (g.parts ++ record { run = run; count = count_here } ∷ [])
     walk_here =
-        walk_on E equal per is alike old trie start keys (ks ++ back) k place g.rest n g.parts g.walk wanted_here
-        new s work counts (g.rest - counts) (n + work) (subst (λ d. IsSegmentSettled E trie new d k s work) (sym g.from) settled) true_run refl refl refl
+        walk_on E equal per is alike old trie start keys (ks ++ back) k place g.rest n g.parts g.walk rest_not_zero
+        new s work count_here (g.rest - count_here) (n + work) (subst (λ d. IsSegmentSettled E trie new d k s work) (sym g.from) settled) true_run refl refl refl
 
     run_len : length run.steps ≡ length (steps_at old k)
     run_len = ap length settled.fits.steps ∙ ap (λ o. length (map step_of (slots_of o))) (g.walk.ahead k (has-head k (ks ++ back)))
 
     ahead_here : (e : EndsIn old key count g.rest (k ∷ ks))
-        → EndsIn old key count (g.rest - counts) ks
-        ⊎ ((ks ≡ []) × (g.rest - counts ≡ 0) × (Some k ≡ Some key) × EndsWith new key count (g.parts ++ record { run = run; count = counts } ∷ []))
+        → EndsIn old key count (g.rest - count_here) ks
+        ⊎ ((ks ≡ []) × (g.rest - count_here ≡ 0) × (Some k ≡ Some key) × EndsWith new key count (g.parts ++ record { run = run; count = count_here } ∷ []))
     ahead_here e = by e.front e.is e.sum
       where
         by : (front : List ℕ) → k ∷ ks ≡ front ++ key ∷ [] → length (line (segment_at old.segments) front) + count ≡ g.rest
-            → EndsIn old key count (g.rest - counts) ks
-            ⊎ ((ks ≡ []) × (g.rest - counts ≡ 0) × (Some k ≡ Some key) × EndsWith new key count (g.parts ++ record { run = run; count = counts } ∷ []))
+            → EndsIn old key count (g.rest - count_here) ks
+            ⊎ ((ks ≡ []) × (g.rest - count_here ≡ 0) × (Some k ≡ Some key) × EndsWith new key count (g.parts ++ record { run = run; count = count_here } ∷ []))
         by [] is_last sum =
             let one : k ≡ key = cc in
             let none : ks ≡ [] = cc in
             let named : length (steps_at old k) ≡ length (slots_of (segment_at old.segments key)) =
             length-map (slots_of (segment_at old.segments k)) step_of ∙ ap (λ j. length (slots_of (segment_at old.segments j))) one in
-            let all = g.few in
+            let all = g.within in
             let len = run_len in
-            let same : counts ≡ count = omega (arith, named, all, len, sum) in
+            let same : count_here ≡ count = omega (arith, named, all, len, sum) in
             inr (
               none,
               omega (arith, same, sum),
@@ -204,31 +201,31 @@ module _ {R P : Type 0} (E : R → R → Bool) (equal : IsEquivalence E) (per : 
       subst (λ l. RunsDown E is new (is start.register) start l (exit_or_start new start (Some k))) (sym (ap (keys_up_to k) g.whole ∙ up_to-here k g.done (ks ++ back) lacks_here)) down_here,
     )
 
-    pub going_step : IsGoing E is old new start key count keys ks back place (n + work) (Some k)
-    going_step = record {
+    pub rest_walk_step : IsRestWalk E is old new start key count keys ks back place (n + work) (Some k)
+    rest_walk_step = record {
       done = g.done ++ k ∷ [];
       last = last_from-push None g.done k;
       path = g.path ∙ sym (append_assoc g.done (k ∷ []) ks);
       whole = g.whole ∙ sym (append_assoc g.done (k ∷ []) (ks ++ back));
       down = down_here;
-      rest = g.rest - counts;
-      parts = g.parts ++ record { run = run; count = counts } ∷ [];
+      rest = g.rest - count_here;
+      parts = g.parts ++ record { run = run; count = count_here } ∷ [];
       walk = walk_here;
-      from = exit_of-last start g.parts (record { run = run; count = counts }) ∙ sym come_here;
+      from = exit_of-last start g.parts (record { run = run; count = count_here }) ∙ sym exit_here;
       ahead = ahead_here ends_here;
       once = g.once;
-      some = g.some;
-      few = g.few;
+      positive = g.positive;
+      within = g.within;
     }
 
 module _ {R P : Type 0} (E : R → R → Bool) (equal : IsEquivalence E) (per : IsPartialEquivalence E) (is : R → Behaviour P) (alike : (x y : R) → E x y ≡ true → is x ≡ is y) where
   -- the walk goes down a part that stored runs fit, and replays nothing
-  going_down : (old trie : TrieOf (StoredRun R P)) (start : Configuration R P) (key count : ℕ) (keys front left back : List ℕ) (place n : ℕ) (above : Option ℕ) (c end : Configuration R P)
+  rest_walk_down : (old trie : TrieOf (StoredRun R P)) (start : Configuration R P) (key count : ℕ) (keys front left back : List ℕ) (place n : ℕ) (above : Option ℕ) (c end : Configuration R P)
       → SameConfiguration E c (exit_or_start trie start above) → is c.register ≡ is start.register
-      → RunsDown E is trie (is start.register) c front end → IsGoing E is old trie start key count keys (front ++ left) back place n above
-      → IsGoing E is old trie start key count keys left back place n (last_from above front)
-  going_down old trie start key count keys [] left back place n above c end same own down g = g
-  going_down old trie start key count keys (k ∷ front) left back place n above c end same own down g =
+      → RunsDown E is trie (is start.register) c front end → IsRestWalk E is old trie start key count keys (front ++ left) back place n above
+      → IsRestWalk E is old trie start key count keys left back place n (last_from above front)
+  rest_walk_down old trie start key count keys [] left back place n above c end same own down g = g
+  rest_walk_down old trie start key count keys (k ∷ front) left back place n above c end same own down g =
       let s = down.0.stored in
       let noted = down.0.noted in
       let fits = run_fits_alike E per c (exit_or_start trie start above) (steps_at trie k) s.run same down.0.fits in
@@ -237,25 +234,25 @@ module _ {R P : Type 0} (E : R → R → Bool) (equal : IsEquivalence E) (per : 
         fits = fits;
         work = inl (fits_to_note E trie (exit_or_start trie start above) k s noted fits, ap (option_map run_of) noted, refl);
       } in
-      let on = going_step E equal per is alike old trie start key count keys (front ++ left) back k place n above g trie s 0 settled down.0.true_run in
+      let on = rest_walk_step E equal per is alike old trie start key count keys (front ++ left) back k place n above g trie s 0 settled down.0.true_run in
       let none : n + 0 ≡ n = omega arith in
       let here : s.run.exit ≡ exit_or_start trie start (Some k) = sym (ap (λ o. exit_or start (option_map run_of o)) noted) in
-      going_down old trie start key count keys front left back place n (Some k) (replayed (is start.register) c (steps_at trie k)) end
+      rest_walk_down old trie start key count keys front left back place n (Some k) (replayed (is start.register) c (steps_at trie k)) end
       (subst (SameConfiguration E (replayed (is start.register) c (steps_at trie k))) here
       (same_symm E per s.run.exit (replayed (is start.register) c (steps_at trie k)) (exit_same E is alike (is start.register) c (steps_at trie k) s.run own down.0.true_run down.0.fits)))
       (ap is (register_kept (is start.register) c (steps_at trie k)) ∙ own) down.1
-      (subst (λ m. IsGoing E is old trie start key count keys (front ++ left) back place m (Some k)) none on)
+      (subst (λ m. IsRestWalk E is old trie start key count keys (front ++ left) back place m (Some k)) none on)
 
-  pub going_starts : (old : TrieOf (StoredRun R P)) (start : Configuration R P) (front : Option ℕ) (left : List ℕ) (key count place i : ℕ) → IsCut old
-      → IsRest E is old start front left key count place i
-      → (back : List ℕ) × IsGoing E is old old start key count (keys_in old.branches i) left back place 0 front
-  going_starts old start front left key count place i whole r =
+  pub rest_walk_starts : (old : TrieOf (StoredRun R P)) (start : Configuration R P) (fitted : Option ℕ) (left : List ℕ) (key count place i : ℕ) → IsCut old
+      → IsRest E is old start fitted left key count place i
+      → (back : List ℕ) × IsRestWalk E is old old start key count (keys_in old.branches i) left back place 0 fitted
+  rest_walk_starts old start fitted left key count place i whole r =
       let keys = keys_in old.branches i in
       let p = parting keys key r.lies.there in
       let all : keys ≡ keys_up_to key keys ++ p.back = p.is ∙ sym (append_assoc p.front (key ∷ []) p.back) ∙ ap (λ l. l ++ p.back) (sym p.to) in
-      let parts : keys ≡ (keys_to keys front ++ left) ++ p.back = all ∙ ap (λ l. l ++ p.back) r.path in
+      let parts : keys ≡ (keys_to keys fitted ++ left) ++ p.back = all ∙ ap (λ l. l ++ p.back) r.path in
       let same : SameConfiguration E start start = record { register = equal.refl start.register; memory = refl; running = refl; stopped = refl } in
-      let few = r.lies.few in
+      let few = r.lies.within in
       let sum = r.lies.ends.sum in
       let cells : length (line (segment_at old.segments) keys) ≡ length (line (segment_at old.segments) r.lies.ends.front) + (length (slots_of (segment_at old.segments key)) + length (line (segment_at old.segments) p.back)) =
       ap (λ l. length (line (segment_at old.segments) l)) (all ∙ ap (λ l. l ++ p.back) r.lies.ends.is ∙ append_assoc r.lies.ends.front (key ∷ []) p.back)
@@ -263,7 +260,7 @@ module _ {R P : Type 0} (E : R → R → Bool) (equal : IsEquivalence E) (per : 
       ∙ length-append (line (segment_at old.segments) r.lies.ends.front) (slots_of (segment_at old.segments key) ++ line (segment_at old.segments) p.back)
       ∙ ap (λ n. length (line (segment_at old.segments) r.lies.ends.front) + n) (length-append (slots_of (segment_at old.segments key)) (line (segment_at old.segments) p.back)) in
       let within : place ≤ length (line (segment_at old.segments) keys) = omega (arith, few, sum, cells) in
-      let begun : IsGoing E is old old start key count keys (keys_to keys front ++ left) p.back place 0 None = record {
+      let begun : IsRestWalk E is old old start key count keys (keys_to keys fitted ++ left) p.back place 0 None = record {
         done = [];
         last = refl;
         path = r.path;
@@ -276,30 +273,30 @@ module _ {R P : Type 0} (E : R → R → Bool) (equal : IsEquivalence E) (per : 
         from = refl;
         ahead = inl (subst (EndsIn old key count place) r.path r.lies.ends);
         once = path_once old whole i;
-        some = r.lies.some;
-        few = r.lies.few;
+        positive = r.lies.positive;
+        within = r.lies.within;
       } in (
         p.back,
-        subst (IsGoing E is old old start key count keys left p.back place 0) (last_reached keys front r.reached)
-            (going_down old old start key count keys (keys_to keys front) left p.back place 0 None start (exit_or_start old start front) same refl r.down begun),
+        subst (IsRestWalk E is old old start key count keys left p.back place 0) (last_reached keys fitted r.reached)
+            (rest_walk_down old old start key count keys (keys_to keys fitted) left p.back place 0 None start (exit_or_start old start fitted) same refl r.down begun),
       )
 
 -- the walk ends
 module _ {R P : Type 0} (E : R → R → Bool) (is : R → Behaviour P) (old trie : TrieOf (StoredRun R P)) (start : Configuration R P) (key count i place n : ℕ) (back : List ℕ) (above : Option ℕ)
-    (g : IsGoing E is old trie start key count (keys_in old.branches i) [] back place n above) where
+    (g : IsRestWalk E is old trie start key count (keys_in old.branches i) [] back place n above) where
   abbrev keys : List ℕ
   keys = keys_in old.branches i
 
   ended : (rest : ℕ) (parts : List (RunPart R P)) → EndsIn old key count rest [] ⊎ ((◌≡◌ {A = List ℕ} [] []) × (rest ≡ 0) × (above ≡ Some key) × EndsWith trie key count parts)
       → (rest ≡ 0) × (above ≡ Some key) × EndsWith trie key count parts
-  ended rest parts (inl e) = absurd (none_left e.front key e.is)
+  ended rest parts (inl e) = absurd (not_empty e.front key e.is)
   ended rest parts (inr f) = (f.1, f.2, f.3)
 
   pub ends_at : above ≡ Some key
   ends_at = (ended g.rest g.parts g.ahead).1
 
-  pub going_settles : SettlesTo E is old trie start key count place i n
-  going_settles =
+  pub rest_walk_settles : SettlesTo E is old trie start key count place i n
+  rest_walk_settles =
       let end = ended g.rest g.parts g.ahead in
       let none : n + 0 ≡ n = omega arith in
       let sum = g.walk.count in
@@ -319,21 +316,21 @@ module _ {R P : Type 0} (E : R → R → Bool) (is : R → Behaviour P) (old tri
 -- the walk, if the keys still to go are those of the list `all` from `index` on, and then `more`
 module _ {R P : Type 0} (E : R → R → Bool) (equal : IsEquivalence E) (per : IsPartialEquivalence E) (is : R → Behaviour P) (alike : (x y : R) → E x y ≡ true → is x ≡ is y)
     {old trie : TrieOf (StoredRun R P)} {start : Configuration R P} {key count : ℕ} {keys back : List ℕ} {place n : ℕ} {above : Option ℕ} (all : List ℕ) (index : ℕ) (more : List ℕ)
-    (g : IsGoing E is old trie start key count keys (drop index all ++ more) back place n above) where
-  pub going_past : length all ≤ index → IsGoing E is old trie start key count keys more back place n above
-  going_past past = subst (λ l. IsGoing E is old trie start key count keys (l ++ more) back place n above) (drop_all index all past) g
+    (g : IsRestWalk E is old trie start key count keys (drop index all ++ more) back place n above) where
+  pub rest_walk_past : length all ≤ index → IsRestWalk E is old trie start key count keys more back place n above
+  rest_walk_past past = subst (λ l. IsRestWalk E is old trie start key count keys (l ++ more) back place n above) (drop_all index all past) g
 
   module _ (h : index < length all) where
-    going_at : IsGoing E is old trie start key count keys (get_or all index 0 ∷ (drop (index + 1) all ++ more)) back place n above
-    going_at =
+    rest_walk_at : IsRestWalk E is old trie start key count keys (get_or all index 0 ∷ (drop (index + 1) all ++ more)) back place n above
+    rest_walk_at =
         let step : suc index ≡ index + 1 = omega arith in
-        subst (λ l. IsGoing E is old trie start key count keys (l ++ more) back place n above) (drop-cons all index 0 h ∙ ap (λ j. get_or all index 0 ∷ drop j all) step) g
+        subst (λ l. IsRestWalk E is old trie start key count keys (l ++ more) back place n above) (drop-cons all index 0 h ∙ ap (λ j. get_or all index 0 ∷ drop j all) step) g
 
     pub small_next : length (steps_at trie (get_or all index 0)) ≤ 128
-    small_next = small_left E equal per is alike old trie start key count keys (drop (index + 1) all ++ more) back (get_or all index 0) place n above going_at
+    small_next = small_left E equal per is alike old trie start key count keys (drop (index + 1) all ++ more) back (get_or all index 0) place n above rest_walk_at
 
     pub fits_next : AllFit (is start.register) (steps_at trie (get_or all index 0))
-    fits_next = fits_left E equal per is alike old trie start key count keys (drop (index + 1) all ++ more) back (get_or all index 0) place n above going_at
+    fits_next = fits_left E equal per is alike old trie start key count keys (drop (index + 1) all ++ more) back (get_or all index 0) place n above rest_walk_at
 
     -- `o` is stored right above
     module _ {new : TrieOf (StoredRun R P)} {o : Option (StoredRun R P)} {s : StoredRun R P} {work : ℕ} (above_is : note_named trie above ≡ o)
@@ -343,37 +340,37 @@ module _ {R P : Type 0} (E : R → R → Bool) (equal : IsEquivalence E) (per : 
 
       pub noted_next : note_of (segment_at new.segments (get_or all index 0)) ≡ Some s
       noted_next =
-          noted_here E equal per is alike old trie start key count keys (drop (index + 1) all ++ more) back (get_or all index 0) place n above going_at
+          noted_here E equal per is alike old trie start key count keys (drop (index + 1) all ++ more) back (get_or all index 0) place n above rest_walk_at
           new s work settled_here settled.1
 
-      pub going_next : IsGoing E is old new start key count keys (drop (index + 1) all ++ more) back place (n + work) (Some (get_or all index 0))
-      going_next =
-          going_step E equal per is alike old trie start key count keys (drop (index + 1) all ++ more) back (get_or all index 0) place n above going_at
+      pub rest_walk_next : IsRestWalk E is old new start key count keys (drop (index + 1) all ++ more) back place (n + work) (Some (get_or all index 0))
+      rest_walk_next =
+          rest_walk_step E equal per is alike old trie start key count keys (drop (index + 1) all ++ more) back (get_or all index 0) place n above rest_walk_at
           new s work settled_here settled.1
 
       pub reached_next : (has (get_or all index 0) keys ≡ true) × RunsTo E is new start (Some (get_or all index 0)) keys
       reached_next =
-          reached_here E equal per is alike old trie start key count keys (drop (index + 1) all ++ more) back (get_or all index 0) place n above going_at
+          reached_here E equal per is alike old trie start key count keys (drop (index + 1) all ++ more) back (get_or all index 0) place n above rest_walk_at
           new s work settled_here settled.1
 
       pub kept_next : IsCut old → work ≡ 0 → run_at new (get_or all index 0) ≡ run_at old (get_or all index 0)
       kept_next =
-          kept_here E equal per is alike old trie start key count keys (drop (index + 1) all ++ more) back (get_or all index 0) place n above going_at
+          kept_here E equal per is alike old trie start key count keys (drop (index + 1) all ++ more) back (get_or all index 0) place n above rest_walk_at
           new s work settled_here settled.1
 
 -- what is left hangs from a run that stays stored
 module _ {R P : Type 0} (E : R → R → Bool) (equal : IsEquivalence E) (per : IsPartialEquivalence E) (is : R → Behaviour P) (alike : (x y : R) → E x y ≡ true → is x ≡ is y)
     (old trie : TrieOf (StoredRun R P)) (start : Configuration R P) (key count i place n : ℕ) (left back : List ℕ) (above : Option ℕ)
-    (g : IsGoing E is old trie start key count (keys_in old.branches i) left back place n above) where
-  home_here : E (exit_or_start trie start above).register start.register ≡ true
-  home_here = subst (λ (d : Configuration R P). E d.register start.register ≡ true) g.from (subst (λ r. E (exit_of start g.parts).register r ≡ true) g.walk.home g.walk.same.register)
+    (g : IsRestWalk E is old trie start key count (keys_in old.branches i) left back place n above) where
+  exit_register : E (exit_or_start trie start above).register start.register ≡ true
+  exit_register = subst (λ (d : Configuration R P). E d.register start.register ≡ true) g.from (subst (λ r. E (exit_of start g.parts).register r ≡ true) g.walk.same_register g.walk.same.register)
 
   pub hanging_settles : Hangs E is old (exit_or_start trie start above) left → SettlesTo E is old trie start key count place i n
   hanging_settles hangs =
       let c : Configuration R P = exit_or_start trie start above in
       let here : SameConfiguration E c c = record { register = equal.refl c.register; memory = refl; running = refl; stopped = refl } in
-      let own : is c.register ≡ is start.register = alike c.register start.register home_here in
+      let own : is c.register ≡ is start.register = alike c.register start.register exit_register in
       let down = hang_down E is per alike trie (is start.register) c c left here own (hang_kept E is old trie c left (λ j h. g.walk.ahead j (has-left j left back h)) hangs) in
-      going_settles E is old trie start key count i place n back (last_from above left)
-      (going_down E equal per is alike old trie start key count (keys_in old.branches i) left [] back place n above c down.0 here own down.1
-      (subst (λ l. IsGoing E is old trie start key count (keys_in old.branches i) l back place n above) (sym (append-nil left)) g))
+      rest_walk_settles E is old trie start key count i place n back (last_from above left)
+      (rest_walk_down E equal per is alike old trie start key count (keys_in old.branches i) left [] back place n above c down.0 here own down.1
+      (subst (λ l. IsRestWalk E is old trie start key count (keys_in old.branches i) l back place n above) (sym (append-nil left)) g))

@@ -16,30 +16,31 @@ use Rattle.cutoff.specs.Fitting.{StoredRun, KeepsRuns}
 use Rattle.cutoff.specs.Settles.{IsFilled}
 use Rattle.cutoff.specs.Links.{without_register, IsLinked}
 use Rattle.cutoff.specs.Prefixes.{IsMarked, AreFresh}
-use Rattle.cutoff.specs.Known.{AreKnown, IsDown}
+use Rattle.cutoff.specs.Known.{AreKnown, IsKnownDownTo}
 use Rattle.cutoff.specs.declared.known.Known.{Known}
-use Rattle.cutoff.specs.Charts.{Charted, IsCharted, StepsFit, keys_or, keys_named, looked_at, look}
+use Rattle.cutoff.specs.Charts.{Charted, IsCharted, StepsFit, keys_at, keys_named, looked_at, look}
 
--- the same cells at each key
+-- if the cells at a key are the same, a segment is there if one was, and Q holds of its cells if it
+-- did
 module _ {T : Type 0} (Q : List Slot → Type 0) where
-  there_too : (o p : Option (SegmentOf T)) → option_map (λ x. x.slots) p ≡ option_map (λ x. x.slots) o → IsSome o → IsSome p
-  there_too o None e h = cc_there o e h
+  there_still : (o p : Option (SegmentOf T)) → option_map (λ x. x.slots) p ≡ option_map (λ x. x.slots) o → IsSome o → IsSome p
+  there_still o None e h = cc_there o e h
     where
       cc_there : (o : Option (SegmentOf T)) → ◌≡◌ {A = Option (List Slot)} None (option_map (λ x. x.slots) o) → IsSome o → IsSome {T = SegmentOf T} None
       cc_there None e h = h
       cc_there (Some q) e h = cc
-  there_too o (Some q) e h = refl
+  there_still o (Some q) e h = refl
 
-  slots_too : (o p : Option (SegmentOf T)) → option_map (λ x. x.slots) p ≡ option_map (λ x. x.slots) o → IfSome o (λ x. Q x.slots) → IfSome p (λ x. Q x.slots)
-  slots_too o None e h = tt
-  slots_too None (Some q) e h = cc
-  slots_too (Some r) (Some q) e h = let same : q.slots ≡ r.slots = cc in subst Q (sym same) h
+  slots_still : (o p : Option (SegmentOf T)) → option_map (λ x. x.slots) p ≡ option_map (λ x. x.slots) o → IfSome o (λ x. Q x.slots) → IfSome p (λ x. Q x.slots)
+  slots_still o None e h = tt
+  slots_still None (Some q) e h = cc
+  slots_still (Some r) (Some q) e h = let same : q.slots ≡ r.slots = cc in subst Q (sym same) h
 
 pub cut_kept : {R P : Type 0} (old new : TrieOf (StoredRun R P)) (Missed : ℕ → Type 0) → KeepsRuns old new Missed → IsCut old → IsCut new
 cut_kept old new Missed kept trie = record {
-  held = λ i k h. there_too (λ s. Unit {0}) (segment_at old.segments k) (segment_at new.segments k) (kept.slots k) (trie.held i k (subst (λ s. has k (keys_in s i) ≡ true) kept.branches h));
-  sizes = λ k. slots_too (λ s. (0 < length s) × (length s ≤ 128)) (segment_at old.segments k) (segment_at new.segments k) (kept.slots k) (trie.sizes k);
-  live = λ k h. let was = trie.live k (there_too (λ s. Unit {0}) (segment_at new.segments k) (segment_at old.segments k) (sym (kept.slots k)) h) in
+  held = λ i k h. there_still (λ s. Unit {0}) (segment_at old.segments k) (segment_at new.segments k) (kept.slots k) (trie.held i k (subst (λ s. has k (keys_in s i) ≡ true) kept.branches h));
+  sizes = λ k. slots_still (λ s. (0 < length s) × (length s ≤ 128)) (segment_at old.segments k) (segment_at new.segments k) (kept.slots k) (trie.sizes k);
+  live = λ k h. let was = trie.live k (there_still (λ s. Unit {0}) (segment_at new.segments k) (segment_at old.segments k) (sym (kept.slots k)) h) in
       (was.0, subst (λ s. has k (keys_in s was.0) ≡ true) (sym kept.branches) was.1);
   shares = subst SharesAbove (sym kept.branches) trie.shares;
 }
@@ -51,7 +52,7 @@ charted_kept E is next after fresh mark c new Missed kept linked was = record {
   within = was.within;
   begins = was.begins;
   fits = subst (StepsFit (is c.start.register)) (sym kept.forest_kept) was.fits;
-  whole = cut_kept c.trie new Missed kept was.whole;
+  cut = cut_kept c.trie new Missed kept was.cut;
   linked = linked;
   marked = tt;
   fresh_marked = tt;
@@ -64,7 +65,7 @@ charted_marked E is next fresh mark first other c all_marked marked was = record
   within = was.within;
   begins = was.begins;
   fits = was.fits;
-  whole = was.whole;
+  cut = was.cut;
   linked = was.linked;
   marked = marked;
   fresh_marked = all_marked;
@@ -72,9 +73,9 @@ charted_marked E is next fresh mark first other c all_marked marked was = record
 
 -- what a chart's mark and numbers say of its stored runs
 pub chart_known : {R P : Type 0} (E : R → R → Bool) (is : R → Behaviour P) (next : ℕ) (known : Known) (c : Charted R P) → IsCharted E is next known.fresh known.mark c → AreKnown E is c.trie c.start known
-chart_known E is next known c was = record { linked = (next, was.linked); cut = was.whole; fits = was.fits; down = by }
+chart_known E is next known c was = record { linked = (next, was.linked); cut = was.cut; fits = was.fits; down = by }
   where
-    by : (k : ℕ) → IsDown known k (note_of (segment_at c.trie.segments k)) → IsMarked E is c.trie c.start (Some k)
+    by : (k : ℕ) → IsKnownDownTo known k (note_of (segment_at c.trie.segments k)) → IsMarked E is c.trie c.start (Some k)
     by k (inl here) = subst (IsMarked E is c.trie c.start) here was.marked
     by k (inr late) = subst (AreFresh E is c.trie c.start) late.3 was.fresh_marked k late.0 late.2 late.4
 
@@ -91,7 +92,7 @@ module _ {R P : Type 0} (b : Behaviour P) (trie : TrieOf (StoredRun R P)) (name 
   fits_there fits = subst (λ l. AllFit b (map step_of l)) line_there (fits index)
 
   pub keys_there : keys_named trie name ≡ keys_in trie.branches index
-  keys_there = ap (λ o. keys_or o trie.branches) at
+  keys_there = ap (λ o. keys_at o trie.branches) at
 
   pub look_there : (place : ℕ) → place ≤ len → look (forest trie) name place ≡ Ok (forest trie)
   look_there place within =

@@ -8,7 +8,7 @@ use Rattle.schedule_trie.specs.Trie.{TrieOf, SegmentOf, segment, segment_at, not
 use Rattle.cutoff.specs.Fitting.{StoredRun, run_of, RunFits, Fits, steps_at}
 use Rattle.cutoff.specs.Settles.{IsSegmentSettled}
 use Rattle.cutoff.specs.Links.{without_register, IsExitOf, IsGiven, IsStored, IsLinked}
-use Rattle.cutoff.proofs.Fits.{alone_same, stored_at, fits_to_note}
+use Rattle.cutoff.proofs.Fits.{without_register_same, stored_at, fits_to_note}
 use Rattle.cutoff.proofs.Links.{taken_linked, new_linked}
 
 -- setting a note that is there already changes nothing
@@ -52,9 +52,9 @@ module _ {R P : Type 0} (E : R → R → Bool) (old new : TrieOf (StoredRun R P)
       work = inl (fits_to_note E old c k was at_first fits, ap (option_map run_of) at_first ∙ ap Some (sym again), refl);
     }
 
-    pub taken_again : (next : ℕ) (above : Option ℕ) → IsLinked E c.register next above (without_register c) old → s.id ≡ was.id → s.checked ≡ was.checked → (s.link ≡ above) ⊎ (s.link ≡ was.link)
+    pub stored_again_linked : (next : ℕ) (above : Option ℕ) → IsLinked E c.register next above (without_register c) old → s.id ≡ was.id → s.checked ≡ was.checked → (s.link ≡ above) ⊎ (s.link ≡ was.link)
         → IsLinked E c.register next s.id (without_register s.run.exit) new
-    taken_again next above l number checked link =
+    stored_again_linked next above l number checked link =
         let t : IsStored E c.register l.exits (steps_at old k) was = stored_at E c.register l.exits old k was (l.each k) at_first in
         taken_linked E c.register old new k next above c l s noted (record {
           own = subst (λ r. E r.entry.register c.register ≡ true) (sym again) t.own;
@@ -65,5 +65,5 @@ module _ {R P : Type 0} (E : R → R → Bool) (old new : TrieOf (StoredRun R P)
         })
       where
         came : (s.link ≡ above) ⊎ (s.link ≡ was.link) → IsExitOf l.exits was.link (without_register was.run.entry) → IsExitOf l.exits s.link (without_register was.run.entry)
-        came (inl e) t = subst (λ o. IsExitOf l.exits o (without_register was.run.entry)) (sym e) (subst (IsExitOf l.exits above) (sym (alone_same E was.run.entry c fits.entry)) l.reached_exit)
+        came (inl e) t = subst (λ o. IsExitOf l.exits o (without_register was.run.entry)) (sym e) (subst (IsExitOf l.exits above) (sym (without_register_same E was.run.entry c fits.entry)) l.reached_exit)
         came (inr e) t = subst (λ o. IsExitOf l.exits o (without_register was.run.entry)) (sym e) t

@@ -18,19 +18,19 @@ use Rattle.cutoff.specs.Fitting.{StoredRun, Fits, steps_at}
 use Rattle.cutoff.specs.Plans.{FitsDownTo, Descends, Planned, job_of, key_of, with_job}
 use Rattle.cutoff.specs.Prefixes.{HasTrueRun, IsMarked, exit_or_start}
 use Rattle.cutoff.specs.Sights.{AreSeen, HasDescendedAbove, IsAbove, HasDescended, IsKnownAt, IsSight, IsUnseenPart, LooksBelow, sight_at}
-use Rattle.cutoff.proofs.Climbs.{path_once}
+use Rattle.cutoff.proofs.Climbs.{path_once, once_after}
 use Rattle.cutoff.proofs.Edits.{all_left, all_right}
 use Rattle.cutoff.proofs.Fits.{fits_alike, same_symm}
 use Rattle.cutoff.proofs.Paths.{fits_on}
-use Rattle.cutoff.proofs.Prefixes.{down_same, runs_come, up_new}
+use Rattle.cutoff.proofs.Prefixes.{down_same, runs_fit, runs_to_next}
 use Rattle.cutoff.proofs.Walks.{by_key}
 
 -- what was found at each key stays the same when `None` is added to the list
-pub unseen_more : (seen : List (Option Bool)) (k : ℕ) → sight_at (seen ++ None ∷ []) k ≡ sight_at seen k
-unseen_more [] zero = refl
-unseen_more [] (suc k) = refl
-unseen_more (s ∷ seen) zero = refl
-unseen_more (s ∷ seen) (suc k) = unseen_more seen k
+pub sight_at-none_added : (seen : List (Option Bool)) (k : ℕ) → sight_at (seen ++ None ∷ []) k ≡ sight_at seen k
+sight_at-none_added [] zero = refl
+sight_at-none_added [] (suc k) = refl
+sight_at-none_added (s ∷ seen) zero = refl
+sight_at-none_added (s ∷ seen) (suc k) = sight_at-none_added seen k
 
 -- nothing was found at a key
 abbrev pub IsUnseen : List (Option Bool) → ℕ → Type 0
@@ -64,14 +64,14 @@ module _ {R P : Type 0} (E : R → R → Bool) (b : Behaviour P) (trie : TrieOf 
   descends_more c end (k ∷ ks) more m (inl d) = inl (d.0, descends_more (replayed b c (steps_at trie k)) end ks more m d.1)
   descends_more c end (k ∷ ks) more m (inr d) = inr d
 
-  comes_descends : (c end : Configuration R P) (keys : List ℕ) → FitsDownTo E b trie c keys end → Descends E b trie c keys None end
-  comes_descends c end [] d = (refl, d)
-  comes_descends c end (k ∷ ks) d = inl (d.0, comes_descends (replayed b c (steps_at trie k)) end ks d.1)
+  fits_descends : (c end : Configuration R P) (keys : List ℕ) → FitsDownTo E b trie c keys end → Descends E b trie c keys None end
+  fits_descends c end [] d = (refl, d)
+  fits_descends c end (k ∷ ks) d = inl (d.0, fits_descends (replayed b c (steps_at trie k)) end ks d.1)
 
-  comes_missing : (per : IsPartialEquivalence E) (c end : Configuration R P) (keys : List ℕ) (k : ℕ) → FitsDownTo E b trie c keys end → (Fits E trie end k → ⊥)
+  missing_descends : (per : IsPartialEquivalence E) (c end : Configuration R P) (keys : List ℕ) (k : ℕ) → FitsDownTo E b trie c keys end → (Fits E trie end k → ⊥)
       → Descends E b trie c (keys ++ k ∷ []) (Some k) end
-  comes_missing per c end [] k d misses = inr ((λ f. misses (fits_alike E per trie c end k (same_symm E per end c d) f)), refl, d)
-  comes_missing per c end (j ∷ ks) k d misses = inl (d.0, comes_missing per (replayed b c (steps_at trie j)) end ks k d.1 misses)
+  missing_descends per c end [] k d misses = inr ((λ f. misses (fits_alike E per trie c end k (same_symm E per end c d) f)), refl, d)
+  missing_descends per c end (j ∷ ks) k d misses = inl (d.0, missing_descends per (replayed b c (steps_at trie j)) end ks k d.1 misses)
 
 -- jobs with one more, that of the segment k
 module _ {R P : Type 0} (trie : TrieOf (StoredRun R P)) (k : ℕ) (end : Configuration R P) where
@@ -116,52 +116,52 @@ module _ {R P : Type 0} (E : R → R → Bool) (per : IsPartialEquivalence E) (i
   abbrev b : Behaviour P
   b = is start.register
 
-  come_seen : (old jobs : List (Planned R P)) (last : Option ℕ) (fits : Bool) → HasDescended E is trie start old jobs last fits → HasDescended E is trie start jobs jobs last fits
-  come_seen old jobs last true c = (c.0, refl)
-  come_seen old jobs last false c = λ i h. let p = c i h in (p.0, p.1, p.2, p.3, job_again trie p.0 p.1 jobs p.3)
+  descended_again : (old jobs : List (Planned R P)) (last : Option ℕ) (fits : Bool) → HasDescended E is trie start old jobs last fits → HasDescended E is trie start jobs jobs last fits
+  descended_again old jobs last true c = (c.0, refl)
+  descended_again old jobs last false c = λ i h. let p = c i h in (p.0, p.1, p.2, p.3, job_again trie p.0 p.1 jobs p.3)
 
   -- one key further down
   module _ (whole : IsCut trie) (key : ℕ) (above : Option ℕ) (each : IsAbove trie key above) where
-    step : (i : ℕ) → has key (keys_in trie.branches i) ≡ true → IsStepUp (keys_in trie.branches i) key above
-    step i h = step_up (keys_in trie.branches i) key above (path_once trie whole i) h (λ front back e. each i front back e)
+    above_step : (i : ℕ) → has key (keys_in trie.branches i) ≡ true → IsStepUp (keys_in trie.branches i) key above
+    above_step i h = step_up (keys_in trie.branches i) key above (path_once trie whole i) h (λ front back e. each i front back e)
 
-    pub come_unfit : (old jobs : List (Planned R P)) → HasDescended E is trie start old jobs above false → HasDescended E is trie start old jobs (Some key) false
-    come_unfit old jobs c = λ i h.
+    pub descended_unfit : (old jobs : List (Planned R P)) → HasDescended E is trie start old jobs above false → HasDescended E is trie start old jobs (Some key) false
+    descended_unfit old jobs c = λ i h.
         let keys = keys_in trie.branches i in
-        let s = step i h in
+        let s = above_step i h in
         let p = c i s.reached in
         (p.0, p.1, subst (λ l. Descends E b trie start l (Some p.0) p.1) (sym s.is) (descends_more E b trie start p.1 (keys_to keys above) (key ∷ []) p.0 p.2), p.3, p.4)
 
-    pub come_fit : (old jobs new : List (Planned R P)) → HasDescended E is trie start old jobs above true → HasTrueRun E is trie (exit_or_start trie start above) key → new ≡ jobs
+    pub descended_fit : (old jobs new : List (Planned R P)) → HasDescended E is trie start old jobs above true → HasTrueRun E is trie (exit_or_start trie start above) key → new ≡ jobs
         → HasDescended E is trie start old new (Some key) true
-    come_fit old jobs new c run same = (
+    descended_fit old jobs new c run same = (
       λ i h.
           let keys = keys_in trie.branches i in
-          let s = step i h in
-          up_new E per is alike trie key run.stored run.noted run.true_run run.fits.steps start keys above s
+          let s = above_step i h in
+          runs_to_next E per is alike trie key run.stored run.noted run.true_run run.fits.steps start keys above s
           (down_same E per is alike trie b start (keys_to keys above) run.stored.run.entry (exit_or_start trie start above) run.fits.entry (c.0 i s.reached)),
       same ∙ c.1,
     )
 
-    pub come_missed : (old jobs new : List (Planned R P)) → HasDescended E is trie start old jobs above true → has key (map key_of jobs) ≡ false → (Fits E trie (exit_or_start trie start above) key → ⊥)
+    pub descended_missed : (old jobs new : List (Planned R P)) → HasDescended E is trie start old jobs above true → has key (map key_of jobs) ≡ false → (Fits E trie (exit_or_start trie start above) key → ⊥)
         → new ≡ jobs ++ record { key = key; entry = exit_or_start trie start above; steps = steps_at trie key } ∷ [] → HasDescended E is trie start old new (Some key) false
-    come_missed old jobs new c other misses added = λ i h.
+    descended_missed old jobs new c other misses added = λ i h.
         let keys = keys_in trie.branches i in
-        let s = step i h in
+        let s = above_step i h in
         let end = exit_or_start trie start above in
-        let down = runs_come E per is alike trie b start (keys_to keys above) end (c.0 i s.reached) in
+        let down = runs_fit E per is alike trie b start (keys_to keys above) end (c.0 i s.reached) in
         let lacks : has key (map key_of old) ≡ false = ap (λ l. has key (map key_of l)) (sym c.1) ∙ other in (
           key,
           end,
-          subst (λ l. Descends E b trie start l (Some key) end) (sym s.is) (comes_missing E b trie per start end (keys_to keys above) key down misses),
+          subst (λ l. Descends E b trie start l (Some key) end) (sym s.is) (missing_descends E b trie per start end (keys_to keys above) key down misses),
           ap (λ l. has key (map key_of l)) added ∙ keys_more trie key end jobs key ∙ or_right (has key (map key_of jobs)) (has key (key ∷ [])) (has-head key []),
           added ∙ ap (λ l. l ++ job trie key end ∷ []) c.1 ∙ sym (job_new trie key end old lacks),
         )
 
   -- what was found stays so, and the key visited is now known
-  pub see_on : (seen after : List (Option Bool)) (jobs new : List (Planned R P)) (key : ℕ) (fits : Bool) → AreSeen E is trie start seen jobs → sight_at after key ≡ Some fits
+  pub seen_after : (seen after : List (Option Bool)) (jobs new : List (Planned R P)) (key : ℕ) (fits : Bool) → AreSeen E is trie start seen jobs → sight_at after key ≡ Some fits
       → ((k : ℕ) → (k ≡ key → ⊥) → sight_at after k ≡ sight_at seen k) → HasDescended E is trie start new new (Some key) fits → Grows trie key jobs new → AreSeen E is trie start after new
-  see_on seen after jobs new key fits were at others now grows = λ k. by_key k key (IsSight E is trie start new k (sight_at after k))
+  seen_after seen after jobs new key fits were at others now grows = λ k. by_key k key (IsSight E is trie start new k (sight_at after k))
       (λ e. subst (λ j. IsSight E is trie start new j (sight_at after j)) (sym e) (subst (IsSight E is trie start new key) (sym at) (by fits now)))
       (λ ne. subst (IsSight E is trie start new k) (sym (others k ne)) (still k ne (sight_at seen k) (were k)))
     where
@@ -177,20 +177,20 @@ module _ {R P : Type 0} (E : R → R → Bool) (per : IsPartialEquivalence E) (i
   -- a visit of a key, if runs don't fit down to the key above
   module _ (whole : IsCut trie) (key : ℕ) (above : Option ℕ) (each : IsAbove trie key above) (jobs : List (Planned R P)) where
     pub visit_unfit : (old : List (Planned R P)) → HasDescendedAbove E is trie start old jobs key false → HasDescended E is trie start old jobs (Some key) false
-    visit_unfit old c = come_unfit whole key above each old jobs (c above each)
+    visit_unfit old c = descended_unfit whole key above each old jobs (c above each)
 
     pub seen_unfit : (seen after : List (Option Bool)) → AreSeen E is trie start seen jobs → sight_at after key ≡ Some false → ((k : ℕ) → (k ≡ key → ⊥) → sight_at after k ≡ sight_at seen k)
         → (old : List (Planned R P)) × HasDescendedAbove E is trie start old jobs key false → AreSeen E is trie start after jobs
     seen_unfit seen after were at others c =
-        see_on seen after jobs jobs key false were at others (come_seen c.0 jobs (Some key) false (visit_unfit c.0 c.1)) (inl refl)
+        seen_after seen after jobs jobs key false were at others (descended_again c.0 jobs (Some key) false (visit_unfit c.0 c.1)) (inl refl)
 
     module _ (fits : Bool) (new : List (Planned R P)) (looks : LooksBelow E is trie (exit_or_start trie start above) key fits jobs new) (lacks : has key (map key_of jobs) ≡ false) where
       pub visit_below : (old : List (Planned R P)) → HasDescendedAbove E is trie start old jobs key true → HasDescended E is trie start old new (Some key) fits
       visit_below old c = by fits looks
         where
           by : (f : Bool) → LooksBelow E is trie (exit_or_start trie start above) key f jobs new → HasDescended E is trie start old new (Some key) f
-          by true l = come_fit whole key above each old jobs new (c above each) l.0 l.1
-          by false l = come_missed whole key above each old jobs new (c above each) lacks l.0 l.1
+          by true l = descended_fit whole key above each old jobs new (c above each) l.0 l.1
+          by false l = descended_missed whole key above each old jobs new (c above each) lacks l.0 l.1
 
       grows : Grows trie key jobs new
       grows = by fits looks
@@ -202,15 +202,15 @@ module _ {R P : Type 0} (E : R → R → Bool) (per : IsPartialEquivalence E) (i
       pub seen_below : (seen after : List (Option Bool)) → AreSeen E is trie start seen jobs → sight_at after key ≡ Some fits → ((k : ℕ) → (k ≡ key → ⊥) → sight_at after k ≡ sight_at seen k)
           → (old : List (Planned R P)) × HasDescendedAbove E is trie start old jobs key true → AreSeen E is trie start after new
       seen_below seen after were at others c =
-          see_on seen after jobs new key fits were at others (come_seen c.0 new (Some key) fits (visit_below c.0 c.1)) grows
+          seen_after seen after jobs new key fits were at others (descended_again c.0 new (Some key) fits (visit_below c.0 c.1)) grows
 
   -- what is known of a key that was visited or is marked is true
-  known_come : (seen : List (Option Bool)) (jobs : List (Planned R P)) (last : Option ℕ) (fits : Bool) → IsEquivalence E
+  known_descended : (seen : List (Option Bool)) (jobs : List (Planned R P)) (last : Option ℕ) (fits : Bool) → IsEquivalence E
       → AreSeen E is trie start seen jobs → IsKnownAt (λ k. IsMarked E is trie start (Some k)) seen last fits → HasDescended E is trie start jobs jobs last fits
-  known_come seen jobs None fits equal seen_so known =
+  known_descended seen jobs None fits equal are_seen known =
       subst (HasDescended E is trie start jobs jobs None) (sym known) ((λ i h. record { register = equal.refl start.register; memory = refl; running = refl; stopped = refl }), refl)
-  known_come seen jobs (Some k) fits equal seen_so (inl known) = subst (HasDescended E is trie start jobs jobs (Some k)) (sym known.1) (known.0, refl)
-  known_come seen jobs (Some k) fits equal seen_so (inr known) = by fits (subst (IsSight E is trie start jobs k) known (seen_so k))
+  known_descended seen jobs (Some k) fits equal are_seen (inl known) = subst (HasDescended E is trie start jobs jobs (Some k)) (sym known.1) (known.0, refl)
+  known_descended seen jobs (Some k) fits equal are_seen (inr known) = by fits (subst (IsSight E is trie start jobs k) known (are_seen k))
     where
       by : (f : Bool) → IsSight E is trie start jobs k (Some f) → HasDescended E is trie start jobs jobs (Some k) f
       by true h = h
@@ -224,22 +224,22 @@ pub record IsPlanning {R P : Type 0} (E : R → R → Bool) (is : R → Behaviou
   pub reached : HasClimbedTo (keys_in trie.branches i) above
   pub path : keys_in trie.branches i ≡ keys_to (keys_in trie.branches i) above ++ left
   pub lacks : (k : ℕ) → has k left ≡ true → sight_at seen k ≡ None
-  pub seen_so : AreSeen E is trie start seen jobs
-  pub come : HasDescended E is trie start old jobs above fits
+  pub are_seen : AreSeen E is trie start seen jobs
+  pub descended : HasDescended E is trie start old jobs above fits
 
 module _ {R P : Type 0} (E : R → R → Bool) (per : IsPartialEquivalence E) (is : R → Behaviour P) (alike : (x y : R) → E x y ≡ true → is x ≡ is y)
     (trie : TrieOf (StoredRun R P)) (start : Configuration R P) (old : List (Planned R P)) (i : ℕ) where
   pub planning_starts : (seen was : List (Option Bool)) (left given : List ℕ) (fits : Bool) → IsEquivalence E → AreSeen E is trie start seen old
       → was ≡ seen → given ≡ left → IsUnseenPart (λ k. IsMarked E is trie start (Some k)) was (keys_in trie.branches i) fits left → IsPlanning E is trie start old old seen i given fits
-  planning_starts seen was left given fits equal seen_so found same unseen =
+  planning_starts seen was left given fits equal are_seen found same unseen =
       let part = subst (λ l. IsUnseenPart (λ k. IsMarked E is trie start (Some k)) l (keys_in trie.branches i) fits left) found unseen in
       subst (λ l. IsPlanning E is trie start old old seen i l fits) (sym same) (record {
         above = part.above;
         reached = part.reached;
         path = part.path;
         lacks = part.lacks;
-        seen_so = seen_so;
-        come = known_come E per is alike trie start seen old part.above fits equal seen_so part.known;
+        are_seen = are_seen;
+        descended = known_descended E per is alike trie start seen old part.above fits equal are_seen part.known;
       })
 
   module _ (jobs : List (Planned R P)) (seen : List (Option Bool)) (key : ℕ) (rest : List ℕ) (fits : Bool) (p : IsPlanning E is trie start old jobs seen i (key ∷ rest) fits) where
@@ -249,14 +249,14 @@ module _ {R P : Type 0} (E : R → R → Bool) (per : IsPartialEquivalence E) (i
     next_there : has key keys ≡ true
     next_there = ap (has key) p.path ∙ has-in key (keys_to keys p.above) rest
 
-    next_comes : HasDescendedAbove E is trie start old jobs key fits
-    next_comes = λ above each.
+    next_descended : HasDescendedAbove E is trie start old jobs key fits
+    next_descended = λ above each.
         let same : above ≡ p.above = each i (keys_to keys p.above) rest p.path ∙ last_reached keys p.above p.reached in
-        subst (λ o. HasDescended E is trie start old jobs o fits) (sym same) p.come
+        subst (λ o. HasDescended E is trie start old jobs o fits) (sym same) p.descended
 
     planning_on : IsCut trie → (new : List (Planned R P)) (after : List (Option Bool)) (found : Bool) → AreSeen E is trie start after new
         → ((k : ℕ) → (k ≡ key → ⊥) → sight_at after k ≡ sight_at seen k) → HasDescended E is trie start old new (Some key) found → IsPlanning E is trie start old new after i rest found
-    planning_on whole new after found seen_so others come =
+    planning_on whole new after found are_seen others come =
         let front = keys_to keys p.above in
         let once : Once (front ++ key ∷ rest) = subst Once p.path (path_once trie whole i) in
         let up : keys_up_to key keys ≡ front ++ key ∷ [] = ap (keys_up_to key) p.path ∙ up_to-here key front rest (once_before front key rest once) in
@@ -264,42 +264,38 @@ module _ {R P : Type 0} (E : R → R → Bool) (per : IsPartialEquivalence E) (i
           above = Some key;
           reached = next_there;
           path = p.path ∙ sym (append_assoc front (key ∷ []) rest) ∙ ap (λ l. l ++ rest) (sym up);
-          lacks = λ k h. others k (λ same. true≢false (sym (subst (λ j. has j rest ≡ true) same h) ∙ lacks_rest front once)) ∙ p.lacks k (has-tail k key rest h);
-          seen_so = seen_so;
-          come = come;
+          lacks = λ k h. others k (λ same. true≢false (sym (subst (λ j. has j rest ≡ true) same h) ∙ once_after front key rest once)) ∙ p.lacks k (has-tail k key rest h);
+          are_seen = are_seen;
+          descended = come;
         }
-      where
-        lacks_rest : (front : List ℕ) → Once (front ++ key ∷ rest) → has key rest ≡ false
-        lacks_rest [] once = once.0
-        lacks_rest (f ∷ front) once = lacks_rest front once.1
 
   -- the next key, by its index
   module _ {jobs : List (Planned R P)} {seen : List (Option Bool)} (keys : List ℕ) (index : ℕ) (fits : Bool) (less : index < length keys) (p : IsPlanning E is trie start old jobs seen i (drop index keys) fits) where
     abbrev key : ℕ
     key = get_or keys index 0
 
-    next : IsPlanning E is trie start old jobs seen i (key ∷ drop (index + 1) keys) fits
-    next =
+    planning_at : IsPlanning E is trie start old jobs seen i (key ∷ drop (index + 1) keys) fits
+    planning_at =
         let step : suc index ≡ index + 1 = omega arith in
         subst (λ l. IsPlanning E is trie start old jobs seen i l fits) (drop-cons keys index 0 less ∙ ap (λ n. key ∷ drop n keys) step) p
 
-    pub at_fits : StepsFit (is start.register) (forest trie) → AllFit (is start.register) (steps_at trie key)
-    at_fits fit =
-        segment_fits (is start.register) trie (keys_in trie.branches i) key (next_there jobs seen key (drop (index + 1) keys) fits next) (fits_on (is start.register) trie fit i (keys_in trie.branches i) refl)
+    pub next_fits : StepsFit (is start.register) (forest trie) → AllFit (is start.register) (steps_at trie key)
+    next_fits fit =
+        segment_fits (is start.register) trie (keys_in trie.branches i) key (next_there jobs seen key (drop (index + 1) keys) fits planning_at) (fits_on (is start.register) trie fit i (keys_in trie.branches i) refl)
 
-    pub at_new : sight_at seen key ≡ None
-    at_new = next.lacks key (has-head key (drop (index + 1) keys))
+    pub next_unseen : sight_at seen key ≡ None
+    next_unseen = planning_at.lacks key (has-head key (drop (index + 1) keys))
 
-    pub at_comes : HasDescendedAbove E is trie start old jobs key fits
-    at_comes = next_comes jobs seen key (drop (index + 1) keys) fits next
+    pub next_above : HasDescendedAbove E is trie start old jobs key fits
+    next_above = next_descended jobs seen key (drop (index + 1) keys) fits planning_at
 
-    pub at_on : {new : List (Planned R P)} {after : List (Option Bool)} {found : Bool} → IsCut trie → AreSeen E is trie start after new → ((k : ℕ) → (k ≡ key → ⊥) → sight_at after k ≡ sight_at seen k)
+    pub planning_next : {new : List (Planned R P)} {after : List (Option Bool)} {found : Bool} → IsCut trie → AreSeen E is trie start after new → ((k : ℕ) → (k ≡ key → ⊥) → sight_at after k ≡ sight_at seen k)
         → HasDescended E is trie start old new (Some key) found → IsPlanning E is trie start old new after i (drop (index + 1) keys) found
-    at_on {new} {after} {found} whole = planning_on jobs seen key (drop (index + 1) keys) fits next whole new after found
+    planning_next {new} {after} {found} whole = planning_on jobs seen key (drop (index + 1) keys) fits planning_at whole new after found
 
   pub planning_ends : (jobs : List (Planned R P)) (seen : List (Option Bool)) (left : List ℕ) (fits : Bool) → left ≡ [] → IsPlanning E is trie start old jobs seen i left fits
       → (missed : Option ℕ) × (end : Configuration R P) × Descends E (is start.register) trie start (keys_in trie.branches i) missed end × (jobs ≡ with_job old (job_of trie missed end))
-  planning_ends jobs seen left fits none p = by fits p.come
+  planning_ends jobs seen left fits none p = by fits p.descended
     where
       all : keys_to (keys_in trie.branches i) p.above ≡ keys_in trie.branches i
       all = sym (p.path ∙ ap (λ l. keys_to (keys_in trie.branches i) p.above ++ l) none ∙ append-nil (keys_to (keys_in trie.branches i) p.above))
@@ -308,8 +304,8 @@ module _ {R P : Type 0} (E : R → R → Bool) (per : IsPartialEquivalence E) (i
           → (missed : Option ℕ) × (end : Configuration R P) × Descends E (is start.register) trie start (keys_in trie.branches i) missed end × (jobs ≡ with_job old (job_of trie missed end))
       by true c =
           let end = exit_or_start trie start p.above in
-          let down = runs_come E per is alike trie (is start.register) start (keys_to (keys_in trie.branches i) p.above) end (c.0 i p.reached) in
-          (None, end, subst (λ l. Descends E (is start.register) trie start l None end) all (comes_descends E (is start.register) trie start end (keys_to (keys_in trie.branches i) p.above) down), c.1)
+          let down = runs_fit E per is alike trie (is start.register) start (keys_to (keys_in trie.branches i) p.above) end (c.0 i p.reached) in
+          (None, end, subst (λ l. Descends E (is start.register) trie start l None end) all (fits_descends E (is start.register) trie start end (keys_to (keys_in trie.branches i) p.above) down), c.1)
       by false c =
           let m = c i p.reached in
           (Some m.0, m.1, subst (λ l. Descends E (is start.register) trie start l (Some m.0) m.1) all m.2, m.4)

@@ -17,8 +17,8 @@ use Rattle.schedule_trie.specs.Forest.{step_of}
 use Rattle.schedule_trie.specs.Trie.{TrieOf, SegmentOf, segment_at, slots_of, note_of, with_note, line, has, Once, keys_in, IsNoted, IsCut}
 use Rattle.schedule_trie.proofs.lists.NoRepeats.{has-head, has-tail, Once-from_linked}
 use Rattle.cutoff.specs.Fitting.{StoredRun, RunPart, run_of, RunFits, Fits, KeepsRuns, steps_at, slots_at, run_at, reached, counted, part_of}
-use Rattle.cutoff.specs.Settles.{IsWork, IsSettledAt, IsSegmentSettled, Settles, IsFilled}
-use Rattle.cutoff.specs.Links.{IsStored, IsTrueSegment, IsLinked}
+use Rattle.cutoff.specs.Settles.{ReplaysIfNeeded, IsSettledAt, IsSegmentSettled, Settles, IsFilled}
+use Rattle.cutoff.specs.Links.{IsStored, IsStoredIn, IsLinked}
 use Rattle.cutoff.proofs.Edits.{all_left, all_right}
 use Rattle.cutoff.proofs.Fits.{register_kept, same_symm, run_fits_alike, fits_alike, exit_same}
 
@@ -71,15 +71,15 @@ module _ {R P : Type 0} where
   noted_slots s (Some p) = refl
 
 -- stored runs are linked also for a register equal to h
-pub linked_home : {R P : Type 0} (E : R → R → Bool) → IsPartialEquivalence E → (h g : R) (next : ℕ) (above : Option ℕ) (c : Configuration ⊤ P) (trie : TrieOf (StoredRun R P))
+pub linked_equal : {R P : Type 0} (E : R → R → Bool) → IsPartialEquivalence E → (h g : R) (next : ℕ) (above : Option ℕ) (c : Configuration ⊤ P) (trie : TrieOf (StoredRun R P))
     → E h g ≡ true → IsLinked E h next above c trie → IsLinked E g next above c trie
-linked_home {R} {P} E per h g next above c trie e l = record { exits = l.exits; as_many = l.as_many; each = λ k. still (segment_at trie.segments k) (l.each k); reached_exit = l.reached_exit }
+linked_equal {R} {P} E per h g next above c trie e l = record { exits = l.exits; as_many = l.as_many; each = λ k. still (segment_at trie.segments k) (l.each k); reached_exit = l.reached_exit }
   where
     stored : (segment : List Step) (n : Option (StoredRun R P)) → MatchOption n ⊤ (IsStored E h l.exits segment) → MatchOption n ⊤ (IsStored E g l.exits segment)
     stored segment None t = tt
     stored segment (Some s) t = record { own = per.trans s.run.entry.register h g t.own e; covers = t.covers; id = t.id; link = t.link; checked = t.checked }
 
-    still : (o : Option (SegmentOf (StoredRun R P))) → IsTrueSegment E h l.exits o → IsTrueSegment E g l.exits o
+    still : (o : Option (SegmentOf (StoredRun R P))) → IsStoredIn E h l.exits o → IsStoredIn E g l.exits o
     still None t = tt
     still (Some p) t = stored (map step_of p.slots) p.note t
 
@@ -95,7 +95,7 @@ filled_still E b old trie new c (j ∷ js) k same (inr f) = inr (filled_still E 
 pub record IsWalking {R P : Type 0} (E : R → R → Bool) (b : Behaviour P) (old trie : TrieOf (StoredRun R P)) (start : Configuration R P)
     (keys left : List ℕ) (place rest n : ℕ) (parts : List (RunPart R P)) : Type 0 where
   pub at : Configuration R P
-  pub home : at.register ≡ start.register
+  pub same_register : at.register ≡ start.register
   pub same : SameConfiguration E (exit_of start parts) at
   pub keeps : KeepsRuns old trie (IsFilled E b old trie start (reached old place keys))
   pub ahead : (k : ℕ) → has k left ≡ true → segment_at trie.segments k ≡ segment_at old.segments k
@@ -124,7 +124,7 @@ module _ {R P : Type 0} (E : R → R → Bool) (equal : IsEquivalence E) (b : Be
       → IsWalking E b old old start keys keys place place 0 []
   walk_starts keys place whole branch fit within = record {
     at = start;
-    home = refl;
+    same_register = refl;
     same = record { register = equal.refl start.register; memory = refl; running = refl; stopped = refl };
     keeps = record { branches = refl; limits = refl; forest_kept = refl; slots = λ k. refl; runs = λ k. inl refl };
     ahead = λ k h. refl;
@@ -144,8 +144,8 @@ module _ {R P : Type 0} (E : R → R → Bool) (equal : IsEquivalence E) (per : 
     (old trie : TrieOf (StoredRun R P)) (start : Configuration R P) (keys ks : List ℕ) (k place rest n : ℕ) (parts : List (RunPart R P))
     (w : IsWalking E (is start.register) old trie start keys (k ∷ ks) place rest n parts) (wanted : rest ≡ 0 → ⊥) where
   -- what holds before the segment k is settled
-  home_same : E (exit_of start parts).register start.register ≡ true
-  home_same = subst (λ r. E (exit_of start parts).register r ≡ true) w.home w.same.register
+  exit_register : E (exit_of start parts).register start.register ≡ true
+  exit_register = subst (λ r. E (exit_of start parts).register r ≡ true) w.same_register w.same.register
 
   here_same : segment_at trie.segments k ≡ segment_at old.segments k
   here_same = w.ahead k (has-head k ks)
@@ -162,7 +162,7 @@ module _ {R P : Type 0} (E : R → R → Bool) (equal : IsEquivalence E) (per : 
   pub fits_here : AllFit (is (exit_of start parts).register) (steps_at trie k)
   fits_here =
       subst (AllFit (is (exit_of start parts).register)) (sym steps_here)
-      (subst (λ b. AllFit b (steps_at old k)) (sym (alike (exit_of start parts).register start.register home_same)) fits_old)
+      (subst (λ b. AllFit b (steps_at old k)) (sym (alike (exit_of start parts).register start.register exit_register)) fits_old)
 
   len_here : length (line (segment_at old.segments) (k ∷ ks)) ≡ length (steps_at old k) + length (line (segment_at old.segments) ks)
   len_here =
@@ -211,20 +211,20 @@ module _ {R P : Type 0} (E : R → R → Bool) (equal : IsEquivalence E) (per : 
     run_here = ap (λ o. option_map run_of (note_of o)) here_same
 
     -- a stored run fits k in `trie` just if one did in `old`
-    fits_cut : Fits E old w.at k → Fits E trie (exit_of start parts) k
-    fits_cut f = subst (λ o. MatchOption (option_map run_of (note_of o)) ⊥ (RunFits E (exit_of start parts) (map step_of (slots_of o)))) (sym here_same)
+    fits_now : Fits E old w.at k → Fits E trie (exit_of start parts) k
+    fits_now f = subst (λ o. MatchOption (option_map run_of (note_of o)) ⊥ (RunFits E (exit_of start parts) (map step_of (slots_of o)))) (sym here_same)
         (fits_alike E per old w.at (exit_of start parts) k (same_symm E per (exit_of start parts) w.at w.same) f)
 
     fits_was : Fits E trie (exit_of start parts) k → Fits E old w.at k
     fits_was f = fits_alike E per old (exit_of start parts) w.at k w.same
         (subst (λ o. MatchOption (option_map run_of (note_of o)) ⊥ (RunFits E (exit_of start parts) (map step_of (slots_of o)))) here_same f)
 
-    work_was : IsWork E old w.at k run work
+    work_was : ReplaysIfNeeded E old w.at k run work
     work_was = by settled.work
       where
-        by : IsWork E trie (exit_of start parts) k run work → IsWork E old w.at k run work
+        by : ReplaysIfNeeded E trie (exit_of start parts) k run work → ReplaysIfNeeded E old w.at k run work
         by (inl f) = inl (fits_was f.0, sym run_here ∙ f.1, f.2)
-        by (inr m) = inr ((λ f. m.0 (fits_cut f)), m.1 ∙ ap length steps_here)
+        by (inr m) = inr ((λ f. m.0 (fits_now f)), m.1 ∙ ap length steps_here)
 
     settled_at : (last : TrieOf (StoredRun R P)) → run_at last k ≡ run_at new k → IsSettledAt E old last w.at rest k (part run count) work
     settled_at last e = record { stored = e ∙ stored_here; fits = fits_at; count = counts ∙ ap (min rest) run_len; work = work_was }
@@ -244,7 +244,7 @@ module _ {R P : Type 0} (E : R → R → Bool) (equal : IsEquivalence E) (per : 
         other ne (inl e) = inl (other_run j ne ∙ e)
         other ne (inr f) = inr (filled_still E (is start.register) old trie new start (reached old place keys) j (other_run j ne) f)
 
-        by : j ≡ k → IsWork E old w.at k run work → (run_at new j ≡ run_at old j) ⊎ IsFilled E (is start.register) old new start (reached old place keys) j
+        by : j ≡ k → ReplaysIfNeeded E old w.at k run work → (run_at new j ≡ run_at old j) ⊎ IsFilled E (is start.register) old new start (reached old place keys) j
         by e (inl f) = inl (ap (run_at new) e ∙ stored_here ∙ sym f.1 ∙ ap (run_at old) (sym e))
         by e (inr m) = inr (filled_here new j (inl (e, m.0, (run, stored_here, fits_at))))
 
@@ -274,8 +274,8 @@ module _ {R P : Type 0} (E : R → R → Bool) (equal : IsEquivalence E) (per : 
     pub walk_on : IsWalking E (is start.register) old new start keys ks place rest_after n_after (parts ++ part run count ∷ [])
     walk_on = record {
       at = goes_to;
-      home = register_kept (is start.register) w.at (steps_at old k) ∙ w.home;
-      same = subst (λ c. SameConfiguration E c goes_to) (sym exit_is) (exit_same E is alike (is start.register) w.at (steps_at old k) run (ap is w.home) true_run fits_at);
+      same_register = register_kept (is start.register) w.at (steps_at old k) ∙ w.same_register;
+      same = subst (λ c. SameConfiguration E c goes_to) (sym exit_is) (exit_same E is alike (is start.register) w.at (steps_at old k) run (ap is w.same_register) true_run fits_at);
       keeps = record {
         branches = noted.branches ∙ w.keeps.branches;
         limits = noted.limits ∙ w.keeps.limits;
@@ -295,7 +295,7 @@ module _ {R P : Type 0} (E : R → R → Bool) (equal : IsEquivalence E) (per : 
       fit = all_right (λ s. fits_step (is start.register) s ≡ true) (steps_at old k) (map step_of (line (segment_at old.segments) ks)) (subst (AllFit (is start.register)) line_here w.fit);
     }
       where
-        work_short : IsWork E old w.at k run work → work ≤ length (steps_at old k)
+        work_short : ReplaysIfNeeded E old w.at k run work → work ≤ length (steps_at old k)
         work_short (inl f) = let z = f.2 in omega arith
         work_short (inr m) = let z = m.1 in omega arith
 

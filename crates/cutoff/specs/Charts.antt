@@ -34,7 +34,7 @@ pub record IsCharted {R P : Type 0} (E : R → R → Bool) (is : R → Behaviour
   pub within : c.value < (is c.start.register).values
   pub begins : c.start ≡ initial_configuration (is c.start.register) c.start.register c.value
   pub fits : StepsFit (is c.start.register) (forest c.trie)
-  pub whole : IsCut c.trie
+  pub cut : IsCut c.trie
   pub linked : IsLinked E c.start.register next None (without_register c.start) c.trie
   pub marked : IsMarked E is c.trie c.start mark
   pub fresh_marked : AreFresh E is c.trie c.start fresh
@@ -65,13 +65,13 @@ pub record IsNewChart {R P : Type 0} (b : Behaviour P) (register : R) (initial :
   pub blank : IsBlank c.trie
 
 -- the keys of the segments of the branch at an index; none if the index is `None`
-abbrev pub keys_or : Option ℕ → List KeyedBranch → List ℕ
-keys_or None branches = []
-keys_or (Some i) branches = keys_in branches i
+abbrev pub keys_at : Option ℕ → List KeyedBranch → List ℕ
+keys_at None branches = []
+keys_at (Some i) branches = keys_in branches i
 
 -- the keys of the segments of the named branch; none if there is no such branch
 abbrev pub keys_named : {R P : Type 0} → TrieOf (StoredRun R P) → List ℕ → List ℕ
-keys_named trie name = keys_or (index_of (forest trie).branches name) trie.branches
+keys_named trie name = keys_at (index_of (forest trie).branches name) trie.branches
 
 -- the result of a look at a place of the branch i: the same branches, or NoPlace if the branch has
 -- fewer than `place` cells

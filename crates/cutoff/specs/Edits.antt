@@ -17,8 +17,9 @@ fits_if_any b (Some step) = fits_step b step
 abbrev pub FitsEdit : {P : Type 0} → Behaviour P → Edit → Type 0
 FitsEdit b edit = fits_if_any b (step_in edit) ≡ true
 
--- what an edit does to a chart. Ok: the edit is made, and branches begin from the same configuration
--- and value as before. Err: the chart doesn't change, and the error is why (`WhyRefused`).
+-- what an edit does to a chart. Ok: the edit is made, and branches begin from the same
+-- configuration and value as before. Err: the chart doesn't change, and the error is why
+-- (`WhyRefused`).
 abbrev pub Edits : {R P : Type 0} → Charted R P → Charted R P → Edit → Result (Unit {0}) Refusal → Type 0
 Edits old new edit (Ok done) = IsEdited old.trie new.trie edit × ((new.start ≡ old.start) × (new.value ≡ old.value))
 Edits old new edit (Err e) = WhyRefused edit (edited old.trie.limits (forest old.trie) edit) e × (new ≡ old)

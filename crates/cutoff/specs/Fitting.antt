@@ -86,8 +86,8 @@ abbrev pub part_of : {R P Z : Type 0} → (Arc (SegmentRun R P) Z × ℕ) → Ru
 part_of p = record { run = arc_value p.0; count = p.1 }
 
 -- a stored run, of which this many steps count, as a `RunPart`
-abbrev pub counted_of : {R P : Type 0} → ℕ → StoredRun R P → RunPart R P
-counted_of count s = record { run = s.run; count = count }
+abbrev pub part_of_stored : {R P : Type 0} → ℕ → StoredRun R P → RunPart R P
+part_of_stored count s = record { run = s.run; count = count }
 
 -- the same cells and stored run, which was last found to fit at the install of the run `number`
 abbrev pub checked_segment : {R P : Type 0} → Option ℕ → SegmentOf (StoredRun R P) → SegmentOf (StoredRun R P)

@@ -11,8 +11,8 @@ use Rattle.cutoff.specs.Prefixes.{IsMarked}
 
 -- the segment k, in which `stored` is stored, is marked, or its run was last found to fit with the
 -- number `known.fresh` or a greater one
-abbrev pub IsDown : {R P : Type 0} → Known → ℕ → Option (StoredRun R P) → Type 0
-IsDown known k stored = (known.mark ≡ Some k) ⊎ ((a : ℕ) × (b : ℕ) × (run_checked stored ≡ Some a) × (known.fresh ≡ Some b) × (b ≤ a))
+abbrev pub IsKnownDownTo : {R P : Type 0} → Known → ℕ → Option (StoredRun R P) → Type 0
+IsKnownDownTo known k stored = (known.mark ≡ Some k) ⊎ ((a : ℕ) × (b : ℕ) × (run_checked stored ≡ Some a) × (known.fresh ≡ Some b) × (b ≤ a))
 
 -- what a walk along the branches of `trie` needs: stored runs are linked, branches are cut into
 -- segments, their steps fit the register, and stored runs fit down to each segment to which `known`
@@ -21,4 +21,4 @@ pub record AreKnown {R P : Type 0} (E : R → R → Bool) (is : R → Behaviour 
   pub linked : AreLinked E start trie
   pub cut : IsCut trie
   pub fits : StepsFit (is start.register) (forest trie)
-  pub down : (k : ℕ) → IsDown known k (note_of (segment_at trie.segments k)) → IsMarked E is trie start (Some k)
+  pub down : (k : ℕ) → IsKnownDownTo known k (note_of (segment_at trie.segments k)) → IsMarked E is trie start (Some k)

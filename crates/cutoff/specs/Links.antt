@@ -32,9 +32,9 @@ pub record IsStored {R P : Type 0} (E : R → R → Bool) (h : R) (exits : List 
 
 -- if there is a segment and it has a stored run: the run begins with a register equal to h, and has
 -- the segment's steps; its number and link agree with `exits` (`IsStored`)
-abbrev pub IsTrueSegment : {R P : Type 0} → (R → R → Bool) → R → List (Configuration ⊤ P) → Option (SegmentOf (StoredRun R P)) → Type 0
-IsTrueSegment E h exits None = ⊤
-IsTrueSegment E h exits (Some p) = MatchOption p.note ⊤ (IsStored E h exits (map step_of p.slots))
+abbrev pub IsStoredIn : {R P : Type 0} → (R → R → Bool) → R → List (Configuration ⊤ P) → Option (SegmentOf (StoredRun R P)) → Type 0
+IsStoredIn E h exits None = ⊤
+IsStoredIn E h exits (Some p) = MatchOption p.note ⊤ (IsStored E h exits (map step_of p.slots))
 
 -- the numbers below `next` were given to runs, whose exits are `exits`; each stored run begins with
 -- a register equal to h, and has its segment's steps; each such run's number and link, if any,
@@ -42,7 +42,7 @@ IsTrueSegment E h exits (Some p) = MatchOption p.note ⊤ (IsStored E h exits (m
 pub record IsLinked {R P : Type 0} (E : R → R → Bool) (h : R) (next : ℕ) (above : Option ℕ) (c : Configuration ⊤ P) (trie : TrieOf (StoredRun R P)) : Type 0 where
   pub exits : List (Configuration ⊤ P)
   pub as_many : length exits ≡ next
-  pub each : (k : ℕ) → IsTrueSegment E h exits (segment_at trie.segments k)
+  pub each : (k : ℕ) → IsStoredIn E h exits (segment_at trie.segments k)
   pub reached_exit : IsExitOf exits above c
 
 -- the runs stored in `trie` are linked, and `above` is `None`, or the number of a run with the exit

@@ -6,6 +6,6 @@ abbrev pub number_of_word : ℕ → Option ℕ
 number_of_word word = if nat_eq word (2 ^ 64 - 1) then None else Some word
 
 -- the word that has this number; the greatest word for `None`
-abbrev pub word_with : Option ℕ → ℕ
-word_with None = 2 ^ 64 - 1
-word_with (Some number) = number
+abbrev pub word_of_number : Option ℕ → ℕ
+word_of_number None = 2 ^ 64 - 1
+word_of_number (Some number) = number

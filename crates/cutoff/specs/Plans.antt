@@ -8,7 +8,7 @@ use Rattle.frames.specs.Equality.{SameConfiguration}
 use Rattle.checkpoints.specs.Segment.{SegmentRun}
 use Rattle.schedule_trie.specs.declared.refusal.Refusal.{Refusal}
 use Rattle.schedule_trie.specs.Forest.{index_of}
-use Rattle.schedule_trie.specs.Trie.{TrieOf, KeyedBranch, keys_in, has, forest, if_lacks, IsNoted}
+use Rattle.schedule_trie.specs.Trie.{TrieOf, KeyedBranch, keys_in, has, forest, query_refusal, IsNoted}
 use Rattle.cutoff.specs.Fitting.{StoredRun, RunFits, Fits, IsChecked, steps_at}
 use Rattle.cutoff.specs.Charts.{Charted, keys_named}
 
@@ -74,12 +74,12 @@ module _ {R P : Type 0} (E : R → R → Bool) (b : Behaviour P) (trie : TrieOf 
 abbrev pub IsPlan : {R P : Type 0} → (R → R → Bool) → Behaviour P → Charted R P → List ℕ → List (Planned R P) → Type 0
 IsPlan E b c name jobs = Plans E b c.trie c.start [] (keys_named c.trie name ∷ map keys_of c.trie.branches) jobs
 
--- the result of a plan with the named branch first: the plan's jobs; or NoBranch if there is no such
--- branch, else Memory
+-- the result of a plan with the named branch first: the plan's jobs; or NoBranch if there is no
+-- such branch, else Memory
 pub record AnswersPlan {R P : Type 0} (E : R → R → Bool) (b : Behaviour P) (c : Charted R P) (name : List ℕ) (result : Result (Vec (Planned R P)) Refusal) : Type 0 where
   pub ok : IfOk result (λ jobs. IsPlan E b c name jobs.items)
   pub found : OnOk result (IsSome (index_of (forest c.trie).branches name))
-  pub err : IfErr result (λ e. if_lacks (index_of (forest c.trie).branches name) ≡ e)
+  pub err : IfErr result (λ e. query_refusal (index_of (forest c.trie).branches name) ≡ e)
 
 -- on each branch with the segment `key`, `run` fits that segment and stored runs fit all segments
 -- above it

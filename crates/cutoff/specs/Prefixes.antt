@@ -72,21 +72,21 @@ module _ {R P : Type 0} (E : R → R → Bool) (is : R → Behaviour P) (trie : 
 
     -- on each branch with the key k, true runs that fit are stored at all keys above k, and lead to
     -- the entry of `run`
-    abbrev pub RunGoesOn : ℕ → SegmentRun R P → Type 0
-    RunGoesOn k run =
+    abbrev pub RunsLeadTo : ℕ → SegmentRun R P → Type 0
+    RunsLeadTo k run =
         (i : ℕ) → has k (keys_in trie.branches i) ≡ true
         → (above : List ℕ) × (keys_up_to k (keys_in trie.branches i) ≡ above ++ k ∷ []) × RunsDown (is start.register) start above run.entry
 
-    -- on each branch with `key`, `front` is one of the branch's keys, and true runs that fit are
-    -- stored from the first down to it; if `front` is `None`, nothing is required
+    -- on each branch with `key`, `fitted` is one of the branch's keys, and true runs that fit are
+    -- stored from the first down to it; if `fitted` is `None`, nothing is required
     abbrev pub IsKnown : ℕ → Option ℕ → Type 0
-    IsKnown key front = (i : ℕ) → has key (keys_in trie.branches i) ≡ true → HasClimbedTo (keys_in trie.branches i) front × RunsTo front (keys_in trie.branches i)
+    IsKnown key fitted = (i : ℕ) → has key (keys_in trie.branches i) ≡ true → HasClimbedTo (keys_in trie.branches i) fitted × RunsTo fitted (keys_in trie.branches i)
 
--- a climb from `last` ended at `up`, which is `front` or `None`: on each branch with the key `last`,
+-- a climb from `last` ended at `up`, which is `stop` or `None`: on each branch with the key `last`,
 -- `left` are the keys below `up` down to `last`, followed by `below`
 abbrev pub AreKeysAfter : {T : Type 0} → TrieOf T → Option ℕ → List ℕ → Option ℕ → Option ℕ → List ℕ → Type 0
-AreKeysAfter trie last below front up left =
-    ((up ≡ front) ⊎ (up ≡ None))
+AreKeysAfter trie last below stop up left =
+    ((up ≡ stop) ⊎ (up ≡ None))
     × ((i : ℕ) → HasClimbedTo (keys_in trie.branches i) last → HasClimbedTo (keys_in trie.branches i) up × (keys_to (keys_in trie.branches i) last ++ below ≡ keys_to (keys_in trie.branches i) up ++ left))
 
 -- `stored` is what is stored at `key`, and on each branch with `key`, `above` is the key right
@@ -107,17 +107,17 @@ pub record EndsIn {T : Type 0} (trie : TrieOf T) (key count place : ℕ) (keys :
 pub record IsPlaceIn {T : Type 0} (trie : TrieOf T) (key count place i : ℕ) : Type 0 where
   pub there : has key (keys_in trie.branches i) ≡ true
   pub ends : EndsIn trie key count place (keys_up_to key (keys_in trie.branches i))
-  pub some : 0 < count
-  pub few : count ≤ length (slots_of (segment_at trie.segments key))
+  pub positive : 0 < count
+  pub within : count ≤ length (slots_of (segment_at trie.segments key))
 
--- on branch i, true runs that fit are stored from the first segment down to `front`, and `left` are
--- the segments below `front` down to `key`; the branch's first `place` cells end with `count` cells
--- of `key`, and its steps fit the register
-pub record IsRest {R P : Type 0} (E : R → R → Bool) (is : R → Behaviour P) (trie : TrieOf (StoredRun R P)) (start : Configuration R P) (front : Option ℕ) (left : List ℕ) (key count place i : ℕ) : Type 0 where
+-- on branch i, true runs that fit are stored from the first segment down to `fitted`, and `left`
+-- are the segments below `fitted` down to `key`; the branch's first `place` cells end with `count`
+-- cells of `key`, and its steps fit the register
+pub record IsRest {R P : Type 0} (E : R → R → Bool) (is : R → Behaviour P) (trie : TrieOf (StoredRun R P)) (start : Configuration R P) (fitted : Option ℕ) (left : List ℕ) (key count place i : ℕ) : Type 0 where
   pub lies : IsPlaceIn trie key count place i
-  pub reached : HasClimbedTo (keys_in trie.branches i) front
-  pub down : RunsTo E is trie start front (keys_in trie.branches i)
-  pub path : keys_up_to key (keys_in trie.branches i) ≡ keys_to (keys_in trie.branches i) front ++ left
+  pub reached : HasClimbedTo (keys_in trie.branches i) fitted
+  pub down : RunsTo E is trie start fitted (keys_in trie.branches i)
+  pub path : keys_up_to key (keys_in trie.branches i) ≡ keys_to (keys_in trie.branches i) fitted ++ left
   pub fits : AllFit (is start.register) (map step_of (line (segment_at trie.segments) (keys_in trie.branches i)))
 
 -- true runs are stored at all keys of branch i below `top` down to `key`, and each fits at the
@@ -128,9 +128,9 @@ pub record IsHung {R P : Type 0} (E : R → R → Bool) (is : R → Behaviour P)
   pub path : keys_up_to key (keys_in trie.branches i) ≡ keys_up_to top (keys_in trie.branches i) ++ below
   pub hangs : (start : Configuration R P) → Hangs E is trie (exit_or_start trie start (Some top)) below
 
--- what is left to settle of branch i below `front` down to `key`: the segments `left`, down to
+-- what is left to settle of branch i below `fitted` down to `key`: the segments `left`, down to
 -- `top`, and then those below `top`, each of which has a run that begins at the exit of the run
 -- right above it
-pub record IsLeft {R P : Type 0} (E : R → R → Bool) (is : R → Behaviour P) (trie : TrieOf (StoredRun R P)) (start : Configuration R P) (front : Option ℕ) (left : List ℕ) (top key count place i : ℕ) : Type 0 where
+pub record IsLeftToSettle {R P : Type 0} (E : R → R → Bool) (is : R → Behaviour P) (trie : TrieOf (StoredRun R P)) (start : Configuration R P) (fitted : Option ℕ) (left : List ℕ) (top key count place i : ℕ) : Type 0 where
   pub hanging : IsHung E is trie top key i
-  pub rest : IsRest E is trie start front (left ++ hanging.below) key count place i
+  pub rest : IsRest E is trie start fitted (left ++ hanging.below) key count place i

@@ -10,8 +10,8 @@ use Rattle.cutoff.specs.Charts.{Charted, reached_by}
 
 -- settling the segment k at c replays n steps: none if the segment's stored run fits there, and
 -- `run` is then that stored run; otherwise all of the segment's steps
-abbrev pub IsWork : {R P : Type 0} → (R → R → Bool) → TrieOf (StoredRun R P) → Configuration R P → ℕ → SegmentRun R P → ℕ → Type 0
-IsWork E old c k run n = (Fits E old c k × (run_at old k ≡ Some run) × (n ≡ 0)) ⊎ ((Fits E old c k → ⊥) × (n ≡ length (steps_at old k)))
+abbrev pub ReplaysIfNeeded : {R P : Type 0} → (R → R → Bool) → TrieOf (StoredRun R P) → Configuration R P → ℕ → SegmentRun R P → ℕ → Type 0
+ReplaysIfNeeded E old c k run n = (Fits E old c k × (run_at old k ≡ Some run) × (n ≡ 0)) ⊎ ((Fits E old c k → ⊥) × (n ≡ length (steps_at old k)))
 
 -- the segment k is settled at c, and n steps are replayed: the run of `part`, which fits, is now
 -- stored there, and its first `place` steps count, or all if there are fewer
@@ -19,7 +19,7 @@ pub record IsSettledAt {R P : Type 0} (E : R → R → Bool) (old new : TrieOf (
   pub stored : run_at new k ≡ Some part.run
   pub fits : RunFits E c (steps_at old k) part.run
   pub count : part.count ≡ min place (length (steps_at old k))
-  pub work : IsWork E old c k part.run n
+  pub work : ReplaysIfNeeded E old c k part.run n
 
 module _ {R P : Type 0} (E : R → R → Bool) (b : Behaviour P) (old : TrieOf (StoredRun R P)) where
   -- these segments, of which the first begins at c, are settled one after another: `parts` are
@@ -48,7 +48,7 @@ module _ {R P : Type 0} (E : R → R → Bool) (b : Behaviour P) (old : TrieOf (
 pub record IsSegmentSettled {R P : Type 0} (E : R → R → Bool) (old new : TrieOf (StoredRun R P)) (c : Configuration R P) (k : ℕ) (s : StoredRun R P) (n : ℕ) : Type 0 where
   pub noted : IsNoted old new k (Some s)
   pub fits : RunFits E c (steps_at old k) s.run
-  pub work : IsWork E old c k s.run n
+  pub work : ReplaysIfNeeded E old c k s.run n
 
 -- the last of these parts is the run stored in the segment `key`, of which `count` steps count
 pub record EndsWith {R P : Type 0} (trie : TrieOf (StoredRun R P)) (key count : ℕ) (parts : List (RunPart R P)) : Type 0 where

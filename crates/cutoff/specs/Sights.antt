@@ -14,8 +14,8 @@ abbrev pub sight_at : List (Option Bool) → ℕ → Option Bool
 sight_at seen k = slice_index_or seen k None
 
 -- `fits` is a plan's answer to whether stored runs fit down to a key; if there is no key, `fits` is
--- true; otherwise `fits` is true and the key is one of the marked ones, or `fits` is what a visit of
--- the key found
+-- true; otherwise `fits` is true and the key is one of the marked ones, or `fits` is what a visit
+-- of the key found
 abbrev pub IsKnownAt : (ℕ → Type 0) → List (Option Bool) → Option ℕ → Bool → Type 0
 IsKnownAt Marked seen None fits = fits ≡ true
 IsKnownAt Marked seen (Some k) fits = (Marked k × (fits ≡ true)) ⊎ (sight_at seen k ≡ Some fits)

@@ -9,7 +9,7 @@ ghost use Rattle.cutoff.specs.Plans.{AnswersPlan};
 ghost use Rattle.cutoff.specs.Installs.{Installs};
 ghost use Rattle.cutoff.specs.Charts.{CanBegin, IsNewChart, StepsFit, look};
 ghost use Rattle.cutoff.specs.Settles.{IsSettled, KeepsOrFills};
-ghost use Rattle.schedule_trie.specs.Trie.{IsCut, IsBlank, forest, if_lacks};
+ghost use Rattle.schedule_trie.specs.Trie.{IsCut, IsBlank, forest, query_refusal};
 
 mod edits;
 mod last;
@@ -208,7 +208,8 @@ impl<R: Register> Chart<R> {
     pub fn path(&self, alloc: Global, branch: &Name) -> Result<Vec<Step>, Refusal>
         ensures ok { IfOk result (λ steps. path_of (forest self.now.trie) branch.now
             ≡ Some steps.items) }
-        ensures err { IfErr result (λ e. if_lacks (path_of (forest self.now.trie) branch.now) ≡ e) }
+        ensures err { IfErr result
+            (λ e. query_refusal (path_of (forest self.now.trie) branch.now) ≡ e) }
     {
         self.trie.path(alloc, branch)
     }

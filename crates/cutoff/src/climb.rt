@@ -19,8 +19,9 @@ use schedule_trie::trie::{SegKey, Trie};
 /// ends at `config`; if `last` is `None`, whether `config` equals `start`. Climbs from `last`:
 /// tests whether the exit of its run is `config`, and whether the exit of each higher run is the
 /// entry of the run right below. Stops after the test of a run that was last found to fit with the
-/// number `fresh` or a greater one, because stored runs are known to fit down to its segment. If the
-/// climb meets no such run, also tests whether the first run's entry is `start`. Never allocates.
+/// number `fresh` or a greater one, because stored runs are known to fit down to its segment. If
+/// the climb meets no such run, also tests whether the first run's entry is `start`. Never
+/// allocates.
 pub(crate) fn comes_down<R: Register>(
     trie: &Trie<Stored<R>>,
     start: &Config<R>,

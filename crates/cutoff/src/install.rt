@@ -8,7 +8,7 @@ ghost use Rattle.checkpoints.specs.Segment.{IsRun};
 ghost use Rattle.cutoff.specs.Fitting.{steps_at};
 ghost use Rattle.cutoff.specs.Links.{AreLinked, IsLinked, IsLinkedAt, without_register};
 ghost use Rattle.cutoff.specs.Plans.{FitsDown};
-ghost use Rattle.cutoff.specs.Prefixes.{RunGoesOn, AreFresh};
+ghost use Rattle.cutoff.specs.Prefixes.{RunsLeadTo, AreFresh};
 
 use crate::climb::comes_down;
 use crate::number::Number;
@@ -56,7 +56,7 @@ pub(crate) fn fits_down<R: Register>(
         → IsLinked R.PartialEq.eq start.now.register next result.1 (without_register run.now.entry)
         trie.now }
     ensures runs { result.0 ≡ true
-        → RunGoesOn R.PartialEq.eq R.behaviour trie.now start.now key run.now }
+        → RunsLeadTo R.PartialEq.eq R.behaviour trie.now start.now key run.now }
     ensures kept { result.0 ≡ true → IsRun (R.behaviour run.now.entry.register) run.now }
 {
     if !has_steps(trie, key, run.steps()) {

@@ -3,7 +3,7 @@
 ghost use Rattle.std.specs.Prelude.{◌≡◌, Some, true};
 ghost use Rattle.std.specs.Bool.{Decides};
 ghost use Rattle.std.specs.Option.{option_copied};
-ghost use Rattle.cutoff.specs.Known.{IsDown};
+ghost use Rattle.cutoff.specs.Known.{IsKnownDownTo};
 
 use crate::number::Number;
 use crate::stored::Stored;
@@ -29,8 +29,12 @@ impl Known {
 /// Whether stored runs are known to fit all segments from the first down to `key`, in which
 /// `stored` is stored.
 #[inline(always)]
-pub(crate) fn is_down<R: Register>(known: &Known, key: SegKey, stored: Option<&Stored<R>>) -> bool
-    ensures { result ≡ true → IsDown known.now key (option_copied stored.entry) }
+pub(crate) fn is_known_down_to<R: Register>(
+    known: &Known,
+    key: SegKey,
+    stored: Option<&Stored<R>>,
+) -> bool
+    ensures { result ≡ true → IsKnownDownTo known.now key (option_copied stored.entry) }
 {
     match stored {
         Some(stored) => is_marked(known.mark, key) || stored.checked().is_from(known.fresh),
@@ -48,9 +52,9 @@ pub(crate) fn may_stop<R: Register>(
     key: SegKey,
     stored: &Stored<R>,
 ) -> bool
-    ensures { result ≡ true → IsDown known.now key (Some stored.now) }
+    ensures { result ≡ true → IsKnownDownTo known.now key (Some stored.now) }
 {
-    is_any && is_down(known, key, Some(stored))
+    is_any && is_known_down_to(known, key, Some(stored))
 }
 
 /// Whether the segment `key` is the marked one; false if none is marked.

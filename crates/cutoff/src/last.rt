@@ -1,16 +1,16 @@
-//! Settling a branch's first cells, and the last of their stored runs. If some of these cells are
-//! in the marked segment, the segments above it aren't visited: stored runs are already known to
-//! fit them.
+//! Settling what is left of a branch's first cells, and the last of their stored runs. If some of
+//! these cells are in the marked segment, the segments above it aren't visited: stored runs are
+//! already known to fit them.
 
 ghost use Rattle.std.specs.Prelude.{◌≡◌, ◌≤◌, ℕ, Option, None, Some, IfOk, OnErr, length};
 ghost use Rattle.std.specs.Option.{option_copied, option_map};
 ghost use Rattle.checkpoints.specs.Segment.{IsRun};
 ghost use Rattle.frames.specs.Recorded.{AllFit};
 ghost use Rattle.schedule_trie.specs.Trie.{keys_in, line, segment_at, IsCut};
-ghost use Rattle.cutoff.specs.Fitting.{KeepsRuns, counted_of, part_of, reached, run_of, steps_at};
+ghost use Rattle.cutoff.specs.Fitting.{KeepsRuns, part_of_stored, part_of, reached, run_of, steps_at};
 ghost use Rattle.cutoff.specs.Settles.{IsSegmentSettled, IsFilled, SettlesTo};
 ghost use Rattle.cutoff.specs.Links.{IsLinkedAt};
-ghost use Rattle.cutoff.specs.Prefixes.{AreFresh, IsLeft, exit_or, note_named};
+ghost use Rattle.cutoff.specs.Prefixes.{AreFresh, IsLeftToSettle, exit_or, note_named};
 
 use crate::prefix::{Rest, keys_down_to};
 use crate::settle::{fitting, replay_segment};
@@ -67,7 +67,7 @@ fn settle_below<R: Register>(
 {
     let (config, number) = entry_below(start, above);
     if let Some(stored) = fitting(trie, key, config, number) {
-        if stored.is_as_found(number) {
+        if stored.keeps_link(number) {
             return Ok((stored.copy()?, 0));
         }
         let again = stored.following(number)?;
@@ -94,16 +94,18 @@ pub(crate) fn settle_rest<R: Register>(
 ) -> Result<(Option<Stored<R>>, u32), AllocError>
     requires linked { IsLinkedAt R.PartialEq.eq start.now next.old None trie.old }
     requires cut { IsCut trie.old }
-    requires left { (i : ℕ) × (count : ℕ) × (place : ℕ) × IsLeft R.PartialEq.eq R.behaviour trie.old
+    requires left { (i : ℕ) × (count : ℕ) × (place : ℕ)
+        × IsLeftToSettle R.PartialEq.eq R.behaviour trie.old
         start.now rest.now.front rest.now.keys.items rest.now.top key count place i
         × (length (line (segment_at trie.old.segments) (keys_in trie.old.branches i))
         ≤ 4294967295) }
     ensures stored { IfOk result (λ r. r.0 ≡ note_named trie.new (Some key)) }
     ensures settles { IfOk result
-        (λ r. (i count place : ℕ) → IsLeft R.PartialEq.eq R.behaviour trie.old
+        (λ r. (i count place : ℕ) → IsLeftToSettle R.PartialEq.eq R.behaviour trie.old
         start.now rest.now.front rest.now.keys.items rest.now.top key count place i
         → SettlesTo R.PartialEq.eq R.behaviour trie.old trie.new start.now key count place i r.1) }
-    ensures keeps { (i count place : ℕ) → IsLeft R.PartialEq.eq R.behaviour trie.old start.now
+    ensures keeps { (i count place : ℕ)
+        → IsLeftToSettle R.PartialEq.eq R.behaviour trie.old start.now
         rest.now.front rest.now.keys.items rest.now.top key count place i
         → KeepsRuns trie.old trie.new (IsFilled R.PartialEq.eq (R.behaviour start.now.register)
         trie.old trie.new start.now (reached trie.old place (keys_in trie.old.branches i))) }
@@ -142,7 +144,7 @@ pub(crate) fn counted<R: Register>(
     stored: Option<Stored<R>>,
     count: u32,
 ) -> Option<(Arc<Run<R>>, u32)>
-    ensures { option_map part_of result ≡ option_map (counted_of count) stored }
+    ensures { option_map part_of result ≡ option_map (part_of_stored count) stored }
 {
     match stored {
         Some(stored) => Some((stored.into_run(), count)),

@@ -20,11 +20,11 @@ impl Model for Number {
 
     ghost Value = { Option ℕ };
 
-    ghost use Rattle.cutoff.specs.Numbers.{number_of_word, word_with};
+    ghost use Rattle.cutoff.specs.Numbers.{number_of_word, word_of_number};
 
     ghost view = { λ n. number_of_word n.word };
 
-    ghost inverse = { λ o. record { word = word_with o } };
+    ghost inverse = { λ o. record { word = word_of_number o } };
 }
 
 impl Copy for Number {}

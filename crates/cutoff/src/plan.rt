@@ -13,7 +13,7 @@ ghost use Rattle.cutoff.specs.Links.{AreLinked};
 ghost use Rattle.schedule_trie.specs.Trie.{keys_in, IsCut};
 ghost use Rattle.schedule_trie.specs.Forest.{step_of};
 
-use crate::known::{Known, is_down};
+use crate::known::{Known, is_known_down_to};
 use crate::settle::{fitting, segment_cells};
 use crate::sight::{known, record_fit};
 use crate::stored::{Stored, entry_below, shared_entry, stored_at};
@@ -146,7 +146,7 @@ fn unseen_keys<R: Register>(
     let mut at = base.trie.last_at(index);
     while let Some(key) = at {
         let (note, above) = base.trie.step_up_from(key);
-        if let Some(fits) = known(is_down(&base.known, key, note), seen, key) {
+        if let Some(fits) = known(is_known_down_to(&base.known, key, note), seen, key) {
             keys.reverse();
             return Ok(fits);
         }

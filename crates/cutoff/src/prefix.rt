@@ -11,10 +11,10 @@ ghost use Rattle.frames.specs.Equality.{SameConfiguration};
 ghost use Rattle.schedule_trie.specs.Trie.{has, keys_in, IsCut};
 ghost use Rattle.schedule_trie.specs.Climbs.{keys_to, HasClimbedTo};
 ghost use Rattle.cutoff.specs.Links.{AreLinked};
-ghost use Rattle.cutoff.specs.Prefixes.{AreKeysAfter, IsKnown, IsPlaceIn, IsHung, IsLeft, IsTop};
+ghost use Rattle.cutoff.specs.Prefixes.{AreKeysAfter, IsKnown, IsPlaceIn, IsHung, IsLeftToSettle, IsTop};
 ghost use Rattle.cutoff.specs.Known.{AreKnown};
 
-use crate::known::{Known, is_down, may_stop};
+use crate::known::{Known, is_known_down_to, may_stop};
 use crate::stored::Stored;
 use frames::config::Config;
 use frames::register::Register;
@@ -103,7 +103,7 @@ fn known_prefix<R: Register>(
     let mut top = first;
     // a branch has at most one segment for each cell ever made
     for _ in 0..trie.made() {
-        if is_down(known, top.key, top.stored) || begins_at(start, &top) {
+        if is_known_down_to(known, top.key, top.stored) || begins_at(start, &top) {
             return Ok((Some(front), keys));
         }
         let Some(next) = pass(trie, front, &top, &mut keys)? else {
@@ -182,7 +182,7 @@ pub(crate) fn rest_to<R: Register>(
     requires known { AreKnown R.PartialEq.eq R.behaviour trie.now start.now known.now }
     requires there { (i : ℕ) × (has key (keys_in trie.now.branches i) ≡ true) }
     ensures { IfOk result (λ r. (i count place : ℕ) → IsPlaceIn trie.now key count place i
-        → IsLeft R.PartialEq.eq R.behaviour trie.now start.now r.front r.keys.items r.top
+        → IsLeftToSettle R.PartialEq.eq R.behaviour trie.now start.now r.front r.keys.items r.top
         key count place i) }
 {
     let first = hung_from(trie, known, key);
@@ -193,8 +193,8 @@ pub(crate) fn rest_to<R: Register>(
 }
 
 /// Climbs from the segment `last` until it meets `front` or has passed the first segment, and adds
-/// the keys of the segments passed to `keys`, each before the one right above it. Returns `front` or
-/// `None`.
+/// the keys of the segments passed to `keys`, each before the one right above it. Returns `front`
+/// or `None`.
 fn keys_up_to<T: Drop>(
     trie: &Trie<T>,
     front: Option<SegKey>,

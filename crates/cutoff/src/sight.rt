@@ -1,5 +1,6 @@
-//! What a plan has found at each segment: whether stored runs fit down to it, which is so if they fit
-//! all segments of its branch from the first one to it. `None`: the plan hasn't visited the segment.
+//! What a plan has found at each segment: whether stored runs fit down to it, which is so if they
+//! fit all segments of its branch from the first one to it. `None`: the plan hasn't visited the
+//! segment.
 
 ghost use Rattle.std.specs.Prelude.{◌≡◌, ◌⊎◌, ℕ, None, Some, true, OnOk, MatchOption};
 ghost use Rattle.cutoff.specs.Sights as spec;

@@ -158,7 +158,7 @@ impl<R: Register> Stored<R> {
     }
 
     /// Whether the run needs no new link: `above` is `None`, or is the run's link already.
-    pub(crate) fn is_as_found(&self, above: Number) -> bool
+    pub(crate) fn keeps_link(&self, above: Number) -> bool
         ensures { result ≡ true → (above ≡ None) ⊎ (self.now.link ≡ above) }
     {
         !above.is_some() || self.link.is_same(above)

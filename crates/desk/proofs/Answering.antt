@@ -9,12 +9,12 @@ use Rattle.sessions.specs.declared.reply.Reply.TheVariants.{No}
 use Rattle.sessions.specs.World.{World}
 use Rattle.sessions.specs.Acts.{command_result, is_full}
 use Rattle.sessions.specs.Logs.{IsLegal, acted_by, entry, is_logged, logged, world_after}
-use Rattle.sessions.proofs.LegalLogs.{after_more}
+use Rattle.sessions.proofs.LegalLogs.{world_after_more}
 use Rattle.sessions.proofs.LoggedReplies.{acted_logged, acted_full}
 
-reached : (a b : ℕ) (t : Bool) → nat_le a b ≡ t → a ≤ b → t ≡ true
-reached a b true e h = refl
-reached a b false e h = grind (arith, e, h)
+le_true : (a b : ℕ) (t : Bool) → nat_le a b ≡ t → a ≤ b → t ≡ true
+le_true a b true e h = refl
+le_true a b false e h = grind (arith, e, h)
 
 module _ {P : Type 0} where
   legal_last : (w : World P) (log : List Entry) (e : Entry) → IsLegal w (log ++ e ∷ []) → (acted_by e (world_after w log)).reply ≡ e.reply
@@ -26,10 +26,10 @@ module _ {P : Type 0} where
   abbrev IsCounted : World P → World P → ℕ → Type 0
   IsCounted w after n = (after.logged ≡ w.logged + n) × (after.limits ≡ w.limits)
 
-  one_more : (t : Bool) (w : World P) (e : Entry) (n : ℕ) (after : World P) → is_full w ≡ t → (acted_by e w).reply ≡ e.reply → is_logged e.reply ≡ true
+  counted_one_more : (t : Bool) (w : World P) (e : Entry) (n : ℕ) (after : World P) → is_full w ≡ t → (acted_by e w).reply ≡ e.reply → is_logged e.reply ≡ true
       → IsCounted (acted_by e w).world after n → IsCounted w after (suc n)
-  one_more true w e n after full same in_log rest = absurd (let none : false ≡ true = ap (λ a. is_logged a.reply) (sym (acted_full e.who w e.if_at e.command full)) ∙ (ap is_logged same ∙ in_log) in cc)
-  one_more false w e n after room same in_log rest =
+  counted_one_more true w e n after full same in_log rest = absurd (let none : false ≡ true = ap (λ a. is_logged a.reply) (sym (acted_full e.who w e.if_at e.command full)) ∙ (ap is_logged same ∙ in_log) in cc)
+  counted_one_more false w e n after room same in_log rest =
       let a = acted_logged e.who w e.if_at e.command room in
       let here : (acted_by e w).world.logged ≡ w.logged + 1 = a.1 in
       let count = rest.0 in
@@ -37,7 +37,7 @@ module _ {P : Type 0} where
 
   counted_calls : (w : World P) (log : List Entry) → IsLegal w log → IsCounted w (world_after w log) (length log)
   counted_calls w [] h = (omega arith, refl)
-  counted_calls w (e ∷ log) h = one_more (is_full w) w e (length log) (world_after w (e ∷ log)) refl h.0 h.1 (counted_calls (acted_by e w).world log h.2)
+  counted_calls w (e ∷ log) h = counted_one_more (is_full w) w e (length log) (world_after w (e ∷ log)) refl h.0 h.1 (counted_calls (acted_by e w).world log h.2)
 
   -- if no call is logged in the world w, and fewer calls follow than its limit, the log isn't full
   -- after them
@@ -52,24 +52,24 @@ module _ {P : Type 0} where
       short most count h = grind (arith, nat_tests)
 
   module _ (w : World P) (chair who : ℕ) (guard : Option ℕ) (command : Command) (found : List Entry) (fresh : w.logged ≡ 0) where
-    answers_so : (reply : Reply) → IsLegal w found → IsLegal w (logged (entry chair who guard command reply) found) → (reply ≡ No LogFull → length found ≡ w.limits.log)
+    logged_reply_or_memory : (reply : Reply) → IsLegal w found → IsLegal w (logged (entry chair who guard command reply) found) → (reply ≡ No LogFull → length found ≡ w.limits.log)
         → (command_result who guard command (world_after w found) ≡ record { world = world_after w (logged (entry chair who guard command reply) found); reply = reply }) ⊎ (reply ≡ No Memory)
-    answers_so (No LogFull) before legal full =
+    logged_reply_or_memory (No LogFull) before legal full =
         let count = counted_calls w found before in
         let many = count.0 in
         let limit : (world_after w found).limits.log ≡ w.limits.log = ap (λ l. l.log) count.1 in
         let long = full refl in
         inl (acted_full who (world_after w found) guard command
-        (reached (world_after w found).limits.log (world_after w found).logged (is_full (world_after w found)) refl (omega arith)))
-    answers_so (No Memory) before legal full = inr refl
-    answers_so reply before legal full =
+        (le_true (world_after w found).limits.log (world_after w found).logged (is_full (world_after w found)) refl (omega arith)))
+    logged_reply_or_memory (No Memory) before legal full = inr refl
+    logged_reply_or_memory reply before legal full =
         let e = entry chair who guard command reply in
         let last = legal_last w found e legal in
-        let after = after_more w found e in
+        let after = world_after_more w found e in
         inl (λ i. record { world = sym after i; reply = last i })
 
     -- the reply is the one that the command gets in the world after the calls found, or Memory
-    pub replies_so : (reply : Reply) (after : List Entry) → after ≡ logged (entry chair who guard command reply) found → IsLegal w found → IsLegal w (logged (entry chair who guard command reply) found)
+    pub reply_or_memory : (reply : Reply) (after : List Entry) → after ≡ logged (entry chair who guard command reply) found → IsLegal w found → IsLegal w (logged (entry chair who guard command reply) found)
         → (reply ≡ No LogFull → length found ≡ w.limits.log) → (command_result who guard command (world_after w found) ≡ record { world = world_after w after; reply = reply }) ⊎ (reply ≡ No Memory)
-    replies_so reply after is before legal full =
-        subst (λ l. (command_result who guard command (world_after w found) ≡ record { world = world_after w l; reply = reply }) ⊎ (reply ≡ No Memory)) (sym is) (answers_so reply before legal full)
+    reply_or_memory reply after is before legal full =
+        subst (λ l. (command_result who guard command (world_after w found) ≡ record { world = world_after w l; reply = reply }) ⊎ (reply ≡ No Memory)) (sym is) (logged_reply_or_memory reply before legal full)

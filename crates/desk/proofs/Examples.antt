@@ -58,9 +58,9 @@ having calls = first_view (items first calls)
 abbrev join : Entry
 join = entry 0 3 None command.Join Joined
 
-nothing : (front back : List Entry) (e : Entry) → [] ≡ front ++ e ∷ back → ⊥
-nothing [] back e is = cc
-nothing (x ∷ front) back e is = cc
+nil_not_append : (front back : List Entry) (e : Entry) → [] ≡ front ++ e ∷ back → ⊥
+nil_not_append [] back e is = cc
+nil_not_append (x ∷ front) back e is = cc
 
 found_nothing : Finds (having []) []
 found_nothing = record { begins = ([], refl); whole = λ all. refl; reported = omega arith }
@@ -86,15 +86,15 @@ Received-holds = record {
 
 -- the reply to a join is Joined, but the chair has seen no call
 Received-fails : Received is first 3 None command.Join (having []) (having []) (record { at = 0; reply = Joined }) → ⊥
-Received-fails h = nothing h.found [] _ h.sees
+Received-fails h = nil_not_append h.found [] _ h.sees
 
 -- a reading that finds no call
-found_so : (says : ℕ → World SafePoint → Type 0) → says 0 (opening_of is first) → Reads is first says (having []) (having [])
-found_so says answer = record { found = []; finds = found_nothing; legal = tt; answers = answer; sees = refl; calls = refl; shares = refl; reported = refl }
+reads_nothing : (says : ℕ → World SafePoint → Type 0) → says 0 (opening_of is first) → Reads is first says (having []) (having [])
+reads_nothing says answer = record { found = []; finds = found_nothing; legal = tt; answers = answer; sees = refl; calls = refl; shares = refl; reported = refl }
 
 -- a reading found a history of length 0, as its answer says
 Reads-holds : Reads is first (λ n world. n ≡ 0) (having []) (having [])
-Reads-holds = found_so (λ n world. n ≡ 0) refl
+Reads-holds = reads_nothing (λ n world. n ≡ 0) refl
 
 -- a reading found a history of one call, but its answer says that the length is 0
 Reads-fails : Reads is first (λ n world. n ≡ 0) (having []) (having (join ∷ [])) → ⊥
@@ -105,7 +105,7 @@ stays = record { begins = ([], refl); whole = λ all. refl; calls = refl; shares
 
 -- a fill is refused as NoBranch, since there is no branch `a`
 Filled-holds : Filled is first (codes "a") (having []) (having []) (Err NoBranch)
-Filled-holds = (having [], found_so (λ n world. NeedsBranch {A = Report} (codes "a") world (Err NoBranch)) refl, stays)
+Filled-holds = (having [], reads_nothing (λ n world. NeedsBranch {A = Report} (codes "a") world (Err NoBranch)) refl, stays)
 
 -- a fill is refused as NoBranch, though its branch, `main`, is there
 Filled-fails : Filled is first (codes "main") (having []) (having []) (Err NoBranch) → ⊥

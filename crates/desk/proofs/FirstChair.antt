@@ -9,11 +9,11 @@ use Rattle.desk.specs.Histories.{IsHistory}
 use Rattle.desk.specs.Items.{items}
 
 module _ {R P : Type 0} where
-  pub begun : (v : View (Item R P)) (list : List (Item R P)) (book first : BookOf R P) → v ≡ first_view list
+  pub first_sees_opening : (v : View (Item R P)) (list : List (Item R P)) (book first : BookOf R P) → v ≡ first_view list
       → list ≡ items book book.log → book.log ≡ [] → first ≡ book → v ≡ first_view (items first [])
-  begun v list book first seen opens none same =
+  first_sees_opening v list book first seen opens none same =
       seen ∙ ap first_view (opens ∙ ap (items book) none ∙ ap (λ b. items b []) (sym same))
 
-  pub begun_legal : (is : R → Behaviour P) (first : BookOf R P) (v : View (Item R P)) → v ≡ first_view (items first [])
+  pub opening_is_history : (is : R → Behaviour P) (first : BookOf R P) (v : View (Item R P)) → v ≡ first_view (items first [])
       → IsHistory is first v.seen
-  begun_legal is first v begins = subst (λ w. IsHistory is first w.seen) (sym begins) (record { whole = refl; legal = tt })
+  opening_is_history is first v begins = subst (λ w. IsHistory is first w.seen) (sym begins) (record { whole = refl; legal = tt })

@@ -8,9 +8,9 @@ use Rattle.desk.specs.declared.item.Item.{Item}
 use Rattle.desk.specs.declared.item.Item.TheVariants.{Opening, Call}
 use Rattle.desk.specs.Items.{calls_in, as_items, items}
 
-pub calls_as : (R P : Type 0) (calls : List Entry) → calls_in {R = R} {P = P} (as_items calls) ≡ calls
-calls_as R P [] = refl
-calls_as R P (e ∷ calls) = ap (λ l. e ∷ l) (calls_as R P calls)
+pub calls_in_as_items : (R P : Type 0) (calls : List Entry) → calls_in {R = R} {P = P} (as_items calls) ≡ calls
+calls_in_as_items R P [] = refl
+calls_in_as_items R P (e ∷ calls) = ap (λ l. e ∷ l) (calls_in_as_items R P calls)
 
 module _ {R P : Type 0} where
   pub calls_append : (xs ys : List (Item R P)) → calls_in (xs ++ ys) ≡ calls_in xs ++ calls_in ys
@@ -37,4 +37,4 @@ module _ {R P : Type 0} where
 
   -- the calls in a prefix of a list are a prefix of the calls in the list
   pub calls_begin : (first : BookOf R P) (calls : List Entry) (front : List (Item R P)) → StartsWith (items first calls) front → StartsWith calls (calls_in front)
-  calls_begin first calls front starts = (calls_in starts.0, sym (calls_append front starts.0) ∙ (ap calls_in starts.1 ∙ calls_as R P calls))
+  calls_begin first calls front starts = (calls_in starts.0, sym (calls_append front starts.0) ∙ (ap calls_in starts.1 ∙ calls_in_as_items R P calls))

@@ -3,7 +3,7 @@ use Rattle.std.proofs.Common.{◌≡◌, ◌+◌, Option, Some, None, refl, sym,
 use Rattle.cutoff.specs.declared.install.Installation.{Installation}
 use Rattle.cutoff.specs.declared.install.Installation.TheVariants.{Installed, Stale, Gone}
 use Rattle.desk.specs.declared.report.Report.{Report}
-use Rattle.desk.specs.Reports.{IsSum, both, report_with, no_jobs}
+use Rattle.desk.specs.Reports.{IsSum, sum_of_reports, report_with, no_jobs}
 
 pub sum_none : (r : Report) → r ≡ no_jobs → IsSum r
 sum_none r none = subst IsSum (sym none) (omega arith)
@@ -20,5 +20,5 @@ planned_more (Some Stale) r = refl
 planned_more (Some Gone) r = refl
 planned_more None r = refl
 
-pub sum_both : (a b sum : Report) → IsSum a → IsSum b → sum ≡ both a b → IsSum sum
+pub sum_both : (a b sum : Report) → IsSum a → IsSum b → sum ≡ sum_of_reports a b → IsSum sum
 sum_both a b sum p q is = subst IsSum (sym is) (omega arith)

@@ -21,8 +21,8 @@ report_with (Some Gone) r = record { planned = r.planned + 1; installed = r.inst
 report_with None r = record { planned = r.planned + 1; installed = r.installed; stale = r.stale; gone = r.gone; memory = r.memory + 1 }
 
 -- the sum of two reports, count by count
-abbrev pub both : Report → Report → Report
-both a b =
+abbrev pub sum_of_reports : Report → Report → Report
+sum_of_reports a b =
     record {
       planned = a.planned + b.planned;
       installed = a.installed + b.installed;

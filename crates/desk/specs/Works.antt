@@ -4,7 +4,7 @@ use Rattle.std.specs.Prelude.{ℕ, ◌<◌, ◌≡◌, ◌⊎◌, List, Option, 
 use Rattle.frames.specs.Behaviour.{Behaviour}
 use Rattle.schedule_trie.specs.declared.refusal.Refusal.{Refusal}
 use Rattle.schedule_trie.specs.declared.refusal.Refusal.TheVariants.{LogFull, Memory}
-use Rattle.schedule_trie.specs.Trie.{if_lacks}
+use Rattle.schedule_trie.specs.Trie.{query_refusal}
 use Rattle.schedule_trie.specs.Forest.{IsRefused, index_of}
 use Rattle.pages.specs.declared.page.Page.{Page}
 use Rattle.pages.specs.declared.query.Query.{Query}
@@ -54,7 +54,7 @@ IsPaged (Err r) result = result ≡ Err r
 -- refusal is Memory if the branch is there, and NoBranch if it isn't.
 abbrev pub NeedsBranch : {P A : Type 0} → List ℕ → World P → Result A Refusal → Type 0
 NeedsBranch branch w (Ok x) = IsSome (index_of w.forest.branches branch)
-NeedsBranch branch w (Err r) = if_lacks (index_of w.forest.branches branch) ≡ r
+NeedsBranch branch w (Err r) = query_refusal (index_of w.forest.branches branch) ≡ r
 
 -- a possible result of a save of the world w after n calls: limbs that describe the branches of w,
 -- and n; or the refusal Memory

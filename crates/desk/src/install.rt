@@ -34,7 +34,7 @@ impl<R: Register> Work<Journal<R>> for Install<R> {
         let book = &mut *journal.book;
         book.lemma_invariant();
         let run = self.run.take()?;
-        let answer = offer(book, self.key, run);
+        let answer = install_in(book, self.key, run);
         book.lemma_invariant();
         Some(answer)
     }
@@ -42,7 +42,7 @@ impl<R: Register> Work<Journal<R>> for Install<R> {
 
 /// Stores a run in a book, as `Book::install` does. World and log are unchanged. This contract says
 /// which run is stored; the work's relation doesn't.
-fn offer<R: Register>(book: &mut Book<R>, key: SegKey, run: Arc<Run<R>>) -> Installation
+fn install_in<R: Register>(book: &mut Book<R>, key: SegKey, run: Arc<Run<R>>) -> Installation
     ensures installs { let old = book.old.now.chart in
         Installs R.PartialEq.eq (R.behaviour old.start.register) old book.new.now.chart key
         (arc_value run) result }

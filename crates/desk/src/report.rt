@@ -2,7 +2,7 @@
 
 ghost use Rattle.std.specs.Prelude.{◌≡◌, ◌<◌, ◌≤◌, ◌+◌, ◌^◌, MatchOption};
 ghost use Rattle.std.specs.Bool.{Decides};
-ghost use Rattle.desk.specs.Reports.{IsIdle, IsSum, both, report_with, no_jobs};
+ghost use Rattle.desk.specs.Reports.{IsIdle, IsSum, sum_of_reports, report_with, no_jobs};
 
 use cutoff::install::Installation;
 
@@ -64,7 +64,7 @@ impl Report {
     pub(crate) fn plus(self, other: Report) -> Option<Report>
         requires { IsSum self × IsSum other }
         ensures { MatchOption result (2 ^ 64 ≤ self.planned + other.planned)
-            (λ sum. sum ≡ both self other) }
+            (λ sum. sum ≡ sum_of_reports self other) }
     {
         Some(Report {
             planned: self.planned.checked_add(other.planned)?,

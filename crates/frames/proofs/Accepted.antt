@@ -10,8 +10,8 @@ use Rattle.frames.specs.correctness.Verdicts.{refused_by, is_refused, counts, ac
 use Rattle.frames.specs.correctness.Regularity.{is_refusal, NoneRefused}
 
 -- an event that counts is accepted, if the write in progress after it isn't refused
-pub accepted_one : (i : ℕ) (e : Event) (rest : List (ℕ × Event)) → is_refused rest ≡ false → counts e false ≡ true → accepted ((i, e) ∷ rest) ≡ (i, e) ∷ accepted rest
-accepted_one i e rest none c = ap (λ b. if counts e b then (i, e) ∷ accepted rest else accepted rest) none ∙ ap (λ b. if b then (i, e) ∷ accepted rest else accepted rest) c
+pub accepted_if_counts : (i : ℕ) (e : Event) (rest : List (ℕ × Event)) → is_refused rest ≡ false → counts e false ≡ true → accepted ((i, e) ∷ rest) ≡ (i, e) ∷ accepted rest
+accepted_if_counts i e rest none c = ap (λ b. if counts e b then (i, e) ∷ accepted rest else accepted rest) none ∙ ap (λ b. if b then (i, e) ∷ accepted rest else accepted rest) c
 
 -- an event that isn't a refusal counts, and refuses no write in progress before it, if no later
 -- event refuses that write
@@ -30,4 +30,4 @@ pub all_accepted : (events : List (ℕ × Event)) → NoneRefused events → acc
 all_accepted [] n = refl
 all_accepted (e ∷ es) n =
     let parts = or_parts (is_refusal e.1) (list_any (λ x. is_refusal x.1) es) n in
-    accepted_one e.0 e.1 es (none_is_refused es parts.1) (unrefused e.1 parts.0).1 ∙ ap (λ l. e ∷ l) (all_accepted es parts.1)
+    accepted_if_counts e.0 e.1 es (none_is_refused es parts.1) (unrefused e.1 parts.0).1 ∙ ap (λ l. e ∷ l) (all_accepted es parts.1)

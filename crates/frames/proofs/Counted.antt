@@ -22,15 +22,16 @@ abbrev pub uncounted : ℕ → Counted
 uncounted v = record { value = λ n. v; begun = 0; done = 0; low = 0; floor = 0 }
 
 -- the event, if there is one, takes the count from c to z
-abbrev pub Counts : Option Event → Counted → Counted → Type 0
-Counts None c z = z ≡ c
-Counts (Some (Invoke p (Write v))) c z = z ≡ record c { value = put (c.begun + 1) v c.value; begun = c.begun + 1 }
-Counts (Some (Invoke p Read)) c z = z ≡ record c { low = c.done }
-Counts (Some (Wrote p)) c z = z ≡ record c { done = c.begun }
+abbrev pub TakesCount : Option Event → Counted → Counted → Type 0
+TakesCount None c z = z ≡ c
+TakesCount (Some (Invoke p (Write v))) c z = z ≡ record c { value = put (c.begun + 1) v c.value; begun = c.begun + 1 }
+TakesCount (Some (Invoke p Read)) c z = z ≡ record c { low = c.done }
+TakesCount (Some (Wrote p)) c z = z ≡ record c { done = c.begun }
 -- a returned read gets a number n of its value x, at most `begun`, and at least `low` and `floor`
-Counts (Some (Got p x)) c z = (n : ℕ) × ((c.value n ≡ x) × ((c.low ≤ n) × ((n ≤ c.begun) × ((c.floor ≤ n) × (z ≡ record c { floor = n })))))
-Counts _ c z = z ≡ c
+TakesCount (Some (Got p x)) c z = (n : ℕ) × ((c.value n ≡ x) × ((c.low ≤ n) × ((n ≤ c.begun) × ((c.floor ≤ n) × (z ≡ record c { floor = n })))))
+TakesCount _ c z = z ≡ c
 
+-- there is an event, and it is an invocation
 abbrev pub Invokes : Option Event → Type 0
 Invokes (Some (Invoke p o)) = ⊤
 Invokes _ = ⊥
@@ -39,7 +40,7 @@ Invokes _ = ⊥
 -- that invokes it; it then counts for nothing.
 abbrev pub NumberedIf : Bool → Counted → StepEvents → Counted → Type 0
 NumberedIf true c e z = Invokes e.first × (z ≡ c)
-NumberedIf false c e z = (mid : Counted) × (Counts e.first c mid × Counts e.second mid z)
+NumberedIf false c e z = (mid : Counted) × (TakesCount e.first c mid × TakesCount e.second mid z)
 
 -- the step takes the count from c to z
 abbrev pub NumberedStep : Counted → StepEvents → Counted → Type 0

@@ -42,14 +42,14 @@ Numbered-holds =
 abbrev values : List ℕ
 values = 0 ∷ 1 ∷ []
 
-not_first : (n : ℕ) → slice_index_or values n 0 ≡ 1 → 1 ≤ n
-not_first zero e = absurd (omega (arith, e))
-not_first (suc n) e = omega arith
+one_is_not_first : (n : ℕ) → slice_index_or values n 0 ≡ 1 → 1 ≤ n
+one_is_not_first zero e = absurd (omega (arith, e))
+one_is_not_first (suc n) e = omega arith
 
-is_first : (n : ℕ) → n < 2 → slice_index_or values n 0 ≡ 0 → n ≡ 0
-is_first zero few e = refl
-is_first (suc zero) few e = absurd (omega (arith, e))
-is_first (suc (suc n)) few e = absurd (omega (arith, few))
+zero_is_first : (n : ℕ) → n < 2 → slice_index_or values n 0 ≡ 0 → n ≡ 0
+zero_is_first zero few e = refl
+zero_is_first (suc zero) few e = absurd (omega (arith, e))
+zero_is_first (suc (suc n)) few e = absurd (omega (arith, few))
 
 -- two reads within a write of 1: the first gives 1, and the second the older 0
 Numbered-fails : Numbered 0 0 (initially 0) ((0, Invoke 0 (Write 1)) ∷ (1, Invoke 1 Read) ∷ (2, Got 1 1) ∷ (3, Invoke 1 Read) ∷ (4, Got 1 0) ∷ []) → ⊥
@@ -57,11 +57,12 @@ Numbered-fails h =
     let new = h.1.1.1.1.1.1 in
     let next = new.1.1.1 in
     let old = next.1.1.1 in
-    let one : 1 ≤ new.0 = not_first new.0 new.1.1.0.value_of in
-    let none : old.0 ≡ 0 = is_first old.0 old.1.1.0.high old.1.1.0.value_of in
+    let one : 1 ≤ new.0 = one_is_not_first new.0 new.1.1.0.value_of in
+    let none : old.0 ≡ 0 = zero_is_first old.0 old.1.1.0.high old.1.1.0.value_of in
     omega (arith, one, none, next.1.0, old.1.0)
 
--- Ranked: within a write of 1 with rank 1, a read gives 1, and has rank 1; its invocation needs none
+-- Ranked: within a write of 1 with rank 1, a read gives 1, and has rank 1; its invocation needs no
+-- rank
 Ranked-holds : Ranked (at_first 0 0) ((0, Invoke 0 (Write 1)) ∷ (1, Invoke 1 Read) ∷ (2, Got 1 1) ∷ (3, Wrote 0) ∷ [])
 Ranked-holds = (Some 1, ((omega arith, refl), (None, (tt, (Some 1, ((omega arith, refl), (Some 1, (refl, tt))))))))
 
@@ -69,40 +70,40 @@ Ranked-holds = (Some 1, ((omega arith, refl), (None, (tt, (Some 1, ((omega arith
 HasRanks-holds : HasRanks 0 ((0, Invoke 0 (Write 1)) ∷ (1, Invoke 1 Read) ∷ (2, Got 1 1) ∷ (3, Wrote 0) ∷ [])
 HasRanks-holds = (0, Ranked-holds)
 
-abbrev some : ℕ → Option ℕ
-some v = Some v
+abbrev some_number : ℕ → Option ℕ
+some_number v = Some v
 
-zero_is_not_one : some 0 ≡ some 1 → ⊥
+zero_is_not_one : some_number 0 ≡ some_number 1 → ⊥
 zero_is_not_one e = let f : 0 ≡ 1 = ap (λ o. unwrap_or o 0) e in omega (arith, f)
 
--- the values by rank, at first (`before`), and once a write of 1 with rank m has been invoked
--- (`within`)
-abbrev before : ℕ → ℕ → Option ℕ
-before first = put first (Some 0) (λ k. None)
+-- the values by rank, at first (`values_before`), and once a write of 1 with rank m has been
+-- invoked (`values_within`)
+abbrev values_before : ℕ → ℕ → Option ℕ
+values_before first = put first (Some 0) (λ k. None)
 
-abbrev within : ℕ → ℕ → ℕ → Option ℕ
-within first m = put m (Some 1) (before first)
+abbrev values_within : ℕ → ℕ → ℕ → Option ℕ
+values_within first m = put m (Some 1) (values_before first)
 
-before_is_zero : (first n v : ℕ) → before first n ≡ Some v → (n ≡ first) × (some 0 ≡ some v)
-before_is_zero first n v e = elim (cases_eq n first) [
-  | inl same ↦ (same, sym (ap (before first) same ∙ put_same first (Some 0) (λ k. None)) ∙ e)
+value_before_is_zero : (first n v : ℕ) → values_before first n ≡ Some v → (n ≡ first) × (some_number 0 ≡ some_number v)
+value_before_is_zero first n v e = elim (cases_eq n first) [
+  | inl same ↦ (same, sym (ap (values_before first) same ∙ put_same first (Some 0) (λ k. None)) ∙ e)
   | inr other ↦ absurd (none-some v (sym (put_other first n (Some 0) (λ k. None) other) ∙ e))
 ]
 
-gives_one : (first m n : ℕ) → within first m n ≡ Some 1 → n ≡ m
+gives_one : (first m n : ℕ) → values_within first m n ≡ Some 1 → n ≡ m
 gives_one first m n e = elim (cases_eq n m) [
   | inl same ↦ same
-  | inr other ↦ absurd (zero_is_not_one (before_is_zero first n 1 (sym (put_other m n (Some 1) (before first) other) ∙ e)).1)
+  | inr other ↦ absurd (zero_is_not_one (value_before_is_zero first n 1 (sym (put_other m n (Some 1) (values_before first) other) ∙ e)).1)
 ]
 
-gives_zero : (first m n : ℕ) → within first m n ≡ Some 0 → n ≡ first
+gives_zero : (first m n : ℕ) → values_within first m n ≡ Some 0 → n ≡ first
 gives_zero first m n e = elim (cases_eq n m) [
-  | inl same ↦ absurd (zero_is_not_one (sym e ∙ ap (within first m) same ∙ put_same m (Some 1) (before first)))
-  | inr other ↦ (before_is_zero first n 0 (sym (put_other m n (Some 1) (before first) other) ∙ e)).0
+  | inl same ↦ absurd (zero_is_not_one (sym e ∙ ap (values_within first m) same ∙ put_same m (Some 1) (values_before first)))
+  | inr other ↦ (value_before_is_zero first n 0 (sym (put_other m n (Some 1) (values_before first) other) ∙ e)).0
 ]
 
--- Ranked fails: within a write of 1, process 1 reads 1, and then process 2 the older 0, whose rank is
--- below that of the first read, whatever rank the initial value has
+-- Ranked fails: within a write of 1, process 1 reads 1, and then process 2 the older 0, whose rank
+-- is below that of the first read, whatever rank the initial value has
 Ranked-fails : (first : ℕ) → Ranked (at_first first 0) ((0, Invoke 0 (Write 1)) ∷ (1, Invoke 1 Read) ∷ (2, Got 1 1) ∷ (3, Invoke 2 Read) ∷ (4, Got 2 0) ∷ []) → ⊥
 Ranked-fails first h = write h.0 h.1
   where
@@ -122,7 +123,7 @@ Ranked-fails first h = write h.0 h.1
     -- a write that takes no effect isn't read
     none : (a : Option ℕ) → HasRank (after_rank (at_first first 0) (Invoke 0 (Write 1)) None) (Got 1 1) a → ⊥
     none None k = k
-    none (Some a) k = zero_is_not_one (before_is_zero first a 1 k.1).1
+    none (Some a) k = zero_is_not_one (value_before_is_zero first a 1 k.1).1
 
     second : (m a : ℕ) (b : Option ℕ) → first < m → a ≡ m → HasRank (read_again m a) (Got 2 0) b → ⊥
     second m a None above same k = k
@@ -159,7 +160,7 @@ refused_was_read-fails h = write h.1.0 h.1.1
       where
         read : (a : Option ℕ) → HasRank (after_rank (at_first h.0 0) (Invoke 0 (Write 1)) None) (Got 1 1) a → ⊥
         read None j = j
-        read (Some a) j = zero_is_not_one (before_is_zero h.0 a 1 j.1).1
+        read (Some a) j = zero_is_not_one (value_before_is_zero h.0 a 1 j.1).1
 
 -- HasRanks fails: a later read gives the value before a returned write's
 lost_write-fails : HasRanks 0 ((0, Invoke 0 (Write 1)) ∷ (1, Wrote 0) ∷ (2, Invoke 1 Read) ∷ (3, Got 1 0) ∷ []) → ⊥
@@ -217,63 +218,63 @@ MakesItsAction-fails : MakesItsAction misreports (at.WriteStart true) true zero_
 MakesItsAction-fails h = true≢false (sym (ap (λ cells. (get_or cells 0 no_cell).reading) h.cells))
 
 -- the frames of process 0 as it begins to write 1
-abbrev writing : List Frame
-writing = safe_behaviour.frames (at.WriteStart true)
+abbrev write_frames : List Frame
+write_frames = safe_behaviour.frames (at.WriteStart true)
 
-other_op : Some (Write 1) ≡ Some Read → ⊥
-other_op e = cc
+write_is_not_read : Some (Write 1) ≡ Some Read → ⊥
+write_is_not_read e = cc
 
-some_frames : {A : Type 0} (x : A) (xs : List A) → x ∷ xs ≡ [] → ⊥
-some_frames x xs e = cc
+cons_is_not_nil : {A : Type 0} (x : A) (xs : List A) → x ∷ xs ≡ [] → ⊥
+cons_is_not_nil x xs e = cc
 
 -- process 1, a reader, can't be at the point that these frames describe
-not_writing : (o : Op) (p : SafePoint) → SafeReaches 1 o p → writing ≡ safe_behaviour.frames p → ⊥
+not_writing : (o : Op) (p : SafePoint) → SafeReaches 1 o p → write_frames ≡ safe_behaviour.frames p → ⊥
 not_writing (Write v) (at.WriteStart bit) r e = omega (arith, r.0)
 not_writing (Write v) (at.WriteEnd bit) r e = omega (arith, r.0)
-not_writing Read at.ReadStart r e = other_op (ap outermost e)
-not_writing Read at.ReadEnd r e = other_op (ap outermost e)
+not_writing Read at.ReadStart r e = write_is_not_read (ap outermost e)
+not_writing Read at.ReadEnd r e = write_is_not_read (ap outermost e)
 not_writing _ _ r e = r
 
 -- process 0 can be at the point that these frames describe
-IsPointByFrames-holds : IsPointByFrames safe_behaviour.frames SafeReaches 0 writing (Some (at.WriteStart true))
+IsPointByFrames-holds : IsPointByFrames safe_behaviour.frames SafeReaches 0 write_frames (Some (at.WriteStart true))
 IsPointByFrames-holds = (Write 1, ((refl, omega arith, refl), refl))
 
 -- process 1, a reader, can't be at that point
-IsPointByFrames-fails : IsPointByFrames safe_behaviour.frames SafeReaches 1 writing (Some (at.WriteStart true)) → ⊥
+IsPointByFrames-fails : IsPointByFrames safe_behaviour.frames SafeReaches 1 write_frames (Some (at.WriteStart true)) → ⊥
 IsPointByFrames-fails h = not_writing h.0 (at.WriteStart true) h.1.0 h.1.1
 
 -- process 0 is at the point that the frames describe
-go_own-holds : (o : Op) × ((p : SafePoint) × HasFramesFrom safe_behaviour.frames SafeReaches 0 0 writing o p)
+go_own-holds : (o : Op) × ((p : SafePoint) × HasFramesFrom safe_behaviour.frames SafeReaches 0 0 write_frames o p)
 go_own-holds = (Write 1, (at.WriteStart true, record { reached = (refl, omega arith, refl); there = refl }))
 
 -- process 1 isn't at a point that the frames describe
-go_own-fails : (o : Op) × ((p : SafePoint) × HasFramesFrom safe_behaviour.frames SafeReaches 1 0 writing o p) → ⊥
+go_own-fails : (o : Op) × ((p : SafePoint) × HasFramesFrom safe_behaviour.frames SafeReaches 1 0 write_frames o p) → ⊥
 go_own-fails h = not_writing h.0 h.1.0 h.1.1.reached h.1.1.there
 
 -- process 1 has nothing pending, and no frames
-proceed-holds : (slot : Option (Running SafePoint)) × (IsReached SafeReaches 1 slot × ([] ≡ stack_of safe_behaviour slot))
-proceed-holds = (None, (tt, refl))
+proceed_own-holds : (slot : Option (Running SafePoint)) × (IsReached SafeReaches 1 slot × ([] ≡ stack_of safe_behaviour slot))
+proceed_own-holds = (None, (tt, refl))
 
 -- process 1 can't have the frames of process 0
-proceed-fails : (slot : Option (Running SafePoint)) × (IsReached SafeReaches 1 slot × (writing ≡ stack_of safe_behaviour slot)) → ⊥
-proceed-fails h = by h.0 h.1.0 h.1.1
+proceed_own-fails : (slot : Option (Running SafePoint)) × (IsReached SafeReaches 1 slot × (write_frames ≡ stack_of safe_behaviour slot)) → ⊥
+proceed_own-fails h = by h.0 h.1.0 h.1.1
   where
-    by : (slot : Option (Running SafePoint)) → IsReached SafeReaches 1 slot → writing ≡ stack_of safe_behaviour slot → ⊥
-    by None r e = some_frames _ _ e
+    by : (slot : Option (Running SafePoint)) → IsReached SafeReaches 1 slot → write_frames ≡ stack_of safe_behaviour slot → ⊥
+    by None r e = cons_is_not_nil _ _ e
     by (Some running) r e = not_writing running.op running.point r e
 
 -- process 0 can begin to write 1
 push_frames-holds : (who : ℕ) × ((o : Op) × SafeReaches who o (at.WriteStart true))
 push_frames-holds = (0, (Write 1, (refl, omega arith, refl)))
 
-abbrev Reads : ℕ → Op → SafePoint → Type 0
-Reads who o p = SafeReaches who o p × (who ≡ 1)
+abbrev ReachesAsReader : ℕ → Op → SafePoint → Type 0
+ReachesAsReader who o p = SafeReaches who o p × (who ≡ 1)
 
 -- if only process 1 takes part, no process can begin to write 1
-push_frames-fails : (who : ℕ) × ((o : Op) × Reads who o (at.WriteStart true)) → ⊥
+push_frames-fails : (who : ℕ) × ((o : Op) × ReachesAsReader who o (at.WriteStart true)) → ⊥
 push_frames-fails h = by h.0 h.1.0 h.1.1
   where
-    by : (who : ℕ) (o : Op) → Reads who o (at.WriteStart true) → ⊥
+    by : (who : ℕ) (o : Op) → ReachesAsReader who o (at.WriteStart true) → ⊥
     by who (Write v) r = omega (arith, r.0.0, r.1)
     by who Read r = r.0
 

@@ -9,7 +9,7 @@ use Rattle.frames.specs.declared.types.Reason.{Reason}
 use Rattle.frames.specs.declared.types.StepEvents.{StepEvents}
 use Rattle.frames.specs.Configuration.{chosen_of, in_order}
 use Rattle.frames.proofs.Seen.{Seen, Returned, after_step, read_in, reads, sees, got, refuses, refuses_none, Allowed}
-use Rattle.frames.proofs.Reached.{IsFine}
+use Rattle.frames.proofs.Reached.{HasGoodEvents}
 use Rattle.frames.proofs.JoinedLists.{all_both}
 
 -- what is seen after the invocation of an operation, unless it is refused at once
@@ -23,16 +23,16 @@ pub gone_seen : (who : ℕ) (chosen : Option (ℕ × Bool)) (end : Option Event)
 gone_seen who None end s e = refl
 gone_seen who (Some c) end s e = ap (λ c. if c then s else sees end s) e
 
--- if a bit action's events are fine, its operation isn't refused, and a read that it returns is
+-- if a bit action's events are good, its operation isn't refused, and a read that it returns is
 -- good
-pub gone_reads : (Good : Returned → Type 0) (who : ℕ) (chosen : Option (ℕ × Bool)) (end : Option Event) (s : Seen) → IsFine Good s (in_order (chosen_of who chosen) end)
+pub gone_reads : (Good : Returned → Type 0) (who : ℕ) (chosen : Option (ℕ × Bool)) (end : Option Event) (s : Seen) → HasGoodEvents Good s (in_order (chosen_of who chosen) end)
     → (refuses end ≡ false) × AllByRecursion Good (got end s)
 gone_reads Good who None end s h = (h.first, subst (AllByRecursion Good) (append-nil (got end s)) h.reads)
 gone_reads Good who (Some c) end s h = (h.second, h.reads)
 
 -- a step's events take `Seen` from s to z, refuse nothing, and return only good reads
 abbrev pub IsGoodStep : (Returned → Type 0) → Seen → StepEvents → Seen → Type 0
-IsGoodStep Good s e z = IsFine Good s e × (z ≡ after_step e s)
+IsGoodStep Good s e z = HasGoodEvents Good s e × (z ≡ after_step e s)
 
 -- a step that invokes an operation, which may end at once, is good if the operation isn't refused,
 -- and a read that it returns is good

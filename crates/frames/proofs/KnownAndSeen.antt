@@ -23,7 +23,7 @@ pub record ReadAgrees (p : ℕ) (k : Known) (s : Seen) : Type 0 where
   pub last : last_read p k ≡ Some read
   pub fresh : read.fresh ≡ s.fresh p
   pub since : read.since ≤ length k.returned
-  pub over : s.overlaps p ≡ reverse (drop read.since k.returned ++ in_progress k.writing)
+  pub overlaps : s.overlaps p ≡ reverse (drop read.since k.returned ++ in_progress k.writing)
 
 -- the two folds agree, if the processes have the operations `ops` pending
 pub record Agrees (ops : ℕ → Option Op) (k : Known) (s : Seen) : Type 0 where
@@ -55,35 +55,36 @@ among_reverse x (y ∷ xs) =
     either_way false true = refl
     either_way false false = refl
 
-pub is_among : (x : ℕ) (w : Option ℕ) → is_value x w ≡ among x (in_progress w)
-is_among x None = refl
-is_among x (Some v) = or_false (v == x)
+pub is_value_is_among : (x : ℕ) (w : Option ℕ) → is_value x w ≡ among x (in_progress w)
+is_value_is_among x None = refl
+is_value_is_among x (Some v) = or_false (v == x)
   where
     or_false : (b : Bool) → b ≡ (b || false)
     or_false true = refl
     or_false false = refl
 
+-- process p's read, if it returns v when the history shows s
 abbrev pub returned_of : ℕ → ℕ → Seen → Returned
 returned_of p v s = record { reader = p; value = v; fresh = s.fresh p; overlaps = s.overlaps p }
 
-reading_is : (p : ℕ) (k : Known) (s : Seen) (a : ReadAgrees p k s) → reading p k ≡ a.read
-reading_is p k s a = ap (λ o. unwrap_or o (invoked_now p k)) a.last
+reading_agrees : (p : ℕ) (k : Known) (s : Seen) (a : ReadAgrees p k s) → reading p k ≡ a.read
+reading_agrees p k s a = ap (λ o. unwrap_or o (invoked_now p k)) a.last
 
-over_is : (p : ℕ) (k : Known) (s : Seen) (a : ReadAgrees p k s) → s.overlaps p ≡ reverse (overlapped p k)
-over_is p k s a = a.over ∙ ap (λ (r : Reading). reverse (drop r.since k.returned ++ in_progress k.writing)) (sym (reading_is p k s a))
+overlaps_agree : (p : ℕ) (k : Known) (s : Seen) (a : ReadAgrees p k s) → s.overlaps p ≡ reverse (overlapped p k)
+overlaps_agree p k s a = a.overlaps ∙ ap (λ (r : Reading). reverse (drop r.since k.returned ++ in_progress k.writing)) (sym (reading_agrees p k s a))
 
-pub judged_is : (p v : ℕ) (k : Known) (s : Seen) → ReadAgrees p k s → judged k p v ≡ verdict (returned_of p v s)
-judged_is p v k s a =
-    let r = reading_is p k s a in
+pub verdicts_agree : (p v : ℕ) (k : Known) (s : Seen) → ReadAgrees p k s → judged k p v ≡ verdict (returned_of p v s)
+verdicts_agree p v k s a =
+    let r = reading_agrees p k s a in
     let over : overlaps (reading p k) v k ≡ among v (s.overlaps p) =
-    ap (λ b. has_returned v (reading p k).since k || b) (is_among v k.writing)
+    ap (λ b. has_returned v (reading p k).since k || b) (is_value_is_among v k.writing)
     ∙ sym (list_any-append (λ u. u == v) (drop (reading p k).since k.returned) (in_progress k.writing))
-    ∙ sym (among_reverse v (overlapped p k)) ∙ sym (ap (among v) (over_is p k s a)) in
+    ∙ sym (among_reverse v (overlapped p k)) ∙ sym (ap (among v) (overlaps_agree p k s a)) in
     ap (λ n. if v == n then Fresh else (if overlaps (reading p k) v k then Overlap else Stray)) (ap (λ (x : Reading). x.fresh) r ∙ a.fresh)
     ∙ ap (λ b. if v == s.fresh p then Fresh else (if b then Overlap else Stray)) over
 
-no_overlap : (p : ℕ) (k : Known) (s : Seen) → ReadAgrees p k s → overlapped p k ≡ [] → s.overlaps p ≡ []
-no_overlap p k s a e = over_is p k s a ∙ ap reverse e
+none_overlaps_seen : (p : ℕ) (k : Known) (s : Seen) → ReadAgrees p k s → overlapped p k ≡ [] → s.overlaps p ≡ []
+none_overlaps_seen p k s a e = overlaps_agree p k s a ∙ ap reverse e
 
 none_reversed : (xs : List ℕ) → reverse xs ≡ [] → xs ≡ []
 none_reversed [] e = refl
@@ -93,8 +94,8 @@ none_reversed (x ∷ xs) e = absurd (never (reverse xs) (sym (reverse-append (x 
     never [] e = cc
     never (y ∷ ys) e = cc
 
-no_overlapped : (p : ℕ) (k : Known) (s : Seen) → ReadAgrees p k s → s.overlaps p ≡ [] → overlapped p k ≡ []
-no_overlapped p k s a e = none_reversed (overlapped p k) (sym (over_is p k s a) ∙ e)
+none_overlaps_known : (p : ℕ) (k : Known) (s : Seen) → ReadAgrees p k s → s.overlaps p ≡ [] → overlapped p k ≡ []
+none_overlaps_known p k s a e = none_reversed (overlapped p k) (sym (overlaps_agree p k s a) ∙ e)
 
 -- a claim about a read in terms of `Known`, `Says`, is the same as one in terms of `Seen`, `Good`
 pub record Alike (Says : Known → ℕ → ℕ → Type 0) (Good : Returned → Type 0) : Type 0 where
@@ -103,14 +104,14 @@ pub record Alike (Says : Known → ℕ → ℕ → Type 0) (Good : Returned → 
 
 pub fresh_alike : Alike FreshAlone IsFreshAlone
 fresh_alike = record {
-  seen = λ p v k s a h e. sym (judged_is p v k s a) ∙ h (no_overlapped p k s a e);
-  known = λ p v k s a h e. judged_is p v k s a ∙ h (no_overlap p k s a e);
+  seen = λ p v k s a h e. sym (verdicts_agree p v k s a) ∙ h (none_overlaps_known p k s a e);
+  known = λ p v k s a h e. verdicts_agree p v k s a ∙ h (none_overlaps_seen p k s a e);
 }
 
 pub stray_alike : Alike NotStray IsNotStray
 stray_alike = record {
-  seen = λ p v k s a h e. h (judged_is p v k s a ∙ e);
-  known = λ p v k s a h e. h (sym (judged_is p v k s a) ∙ e);
+  seen = λ p v k s a h e. h (verdicts_agree p v k s a ∙ e);
+  known = λ p v k s a h e. h (sym (verdicts_agree p v k s a) ∙ e);
 }
 
 -- the folds still agree after a write is invoked
@@ -129,7 +130,7 @@ agrees_write v ops k s free a = record {
           last = r.last;
           fresh = r.fresh;
           since = r.since;
-          over = ap (λ l. v ∷ l) (r.over ∙ ap (λ w. reverse (drop r.read.since k.returned ++ in_progress w)) (a.idle free) ∙ ap reverse (append-nil (drop r.read.since k.returned)))
+          overlaps = ap (λ l. v ∷ l) (r.overlaps ∙ ap (λ w. reverse (drop r.read.since k.returned ++ in_progress w)) (a.idle free) ∙ ap reverse (append-nil (drop r.read.since k.returned)))
               ∙ sym (reverse_last (drop r.read.since k.returned) v);
         }
   ];
@@ -158,7 +159,7 @@ agrees_read p ops k s free a =
           last = found_last p (invoked_now p k) k.reads ∙ ap (λ b. cond b (Some (invoked_now p k)) (last_read p k)) (eq-eqb p p refl);
           fresh = a.last ∙ sym (put_same p s.last s.fresh);
           since = omega arith;
-          over = put_same p (in_progress s.writing) s.overlaps ∙ ap in_progress (sym a.writing) ∙ one_reversed k.writing
+          overlaps = put_same p (in_progress s.writing) s.overlaps ∙ ap in_progress (sym a.writing) ∙ one_reversed k.writing
               ∙ sym (ap (λ l. reverse (l ++ in_progress k.writing)) (drop-length k.returned));
         })
         | inr other ↦
@@ -168,7 +169,7 @@ agrees_read p ops k s free a =
               last = found_last q (invoked_now p k) k.reads ∙ ap (λ b. cond b (Some (invoked_now p k)) (last_read q k)) (ne_eqb p q (λ f. other (sym f))) ∙ r.last;
               fresh = r.fresh ∙ sym (put_other p q s.last s.fresh other);
               since = r.since;
-              over = put_other p q (in_progress s.writing) s.overlaps other ∙ r.over;
+              overlaps = put_other p q (in_progress s.writing) s.overlaps other ∙ r.overlaps;
             }
       ];
     }
@@ -195,7 +196,7 @@ returning_agrees None ops k s e a = record {
   last = a.last;
   writing = e;
   idle = a.idle;
-  reads = λ p h. let r = a.reads p h in record { read = r.read; last = r.last; fresh = r.fresh; since = r.since; over = r.over };
+  reads = λ p h. let r = a.reads p h in record { read = r.read; last = r.last; fresh = r.fresh; since = r.since; overlaps = r.overlaps };
 }
 returning_agrees (Some v) ops k s e a = record {
   last = refl;
@@ -208,7 +209,7 @@ returning_agrees (Some v) ops k s e a = record {
         last = r.last;
         fresh = r.fresh;
         since = (let l = r.since in omega (arith, l, length-append k.returned (v ∷ [])));
-        over = r.over ∙ ap (λ w. reverse (drop r.read.since k.returned ++ in_progress w)) e
+        overlaps = r.overlaps ∙ ap (λ w. reverse (drop r.read.since k.returned ++ in_progress w)) e
             ∙ ap reverse (sym (drop-append-le r.read.since k.returned (v ∷ []) r.since) ∙ sym (append-nil (drop r.read.since (k.returned ++ v ∷ []))));
       };
 }
@@ -221,5 +222,5 @@ pub agrees_wrote : (p : ℕ) (ops : ℕ → Option Op) (k : Known) (s : Seen) �
 agrees_wrote p ops k s a =
     subst (λ w. Agrees ops (after k (Wrote p)) (record s { last = now_last w s.last; writing = None })) a.writing (returning_agrees k.writing ops k s refl a)
 
-pub wrote_quiet : (p : ℕ) (k : Known) → (after k (Wrote p)).writing ≡ None
-wrote_quiet p k = returning_none k.writing k refl
+pub no_write_after_wrote : (p : ℕ) (k : Known) → (after k (Wrote p)).writing ≡ None
+no_write_after_wrote p k = returning_none k.writing k refl

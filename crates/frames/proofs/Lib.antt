@@ -16,5 +16,5 @@ pub mod Numbering
 pub mod SafeIsSafe
 pub mod SafeReports
 pub mod NeverStray
-pub mod Frames
+pub mod SafeFrames
 mod Examples

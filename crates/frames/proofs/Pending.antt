@@ -10,9 +10,10 @@ use Rattle.frames.specs.Behaviour.{Behaviour, IsLawful}
 use Rattle.frames.specs.Configuration.{running_at}
 use Rattle.frames.specs.Parked.{IsConfiguration}
 use Rattle.frames.specs.Recorded.{Alone, first_configuration}
-use Rattle.frames.specs.laws.Steps.{initial_keeps}
+use Rattle.frames.specs.laws.Steps.{initial_is_configuration}
 use Rattle.frames.proofs.Pointwise.{put, put_same, put_other}
 
+-- the operation that is pending, if any
 abbrev pub op_of : {P : Type 0} → Option (Running P) → Option Op
 op_of slot = option_map (λ r. r.op) slot
 
@@ -29,16 +30,16 @@ ops_after p x c there q = elim (cases_eq q p) as (λ _. put p (op_of x) (ops_of 
 ]
 
 -- at first nothing is pending, and no process has stopped
-pub none_at : {A : Type 0} (n p : ℕ) → ◌≡◌ {A = Option A} (get_or (replicate n None) p None) None
-none_at zero p = refl
-none_at (suc n) zero = refl
-none_at (suc n) (suc p) = none_at n p
+pub none_pending_at : {A : Type 0} (n p : ℕ) → ◌≡◌ {A = Option A} (get_or (replicate n None) p None) None
+none_pending_at zero p = refl
+none_pending_at (suc n) zero = refl
+none_pending_at (suc n) (suc p) = none_pending_at n p
 
-pub awake_at : (n p : ℕ) → get_or (replicate n false) p false ≡ false
-awake_at zero p = refl
-awake_at (suc n) zero = refl
-awake_at (suc n) (suc p) = awake_at n p
+pub none_stopped_at : (n p : ℕ) → get_or (replicate n false) p false ≡ false
+none_stopped_at zero p = refl
+none_stopped_at (suc n) zero = refl
+none_stopped_at (suc n) (suc p) = none_stopped_at n p
 
-pub first_well : {P : Type 0} (b : Behaviour P) (Holds : Memory → Type 0) (Reaches : ℕ → Op → P → Type 0) (lawful : IsLawful b Holds Reaches) (v : ℕ) → v < b.values
+pub first_is_configuration : {P : Type 0} (b : Behaviour P) (Holds : Memory → Type 0) (Reaches : ℕ → Op → P → Type 0) (lawful : IsLawful b Holds Reaches) (v : ℕ) → v < b.values
     → IsConfiguration b Holds Reaches (first_configuration b v)
-first_well b Holds Reaches lawful v lt = initial_keeps b Holds Reaches lawful tt v (b.initial v) (replicate b.processes None) (replicate b.processes false) lt refl refl refl
+first_is_configuration b Holds Reaches lawful v lt = initial_is_configuration b Holds Reaches lawful tt v (b.initial v) (replicate b.processes None) (replicate b.processes false) lt refl refl refl

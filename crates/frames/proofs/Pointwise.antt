@@ -14,29 +14,29 @@ pub put_zero : {A : Type 0} (i : ℕ) (x : A) (f : ℕ → A) → i ≡ 0 → pu
 put_zero i x f e = sym (ap (put i x f) e) ∙ put_same i x f
 
 -- putting a value back changes nothing
-pub put_again : {A : Type 0} (i k : ℕ) (f : ℕ → A) → f k ≡ put i (f i) f k
-put_again i k f =
+pub put_back_at : {A : Type 0} (i k : ℕ) (f : ℕ → A) → f k ≡ put i (f i) f k
+put_back_at i k f =
     elim (cases_eq k i) [
       | inl e ↦ ap f e ∙ sym (ap (put i (f i) f) e ∙ put_same i (f i) f)
       | inr ne ↦ sym (put_other i k (f i) f ne)
     ]
 
 pub put_back : {A : Type 0} (i : ℕ) (f : ℕ → A) → f ≡ put i (f i) f
-put_back i f = λ d k. put_again i k f d
+put_back i f = λ d k. put_back_at i k f d
 
 -- putting x at i changes nothing, if f is x at i already
-pub put_is : {A : Type 0} (i k : ℕ) (x : A) (f : ℕ → A) → f i ≡ x → f k ≡ put i x f k
-put_is i k x f e = subst (λ y. f k ≡ put i y f k) e (put_again i k f)
+pub put_present_at : {A : Type 0} (i k : ℕ) (x : A) (f : ℕ → A) → f i ≡ x → f k ≡ put i x f k
+put_present_at i k x f e = subst (λ y. f k ≡ put i y f k) e (put_back_at i k f)
 
 -- the second of two values put at one argument replaces the first
-pub put_put : {A : Type 0} (i k : ℕ) (x y : A) (f : ℕ → A) → put i y (put i x f) k ≡ put i y f k
-put_put i k x y f = elim (cases_eq k i) as (λ _. put i y (put i x f) k ≡ put i y f k) [
+pub put_twice_at : {A : Type 0} (i k : ℕ) (x y : A) (f : ℕ → A) → put i y (put i x f) k ≡ put i y f k
+put_twice_at i k x y f = elim (cases_eq k i) as (λ _. put i y (put i x f) k ≡ put i y f k) [
   | inl same ↦ ap (put i y (put i x f)) same ∙ put_same i y (put i x f) ∙ sym (ap (put i y f) same ∙ put_same i y f)
   | inr other ↦ put_other i k y (put i x f) other ∙ put_other i k x f other ∙ sym (put_other i k y f other)
 ]
 
-pub put_over : {A : Type 0} (i : ℕ) (x y : A) (f : ℕ → A) → put i y (put i x f) ≡ put i y f
-put_over i x y f = λ d k. put_put i k x y f d
+pub put_twice : {A : Type 0} (i : ℕ) (x y : A) (f : ℕ → A) → put i y (put i x f) ≡ put i y f
+put_twice i x y f = λ d k. put_twice_at i k x y f d
 
 -- a property holds of the changed function if it holds of x at i, and of f at all other arguments
 pub put_all : {A : Type 0} (Q : ℕ → A → Type 0) (i : ℕ) (x : A) (f : ℕ → A) → Q i x → ((k : ℕ) → (k ≡ i → ⊥) → Q k (f k)) → (k : ℕ) → Q k (put i x f k)

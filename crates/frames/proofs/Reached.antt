@@ -17,7 +17,7 @@ pub record Reached {P : Type 0} (b : Behaviour P) (v : ℕ) (c : Alone P) (s : S
   pub reports : seen (opening v) (history b (first_configuration b v) steps) ≡ s
 
 -- a step refuses nothing and returns only good reads, if the history before it shows s
-pub record IsFine (Good : Returned → Type 0) (s : Seen) (e : StepEvents) : Type 0 where
+pub record HasGoodEvents (Good : Returned → Type 0) (s : Seen) (e : StepEvents) : Type 0 where
   pub first : refuses e.first ≡ false
   pub second : refuses e.second ≡ false
   pub reads : AllByRecursion Good (read_in e s)

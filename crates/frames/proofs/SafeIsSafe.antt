@@ -35,10 +35,11 @@ use Rattle.frames.proofs.Moves.{moves, StepsTo, step_begins, step_goes, step_sto
 use Rattle.frames.proofs.GoodHistories.{IsGoodStep, good_begun, good_gone, good_void, good_stop, good_refuses_none, good_reads}
 use Rattle.frames.proofs.KnownAndSeen.{fresh_alike}
 use Rattle.frames.proofs.OneWriterPromises.{always_known}
-use Rattle.frames.proofs.VerdictFacts.{none_in, is_fresh}
+use Rattle.frames.proofs.VerdictFacts.{none_in_progress, is_fresh}
 
-abbrev C : Type 0
-C = Alone SafePoint
+-- a configuration of one safe bit alone
+abbrev SafeConfiguration : Type 0
+SafeConfiguration = Alone SafePoint
 
 -- how the cell agrees with the history, if process 0 is at this point of a write
 abbrev pub WriterAt : SafePoint → Seen → Cell → Type 0
@@ -47,6 +48,7 @@ WriterAt (WriteEnd w) u cell = (x : ℕ) × ((v : Bool) × ((u.writing ≡ Some 
 WriterAt ReadStart u cell = ⊥
 WriterAt ReadEnd u cell = ⊥
 
+-- what process 0, which is idle or writes, says of the history and the cell
 abbrev pub WriterSays : Option (Running SafePoint) → Seen → Cell → Type 0
 WriterSays None u cell = (u.writing ≡ None) × (cell.writing ≡ None)
 WriterSays (Some r) u cell = WriterAt r.point u cell
@@ -58,19 +60,20 @@ ReaderAt (WriteEnd w) u cell = ⊥
 ReaderAt ReadStart u cell = u.overlaps 1 ≡ [] → (u.fresh 1 ≡ u.last) × (u.writing ≡ None)
 ReaderAt ReadEnd u cell = u.overlaps 1 ≡ [] → (u.fresh 1 ≡ u.last) × ((u.writing ≡ None) × (cell.hit ≡ false))
 
+-- what process 1, which is idle or reads, says of the history and the cell
 abbrev pub ReaderSays : Option (Running SafePoint) → Seen → Cell → Type 0
 ReaderSays None u cell = Unit {0}
 ReaderSays (Some r) u cell = ReaderAt r.point u cell
 
 -- the invariant: the cell has the last value written, and agrees with both processes' operations
-pub record SafeInv (c : C) (u : Seen) : Type 0 where
+pub record SafeInv (c : SafeConfiguration) (u : Seen) : Type 0 where
   pub processes : length c.running ≡ 2
   pub size : length c.memory.cells ≡ 1
   pub last : value_of (cell_at 0 c.memory).value ≡ u.last
   pub writer : WriterSays (running_at 0 c) u (cell_at 0 c.memory)
   pub reader : ReaderSays (running_at 1 c) u (cell_at 0 c.memory)
 
-writer_moves : (c : C) (u z : Seen) (o : Op) (next : Next SafePoint) (m : Memory) → SafeInv c u → length m.cells ≡ 1 → value_of (cell_at 0 m).value ≡ z.last
+writer_moves : (c : SafeConfiguration) (u z : Seen) (o : Op) (next : Next SafePoint) (m : Memory) → SafeInv c u → length m.cells ≡ 1 → value_of (cell_at 0 m).value ≡ z.last
     → WriterSays (still_running o next) z (cell_at 0 m) → ReaderSays (running_at 1 c) z (cell_at 0 m) → SafeInv (moves 0 o next m c) z
 writer_moves c u z o next m h size last writer reader = record {
   processes = length-set c.running 0 (still_running o next) ∙ h.processes;
@@ -80,7 +83,7 @@ writer_moves c u z o next m h size last writer reader = record {
   reader = subst (λ r. ReaderSays r z (cell_at 0 m)) (sym (get_or-set_other c.running 0 1 (still_running o next) None (λ e. omega (arith, e)))) reader;
 }
 
-reader_moves : (c : C) (u z : Seen) (o : Op) (next : Next SafePoint) (m : Memory) → SafeInv c u → length m.cells ≡ 1 → value_of (cell_at 0 m).value ≡ z.last
+reader_moves : (c : SafeConfiguration) (u z : Seen) (o : Op) (next : Next SafePoint) (m : Memory) → SafeInv c u → length m.cells ≡ 1 → value_of (cell_at 0 m).value ≡ z.last
     → WriterSays (running_at 0 c) z (cell_at 0 m) → ReaderSays (still_running o next) z (cell_at 0 m) → SafeInv (moves 1 o next m c) z
 reader_moves c u z o next m h size last writer reader = record {
   processes = length-set c.running 1 (still_running o next) ∙ h.processes;
@@ -92,9 +95,9 @@ reader_moves c u z o next m h size last writer reader = record {
 
 -- while a write is in progress, `ReaderSays` stays true whatever becomes of the cell, since a read
 -- in progress overlaps the write
-no_write : (x : ℕ) (A : Type 0) (u : Seen) (cell to : Cell) (r : Option (Running SafePoint)) → u.writing ≡ Some x → ReaderSays r u cell → (z : Seen) → z.overlaps 1 ≡ u.overlaps 1 → ReaderSays r z to
-no_write x A u cell to None e h z o = tt
-no_write x A u cell to (Some r) e h z o = at r.point h
+reader_stays_within_write : (x : ℕ) (u : Seen) (cell to : Cell) (r : Option (Running SafePoint)) → u.writing ≡ Some x → ReaderSays r u cell → (z : Seen) → z.overlaps 1 ≡ u.overlaps 1 → ReaderSays r z to
+reader_stays_within_write x u cell to None e h z o = tt
+reader_stays_within_write x u cell to (Some r) e h z o = at r.point h
   where
     at : (p : SafePoint) → ReaderAt p u cell → ReaderAt p z to
     at (WriteStart v) h = h
@@ -102,9 +105,9 @@ no_write x A u cell to (Some r) e h z o = at r.point h
     at ReadStart h = λ k. let n : u.writing ≡ None = (h (sym o ∙ k)).1 in (let f : ⊥ = cc in absurd f)
     at ReadEnd h = λ k. let n : u.writing ≡ None = (h (sym o ∙ k)).1.0 in (let f : ⊥ = cc in absurd f)
 
-begun_write : (v : ℕ) (u : Seen) (cell : Cell) (r : Option (Running SafePoint)) → ReaderSays r u cell → ReaderSays r (sees (Some (Invoke 0 (op.Write v))) u) cell
-begun_write v u cell None h = tt
-begun_write v u cell (Some r) h = at r.point h
+reader_stays_at_write_begin : (v : ℕ) (u : Seen) (cell : Cell) (r : Option (Running SafePoint)) → ReaderSays r u cell → ReaderSays r (sees (Some (Invoke 0 (op.Write v))) u) cell
+reader_stays_at_write_begin v u cell None h = tt
+reader_stays_at_write_begin v u cell (Some r) h = at r.point h
   where
     at : (p : SafePoint) → ReaderAt p u cell → ReaderAt p (sees (Some (Invoke 0 (op.Write v))) u) cell
     at (WriteStart v) h = h
@@ -123,9 +126,9 @@ quiet_cell (Some r) u cell h e = at r.point h
     at ReadStart h = absurd h
     at ReadEnd h = absurd h
 
-same_writer : (r : Option (Running SafePoint)) (u z : Seen) (cell to : Cell) → u.writing ≡ z.writing → cell.writing ≡ to.writing → WriterSays r u cell → WriterSays r z to
-same_writer None u z cell to e f h = (sym e ∙ h.0, sym f ∙ h.1)
-same_writer (Some r) u z cell to e f h = at r.point h
+writer_stays : (r : Option (Running SafePoint)) (u z : Seen) (cell to : Cell) → u.writing ≡ z.writing → cell.writing ≡ to.writing → WriterSays r u cell → WriterSays r z to
+writer_stays None u z cell to e f h = (sym e ∙ h.0, sym f ∙ h.1)
+writer_stays (Some r) u z cell to e f h = at r.point h
   where
     at : (p : SafePoint) → WriterAt p u cell → WriterAt p z to
     at (WriteStart v) h = (h.0, (sym e ∙ h.1.0, (sym f ∙ h.1.1.0, h.1.1.1)))
@@ -133,114 +136,114 @@ same_writer (Some r) u z cell to e f h = at r.point h
     at ReadStart h = h
     at ReadEnd h = h
 
-on_it : (f : Cell → Cell) (m : Memory) → length m.cells ≡ 1 → cell_at 0 (on_cell 0 f m) ≡ f (cell_at 0 m)
-on_it f m l = get_or-set_at m.cells 0 0 (f (cell_at 0 m)) no_cell refl (omega (arith, l))
+changed_cell : (f : Cell → Cell) (m : Memory) → length m.cells ≡ 1 → cell_at 0 (on_cell 0 f m) ≡ f (cell_at 0 m)
+changed_cell f m l = get_or-set_at m.cells 0 0 (f (cell_at 0 m)) no_cell refl (omega (arith, l))
 
-on_size : (f : Cell → Cell) (m : Memory) → length m.cells ≡ 1 → length (on_cell 0 f m).cells ≡ 1
-on_size f m l = length-set m.cells 0 (f (cell_at 0 m)) ∙ l
+changed_size : (f : Cell → Cell) (m : Memory) → length m.cells ≡ 1 → length (on_cell 0 f m).cells ≡ 1
+changed_size f m l = length-set m.cells 0 (f (cell_at 0 m)) ∙ l
 
 ended_write : (v : Bool) (cell : Cell) → cell.writing ≡ Some v → (end_write cell).value ≡ v
 ended_write v cell e = ap (λ o. unwrap_or o cell.value) e
 
 -- step s refuses nothing and returns only good reads, and the invariant holds after it
-abbrev Good : C → Seen → Step → Type 0
-Good c u s = (z : Seen) × (IsGoodStep IsFreshAlone u (events_of safe_behaviour c s) z × SafeInv (stepped safe_behaviour c s) z)
+abbrev IsSafeStep : SafeConfiguration → Seen → Step → Type 0
+IsSafeStep c u s = (z : Seen) × (IsGoodStep IsFreshAlone u (events_of safe_behaviour c s) z × SafeInv (stepped safe_behaviour c s) z)
 
 -- a step is good if its events are, and its effect keeps the invariant
-to_good : (c : C) (u z : Seen) (s : Step) (who : ℕ) (o : Op) (event : Option Event) (next : Next SafePoint) (m : Memory) → StepsTo safe_behaviour c s who o event next m
-    → IsGoodStep IsFreshAlone u (in_order event (return_of who next)) z → SafeInv (moves who o next m c) z → Good c u s
-to_good c u z s who o event next m to good_step inv = (z, (subst (λ e. IsGoodStep IsFreshAlone u e z) (sym to.events) good_step, subst (λ d. SafeInv d z) (sym to.after) inv))
+safe_step_by_effect : (c : SafeConfiguration) (u z : Seen) (s : Step) (who : ℕ) (o : Op) (event : Option Event) (next : Next SafePoint) (m : Memory) → StepsTo safe_behaviour c s who o event next m
+    → IsGoodStep IsFreshAlone u (in_order event (return_of who next)) z → SafeInv (moves who o next m c) z → IsSafeStep c u s
+safe_step_by_effect c u z s who o event next m to good_step inv = (z, (subst (λ e. IsGoodStep IsFreshAlone u e z) (sym to.events) good_step, subst (λ d. SafeInv d z) (sym to.after) inv))
 
-void_good : (c : C) (u : Seen) (s : Step) → IsVoid safe_behaviour c s → SafeInv c u → Good c u s
-void_good c u s v h = (u, (subst (λ e. IsGoodStep IsFreshAlone u e u) (sym v.reported) (good_void IsFreshAlone u (process_of s) (why_void c s)), subst (λ d. SafeInv d u) (sym v.leaves) h))
+void_is_safe_step : (c : SafeConfiguration) (u : Seen) (s : Step) → IsVoid safe_behaviour c s → SafeInv c u → IsSafeStep c u s
+void_is_safe_step c u s v h = (u, (subst (λ e. IsGoodStep IsFreshAlone u e u) (sym v.reported) (good_void IsFreshAlone u (process_of s) (why_void c s)), subst (λ d. SafeInv d u) (sym v.leaves) h))
 
-begin_write : (v : ℕ) (c : C) (u : Seen) → running_at 0 c ≡ None → is_stopped 0 c ≡ false → v < 2 → SafeInv c u → Good c u (step.Write 0 v)
+begin_write : (v : ℕ) (c : SafeConfiguration) (u : Seen) → running_at 0 c ≡ None → is_stopped 0 c ≡ false → v < 2 → SafeInv c u → IsSafeStep c u (step.Write 0 v)
 begin_write v c u e awake l h =
     let w : WriterSays None u (cell_at 0 c.memory) = subst (λ r. WriterSays r u (cell_at 0 c.memory)) e h.writer in
     let z : Seen = sees (Some (Invoke 0 (op.Write v))) u in
-    to_good c u z (step.Write 0 v) 0 (op.Write v) (Some (Invoke 0 (op.Write v))) (Pending (WriteStart (bit_of v))) c.memory (step_begins safe_behaviour 0 (op.Write v) c c.memory e awake refl)
+    safe_step_by_effect c u z (step.Write 0 v) 0 (op.Write v) (Some (Invoke 0 (op.Write v))) (Pending (WriteStart (bit_of v))) c.memory (step_begins safe_behaviour 0 (op.Write v) c c.memory e awake refl)
     (good_begun IsFreshAlone 0 (op.Write v) None u refl tt)
-    (writer_moves c u z (op.Write v) (Pending (WriteStart (bit_of v))) c.memory h h.size h.last (v, (refl, (w.1, value_of_its_bit v l))) (begun_write v u (cell_at 0 c.memory) (running_at 1 c) h.reader))
+    (writer_moves c u z (op.Write v) (Pending (WriteStart (bit_of v))) c.memory h h.size h.last (v, (refl, (w.1, value_of_its_bit v l))) (reader_stays_at_write_begin v u (cell_at 0 c.memory) (running_at 1 c) h.reader))
 
-begin_read : (c : C) (u : Seen) → running_at 1 c ≡ None → is_stopped 1 c ≡ false → SafeInv c u → Good c u (step.Read 1)
+begin_read : (c : SafeConfiguration) (u : Seen) → running_at 1 c ≡ None → is_stopped 1 c ≡ false → SafeInv c u → IsSafeStep c u (step.Read 1)
 begin_read c u e awake h =
     let z : Seen = sees (Some (Invoke 1 op.Read)) u in
-    to_good c u z (step.Read 1) 1 op.Read (Some (Invoke 1 op.Read)) (Pending ReadStart) c.memory (step_begins safe_behaviour 1 op.Read c c.memory e awake refl)
+    safe_step_by_effect c u z (step.Read 1) 1 op.Read (Some (Invoke 1 op.Read)) (Pending ReadStart) c.memory (step_begins safe_behaviour 1 op.Read c c.memory e awake refl)
     (good_begun IsFreshAlone 1 op.Read None u refl tt)
     (reader_moves c u z op.Read (Pending ReadStart) c.memory h h.size h.last
-    (same_writer (running_at 0 c) u z (cell_at 0 c.memory) (cell_at 0 c.memory) refl refl h.writer) (λ o. (refl, none_in u.writing o)))
+    (writer_stays (running_at 0 c) u z (cell_at 0 c.memory) (cell_at 0 c.memory) refl refl h.writer) (λ o. (refl, none_in_progress u.writing o)))
 
-go_writer : (choice : ℕ) (c : C) (u : Seen) (o : Op) (p : SafePoint) → running_at 0 c ≡ Some (record { op = o; point = p }) → is_stopped 0 c ≡ false → WriterAt p u (cell_at 0 c.memory) → SafeInv c u → Good c u (step.Go 0 choice)
+go_writer : (choice : ℕ) (c : SafeConfiguration) (u : Seen) (o : Op) (p : SafePoint) → running_at 0 c ≡ Some (record { op = o; point = p }) → is_stopped 0 c ≡ false → WriterAt p u (cell_at 0 c.memory) → SafeInv c u → IsSafeStep c u (step.Go 0 choice)
 go_writer choice c u o (WriteStart v) e awake w h =
     let m : Memory = on_cell 0 (start_write v) c.memory in
-    let on = on_it (start_write v) c.memory h.size in
-    to_good c u u (step.Go 0 choice) 0 o None (Pending (WriteEnd v)) m (step_goes safe_behaviour 0 choice c (record { op = o; point = WriteStart v }) c.memory e awake refl)
+    let on = changed_cell (start_write v) c.memory h.size in
+    safe_step_by_effect c u u (step.Go 0 choice) 0 o None (Pending (WriteEnd v)) m (step_goes safe_behaviour 0 choice c (record { op = o; point = WriteStart v }) c.memory e awake refl)
     (good_gone IsFreshAlone 0 None None u refl tt)
-    (writer_moves c u u o (Pending (WriteEnd v)) m h (on_size (start_write v) c.memory h.size) (ap (λ k. value_of k.value) on ∙ h.last)
-    (w.0, (v, (w.1.0, (ap (λ k. k.writing) on, w.1.1.1)))) (no_write w.0 (Unit {0}) u (cell_at 0 c.memory) _ (running_at 1 c) w.1.0 h.reader u refl))
+    (writer_moves c u u o (Pending (WriteEnd v)) m h (changed_size (start_write v) c.memory h.size) (ap (λ k. value_of k.value) on ∙ h.last)
+    (w.0, (v, (w.1.0, (ap (λ k. k.writing) on, w.1.1.1)))) (reader_stays_within_write w.0 u (cell_at 0 c.memory) _ (running_at 1 c) w.1.0 h.reader u refl))
 go_writer choice c u o (WriteEnd x) e awake w h =
     let m : Memory = on_cell 0 end_write c.memory in
-    let on = on_it end_write c.memory h.size in
+    let on = changed_cell end_write c.memory h.size in
     let d = ended_write w.1.0 (cell_at 0 c.memory) w.1.1.1.0 in
     let z : Seen = sees (Some (Wrote 0)) u in
-    to_good c u z (step.Go 0 choice) 0 o None (Done Written) m (step_goes safe_behaviour 0 choice c (record { op = o; point = WriteEnd x }) c.memory e awake refl)
+    safe_step_by_effect c u z (step.Go 0 choice) 0 o None (Done Written) m (step_goes safe_behaviour 0 choice c (record { op = o; point = WriteEnd x }) c.memory e awake refl)
     (good_gone IsFreshAlone 0 None (Some (Wrote 0)) u refl tt)
-    (writer_moves c u z o (Done Written) m h (on_size end_write c.memory h.size)
+    (writer_moves c u z o (Done Written) m h (changed_size end_write c.memory h.size)
     (ap (λ k. value_of k.value) on ∙ ap value_of d ∙ w.1.1.1.1 ∙ sym (ap (λ o. now_last o u.last) w.1.1.0))
-    (refl, ap (λ k. k.writing) on) (no_write w.0 (Unit {0}) u (cell_at 0 c.memory) _ (running_at 1 c) w.1.1.0 h.reader z refl))
+    (refl, ap (λ k. k.writing) on) (reader_stays_within_write w.0 u (cell_at 0 c.memory) _ (running_at 1 c) w.1.1.0 h.reader z refl))
 go_writer choice c u o ReadStart e awake w h = absurd w
 go_writer choice c u o ReadEnd e awake w h = absurd w
 
-go_reader : (choice : ℕ) (c : C) (u : Seen) (o : Op) (p : SafePoint) → running_at 1 c ≡ Some (record { op = o; point = p }) → is_stopped 1 c ≡ false → ReaderAt p u (cell_at 0 c.memory) → SafeInv c u → Good c u (step.Go 1 choice)
+go_reader : (choice : ℕ) (c : SafeConfiguration) (u : Seen) (o : Op) (p : SafePoint) → running_at 1 c ≡ Some (record { op = o; point = p }) → is_stopped 1 c ≡ false → ReaderAt p u (cell_at 0 c.memory) → SafeInv c u → IsSafeStep c u (step.Go 1 choice)
 go_reader choice c u o (WriteStart v) e awake w h = absurd w
 go_reader choice c u o (WriteEnd x) e awake w h = absurd w
 go_reader choice c u o ReadStart e awake w h =
     let m : Memory = on_cell 0 start_read c.memory in
-    let on = on_it start_read c.memory h.size in
-    to_good c u u (step.Go 1 choice) 1 o None (Pending ReadEnd) m (step_goes safe_behaviour 1 choice c (record { op = o; point = ReadStart }) c.memory e awake refl)
+    let on = changed_cell start_read c.memory h.size in
+    safe_step_by_effect c u u (step.Go 1 choice) 1 o None (Pending ReadEnd) m (step_goes safe_behaviour 1 choice c (record { op = o; point = ReadStart }) c.memory e awake refl)
     (good_gone IsFreshAlone 1 None None u refl tt)
-    (reader_moves c u u o (Pending ReadEnd) m h (on_size start_read c.memory h.size) (ap (λ k. value_of k.value) on ∙ h.last)
-    (same_writer (running_at 0 c) u u (cell_at 0 c.memory) _ refl (sym (ap (λ k. k.writing) on)) h.writer)
+    (reader_moves c u u o (Pending ReadEnd) m h (changed_size start_read c.memory h.size) (ap (λ k. value_of k.value) on ∙ h.last)
+    (writer_stays (running_at 0 c) u u (cell_at 0 c.memory) _ refl (sym (ap (λ k. k.writing) on)) h.writer)
     (λ o. let f = w o in (f.0, (f.1, ap (λ k. k.hit) on ∙ quiet_cell (running_at 0 c) u (cell_at 0 c.memory) h.writer f.1))))
 go_reader choice c u o ReadEnd e awake w h =
     let m : Memory = on_cell 0 end_read c.memory in
-    let on = on_it end_read c.memory h.size in
+    let on = changed_cell end_read c.memory h.size in
     let cell : Cell = cell_at 0 c.memory in
     let given : Bool = read_gives (choice == 1) cell in
     let x : ℕ = value_of given in
     let chosen : Option (ℕ × Bool) = (if cell.hit then Some (0, given) else None) in
-    to_good c u u (step.Go 1 choice) 1 o (chosen_of 1 chosen) (Done (Value x)) m (step_goes safe_behaviour 1 choice c (record { op = o; point = ReadEnd }) c.memory e awake refl)
+    safe_step_by_effect c u u (step.Go 1 choice) 1 o (chosen_of 1 chosen) (Done (Value x)) m (step_goes safe_behaviour 1 choice c (record { op = o; point = ReadEnd }) c.memory e awake refl)
     (good_gone IsFreshAlone 1 chosen (Some (Got 1 x)) u refl (
       (λ o. let f = w o in is_fresh (record { reader = 1; value = x; fresh = u.fresh 1; overlaps = u.overlaps 1 })
           (ap (λ k. value_of (if k then (choice == 1) else cell.value)) f.1.1 ∙ h.last ∙ sym f.0)),
       tt,
     ))
-    (reader_moves c u u o (Done (Value x)) m h (on_size end_read c.memory h.size) (ap (λ k. value_of k.value) on ∙ h.last)
-    (same_writer (running_at 0 c) u u cell _ refl (sym (ap (λ k. k.writing) on)) h.writer) tt)
+    (reader_moves c u u o (Done (Value x)) m h (changed_size end_read c.memory h.size) (ap (λ k. value_of k.value) on ∙ h.last)
+    (writer_stays (running_at 0 c) u u cell _ refl (sym (ap (λ k. k.writing) on)) h.writer) tt)
 
-go_any : (p choice : ℕ) (c : C) (u : Seen) (x : Option (Running SafePoint)) → running_at p c ≡ x → is_stopped p c ≡ false → p < 2 → SafeInv c u → Good c u (step.Go p choice)
-go_any p choice c u None e awake l h = void_good c u (step.Go p choice) (void_unless_enabled safe_behaviour c (step.Go p choice) (ap (λ x. not (is_stopped p c) && is_some x) e ∙ ap (λ b. not b && false) awake)) h
-go_any zero choice c u (Some r) e awake l h = go_writer choice c u r.op r.point e awake (subst (λ r. WriterSays r u (cell_at 0 c.memory)) e h.writer) h
-go_any (suc zero) choice c u (Some r) e awake l h = go_reader choice c u r.op r.point e awake (subst (λ r. ReaderSays r u (cell_at 0 c.memory)) e h.reader) h
-go_any (suc (suc p)) choice c u (Some r) e awake l h = let n : ⊥ = omega (arith, l) in absurd n
+go_safe : (p choice : ℕ) (c : SafeConfiguration) (u : Seen) (x : Option (Running SafePoint)) → running_at p c ≡ x → is_stopped p c ≡ false → p < 2 → SafeInv c u → IsSafeStep c u (step.Go p choice)
+go_safe p choice c u None e awake l h = void_is_safe_step c u (step.Go p choice) (void_unless_enabled safe_behaviour c (step.Go p choice) (ap (λ x. not (is_stopped p c) && is_some x) e ∙ ap (λ b. not b && false) awake)) h
+go_safe zero choice c u (Some r) e awake l h = go_writer choice c u r.op r.point e awake (subst (λ r. WriterSays r u (cell_at 0 c.memory)) e h.writer) h
+go_safe (suc zero) choice c u (Some r) e awake l h = go_reader choice c u r.op r.point e awake (subst (λ r. ReaderSays r u (cell_at 0 c.memory)) e h.reader) h
+go_safe (suc (suc p)) choice c u (Some r) e awake l h = let n : ⊥ = omega (arith, l) in absurd n
 
-write_any : (v : ℕ) (c : C) (u : Seen) (x : Option (Running SafePoint)) → running_at 0 c ≡ x → is_stopped 0 c ≡ false → v < 2 → SafeInv c u → Good c u (step.Write 0 v)
-write_any v c u None e awake l h = begin_write v c u e awake l h
-write_any v c u (Some r) e awake l h = void_good c u (step.Write 0 v) (void_unless_enabled safe_behaviour c (step.Write 0 v) (ap (λ x. not (is_stopped 0 c) && is_none x) e ∙ ap (λ b. not b && false) awake)) h
+write_safe : (v : ℕ) (c : SafeConfiguration) (u : Seen) (x : Option (Running SafePoint)) → running_at 0 c ≡ x → is_stopped 0 c ≡ false → v < 2 → SafeInv c u → IsSafeStep c u (step.Write 0 v)
+write_safe v c u None e awake l h = begin_write v c u e awake l h
+write_safe v c u (Some r) e awake l h = void_is_safe_step c u (step.Write 0 v) (void_unless_enabled safe_behaviour c (step.Write 0 v) (ap (λ x. not (is_stopped 0 c) && is_none x) e ∙ ap (λ b. not b && false) awake)) h
 
-read_any : (c : C) (u : Seen) (x : Option (Running SafePoint)) → running_at 1 c ≡ x → is_stopped 1 c ≡ false → SafeInv c u → Good c u (step.Read 1)
-read_any c u None e awake h = begin_read c u e awake h
-read_any c u (Some r) e awake h = void_good c u (step.Read 1) (void_unless_enabled safe_behaviour c (step.Read 1) (ap (λ x. not (is_stopped 1 c) && is_none x) e ∙ ap (λ b. not b && false) awake)) h
+read_safe : (c : SafeConfiguration) (u : Seen) (x : Option (Running SafePoint)) → running_at 1 c ≡ x → is_stopped 1 c ≡ false → SafeInv c u → IsSafeStep c u (step.Read 1)
+read_safe c u None e awake h = begin_read c u e awake h
+read_safe c u (Some r) e awake h = void_is_safe_step c u (step.Read 1) (void_unless_enabled safe_behaviour c (step.Read 1) (ap (λ x. not (is_stopped 1 c) && is_none x) e ∙ ap (λ b. not b && false) awake)) h
 
-awake_safe : (s : Step) (c : C) (u : Seen) → fits_step safe_behaviour s ≡ true → is_stopped (process_of s) c ≡ false → SafeInv c u → Good c u s
+awake_safe : (s : Step) (c : SafeConfiguration) (u : Seen) → fits_step safe_behaviour s ≡ true → is_stopped (process_of s) c ≡ false → SafeInv c u → IsSafeStep c u s
 awake_safe (step.Write p v) c u f awake h =
     let both = and_parts (p == 0) (nat_lt v 2) f in
     let e : p ≡ 0 = eqb-true p 0 both.0 in
-    subst (λ q. Good c u (step.Write q v)) (sym e) (write_any v c u (running_at 0 c) refl (sym (ap (λ q. is_stopped q c) e) ∙ awake) (ltb-true v 2 both.1) h)
+    subst (λ q. IsSafeStep c u (step.Write q v)) (sym e) (write_safe v c u (running_at 0 c) refl (sym (ap (λ q. is_stopped q c) e) ∙ awake) (ltb-true v 2 both.1) h)
 awake_safe (step.Read p) c u f awake h =
     let e : p ≡ 1 = eqb-true p 1 f in
-    subst (λ q. Good c u (step.Read q)) (sym e) (read_any c u (running_at 1 c) refl (sym (ap (λ q. is_stopped q c) e) ∙ awake) h)
-awake_safe (step.Go p choice) c u f awake h = go_any p choice c u (running_at p c) refl awake (ltb-true p 2 (and_parts (nat_lt p 2) (nat_lt choice 2) f).0) h
+    subst (λ q. IsSafeStep c u (step.Read q)) (sym e) (read_safe c u (running_at 1 c) refl (sym (ap (λ q. is_stopped q c) e) ∙ awake) h)
+awake_safe (step.Go p choice) c u f awake h = go_safe p choice c u (running_at p c) refl awake (ltb-true p 2 (and_parts (nat_lt p 2) (nat_lt choice 2) f).0) h
 awake_safe (step.Stop p) c u f awake h =
     let is = step_stops safe_behaviour p c awake in (
       u,
@@ -250,14 +253,14 @@ awake_safe (step.Stop p) c u f awake h =
       ),
     )
 
-step_safe : (s : Step) (c : C) (u : Seen) → fits_step safe_behaviour s ≡ true → SafeInv c u → Good c u s
+step_safe : (s : Step) (c : SafeConfiguration) (u : Seen) → fits_step safe_behaviour s ≡ true → SafeInv c u → IsSafeStep c u s
 step_safe s c u f h = go (is_stopped (process_of s) c) refl
   where
-    go : (k : Bool) → is_stopped (process_of s) c ≡ k → Good c u s
-    go true e = void_good c u s (stopped_is_void safe_behaviour c s e) h
+    go : (k : Bool) → is_stopped (process_of s) c ≡ k → IsSafeStep c u s
+    go true e = void_is_safe_step c u s (stopped_is_void safe_behaviour c s e) h
     go false e = awake_safe s c u f e h
 
-steps_safe : (list : List Step) (c : C) (u : Seen) → AllFit safe_behaviour list → SafeInv c u → Allowed (IsGoodStep IsFreshAlone) u (history safe_behaviour c list)
+steps_safe : (list : List Step) (c : SafeConfiguration) (u : Seen) → AllFit safe_behaviour list → SafeInv c u → Allowed (IsGoodStep IsFreshAlone) u (history safe_behaviour c list)
 steps_safe [] c u f h = tt
 steps_safe (s ∷ rest) c u f h =
     let z = step_safe s c u (All-head (λ x. fits_step safe_behaviour x ≡ true) s rest f) h in
@@ -268,15 +271,15 @@ always_fresh_alone v steps l f =
     let a = steps_safe steps (first_configuration safe_behaviour v) (opening v) f (record { processes = refl; size = refl; last = value_of_its_bit v l; writer = (refl, refl); reader = tt }) in
     (good_refuses_none IsFreshAlone (opening v) _ a, good_reads IsFreshAlone (opening v) _ a)
 
-one_writes : HasOneWriter safe_behaviour
-one_writes who (op.Write v) h = h' (who == 0) (nat_lt v 2) h
+safe_has_one_writer : HasOneWriter safe_behaviour
+safe_has_one_writer who (op.Write v) h = h' (who == 0) (nat_lt v 2) h
   where
     h' : (a b : Bool) → (a && b) ≡ true → (a && (b && true)) ≡ true
     h' true true h = refl
     h' true false h = h
     h' false b h = h
-one_writes who op.Read h = let e : who ≡ 1 = eqb-true who 1 h in subst (λ w. one_writer 2 2 w op.Read ≡ true) (sym e) refl
+safe_has_one_writer who op.Read h = let e : who ≡ 1 = eqb-true who 1 h in subst (λ w. one_writer 2 2 w op.Read ≡ true) (sym e) refl
 
 -- the safe bit is safe
 pub safe_is_safe : IsSafe safe_behaviour
-safe_is_safe = always_known FreshAlone IsFreshAlone fresh_alike safe_behaviour one_writes (HasSize safe_behaviour.size) SafeReaches safe_lawful always_fresh_alone
+safe_is_safe = always_known FreshAlone IsFreshAlone fresh_alike safe_behaviour safe_has_one_writer (HasSize safe_behaviour.size) SafeReaches safe_lawful always_fresh_alone

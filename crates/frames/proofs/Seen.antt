@@ -36,6 +36,7 @@ among_more x v vs h = elim (v == x) as (λ c. IsTrue (c || among x vs)) [ true �
 pub among_here : (x : ℕ) (vs : List ℕ) → IsTrue (among x (x ∷ vs))
 among_here x vs = ap (λ c. c || among x vs) (eq-eqb x x refl)
 
+-- the verdict on a returned read
 abbrev pub verdict : Returned → Verdict
 verdict x = if x.value == x.fresh then Fresh else if among x.value x.overlaps then Overlap else Stray
 
@@ -64,6 +65,7 @@ sees (Some (Invoke p Read)) s = record s { fresh = put p s.last s.fresh; overlap
 sees (Some (Wrote p)) s = record s { last = now_last s.writing s.last; writing = None }
 sees _ s = s
 
+-- whether there is an event, and it is a refusal
 abbrev pub refuses : Option Event → Bool
 refuses (Some (Refused _ _)) = true
 refuses _ = false
@@ -92,6 +94,7 @@ abbrev pub seen : Seen → List StepEvents → Seen
 seen s [] = s
 seen s (e ∷ es) = seen (after_step e s) es
 
+-- whether no event of these steps is a refusal
 abbrev pub refuses_none : List StepEvents → Bool
 refuses_none [] = true
 refuses_none (e ∷ es) = (if refuses e.first then false else if refuses e.second then false else true) && refuses_none es
@@ -116,7 +119,7 @@ Allowed Up u [] = Unit {0}
 Allowed {U = U} Up u (e ∷ es) = (z : U) × (Up u e z × Allowed Up z es)
 
 -- the event of an operation's end
-abbrev pub ended : ℕ → Outcome → Event
-ended p (Value v) = Got p v
-ended p Written = Wrote p
-ended p (Spent layer) = Refused p layer
+abbrev pub end_event : ℕ → Outcome → Event
+end_event p (Value v) = Got p v
+end_event p Written = Wrote p
+end_event p (Spent layer) = Refused p layer

@@ -1,4 +1,5 @@
--- A configuration's stacks, before and after a step of one process.
+-- The stacks of frames of a configuration: at first, after a step of one process, and in equal
+-- configurations.
 use Rattle.std.proofs.Common.{◌≡◌, ℕ, ◌<◌, List, [], ◌∷◌, length, get_or, set, Option, Some, None, option_map, refl, sym, ap, subst, ◌∙◌, inl, inr, arith, zero-add, zero, suc, true, false, replicate}
 use Rattle.std.specs.Prelude.{Bool, ◌&&◌}
 use Rattle.std.specs.Bool.{Decides}
@@ -21,8 +22,8 @@ use Rattle.frames.specs.declared.running.Running.{Running}
 use Rattle.frames.specs.Behaviour.{Behaviour, IsLawful}
 use Rattle.frames.specs.Configuration.{Acted, initial_configuration, running_at, put_acted}
 use Rattle.frames.specs.Parked.{IsConfiguration, IsFlat, idle, marks_of, parked_configuration, stacks_of}
-use Rattle.frames.specs.Flat.{FramesGivePoint, Acts, IsReached, running_from, running_of, stack_of}
-use Rattle.frames.specs.laws.Steps.{initial_keeps, put_keeps}
+use Rattle.frames.specs.Flat.{FramesGivePoint, HasStackEffect, IsReached, running_from, running_of, stack_of}
+use Rattle.frames.specs.laws.Steps.{initial_is_configuration, put_acted_keeps}
 use Rattle.frames.specs.laws.Flat.{set_running, length_running, none_running, slot_point, parked_eq, parked_decides, slot_by_frames}
 
 module _ {R P : Type 0} (b : Behaviour P) (Holds : Memory → Type 0) (Reaches : ℕ → Op → P → Type 0) (find : ℕ → List Frame → Option P)
@@ -33,8 +34,8 @@ module _ {R P : Type 0} (b : Behaviour P) (Holds : Memory → Type 0) (Reaches :
   stack_there who lt = let e = was.configuration.each in omega (arith, lt, e, length_running find 0 stacks)
 
   -- a process's stack has the frames of its pending operation
-  pub found_there : (who : ℕ) (x : List Frame) → who < b.processes → x ≡ get_or stacks who x → x ≡ stack_of b (running_at who (parked_configuration find r m stacks stopped))
-  found_there who x lt is = is ∙ sym (get_or_default stacks who [] x (stack_there who lt)) ∙ was.flat who
+  pub frames_are_on_stack : (who : ℕ) (x : List Frame) → who < b.processes → x ≡ get_or stacks who x → x ≡ stack_of b (running_at who (parked_configuration find r m stacks stopped))
+  frames_are_on_stack who x lt is = is ∙ sym (get_or_default stacks who [] x (stack_there who lt)) ∙ was.flat who
 
   -- putting in the stack of a pending operation puts in that operation
   put_running : (who : ℕ) (slot : Option (Running P)) (stack : List Frame) → IsReached Reaches who slot → stack ≡ stack_of b slot
@@ -45,14 +46,14 @@ module _ {R P : Type 0} (b : Behaviour P) (Holds : Memory → Type 0) (Reaches :
       ∙ ap (λ x. set (running_from find 0 stacks) who (running_of (find who) x)) is
       ∙ ap (λ x. set (running_from find 0 stacks) who x) (slot_by_frames b Reaches find gives_point who slot there)
 
-  module _ (who : ℕ) (done : Acted P) (step_events : StepEvents) (stack : List Frame) (m' : Memory) (acts : Acts b done step_events stack m') (there : IsReached Reaches who done.running) where
+  module _ (who : ℕ) (done : Acted P) (step_events : StepEvents) (stack : List Frame) (m' : Memory) (acts : HasStackEffect b done step_events stack m') (there : IsReached Reaches who done.running) where
     -- putting in the new stack and memory gives the configuration after the step's effect
-    pub put_shown : parked_configuration find r m' (set stacks who stack) stopped ≡ put_acted who done (parked_configuration find r m stacks stopped)
-    put_shown = λ i. record { register = r; memory = acts.memory i; running = put_running who done.running stack there acts.stack i; stopped = stopped }
+    pub put_gives_effect : parked_configuration find r m' (set stacks who stack) stopped ≡ put_acted who done (parked_configuration find r m stacks stopped)
+    put_gives_effect = λ i. record { register = r; memory = acts.memory i; running = put_running who done.running stack there acts.stack i; stopped = stopped }
 
     pub put_flat : who < b.processes → Holds done.memory → IsFlat b Holds Reaches (parked_configuration find r m' (set stacks who stack) stopped) (set stacks who stack)
     put_flat lt holds = record {
-      configuration = subst (IsConfiguration b Holds Reaches) (sym put_shown) (put_keeps b Holds Reaches lawful (parked_configuration find r m stacks stopped) who done was.configuration lt holds there);
+      configuration = subst (IsConfiguration b Holds Reaches) (sym put_gives_effect) (put_acted_keeps b Holds Reaches lawful (parked_configuration find r m stacks stopped) who done was.configuration lt holds there);
       flat = λ q. elim (cases_eq q who) as (λ _. get_or (set stacks who stack) q [] ≡ stack_of b (running_at q (parked_configuration find r m' (set stacks who stack) stopped))) [
         | inl same ↦ rw (same, get_or-set_same stacks who stack [] (stack_there who lt))
             (acts.stack ∙ ap (stack_of b) (sym (ap (λ l. get_or l who None) (put_running who done.running stack there acts.stack)
@@ -84,25 +85,25 @@ module _ {R P : Type 0} (b : Behaviour P) (Holds : Memory → Type 0) (Reaches :
   first_running : running_from find 0 (stacks_of processes) ≡ replicate b.processes None
   first_running = ap (running_from find 0) at_stacks ∙ none_running find 0 b.processes
 
-  pub first_shown : parked_configuration find r m (stacks_of processes) (marks_of processes) ≡ initial_configuration b r v
-  first_shown = λ i. record { register = r; memory = at_m i; running = first_running i; stopped = at_stopped i }
+  pub first_is_initial : parked_configuration find r m (stacks_of processes) (marks_of processes) ≡ initial_configuration b r v
+  first_is_initial = λ i. record { register = r; memory = at_m i; running = first_running i; stopped = at_stopped i }
 
-  nobody : (n p : ℕ) → get_or (replicate n []) p [] ≡ stack_of b (get_or (replicate n None) p None)
-  nobody zero p = refl
-  nobody (suc n) zero = refl
-  nobody (suc n) (suc p) = nobody n p
+  idle_stack_at : (n p : ℕ) → get_or (replicate n []) p [] ≡ stack_of b (get_or (replicate n None) p None)
+  idle_stack_at zero p = refl
+  idle_stack_at (suc n) zero = refl
+  idle_stack_at (suc n) (suc p) = idle_stack_at n p
 
   pub first_flat : IsFlat b Holds Reaches (parked_configuration find r m (stacks_of processes) (marks_of processes)) (stacks_of processes)
   first_flat = record {
-    configuration = initial_keeps b Holds Reaches lawful r v m (running_from find 0 (stacks_of processes)) (marks_of processes) lt at_m first_running at_stopped;
-    flat = λ p. ap (λ l. get_or l p []) at_stacks ∙ nobody b.processes p ∙ sym (ap (λ l. stack_of b (get_or l p None)) first_running);
+    configuration = initial_is_configuration b Holds Reaches lawful r v m (running_from find 0 (stacks_of processes)) (marks_of processes) lt at_m first_running at_stopped;
+    flat = λ p. ap (λ l. get_or l p []) at_stacks ∙ idle_stack_at b.processes p ∙ sym (ap (λ l. stack_of b (get_or l p None)) first_running);
   }
 
 -- the point that a stack describes is the point of its process's pending operation
-pub pointed : {P : Type 0} (b : Behaviour P) (Reaches : ℕ → Op → P → Type 0) (find : ℕ → List Frame → Option P) → FramesGivePoint b Reaches find
+pub point_of_stack : {P : Type 0} (b : Behaviour P) (Reaches : ℕ → Op → P → Type 0) (find : ℕ → List Frame → Option P) → FramesGivePoint b Reaches find
     → (who : ℕ) (slot : Option (Running P)) (stack : List Frame) (p : P) → IsReached Reaches who slot → stack ≡ stack_of b slot → find who stack ≡ Some p
     → ((o : Op) × Reaches who o p) × (option_map (λ r. r.point) slot ≡ Some p)
-pointed {P} b Reaches find gives_point who slot stack p there is found =
+point_of_stack {P} b Reaches find gives_point who slot stack p there is found =
     let e : option_map (λ r. r.point) slot ≡ Some p = sym (slot_point b Reaches find gives_point who slot there) ∙ ap (find who) (sym is) ∙ found in (reached_at slot there e, e)
   where
     reached_at : (slot : Option (Running P)) → IsReached Reaches who slot → option_map (λ r. r.point) slot ≡ Some p → (o : Op) × Reaches who o p
@@ -115,8 +116,8 @@ of_point None p f e = cc
 of_point (Some r) p f e = let same : r.point ≡ p = cc in ap (λ q. Some (f q)) same
 
 -- an action's cell has the same number in a store in which the register lies at the first place
-pub at_origin : (a : Action) → placed_action origin a ≡ a
-at_origin a = λ i. record a { cell = zero-add a.cell i }
+pub action_at_origin : (a : Action) → placed_action origin a ≡ a
+action_at_origin a = λ i. record a { cell = zero-add a.cell i }
 
 pub bit_at_origin : (bit : Option (ℕ × Bool)) → placed_bit origin bit ≡ bit
 bit_at_origin None = refl
@@ -154,14 +155,14 @@ module _ {R P : Type 0} (is : R → Behaviour P) (Holds : R → Memory → Type 
       same_lists stacks stacks' as_many (λ k x lt. at_place as_many k x lt)
 
 -- configurations are equal exactly if their registers, memories, stacks and stop marks are
-pub same_flat : {R P : Type 0} (is : R → Behaviour P) (Holds : R → Memory → Type 0) (Reaches : R → ℕ → Op → P → Type 0) (find : R → ℕ → List Frame → Option P)
+pub same_decided : {R P : Type 0} (is : R → Behaviour P) (Holds : R → Memory → Type 0) (Reaches : R → ℕ → Op → P → Type 0) (find : R → ℕ → List Frame → Option P)
     (E : R → R → Bool) (alike : (a b : R) → E a b ≡ true → is a ≡ is b) (finds_alike : (a b : R) → E a b ≡ true → find a ≡ find b)
     (r r' : R) (m m' : Memory) (ps ps' : List Parked)
     → IsFlat (is r) (Holds r) (Reaches r) (parked_configuration (find r) r m (stacks_of ps) (marks_of ps)) (stacks_of ps)
     → IsFlat (is r') (Holds r') (Reaches r') (parked_configuration (find r') r' m' (stacks_of ps') (marks_of ps')) (stacks_of ps')
     → Decides (E r r' && (memory_eq m m' && pointwise parked_eq ps ps'))
     (SameConfiguration E (parked_configuration (find r) r m (stacks_of ps) (marks_of ps)) (parked_configuration (find r') r' m' (stacks_of ps') (marks_of ps')))
-same_flat is Holds Reaches find E alike finds_alike r r' m m' ps ps' was was' =
+same_decided is Holds Reaches find E alike finds_alike r r' m m' ps ps' was was' =
     Decides-like _
     (λ p. record { register = p.0; memory = p.1.0; running = λ i. running_from (finds_alike r r' p.0 i) 0 (stacks_of (p.1.1 i)); stopped = ap marks_of p.1.1 })
     (λ s. (s.register, (s.memory, same_parked ps ps' (stacks_from s) s.stopped)))
@@ -173,12 +174,12 @@ same_flat is Holds Reaches find E alike finds_alike r r' m m' ps ps' was was' =
         same_stacks is Holds Reaches find r r' (alike r r' s.register) m m' (stacks_of ps) (stacks_of ps') (marks_of ps) (marks_of ps') was was' s.running
 
 -- a test that compares registers, memories and processes decides equality of configurations
-pub same_tested : {R P : Type 0} {is : R → Behaviour P} (Holds : R → Memory → Type 0) (Reaches : R → ℕ → Op → P → Type 0) {find : R → ℕ → List Frame → Option P}
+pub same_decided_by_test : {R P : Type 0} {is : R → Behaviour P} (Holds : R → Memory → Type 0) (Reaches : R → ℕ → Op → P → Type 0) {find : R → ℕ → List Frame → Option P}
     {E : R → R → Bool} (alike : (a b : R) → E a b ≡ true → is a ≡ is b) (finds_alike : (a b : R) → E a b ≡ true → find a ≡ find b)
     {r r' : R} {m m' : Memory} (ps ps' : List Parked)
     → IsFlat (is r) (Holds r) (Reaches r) (parked_configuration (find r) r m (stacks_of ps) (marks_of ps)) (stacks_of ps)
     → IsFlat (is r') (Holds r') (Reaches r') (parked_configuration (find r') r' m' (stacks_of ps') (marks_of ps')) (stacks_of ps')
     → (t : Bool) → t ≡ (E r r' && (memory_eq m m' && pointwise parked_eq ps ps'))
     → Decides t (SameConfiguration E (parked_configuration (find r) r m (stacks_of ps) (marks_of ps)) (parked_configuration (find r') r' m' (stacks_of ps') (marks_of ps')))
-same_tested {is = is} Holds Reaches {find = find} {E = E} alike finds_alike {r} {r'} {m} {m'} ps ps' was was' t e =
-    Decides-at _ _ e (same_flat is Holds Reaches find E alike finds_alike r r' m m' ps ps' was was')
+same_decided_by_test {is = is} Holds Reaches {find = find} {E = E} alike finds_alike {r} {r'} {m} {m'} ps ps' was was' t e =
+    Decides-at _ _ e (same_decided is Holds Reaches find E alike finds_alike r r' m m' ps ps' was was')

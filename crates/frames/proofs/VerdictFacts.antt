@@ -6,9 +6,9 @@ use Rattle.frames.specs.declared.verdict.Verdict.TheVariants.{Fresh, Overlap, St
 use Rattle.frames.specs.correctness.Regularity.{in_progress}
 use Rattle.frames.proofs.Seen.{Returned, among, verdict, IsNotStray}
 
-pub none_in : (w : Option ℕ) → in_progress w ≡ [] → w ≡ None
-none_in None e = refl
-none_in (Some v) e = let f : ⊥ = cc in absurd f
+pub none_in_progress : (w : Option ℕ) → in_progress w ≡ [] → w ≡ None
+none_in_progress None e = refl
+none_in_progress (Some v) e = let f : ⊥ = cc in absurd f
 
 pub is_fresh : (x : Returned) → x.value ≡ x.fresh → verdict x ≡ Fresh
 is_fresh x e = ap (λ c. if c then Fresh else if among x.value x.overlaps then Overlap else Stray) (eq-eqb x.value x.fresh e)
@@ -25,8 +25,8 @@ fresh_value x h = go (x.value == x.fresh) refl h
     go false e k = absurd (not_fresh (among x.value x.overlaps) k)
 
 -- a read that isn't stray gives the fresh value, or that of a write that it overlaps
-pub not_stray_is : (x : Returned) → IsNotStray x → (x.value ≡ x.fresh) ⊎ IsTrue (among x.value x.overlaps)
-not_stray_is x h = go (x.value == x.fresh) refl (among x.value x.overlaps) refl h
+pub fresh_or_overlapping : (x : Returned) → IsNotStray x → (x.value ≡ x.fresh) ⊎ IsTrue (among x.value x.overlaps)
+fresh_or_overlapping x h = go (x.value == x.fresh) refl (among x.value x.overlaps) refl h
   where
     go : (c : Bool) → (x.value == x.fresh) ≡ c → (d : Bool) → among x.value x.overlaps ≡ d → ((if c then Fresh else if d then Overlap else Stray) ≡ Stray → ⊥)
         → (x.value ≡ x.fresh) ⊎ IsTrue (among x.value x.overlaps)

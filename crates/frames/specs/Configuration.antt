@@ -140,7 +140,7 @@ put_acted p done c = record c { memory = done.memory; running = slice_set c.runn
 -- A step of process p has the effect `done`: the step records the events `reported`, and `next` is
 -- the configuration after the step. c is the configuration before the step, but with the stop marks
 -- as they are after the step.
-pub record Did {R P : Type 0} (p : ℕ) (done : Acted P) (c : Configuration R P) (reported : StepEvents) (next : Configuration R P) : Type 0 where
+pub record HasStepEffect {R P : Type 0} (p : ℕ) (done : Acted P) (c : Configuration R P) (reported : StepEvents) (next : Configuration R P) : Type 0 where
   pub events : reported ≡ done.events
   pub after : next ≡ put_acted p done c
 

@@ -19,9 +19,9 @@ use Rattle.frames.specs.Behaviour.{Behaviour, Answers, ReachedOrAnswered}
 use Rattle.frames.specs.Configuration.{Acted}
 
 -- the outcome of an operation; `None` if it hasn't ended
-abbrev pub ended : {P : Type 0} → Next P → Option Outcome
-ended (Pending p) = None
-ended (Done o) = Some o
+abbrev pub outcome_of : {P : Type 0} → Next P → Option Outcome
+outcome_of (Pending p) = None
+outcome_of (Done o) = Some o
 
 -- the event that records the end of process `who`'s operation; `None` if it hasn't ended
 abbrev pub end_of : ℕ → Option Outcome → Option Event
@@ -45,7 +45,7 @@ outermost (frame ∷ rest) = Some frame.op
 -- frames (none if it has ended). The memory `after` is `before` with the register's own part
 -- replaced by `inner`.
 pub record Lands {P : Type 0} (frames : P → List Frame) (at : Place) (next : Next P) (inner : Memory) (front : List Frame) (before : Memory) (given : Option Outcome) (left : List Frame) (after : Memory) : Type 0 where
-  pub answer : given ≡ ended next
+  pub answer : given ≡ outcome_of next
   pub stack : left ≡ front ++ left_frames frames next
   pub memory : after ≡ with_part at inner before
 
@@ -53,7 +53,7 @@ pub record Lands {P : Type 0} (frames : P → List Frame) (at : Place) (next : N
 -- `next`. `given` is its outcome, or `None` if it hasn't ended. The stack `left` has just the
 -- operation's frames (none if it has ended), and the memory `after` is `inner`.
 pub record LandsAlone {P : Type 0} (frames : P → List Frame) (next : Next P) (inner : Memory) (given : Option Outcome) (left : List Frame) (after : Memory) : Type 0 where
-  pub answer : given ≡ ended next
+  pub answer : given ≡ outcome_of next
   pub stack : left ≡ left_frames frames next
   pub memory : after ≡ inner
 
@@ -68,7 +68,7 @@ pub record HasFramesFrom {P : Type 0} (frames : P → List Frame) (Reaches : ℕ
 -- and `stack` has just the operation's frames (none if it has ended).
 pub record HasReached {P : Type 0} (b : Behaviour P) (Reaches : ℕ → Op → P → Type 0) (who : ℕ) (o : Op) (given : Option Outcome) (stack : List Frame) (next : Next P) : Type 0 where
   pub may_be_at : ReachedOrAnswered (Reaches who o) (Answers b.values o) next
-  pub answer : given ≡ ended next
+  pub answer : given ≡ outcome_of next
   pub there : stack ≡ left_frames b.frames next
 
 -- the last argument is a point that process `who` can reach in some operation, and whose frames are
@@ -108,7 +108,7 @@ stack_of b (Some r) = b.frames r.point
 -- A step has the effect `done` and records the events `reported`. After the step, `left` has just
 -- the frames of its process's pending operation (none if the process is idle), and `after` is the
 -- memory.
-pub record Acts {P : Type 0} (b : Behaviour P) (done : Acted P) (reported : StepEvents) (left : List Frame) (after : Memory) : Type 0 where
+pub record HasStackEffect {P : Type 0} (b : Behaviour P) (done : Acted P) (reported : StepEvents) (left : List Frame) (after : Memory) : Type 0 where
   pub events : reported ≡ done.events
   pub stack : left ≡ stack_of b done.running
   pub memory : after ≡ done.memory

@@ -4,13 +4,13 @@ ghost use Rattle.std.specs.Prelude.{◌≡◌, ◌==◌, ℕ, ◌<◌, ◌+◌, 
 ghost use Rattle.std.specs.Bool.{Decides};
 ghost use Rattle.std.specs.Option.{option_map};
 ghost use Rattle.safe_bit.specs.Memory.{Memory};
-ghost use Rattle.frames.specs.Configuration.{running_at, is_stopped, initial_configuration, fits_step, events_of, stepped, with_stop_mark, only_records, acting, invoking, going, Did};
+ghost use Rattle.frames.specs.Configuration.{running_at, is_stopped, initial_configuration, fits_step, events_of, stepped, with_stop_mark, only_records, acting, invoking, going, HasStepEffect};
 ghost use Rattle.schedule_steps.specs.Steps.{process_of};
 ghost use Rattle.frames.specs.Parked.{IsConfiguration, idle, stacks_of, marks_of};
 ghost use Rattle.frames.specs.Flat.{stack_of};
 
 use crate::flat::FlatStack;
-use crate::own::{ORIGIN, alone, invoke, proceed, store_of};
+use crate::own::{ORIGIN, invoke_own, one_event, proceed_own, store_of};
 use crate::register::Register;
 use crate::roles::step_fits;
 use crate::types::{Action, Event, Op, Reason, Stack, Step, StepEvents};
@@ -223,7 +223,7 @@ impl<R: Register> Config<R> {
     {
         let who = step.process();
         if self.has_stopped(who) {
-            return alone(Event::Void(who, Reason::Stopped));
+            return one_event(Event::Void(who, Reason::Stopped));
         }
         self.act(step)
     }
@@ -242,7 +242,7 @@ impl<R: Register> Config<R> {
     fn act(&mut self, step: Step) -> StepEvents
         requires { fits_step (R.behaviour self.old.register) step ≡ true }
         ensures { let p = process_of step in
-            Did p (acting (R.behaviour self.old.register) step (running_at p self.old)
+            HasStepEffect p (acting (R.behaviour self.old.register) step (running_at p self.old)
             self.old.memory)
             (with_stop_mark step self.old) result self.new }
     {
@@ -257,11 +257,12 @@ impl<R: Register> Config<R> {
     /// Process `who` stops. Its operation stays pending, and no cell or word changes.
     fn stop(&mut self, who: u32) -> StepEvents
         requires { who < (R.behaviour self.old.register).processes }
-        ensures { Did who (only_records (Event.Stop who) (running_at who self.old) self.old.memory)
+        ensures { HasStepEffect who
+            (only_records (Event.Stop who) (running_at who self.old) self.old.memory)
             (record self.old { stopped = slice_set self.old.stopped who true }) result self.new }
     {
         mark_stopped(&mut self.processes, who);
-        alone(Event::Stop(who))
+        one_event(Event::Stop(who))
     }
 
     /// Process `who` invokes `op`. If the process has an operation pending already, the step is
@@ -269,23 +270,23 @@ impl<R: Register> Config<R> {
     #[inline(always)]
     fn invoke(&mut self, who: u32, op: Op) -> StepEvents
         requires { (R.behaviour self.old.register).suits who op ≡ true }
-        ensures { Did who (invoking (R.behaviour self.old.register) who op
+        ensures { HasStepEffect who (invoking (R.behaviour self.old.register) who op
             (running_at who self.old) self.old.memory) self.old result self.new }
     {
         let stack = &mut self.processes[who as usize].stack;
-        invoke(&self.register, &mut self.store, who, op, stack)
+        invoke_own(&self.register, &mut self.store, who, op, stack)
     }
 
-    /// Process `who` makes its next bit action. A hit read of a bit gives 1 if `c` is 1, and else 0.
-    /// If the process has no operation pending, the step is void.
+    /// Process `who` makes its next bit action. A hit read of a bit gives 1 if `c` is 1, and else
+    /// 0. If the process has no operation pending, the step is void.
     #[inline(always)]
     fn proceed(&mut self, who: u32, c: u32) -> StepEvents
         requires { who < (R.behaviour self.old.register).processes }
-        ensures { Did who (going (R.behaviour self.old.register) who (c == 1)
+        ensures { HasStepEffect who (going (R.behaviour self.old.register) who (c == 1)
             (running_at who self.old) self.old.memory) self.old result self.new }
     {
         let stack = &mut self.processes[who as usize].stack;
-        proceed(&self.register, &mut self.store, who, stack, c)
+        proceed_own(&self.register, &mut self.store, who, stack, c)
     }
 }
 

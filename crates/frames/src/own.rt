@@ -5,7 +5,7 @@ ghost use Rattle.schedule_steps.specs.declared.types.Op.{Op};
 ghost use Rattle.frames.specs.declared.running.Running.{Running};
 ghost use Rattle.frames.specs.Configuration as spec;
 ghost use Rattle.frames.specs.Configuration.{invoking, going};
-ghost use Rattle.frames.specs.Flat.{Acts, LandsAlone, HasFramesFrom, IsReached, end_of, stack_of};
+ghost use Rattle.frames.specs.Flat.{HasStackEffect, LandsAlone, HasFramesFrom, IsReached, end_of, stack_of};
 
 use crate::flat::FlatStack;
 use crate::register::Register;
@@ -82,7 +82,7 @@ pub fn go_own<R: Register>(
 /// has just the frames of `who`'s pending operation, before and after. Returns the step's events.
 /// If the process has an operation pending already, the step is void and nothing changes.
 #[inline(always)]
-pub fn invoke<R: Register>(
+pub fn invoke_own<R: Register>(
     register: &R,
     store: &mut Store,
     who: u32,
@@ -93,12 +93,12 @@ pub fn invoke<R: Register>(
     requires fits { (R.behaviour register.now).suits who op ≡ true }
     ensures { (slot : Option (Running R.Pending)) → IsReached (R.Reaches register.now) who slot
         → stack.old ≡ stack_of (R.behaviour register.now) slot
-        → Acts (R.behaviour register.now)
+        → HasStackEffect (R.behaviour register.now)
         (invoking (R.behaviour register.now) who op slot store.old) result
         stack.new store.new }
 {
     if !stack.is_empty() {
-        return alone(Event::Void(who, Reason::Busy));
+        return one_event(Event::Void(who, Reason::Busy));
     }
     let end = begin_own(register, store, who, op, stack);
     StepEvents {
@@ -112,7 +112,7 @@ pub fn invoke<R: Register>(
 /// if `c` is 1, and else 0. Returns the step's events. If the process has no operation pending, the
 /// step is void and nothing changes.
 #[inline(always)]
-pub fn proceed<R: Register>(
+pub fn proceed_own<R: Register>(
     register: &R,
     store: &mut Store,
     who: u32,
@@ -125,12 +125,12 @@ pub fn proceed<R: Register>(
         (stack.old ≡ stack_of (R.behaviour register.now) slot)) }
     ensures { (slot : Option (Running R.Pending)) → IsReached (R.Reaches register.now) who slot
         → stack.old ≡ stack_of (R.behaviour register.now) slot
-        → Acts (R.behaviour register.now)
+        → HasStackEffect (R.behaviour register.now)
         (going (R.behaviour register.now) who (c == 1) slot store.old) result
         stack.new store.new }
 {
     if stack.is_empty() {
-        return alone(Event::Void(who, Reason::Idle));
+        return one_event(Event::Void(who, Reason::Idle));
     }
     // computed after the test, since a void step needs no choice
     let choice = c == 1;
@@ -156,7 +156,7 @@ fn end_of(who: u32, end: Option<Outcome>) -> Option<Event>
 
 /// The events of a step that records `event` and nothing else.
 #[inline(always)]
-pub fn alone(event: Event) -> StepEvents
+pub fn one_event(event: Event) -> StepEvents
     ensures { result ≡ spec.in_order (Some event) None }
 {
     StepEvents {

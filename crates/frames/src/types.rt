@@ -32,16 +32,18 @@ pub enum Next<P> {
     Done(Outcome),
 }
 
-/// The result of a bit action: `end` is the operation's outcome, or `None` if it is still pending;
-/// `chosen` is the bit and the value of the hit read that the action ended, if any, else `None`.
+/// The progress that an operation, whose frames are on a stack, makes by a bit action: `end` is its
+/// outcome, or `None` if it is still pending; `chosen` is the bit and the value of the hit read
+/// that the action ended, if any, else `None`.
 #[derive(Clone, Copy, Debug, PartialEq, Eq)]
 pub struct Progress {
     pub end: Option<Outcome>,
     pub chosen: Option<(u32, bool)>,
 }
 
-/// The result of a bit action: `next` is the operation's state after the action; `chosen` is the
-/// bit and the value of the hit read that the action ended, if any, else `None`.
+/// What a bit action leaves: `next`, the operation's state after the action, with its new point if
+/// it is still pending; and `chosen`, the bit and the value of the hit read that the action ended,
+/// if any, else `None`.
 #[derive(Clone, Copy, Debug, PartialEq, Eq)]
 pub struct Turned<P> {
     pub next: Next<P>,

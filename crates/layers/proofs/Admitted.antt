@@ -90,10 +90,10 @@ invoke_taken a all (Some (Stop p)) s = tt
 invoke_taken a all (Some (Chosen p b v)) s = tt
 
 -- a history that refuses nothing, and whose reads are good, is admitted if `Takes` always holds
-none_refused : (Good : Returned → Type 0) (a : Admission) → ((o : Op) (s : Seen) → a.Takes o s) → (s : Seen) (es : List StepEvents) → IsTrue (refuses_none es) → AllByRecursion Good (reads s es)
+history_admitted : (Good : Returned → Type 0) (a : Admission) → ((o : Op) (s : Seen) → a.Takes o s) → (s : Seen) (es : List StepEvents) → IsTrue (refuses_none es) → AllByRecursion Good (reads s es)
     → Allowed (Admits Good a) s es
-none_refused Good a all s [] f g = tt
-none_refused Good a all s (e ∷ es) f g =
+history_admitted Good a all s [] f g = tt
+history_admitted Good a all s (e ∷ es) f g =
     let n = two_false (refuses e.first) (refuses e.second) (refuses_none es) f in (
       after_step e s,
       (
@@ -106,7 +106,7 @@ none_refused Good a all s (e ∷ es) f g =
           },
           refl,
         ),
-        none_refused Good a all (after_step e s) es n.1.1 (all_right Good (read_in e s) (reads (after_step e s) es) g),
+        history_admitted Good a all (after_step e s) es n.1.1 (all_right Good (read_in e s) (reads (after_step e s) es) g),
       ),
     )
 
@@ -114,7 +114,7 @@ none_refused Good a all s (e ∷ es) f g =
 pub always_admits : {P : Type 0} (Good : Returned → Type 0) (a : Admission) (b : Behaviour P) → ((o : Op) (s : Seen) → a.Takes o s) → Always Good b → AlwaysAdmits Good a b
 always_admits Good a b takes always v steps lt fit =
     let promised = always v steps lt fit in
-    none_refused Good a takes (opening v) (history b (first_configuration b v) steps) promised.0 promised.1
+    history_admitted Good a takes (opening v) (history b (first_configuration b v) steps) promised.0 promised.1
 
 -- a write may be taken if L is true of the number of writes taken before; `overlaps 0` has their
 -- values, if process 0 never reads

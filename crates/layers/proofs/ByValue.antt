@@ -16,9 +16,9 @@ use Rattle.layers.specs.laws.Layered.{layer_lawful}
 use Rattle.layers.specs.laws.Over.{LayerOver}
 
 -- if a stack holds only an operation's frames, these are its frames from index 0 on
-pub alone_on : {P : Type 0} (frames : P → List Frame) (Reaches : ℕ → Op → P → Type 0) (who : ℕ) (stack front : List Frame) (o : Op) (p : P) → Reaches who o p → front ≡ [] → stack ≡ front ++ frames p
+pub has_frames_from_0 : {P : Type 0} (frames : P → List Frame) (Reaches : ℕ → Op → P → Type 0) (who : ℕ) (stack front : List Frame) (o : Op) (p : P) → Reaches who o p → front ≡ [] → stack ≡ front ++ frames p
     → HasFramesFrom frames Reaches who 0 stack o p
-alone_on frames Reaches who stack front o p reached none is = record { reached = reached; there = is ∙ ap (λ xs. xs ++ frames p) none }
+has_frames_from_0 frames Reaches who stack front o p reached none is = record { reached = reached; there = is ∙ ap (λ xs. xs ++ frames p) none }
 
 module _ {Task P : Type 0} (l : LayerOver Task P) (at : Place) (m : Memory) where
   abbrev b : Behaviour (Nested Task P)
@@ -29,21 +29,21 @@ module _ {Task P : Type 0} (l : LayerOver Task P) (at : Place) (m : Memory) wher
 
   module _ (holds : LayerHolds l.table l.below l.Holds (part at b.size m)) (who : ℕ) (o : Op) (given : Option Outcome) (left : List Frame) (after : Memory) (front : List Frame) (none : front ≡ []) where
     -- an operation that was invoked on an empty stack has reached its first point or its end
-    pub began_at : b.suits who o ≡ true
+    pub begun_has_reached : b.suits who o ≡ true
         → Lands b.frames at (b.begins who o (part at b.size m)).next (b.begins who o (part at b.size m)).memory front m given left after
         → HasReached b R who o given left (b.begins who o (part at b.size m)).next
-    began_at fits lands = record {
+    begun_has_reached fits lands = record {
       may_be_at = ((layer_lawful l).begins_well who o (part at b.size m) holds fits).may_be_at;
       answer = lands.answer;
       there = lands.stack ∙ ap (λ xs. xs ++ left_frames b.frames (b.begins who o (part at b.size m)).next) none;
     }
 
     -- an operation that has made a bit action on its frames alone is at its next point or its end
-    pub went_at : (p : Nested Task P) (choice : Bool) (stack : List Frame) → R who o p → stack ≡ front ++ b.frames p
+    pub gone_has_reached : (p : Nested Task P) (choice : Bool) (stack : List Frame) → R who o p → stack ≡ front ++ b.frames p
         → (HasFramesFrom b.frames R who 0 stack o p → Lands b.frames at (b.goes p choice (part at b.size m)).next (b.goes p choice (part at b.size m)).memory (take 0 stack) m given left after)
         → HasReached b R who o given left (b.goes p choice (part at b.size m)).next
-    went_at p choice stack reached is lands =
-        let landed = lands (alone_on b.frames R who stack front o p reached none is) in
+    gone_has_reached p choice stack reached is lands =
+        let landed = lands (has_frames_from_0 b.frames R who stack front o p reached none is) in
         record {
           may_be_at = ((layer_lawful l).goes_well who o p choice (part at b.size m) holds reached).may_be_at;
           answer = landed.answer;
@@ -51,5 +51,5 @@ module _ {Task P : Type 0} (l : LayerOver Task P) (at : Place) (m : Memory) wher
         }
 
 -- the frames of one operation fit on an empty stack
-pub none_fits : (front : List Frame) (depth : ℕ) → front ≡ [] → depth ≤ STACK_FRAMES → length front + depth ≤ STACK_FRAMES
-none_fits front depth none few = let no_frame : length front ≡ 0 = ap length none in omega (arith, no_frame, few)
+pub fits_empty_stack : (front : List Frame) (depth : ℕ) → front ≡ [] → depth ≤ STACK_FRAMES → length front + depth ≤ STACK_FRAMES
+fits_empty_stack front depth none few = let no_frame : length front ≡ 0 = ap length none in omega (arith, no_frame, few)

@@ -7,13 +7,13 @@ use Rattle.layers.specs.declared.nested.Ask.{Ask}
 use Rattle.layers.specs.declared.nested.Nested.{Nested}
 use Rattle.layers.specs.Nested.{layered}
 use Rattle.layers.specs.Sound.{LayerReaches}
-use Rattle.layers.specs.laws.Flat.{parts_there}
+use Rattle.layers.specs.laws.Flat.{same_item_and_rest}
 use Rattle.layers.specs.laws.Over.{LayerOver}
 
 -- there is at least one frame if there is an outermost operation
-some_frames : (xs : List Frame) (o : Op) → outermost xs ≡ Some o → 1 ≤ length xs
-some_frames [] o e = cc
-some_frames (x ∷ xs) o e = omega arith
+frame_exists : (xs : List Frame) (o : Op) → outermost xs ≡ Some o → 1 ≤ length xs
+frame_exists [] o e = cc
+frame_exists (x ∷ xs) o e = omega arith
 
 -- the frames are pushed in this order: the layer's own, and then those of its part's point
 pub pushed_frames : (stack pushed all below : List Frame) (own frame : Frame) → pushed ≡ stack ++ own ∷ [] → all ≡ pushed ++ below → own ≡ frame → all ≡ stack ++ frame ∷ below
@@ -22,10 +22,10 @@ pushed_frames stack pushed all below own frame push rest same =
 
 -- fewer than two frames describe no point: a layer's operation has its own frame and at least one
 -- of its part's
-pub too_few : {Task P : Type 0} (l : LayerOver Task P) (find : ℕ → List Frame → Option P) → FramesGivePoint l.below l.Reaches find → (who first : ℕ) (stack : List Frame)
+pub no_point_if_few : {Task P : Type 0} (l : LayerOver Task P) (find : ℕ → List Frame → Option P) → FramesGivePoint l.below l.Reaches find → (who first : ℕ) (stack : List Frame)
     → length (drop first stack) < 2 → IsPointByFrames (layered l.table l.below).frames (LayerReaches l.table l.MayBeAt l.Reaches) who (drop first stack) None
-too_few l find gives_point who first stack few o n there e =
-    let some = some_frames (l.below.frames n.below) (l.table.asks n.task).op (gives_point.op (l.table.asks n.task).who (l.table.asks n.task).op n.below there.below) in
+no_point_if_few l find gives_point who first stack few o n there e =
+    let some = frame_exists (l.below.frames n.below) (l.table.asks n.task).op (gives_point.op (l.table.asks n.task).who (l.table.asks n.task).op n.below there.below) in
     let long : length (drop first stack) ≡ suc (length (l.below.frames n.below)) = ap length e in
     omega (arith, few, some, long)
 
@@ -55,7 +55,7 @@ module _ {Task P : Type 0} (l : LayerOver Task P) (find : ℕ → List Frame →
   part_of : (o : Op) (n : Nested Task P) → LayerReaches l.table l.MayBeAt l.Reaches who o n → drop first stack ≡ (layered l.table l.below).frames n
       → (a ≡ l.table.asks n.task) × (drop (first + 1) stack ≡ l.below.frames n.below)
   part_of o n on e =
-      let parts = parts_there first stack (l.below.frames n.below) (l.table.frame n.task) own e there in
+      let parts = same_item_and_rest first stack (l.below.frames n.below) (l.table.frame n.task) own e there in
       let same : task ≡ n.task = sym (l.sound.frame_gives who own.op task at_own_task.0).0 ∙ ap (l.table.find who) (at_own_task.1 ∙ parts.0) ∙ (l.sound.frame_gives who o n.task on.may_be_at).0 in
       (asks ∙ ap l.table.asks same, parts.1)
 
@@ -67,8 +67,8 @@ module _ {Task P : Type 0} (l : LayerOver Task P) (find : ℕ → List Frame →
 
   -- the frames describe no point of the layer, because the part's frame has another operation than
   -- the task asks for
-  pub other_op : (inner : Frame) → drop (first + 1) stack ≡ inner ∷ drop (first + 1 + 1) stack → (inner.op ≡ a.op → false ≡ true) → IsPoint None
-  other_op inner next other o n on e =
+  pub no_point_if_other_op : (inner : Frame) → drop (first + 1) stack ≡ inner ∷ drop (first + 1 + 1) stack → (inner.op ≡ a.op → false ≡ true) → IsPoint None
+  no_point_if_other_op inner next other o n on e =
       let part = part_of o n on e in
       let some : Some inner.op ≡ Some a.op =
       ap outermost (sym next ∙ part.1) ∙ gives_point.op (l.table.asks n.task).who (l.table.asks n.task).op n.below on.below ∙ ap (λ (b : Ask). Some b.op) (sym part.0) in

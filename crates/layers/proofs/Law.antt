@@ -12,7 +12,7 @@ use Rattle.frames.specs.declared.types.Layer.{Layer}
 use Rattle.frames.specs.declared.types.StepEvents.{StepEvents}
 use Rattle.frames.specs.Behaviour.{Answers}
 use Rattle.frames.specs.Configuration.{in_order, chosen_of}
-use Rattle.frames.proofs.Seen.{Returned, Seen, opening, sees, got, ended}
+use Rattle.frames.proofs.Seen.{Returned, Seen, opening, sees, got, end_event}
 use Rattle.frames.proofs.Pointwise.{put}
 use Rattle.layers.specs.Nested.{Program, Ends, Asks, Reads, Sets, Table}
 use Rattle.layers.specs.Sound.{IsNotSpent}
@@ -44,33 +44,33 @@ pub record Admission : Type 1 where
 -- The program of p's operation runs from a view to its next bit action or its end, and keeps the
 -- invariant. `Out` says how the step's last event, if there is one, changes what is known.
 abbrev pub Runs : {Task U : Type 0} → Table Task → Watch Task U → ℕ → Op → (Option Event → U → Type 0) → Program Task → View Task → Type 0
-Runs {U = U} t w p op Out (Ends o) j = (u : U) × (Out (Some (ended p o)) u × w.Inv u (record j { tasks = put p None j.tasks }))
+Runs {U = U} t w p op Out (Ends o) j = (u : U) × (Out (Some (end_event p o)) u × w.Inv u (record j { tasks = put p None j.tasks }))
 Runs t w p op Out (Reads i rest) j = Runs t w p op Out (rest (j.words i)) j
 Runs t w p op Out (Sets i x rest) j = Runs t w p op Out rest (record j { words = put i x j.words })
 Runs {U = U} t w p op Out (Asks task rest) j =
     let ask = t.asks task in
     let s = sees (Some (Invoke ask.who ask.op)) (j.parts ask.part) in
     ((u : U) × (Out None u × w.Inv u (record j { tasks = put p (Some (record { op = op; task = task })) j.tasks; parts = put ask.part s j.parts })))
-    × ((o : Outcome) → Answers t.inner_values ask.op o → IsNotSpent o → AllByRecursion w.Good (got (Some (ended ask.who o)) s)
-    → Runs t w p op Out (rest o) (record j { parts = put ask.part (sees (Some (ended ask.who o)) s) j.parts }))
+    × ((o : Outcome) → Answers t.inner_values ask.op o → IsNotSpent o → AllByRecursion w.Good (got (Some (end_event ask.who o)) s)
+    → Runs t w p op Out (rest o) (record j { parts = put ask.part (sees (Some (end_event ask.who o)) s) j.parts }))
 
 -- `Runs` over parts that may refuse an operation as it is invoked. Then the layer's operation ends,
 -- refused too, and the part's history shows what it showed before.
 abbrev pub RunsUnder : {Task U : Type 0} → Admission → Table Task → Watch Task U → ℕ → Op → (Option Event → U → Type 0) → Program Task → View Task → Type 0
-RunsUnder {U = U} a t w p op Out (Ends o) j = (u : U) × (Out (Some (ended p o)) u × w.Inv u (record j { tasks = put p None j.tasks }))
+RunsUnder {U = U} a t w p op Out (Ends o) j = (u : U) × (Out (Some (end_event p o)) u × w.Inv u (record j { tasks = put p None j.tasks }))
 RunsUnder a t w p op Out (Reads i rest) j = RunsUnder a t w p op Out (rest (j.words i)) j
 RunsUnder a t w p op Out (Sets i x rest) j = RunsUnder a t w p op Out rest (record j { words = put i x j.words })
 RunsUnder {U = U} a t w p op Out (Asks task rest) j =
     let ask = t.asks task in
     let s = sees (Some (Invoke ask.who ask.op)) (j.parts ask.part) in
     ((a.Takes ask.op (j.parts ask.part) → (u : U) × (Out None u × w.Inv u (record j { tasks = put p (Some (record { op = op; task = task })) j.tasks; parts = put ask.part s j.parts })))
-    × (((o : Outcome) → a.Takes ask.op (j.parts ask.part) → Answers t.inner_values ask.op o → IsNotSpent o → AllByRecursion w.Good (got (Some (ended ask.who o)) s)
-    → RunsUnder a t w p op Out (rest o) (record j { parts = put ask.part (sees (Some (ended ask.who o)) s) j.parts }))
+    × (((o : Outcome) → a.Takes ask.op (j.parts ask.part) → Answers t.inner_values ask.op o → IsNotSpent o → AllByRecursion w.Good (got (Some (end_event ask.who o)) s)
+    → RunsUnder a t w p op Out (rest o) (record j { parts = put ask.part (sees (Some (end_event ask.who o)) s) j.parts }))
     × ((layer : Layer) → a.Refuses ask.op (j.parts ask.part) → (u : U) × (Out (Some (Refused p layer)) u × w.Inv u (record j { tasks = put p None j.tasks })))))
 
 -- the type of `Runs` and `RunsUnder` once the table and the invariant are given
-abbrev pub Running : Type 0 → Type 0 → Type 1
-Running Task U = ℕ → Op → (Option Event → U → Type 0) → Program Task → View Task → Type 0
+abbrev pub RunClaim : Type 0 → Type 0 → Type 1
+RunClaim Task U = ℕ → Op → (Option Event → U → Type 0) → Program Task → View Task → Type 0
 
 -- `Up` allows void steps and stops, after which the same is known as before; and it allows each
 -- step after which an operation stays at its task, and the invariant is kept
@@ -81,7 +81,7 @@ pub record Passes {Task U : Type 0} (w : Watch Task U) (Up : U → StepEvents �
 
 -- the invariant holds at first; each operation that starts keeps it, and so does each operation of
 -- a part that ends; `runs` says what is shown of a program that runs
-pub record IsKeptBy {Task U : Type 0} (runs : Running Task U) (t : Table Task) (MayBeAt : ℕ → Op → Task → Type 0) (w : Watch Task U) (first : ℕ → U) (Up : U → StepEvents → U → Type 0) : Type 0 where
+pub record IsKeptBy {Task U : Type 0} (runs : RunClaim Task U) (t : Table Task) (MayBeAt : ℕ → Op → Task → Type 0) (w : Watch Task U) (first : ℕ → U) (Up : U → StepEvents → U → Type 0) : Type 0 where
   pub initial : (v : ℕ) → v < t.values → (j : View Task) → ((i : ℕ) → i < t.words → j.words i ≡ t.first_word v i)
       → ((p : ℕ) → j.tasks p ≡ None) → ((k : ℕ) → k < t.parts → j.parts k ≡ opening (t.first v k)) → w.Inv (first v) j
   pub passes : Passes w Up
@@ -90,9 +90,9 @@ pub record IsKeptBy {Task U : Type 0} (runs : Running Task U) (t : Table Task) (
   pub goes : (u : U) (j : View Task) (p : ℕ) (n : TaskInProgress Task) (chosen : Option (ℕ × Bool)) (o : Outcome)
       → w.Inv u j → j.tasks p ≡ Some n → MayBeAt p n.op n.task
       → Answers t.inner_values (t.asks n.task).op o → IsNotSpent o
-      → AllByRecursion w.Good (got (Some (ended (t.asks n.task).who o)) (j.parts (t.asks n.task).part))
+      → AllByRecursion w.Good (got (Some (end_event (t.asks n.task).who o)) (j.parts (t.asks n.task).part))
       → runs p n.op (λ e. Up u (in_order (chosen_of p chosen) e)) (t.rest n.task o)
-      (record j { parts = put (t.asks n.task).part (sees (Some (ended (t.asks n.task).who o)) (j.parts (t.asks n.task).part)) j.parts })
+      (record j { parts = put (t.asks n.task).part (sees (Some (end_event (t.asks n.task).who o)) (j.parts (t.asks n.task).part)) j.parts })
 
 -- the invariant is kept over parts that refuse nothing
 abbrev pub IsKept : {Task U : Type 0} → Table Task → (ℕ → Op → Task → Type 0) → Watch Task U → (ℕ → U) → (U → StepEvents → U → Type 0) → Type 0

@@ -18,7 +18,7 @@ use Rattle.frames.specs.correctness.Regularity.{AlwaysReads}
 use Rattle.frames.proofs.Reached.{reached_first}
 use Rattle.frames.proofs.KnownAndSeen.{Alike}
 use Rattle.frames.proofs.OneWriterPromises.{always_known, always_seen}
-use Rattle.layers.specs.Nested.{part_place, own_words, layered, layer_initial, gathered}
+use Rattle.layers.specs.Nested.{part_place, own_words_start, layered, layer_initial, gathered}
 use Rattle.layers.specs.Sound.{LayerHolds, LayerReaches}
 use Rattle.layers.specs.laws.Nested.{row_fits}
 use Rattle.layers.specs.laws.Gathered.{length-gathered, window-gathered, get_or-gathered}
@@ -26,10 +26,10 @@ use Rattle.layers.specs.laws.Layered.{layer_lawful}
 use Rattle.layers.specs.laws.Over.{LayerOver}
 use Rattle.layers.proofs.Law.{View, Watch, Admission, Passes, IsKept, IsKeptUnder, IsUser, takes_all, kept_under}
 use Rattle.layers.proofs.Admitted.{AlwaysAdmits, always_admits}
-use Rattle.layers.proofs.Links.{below_of}
+use Rattle.layers.proofs.Links.{pending_in_part}
 pub use Rattle.frames.proofs.GoodHistories.{IsGoodStep, good_begun, good_gone, good_void, good_stop, good_refuses_none, good_reads}
-use Rattle.frames.proofs.Pending.{none_at, awake_at, first_well}
-use Rattle.layers.proofs.Turns.{task_in_progress}
+use Rattle.frames.proofs.Pending.{none_pending_at, none_stopped_at, first_is_configuration}
+use Rattle.layers.proofs.TaskRuns.{task_in_progress}
 use Rattle.layers.proofs.LayerSteps.{Joint, steps_joint, step_joint, replayed_joint}
 
 -- steps that do nothing, and those after which an operation stays at its task, are good, since they
@@ -49,13 +49,13 @@ pub record NextStep {Task P U : Type 0} (l : LayerOver Task P) (w : Watch Task U
   pub up : Up u (events_of (layered l.table l.below) c s) z
 
 module _ {Task P : Type 0} (l : LayerOver Task P) (user : ℕ → ℕ → ℕ) (is_user : IsUser l.table l.MayBeAt user) where
-  first_value : (v k : ℕ) → v < l.table.values → k < l.table.parts → l.table.first v k < l.below.values
-  first_value v k lt lk = rw l.fit.same_values (l.sound.first_fits v k lt lk)
+  first_fits_below : (v k : ℕ) → v < l.table.values → k < l.table.parts → l.table.first v k < l.below.values
+  first_fits_below v k lt lk = rw l.fit.same_values (l.sound.first_fits v k lt lk)
 
   -- part k of the layer's initial memory is at its initial value
   first_part : (v k : ℕ) → v < l.table.values → k < l.table.parts → l.below.initial (l.table.first v k) ≡ part (part_place l.below.size k) l.below.size (layer_initial l.table l.below v)
   first_part v k lt lk =
-      let size : (j : ℕ) → j < l.table.parts → HasSize l.below.size (l.below.initial (l.table.first v j)) = λ j lj. l.lawful.size_holds _ (l.lawful.initial_holds (l.table.first v j) (first_value v j lt lj)) in
+      let size : (j : ℕ) → j < l.table.parts → HasSize l.below.size (l.below.initial (l.table.first v j)) = λ j lj. l.lawful.size_holds _ (l.lawful.initial_holds (l.table.first v j) (first_fits_below v j lt lj)) in
       let cells : (j : ℕ) → j < l.table.parts → length (l.below.initial (l.table.first v j)).cells ≡ l.below.size.cell = λ j lj. (size j lj).cells in
       let words : (j : ℕ) → j < l.table.parts → length (l.below.initial (l.table.first v j)).words ≡ l.below.size.word = λ j lj. (size j lj).words in
       let w = length-gathered (λ j. (l.below.initial (l.table.first v j)).words) l.below.size.word l.table.parts words in
@@ -65,9 +65,9 @@ module _ {Task P : Type 0} (l : LayerOver Task P) (user : ℕ → ℕ → ℕ) (
       (let r = row_fits k l.table.parts l.below.size.word lk in omega arith)
       ∙ window-gathered (λ j. (l.below.initial (l.table.first v j)).words) l.below.size.word l.table.parts k words lk))
 
-  first_word : (v i : ℕ) → v < l.table.values → i < l.table.words → word_at (own_words l.table l.below.size + i) (layer_initial l.table l.below v) ≡ l.table.first_word v i
+  first_word : (v i : ℕ) → v < l.table.values → i < l.table.words → word_at (own_words_start l.table l.below.size + i) (layer_initial l.table l.below v) ≡ l.table.first_word v i
   first_word v i lt li =
-      let size : (j : ℕ) → j < l.table.parts → HasSize l.below.size (l.below.initial (l.table.first v j)) = λ j lj. l.lawful.size_holds _ (l.lawful.initial_holds (l.table.first v j) (first_value v j lt lj)) in
+      let size : (j : ℕ) → j < l.table.parts → HasSize l.below.size (l.below.initial (l.table.first v j)) = λ j lj. l.lawful.size_holds _ (l.lawful.initial_holds (l.table.first v j) (first_fits_below v j lt lj)) in
       let words : (j : ℕ) → j < l.table.parts → length (l.below.initial (l.table.first v j)).words ≡ l.below.size.word = λ j lj. (size j lj).words in
       let w = length-gathered (λ j. (l.below.initial (l.table.first v j)).words) l.below.size.word l.table.parts words in
       ap (λ n. get_or (gathered (λ j. (l.below.initial (l.table.first v j)).words) l.table.parts ++ gathered (λ k. l.table.first_word v k ∷ []) l.table.words) (n + i) 0) (sym w)
@@ -80,21 +80,21 @@ module _ {Task P : Type 0} (l : LayerOver Task P) (user : ℕ → ℕ → ℕ) (
   first_joint w rule first Up K v lt =
       let value : ℕ → ℕ = l.table.first v in
       let c : Alone (Nested Task P) = first_configuration (layered l.table l.below) v in
-      let idle : (p : ℕ) → task_in_progress (running_at p c) ≡ None = λ p. ap task_in_progress (none_at l.table.processes p) in
-      let j : View Task = record { words = λ i. word_at (own_words l.table l.below.size + i) c.memory; tasks = λ p. task_in_progress (running_at p c); parts = λ k. opening (value k) } in
+      let idle : (p : ℕ) → task_in_progress (running_at p c) ≡ None = λ p. ap task_in_progress (none_pending_at l.table.processes p) in
+      let j : View Task = record { words = λ i. word_at (own_words_start l.table l.below.size + i) c.memory; tasks = λ p. task_in_progress (running_at p c); parts = λ k. opening (value k) } in
       record {
-        well = first_well (layered l.table l.below) (LayerHolds l.table l.below l.Holds) (LayerReaches l.table l.MayBeAt l.Reaches) (layer_lawful l) v lt;
+        well = first_is_configuration (layered l.table l.below) (LayerHolds l.table l.below l.Holds) (LayerReaches l.table l.MayBeAt l.Reaches) (layer_lawful l) v lt;
         j = j;
         inv = K.initial v lt j (λ i li. first_word v i lt li) idle (λ k lk. refl);
         words = λ i li. refl;
         tasks = λ q. refl;
         links = λ k lk. record {
           c = first_configuration l.below (value k);
-          well = first_well l.below l.Holds l.Reaches l.lawful (value k) (first_value v k lt lk);
+          well = first_is_configuration l.below l.Holds l.Reaches l.lawful (value k) (first_fits_below v k lt lk);
           reached = reached_first l.below (value k);
           memory = first_part v k lt lk;
-          stopped = λ q lq. awake_at l.below.processes q ∙ sym (awake_at l.table.processes (user k q));
-          running = λ q lq. none_at l.below.processes q ∙ sym (ap (below_of l.table k q) (none_at l.table.processes (user k q)));
+          stopped = λ q lq. none_stopped_at l.below.processes q ∙ sym (none_stopped_at l.table.processes (user k q));
+          running = λ q lq. none_pending_at l.below.processes q ∙ sym (ap (pending_in_part l.table k q) (none_pending_at l.table.processes (user k q)));
         };
       }
 
@@ -103,7 +103,7 @@ module _ {Task P : Type 0} (l : LayerOver Task P) (user : ℕ → ℕ → ℕ) (
       → (v : ℕ) (steps : List Step) → v < l.table.values → AllFit (layered l.table l.below) steps
       → Allowed Up (first v) (history (layered l.table l.below) (first_configuration (layered l.table l.below) v) steps)
   layer_law_under w rule first Up all K v steps lt f =
-      steps_joint l user is_user (l.table.first v) w rule first Up K all (λ k lk. first_value v k lt lk) steps (first_configuration (layered l.table l.below) v) (first v) f
+      steps_joint l user is_user (l.table.first v) w rule first Up K all (λ k lk. first_fits_below v k lt lk) steps (first_configuration (layered l.table l.below) v) (first v) f
       (first_joint w rule first Up K v lt)
 
   -- the invariant holds after any fitting steps, and `Up` allows one more fitting step
@@ -111,7 +111,7 @@ module _ {Task P : Type 0} (l : LayerOver Task P) (user : ℕ → ℕ → ℕ) (
       → (v : ℕ) (steps : List Step) (s : Step) → v < l.table.values → AllFit (layered l.table l.below) steps → fits_step (layered l.table l.below) s ≡ true
       → NextStep l w Up (replayed (layered l.table l.below) (first_configuration (layered l.table l.below) v) steps) s
   layer_next_under w rule first Up all K v steps s lt f fs =
-      let vals : (k : ℕ) → k < l.table.parts → l.table.first v k < l.below.values = λ k lk. first_value v k lt lk in
+      let vals : (k : ℕ) → k < l.table.parts → l.table.first v k < l.below.values = λ k lk. first_fits_below v k lt lk in
       let r = replayed_joint l user is_user (l.table.first v) w rule first Up K all vals steps (first_configuration (layered l.table l.below) v) (first v) f (first_joint w rule first Up K v lt) in
       let z = step_joint l user is_user (l.table.first v) w rule first Up K all vals s (replayed (layered l.table l.below) (first_configuration (layered l.table l.below) v) steps) r.0 fs r.1 in
       record { u = r.0; j = r.1.j; inv = r.1.inv; tasks = r.1.tasks; z = z.0; up = z.1.0 }

@@ -22,14 +22,14 @@ use Rattle.frames.specs.Placed.{placed_bit}
 use Rattle.frames.specs.correctness.ReportedActions.{cell_after, choice_on, MakesItsAction, ReportsActions}
 use Rattle.layers.specs.declared.nested.Ask.{Ask}
 use Rattle.layers.specs.declared.nested.Nested.{Nested}
-use Rattle.layers.specs.Nested.{Program, Ends, Asks, Reads, Sets, Table, layer_size, own_words, part_place, asked, pushed, after_part, advance, layered}
+use Rattle.layers.specs.Nested.{Program, Ends, Asks, Reads, Sets, Table, layer_size, own_words_start, part_place, asked, pushed, after_part, advance, layered}
 use Rattle.layers.specs.Sound.{LayerHolds, LayerReaches}
 use Rattle.layers.specs.laws.Nested.{part_within, asks_fit}
 use Rattle.layers.specs.laws.Over.{LayerOver}
 
 -- putting back a window of a list changes nothing, also at the end of the list
-put_back : {A : Type 0} (i n : ℕ) (xs : List A) → splice i (window i n xs) xs ≡ xs
-put_back i n xs = elim (cases_lt (length xs) (i + n)) [
+splice-own_anywhere : {A : Type 0} (i n : ℕ) (xs : List A) → splice i (window i n xs) xs ≡ xs
+splice-own_anywhere i n xs = elim (cases_lt (length xs) (i + n)) [
   | inr inside ↦ splice-own i n xs inside
   | inl beyond ↦
       let rest : take n (drop i xs) ≡ drop i xs = take_all n (drop i xs) (let e = length-drop i xs in omega (arith, e)) in
@@ -59,7 +59,7 @@ module _ {Task P : Type 0} (t : Table Task) (b : Behaviour P) (quiet : (who : �
   asked_cells : (a : Ask) (m : Memory) → (asked b a m).memory.cells ≡ m.cells
   asked_cells a m =
       let at = part_place b.size a.part in
-      ap (λ cells. splice at.cell cells m.cells) (quiet a.who a.op (part at b.size m)) ∙ put_back at.cell b.size.cell m.cells
+      ap (λ cells. splice at.cell cells m.cells) (quiet a.who a.op (part at b.size m)) ∙ splice-own_anywhere at.cell b.size.cell m.cells
 
   after_cells : (go_on : Outcome → Memory → Begun (Nested Task P)) (task : Task) (next : Next P) (m : Memory)
       → ((o : Outcome) → (go_on o m).memory.cells ≡ m.cells) → (after_part go_on task next m).memory.cells ≡ m.cells
@@ -73,13 +73,13 @@ module _ {Task P : Type 0} (t : Table Task) (b : Behaviour P) (quiet : (who : �
   advance_cells (Asks task k) m =
       after_cells (λ o n. advance t b (k o) n) task (asked b (t.asks task) m).next (asked b (t.asks task) m).memory
       (λ o. advance_cells (k o) (asked b (t.asks task) m).memory) ∙ asked_cells (t.asks task) m
-  advance_cells (Reads i k) m = advance_cells (k (word_at (own_words t b.size + i) m)) m
-  advance_cells (Sets i x k) m = advance_cells k (with_word (own_words t b.size + i) x m)
+  advance_cells (Reads i k) m = advance_cells (k (word_at (own_words_start t b.size + i) m)) m
+  advance_cells (Sets i x k) m = advance_cells k (with_word (own_words_start t b.size + i) x m)
 
 module _ {Task P : Type 0} (l : LayerOver Task P) (reports : ReportsActions l.below l.Holds l.Reaches) where
-  makes : (who : ℕ) (o : Op) (n : Nested Task P) (choice : Bool) (m : Memory) → LayerHolds l.table l.below l.Holds m → LayerReaches l.table l.MayBeAt l.Reaches who o n
+  makes_its_action : (who : ℕ) (o : Op) (n : Nested Task P) (choice : Bool) (m : Memory) → LayerHolds l.table l.below l.Holds m → LayerReaches l.table l.MayBeAt l.Reaches who o n
       → MakesItsAction (layered l.table l.below) n choice m
-  makes who o n choice m holds there =
+  makes_its_action who o n choice m holds there =
       let b = l.below in
       let a = l.table.asks n.task in
       let at = part_place b.size a.part in
@@ -100,4 +100,4 @@ module _ {Task P : Type 0} (l : LayerOver Task P) (reports : ReportsActions l.be
       }
 
   pub layer_reports : ReportsActions (layered l.table l.below) (LayerHolds l.table l.below l.Holds) (LayerReaches l.table l.MayBeAt l.Reaches)
-  layer_reports = record { begins = λ who o m. advance_cells l.table l.below reports.begins (l.table.program who o) m; goes = makes }
+  layer_reports = record { begins = λ who o m. advance_cells l.table l.below reports.begins (l.table.program who o) m; goes = makes_its_action }

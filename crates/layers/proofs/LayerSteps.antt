@@ -25,25 +25,25 @@ use Rattle.frames.specs.Parked.{IsConfiguration}
 use Rattle.frames.specs.Recorded.{Alone, AllFit}
 use Rattle.frames.specs.Voids.{IsVoid, why_void}
 use Rattle.frames.specs.laws.Steps.{void_unless_enabled, stopped_is_void, step_keeps}
-use Rattle.frames.proofs.Seen.{Seen, after_step, sees, Allowed, ended}
+use Rattle.frames.proofs.Seen.{Seen, after_step, sees, Allowed, end_event}
 use Rattle.frames.proofs.Reached.{Reached, reached_more}
 use Rattle.layers.proofs.Admitted.{IsAdmitted, AlwaysAdmits, reached_admitted, gone_admitted}
-use Rattle.frames.proofs.Pointwise.{put, put_same, put_again, put_is}
-use Rattle.layers.specs.Nested.{part_place, own_words, after_part, advance, resume, layered}
+use Rattle.frames.proofs.Pointwise.{put, put_same, put_back_at, put_present_at}
+use Rattle.layers.specs.Nested.{part_place, own_words_start, after_part, advance, resume, layered}
 use Rattle.layers.specs.Sound.{LayerHolds, LayerReaches}
 use Rattle.layers.specs.laws.Nested.{asks_fit, holds_with_part}
 use Rattle.layers.specs.laws.Layered.{layer_lawful}
 use Rattle.layers.specs.laws.Over.{LayerOver}
 use Rattle.layers.proofs.Law.{TaskInProgress, View, Watch, Admission, IsKeptUnder, IsUser}
-use Rattle.layers.proofs.Links.{moves, StepsTo, step_begins, step_goes, step_stops, step_of, nested, below_of, below_of-same, below_of-other, Linked, word_after_part, links_move, link_same, gone_seen}
-use Rattle.layers.proofs.Turns.{task_in_progress, Ran, run_on, after_part_ran, suits_by_table}
+use Rattle.layers.proofs.Links.{moves, StepsTo, step_begins, step_goes, step_stops, step_of, nested_next, pending_in_part, pending_in_part-same, pending_in_part-other, Linked, word_after_part, links_move, link_same, gone_seen}
+use Rattle.layers.proofs.TaskRuns.{task_in_progress, Ran, program_ran, after_part_ran, suits_by_table}
 
 -- a configuration of the layer, its view, and each part alone agree, and the invariant holds
 pub record Joint {Task P U : Type 0} (l : LayerOver Task P) (user : ℕ → ℕ → ℕ) (value : ℕ → ℕ) (w : Watch Task U) (c : Alone (Nested Task P)) (u : U) : Type 0 where
   pub well : IsConfiguration (layered l.table l.below) (LayerHolds l.table l.below l.Holds) (LayerReaches l.table l.MayBeAt l.Reaches) c
   pub j : View Task
   pub inv : w.Inv u j
-  pub words : (i : ℕ) → i < l.table.words → j.words i ≡ word_at (own_words l.table l.below.size + i) c.memory
+  pub words : (i : ℕ) → i < l.table.words → j.words i ≡ word_at (own_words_start l.table l.below.size + i) c.memory
   pub tasks : (q : ℕ) → j.tasks q ≡ task_in_progress (running_at q c)
   pub links : (k : ℕ) → k < l.table.parts → Linked l user value (λ q. is_stopped q c) c.memory (λ q. running_at q c) k (j.parts k)
 
@@ -54,7 +54,7 @@ pub record Stopping {Task P : Type 0} (l : LayerOver Task P) (user : ℕ → ℕ
   pub well : IsConfiguration l.below l.Holds l.Reaches d
   pub reached : Reached l.below (value k) d s
   pub memory : d.memory ≡ part (part_place l.below.size k) l.below.size c.memory
-  pub running : (q : ℕ) → q < l.below.processes → running_at q d ≡ below_of l.table k q (running_at (user k q) c)
+  pub running : (q : ℕ) → q < l.below.processes → running_at q d ≡ pending_in_part l.table k q (running_at (user k q) c)
   pub stops : (q : ℕ) → q < n → q < l.below.processes → user k q ≡ p → is_stopped q d ≡ true
   pub others : (q : ℕ) → q < l.below.processes → (q < n → user k q ≡ p → ⊥) → is_stopped q d ≡ is_stopped (user k q) c
 
@@ -77,19 +77,19 @@ module _ {Task P U : Type 0} (l : LayerOver Task P) (user : ℕ → ℕ → ℕ)
   J c u = Joint l user value w c u
 
   -- `Up` allows step s, and `Joint` holds after it
-  abbrev Next_joint : Alone N → U → Step → Type 0
-  Next_joint c u s = (z : U) × (Up u (events_of L c s) z × J (stepped L c s) z)
+  abbrev NextJoint : Alone N → U → Step → Type 0
+  NextJoint c u s = (z : U) × (Up u (events_of L c s) z × J (stepped L c s) z)
 
   -- a void step keeps `Joint`
-  void_joint : (s : Step) (c : Alone N) (u : U) → IsVoid L c s → J c u → Next_joint c u s
+  void_joint : (s : Step) (c : Alone N) (u : U) → IsVoid L c s → J c u → NextJoint c u s
   void_joint s c u v h = (u, (subst (λ e. Up u e u) (sym v.reported) (K.passes.void u (process_of s) (why_void c s)), subst (λ d. J d u) (sym v.leaves) h))
 
   -- `Joint` holds after p's program has run to its next bit action or its end
-  joined_ran : (p : ℕ) (o : Op) (s : Step) (event : Option Event) (begun : Begun N) (c : Alone N) (u : U)
+  ran_joint : (p : ℕ) (o : Op) (s : Step) (event : Option Event) (begun : Begun N) (c : Alone N) (u : U)
       → p < length c.running → StepsTo L c s p o event begun.next begun.memory
       → IsConfiguration L (LayerHolds l.table l.below l.Holds) (LayerReaches l.table l.MayBeAt l.Reaches) (stepped L c s)
-      → Ran l user value (λ q. is_stopped q c) w p o (λ e. Up u (in_order event e)) begun (λ q. running_at q c) → Next_joint c u s
-  joined_ran p o s event begun c u lp to well r =
+      → Ran l user value (λ q. is_stopped q c) w p o (λ e. Up u (in_order event e)) begun (λ q. running_at q c) → NextJoint c u s
+  ran_joint p o s event begun c u lp to well r =
       let d = moves p o begun.next begun.memory c in
       let same : (q : ℕ) → r.to q ≡ running_at q d =
       λ q. elim (cases_eq q p) as (λ _. r.to q ≡ running_at q d) [
@@ -110,23 +110,23 @@ module _ {Task P U : Type 0} (l : LayerOver Task P) (user : ℕ → ℕ → ℕ)
         ),
       )
 
-  keeps : (c : Alone N) (s : Step) (u : U) → fits_step L s ≡ true → J c u → IsConfiguration L (LayerHolds l.table l.below l.Holds) (LayerReaches l.table l.MayBeAt l.Reaches) (stepped L c s)
-  keeps c s u f h = step_keeps L (LayerHolds l.table l.below l.Holds) (LayerReaches l.table l.MayBeAt l.Reaches) (layer_lawful l) c s h.well f
+  keeps_configuration : (c : Alone N) (s : Step) (u : U) → fits_step L s ≡ true → J c u → IsConfiguration L (LayerHolds l.table l.below l.Holds) (LayerReaches l.table l.MayBeAt l.Reaches) (stepped L c s)
+  keeps_configuration c s u f h = step_keeps L (LayerHolds l.table l.below l.Holds) (LayerReaches l.table l.MayBeAt l.Reaches) (layer_lawful l) c s h.well f
 
   -- a process with nothing pending invokes an operation
-  invoke_joint : (p : ℕ) (o : Op) (c : Alone N) (u : U) → running_at p c ≡ None → is_stopped p c ≡ false → l.table.suits p o ≡ true → fits_step L (step_of p o) ≡ true → J c u → Next_joint c u (step_of p o)
+  invoke_joint : (p : ℕ) (o : Op) (c : Alone N) (u : U) → running_at p c ≡ None → is_stopped p c ≡ false → l.table.suits p o ≡ true → fits_step L (step_of p o) ≡ true → J c u → NextJoint c u (step_of p o)
   invoke_joint p o c u e awake s f h =
       let begun : Begun N = advance l.table l.below (l.table.program p o) c.memory in
-      let r = run_on l user value (λ q. is_stopped q c) w rule is_user all vals p o (λ e. Up u (in_order (Some (Invoke p o)) e)) (l.table.program p o) c.memory (λ q. running_at q c) h.j
+      let r = program_ran l user value (λ q. is_stopped q c) w rule is_user all vals p o (λ e. Up u (in_order (Some (Invoke p o)) e)) (l.table.program p o) c.memory (λ q. running_at q c) h.j
       awake e (l.sound.begins_sound p o s)
       (record { holds = h.well.holds; words = h.words; tasks = λ q ne. h.tasks q; links = h.links })
       (K.begins u h.j p o h.inv (h.tasks p ∙ ap task_in_progress e) s) in
       let lp : p < l.table.processes = l.sound.nobody_else p o s in
-      joined_ran p o (step_of p o) (Some (Invoke p o)) begun c u (omega (arith, lp, h.well.each)) (step_begins L p o c c.memory e awake refl) (keeps c (step_of p o) u f h) r
+      ran_joint p o (step_of p o) (Some (Invoke p o)) begun c u (omega (arith, lp, h.well.each)) (step_begins L p o c c.memory e awake refl) (keeps_configuration c (step_of p o) u f h) r
 
   -- a process with an operation pending makes its next bit action
   go_joint : (p choice : ℕ) (c : Alone N) (u : U) (r : Running N) → running_at p c ≡ Some r → is_stopped p c ≡ false → p < l.table.processes → choice < 2 → fits_step L (step.Go p choice) ≡ true → J c u
-      → Next_joint c u (step.Go p choice)
+      → NextJoint c u (step.Go p choice)
   go_joint p choice c u r e awake lp lc f h =
       let o : Op = r.op in
       let task : Task = r.point.task in
@@ -143,7 +143,7 @@ module _ {Task P U : Type 0} (l : LayerOver Task P) (user : ℕ → ℕ → ℕ)
       let link = h.links a la in
       let inner_running : Running P = record { op = aop; point = r.point.below } in
       let runs_it : running_at who link.c ≡ Some inner_running =
-      link.running who lw ∙ ap (λ i. below_of l.table a who (at i)) us ∙ ap (below_of l.table a who) e ∙ below_of-same l.table o task (Rattle.frames.specs.declared.types.Next.TheVariants.Pending r.point.below) in
+      link.running who lw ∙ ap (λ i. pending_in_part l.table a who (at i)) us ∙ ap (pending_in_part l.table a who) e ∙ pending_in_part-same l.table o task (Rattle.frames.specs.declared.types.Next.TheVariants.Pending r.point.below) in
       let own : Memory = part (part_place l.below.size a) l.below.size m in
       let moved : Moved P = l.below.goes r.point.below (choice == 1) own in
       let new : Memory = with_part (part_place l.below.size a) moved.memory m in
@@ -161,29 +161,29 @@ module _ {Task P U : Type 0} (l : LayerOver Task P) (user : ℕ → ℕ → ℕ)
       let chosen = (resume l.table l.below r.point (choice == 1) m).chosen in
       let n : TaskInProgress Task = record { op = o; task = task } in
       let mine : h.j.tasks p ≡ Some n = h.tasks p ∙ ap task_in_progress e in
-      let tasks_same : (q : ℕ) → h.j.tasks q ≡ put p (Some n) h.j.tasks q = λ q. put_is p q (Some n) h.j.tasks mine in
-      let parts_same : (k : ℕ) → h.j.parts k ≡ put a (h.j.parts a) h.j.parts k = λ k. put_again a k h.j.parts in
+      let tasks_same : (q : ℕ) → h.j.tasks q ≡ put p (Some n) h.j.tasks q = λ q. put_present_at p q (Some n) h.j.tasks mine in
+      let parts_same : (k : ℕ) → h.j.parts k ≡ put a (h.j.parts a) h.j.parts k = λ k. put_back_at a k h.j.parts in
       let Out : Option Event → U → Type 0 = λ e. Up u (in_order (chosen_of p chosen) e) in
       let still = K.passes.still u h.j p chosen h.inv in
       let ran = after_part_ran l user value (λ q. is_stopped q c) w p o task new at h.j h.j (h.j.parts a) moved.next Out (λ outcome m'. advance l.table l.below (l.table.rest task outcome) m')
       lh
       (λ i lt. h.words i lt ∙ sym (word_after_part l moved.memory m a i h.well.holds la hs))
       (λ q ne. h.tasks q)
-      (λ k lk. subst (λ y. Linked l user value (λ q. is_stopped q c) new (put p (still_running o (nested task moved.next)) at) k (put a y h.j.parts k)) es
+      (λ k lk. subst (λ y. Linked l user value (λ q. is_stopped q c) new (put p (still_running o (nested_next task moved.next)) at) k (put a y h.j.parts k)) es
       (links_move l user value (λ q. is_stopped q c) m at h.j.parts p o task (chosen_of who moved.chosen) moved.next moved.memory (step.Go who choice) h.well.holds h.links la lw us
-      (λ k q ne. ap (below_of l.table k q) e ∙ below_of-other l.table o task (Rattle.frames.specs.declared.types.Next.TheVariants.Pending r.point.below) k q ne) link fb to hs k lk))
+      (λ k q ne. ap (pending_in_part l.table k q) e ∙ pending_in_part-other l.table o task (Rattle.frames.specs.declared.types.Next.TheVariants.Pending r.point.below) k q ne) link fb to hs k lk))
       fine.0
       fine.1
       (suits_by_table l user value (λ q. is_stopped q c) w task moved.next g.may_be_at)
       still
       (λ i. refl) tasks_same parts_same
       (λ outcome ans pass good mid.
-      run_on l user value (λ q. is_stopped q c) w rule is_user all vals p o Out (l.table.rest task outcome) new (put p None at)
-      (record h.j { parts = put a (sees (Some (ended who outcome)) (h.j.parts a)) h.j.parts })
+      program_ran l user value (λ q. is_stopped q c) w rule is_user all vals p o Out (l.table.rest task outcome) new (put p None at)
+      (record h.j { parts = put a (sees (Some (end_event who outcome)) (h.j.parts a)) h.j.parts })
       awake (put_same p None at) (l.sound.rest_sound p o task outcome can.may_be_at ans pass) mid
       (K.goes u h.j p n chosen outcome h.inv mine can.may_be_at ans pass good)) in
-      joined_ran p o (step.Go p choice) (chosen_of p chosen) (after_part (λ outcome m'. advance l.table l.below (l.table.rest task outcome) m') task moved.next new) c u
-      (omega (arith, lp, h.well.each)) whole (keeps c (step.Go p choice) u f h) ran
+      ran_joint p o (step.Go p choice) (chosen_of p chosen) (after_part (λ outcome m'. advance l.table l.below (l.table.rest task outcome) m') task moved.next new) c u
+      (omega (arith, lp, h.well.each)) whole (keeps_configuration c (step.Go p choice) u f h) ran
 
   -- when p stops, so does each process below n of part k as which p acts
   stops_upto : (p : ℕ) (c : Alone N) (k : ℕ) (s : Seen) → is_stopped p c ≡ false → (n : ℕ) → n ≤ l.below.processes → Linked l user value (λ q. is_stopped q c) c.memory (λ q. running_at q c) k s
@@ -232,14 +232,14 @@ module _ {Task P U : Type 0} (l : LayerOver Task P) (user : ℕ → ℕ → ℕ)
             }
       ]
 
-  stop_joint : (p : ℕ) (c : Alone N) (u : U) → is_stopped p c ≡ false → p < l.table.processes → fits_step L (step.Stop p) ≡ true → J c u → Next_joint c u (step.Stop p)
+  stop_joint : (p : ℕ) (c : Alone N) (u : U) → is_stopped p c ≡ false → p < l.table.processes → fits_step L (step.Stop p) ≡ true → J c u → NextJoint c u (step.Stop p)
   stop_joint p c u awake lp f h =
       let is = step_stops L p c awake in (
         u,
         (
           subst (λ e. Up u e u) (sym is.events) (K.passes.stop u p),
           subst (λ d. J d u) (sym is.after) (record {
-            well = subst (IsConfiguration L (LayerHolds l.table l.below l.Holds) (LayerReaches l.table l.MayBeAt l.Reaches)) is.after (keeps c (step.Stop p) u f h);
+            well = subst (IsConfiguration L (LayerHolds l.table l.below l.Holds) (LayerReaches l.table l.MayBeAt l.Reaches)) is.after (keeps_configuration c (step.Stop p) u f h);
             j = h.j;
             inv = h.inv;
             words = h.words;
@@ -262,33 +262,33 @@ module _ {Task P U : Type 0} (l : LayerOver Task P) (user : ℕ → ℕ → ℕ)
       )
 
   -- p invokes an operation, whether or not p has one pending
-  invoking_joint : (p : ℕ) (o : Op) (c : Alone N) (u : U) (x : Option (Running N)) → running_at p c ≡ x → is_stopped p c ≡ false → l.table.suits p o ≡ true → fits_step L (step_of p o) ≡ true
-      → ((r : Running N) → x ≡ Some r → IsVoid L c (step_of p o)) → J c u → Next_joint c u (step_of p o)
-  invoking_joint p o c u None e awake s f void h = invoke_joint p o c u e awake s f h
-  invoking_joint p o c u (Some r) e awake s f void h = void_joint (step_of p o) c u (void r refl) h
+  invoke_or_void_joint : (p : ℕ) (o : Op) (c : Alone N) (u : U) (x : Option (Running N)) → running_at p c ≡ x → is_stopped p c ≡ false → l.table.suits p o ≡ true → fits_step L (step_of p o) ≡ true
+      → ((r : Running N) → x ≡ Some r → IsVoid L c (step_of p o)) → J c u → NextJoint c u (step_of p o)
+  invoke_or_void_joint p o c u None e awake s f void h = invoke_joint p o c u e awake s f h
+  invoke_or_void_joint p o c u (Some r) e awake s f void h = void_joint (step_of p o) c u (void r refl) h
 
-  going_joint : (p choice : ℕ) (c : Alone N) (u : U) (x : Option (Running N)) → running_at p c ≡ x → is_stopped p c ≡ false → p < l.table.processes → choice < 2 → fits_step L (step.Go p choice) ≡ true → J c u
-      → Next_joint c u (step.Go p choice)
-  going_joint p choice c u (Some r) e awake lp lc f h = go_joint p choice c u r e awake lp lc f h
-  going_joint p choice c u None e awake lp lc f h =
+  go_or_void_joint : (p choice : ℕ) (c : Alone N) (u : U) (x : Option (Running N)) → running_at p c ≡ x → is_stopped p c ≡ false → p < l.table.processes → choice < 2 → fits_step L (step.Go p choice) ≡ true → J c u
+      → NextJoint c u (step.Go p choice)
+  go_or_void_joint p choice c u (Some r) e awake lp lc f h = go_joint p choice c u r e awake lp lc f h
+  go_or_void_joint p choice c u None e awake lp lc f h =
       void_joint (step.Go p choice) c u (void_unless_enabled L c (step.Go p choice) (ap (λ x. not (is_stopped p c) && is_some x) e ∙ ap (λ b. not b && false) awake)) h
 
-  awake_joint : (s : Step) (c : Alone N) (u : U) → fits_step L s ≡ true → is_stopped (process_of s) c ≡ false → J c u → Next_joint c u s
+  awake_joint : (s : Step) (c : Alone N) (u : U) → fits_step L s ≡ true → is_stopped (process_of s) c ≡ false → J c u → NextJoint c u s
   awake_joint (step.Write p v) c u f awake h =
-      invoking_joint p (op.Write v) c u (running_at p c) refl awake f f
+      invoke_or_void_joint p (op.Write v) c u (running_at p c) refl awake f f
       (λ r e. void_unless_enabled L c (step.Write p v) (ap (λ x. not (is_stopped p c) && is_none x) e ∙ ap (λ b. not b && false) awake)) h
   awake_joint (step.Read p) c u f awake h =
-      invoking_joint p op.Read c u (running_at p c) refl awake f f
+      invoke_or_void_joint p op.Read c u (running_at p c) refl awake f f
       (λ r e. void_unless_enabled L c (step.Read p) (ap (λ x. not (is_stopped p c) && is_none x) e ∙ ap (λ b. not b && false) awake)) h
   awake_joint (step.Go p choice) c u f awake h =
       let parts = and_parts (nat_lt p l.table.processes) (nat_lt choice 2) f in
-      going_joint p choice c u (running_at p c) refl awake (ltb-true p l.table.processes parts.0) (ltb-true choice 2 parts.1) f h
+      go_or_void_joint p choice c u (running_at p c) refl awake (ltb-true p l.table.processes parts.0) (ltb-true choice 2 parts.1) f h
   awake_joint (step.Stop p) c u f awake h = stop_joint p c u awake (ltb-true p l.table.processes f) f h
 
-  pub step_joint : (s : Step) (c : Alone N) (u : U) → fits_step L s ≡ true → J c u → Next_joint c u s
+  pub step_joint : (s : Step) (c : Alone N) (u : U) → fits_step L s ≡ true → J c u → NextJoint c u s
   step_joint s c u f h = go (is_stopped (process_of s) c) refl
     where
-      go : (k : Bool) → is_stopped (process_of s) c ≡ k → Next_joint c u s
+      go : (k : Bool) → is_stopped (process_of s) c ≡ k → NextJoint c u s
       go true e = void_joint s c u (stopped_is_void L c s e) h
       go false e = awake_joint s c u f e h
 

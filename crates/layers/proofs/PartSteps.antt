@@ -9,7 +9,7 @@ use Rattle.frames.specs.declared.types.Outcome.{Outcome}
 use Rattle.frames.specs.declared.types.Frame.{Frame}
 use Rattle.frames.specs.declared.types.Next.{Next}
 use Rattle.frames.specs.declared.types.Next.TheVariants.{Pending, Done}
-use Rattle.frames.specs.Flat.{Lands, HasFramesFrom, ended, left_frames}
+use Rattle.frames.specs.Flat.{Lands, HasFramesFrom, outcome_of, left_frames}
 use Rattle.frames.specs.Placed.{placed_bit}
 use Rattle.layers.specs.declared.nested.Ask.{Ask}
 use Rattle.layers.specs.Nested.{part_place, asked, pushed, layered}
@@ -17,15 +17,15 @@ use Rattle.layers.specs.Sound.{LayerReaches}
 use Rattle.layers.specs.InPlace.{own, LayerLies}
 use Rattle.layers.specs.Flat.{task_frames, cut_where_ended}
 use Rattle.layers.specs.laws.Nested.{asks_fit}
-use Rattle.layers.specs.laws.Flat.{part_leaves, index_there, drop_one_more, front_there}
+use Rattle.layers.specs.laws.Flat.{part_leaves, index_inside, drop_one_more, take_one_more}
 use Rattle.layers.specs.laws.InPlace.{part_holds, part_inside, asked_next, asked_memory, pushed_next, pushed_chosen, pushed_memory}
 use Rattle.layers.specs.laws.Over.{LayerOver}
 
 -- an operation that has ended leaves only the frames that were below its own
-own_left : {P : Type 0} (frames : P → List Frame) (next : Next P) (front : List Frame) (given : Option Outcome) (left : List Frame) → given ≡ ended next
+ended_leaves_front : {P : Type 0} (frames : P → List Frame) (next : Next P) (front : List Frame) (given : Option Outcome) (left : List Frame) → given ≡ outcome_of next
     → left ≡ front ++ left_frames frames next → IfSome given (λ _. left ≡ front)
-own_left frames (Pending p) front given left is leaves = subst (λ g. IfSome g (λ _. left ≡ front)) (sym is) tt
-own_left frames (Done o) front given left is leaves = subst (λ g. IfSome g (λ _. left ≡ front)) (sym is) (leaves ∙ append-nil front)
+ended_leaves_front frames (Pending p) front given left is leaves = subst (λ g. IfSome g (λ _. left ≡ front)) (sym is) tt
+ended_leaves_front frames (Done o) front given left is leaves = subst (λ g. IfSome g (λ _. left ≡ front)) (sym is) (leaves ∙ append-nil front)
 
 -- a stack has at least `first` frames after a layer's own frame was pushed at that index
 pub stack_long : (stack rest with_own left : List Frame) (frame : Frame) (first : ℕ) → with_own ≡ stack ++ frame ∷ [] → length stack ≡ first → left ≡ with_own ++ rest → first ≤ length left
@@ -38,16 +38,16 @@ stack_long stack rest with_own left frame first owns long leaves =
 module _ {Task P : Type 0} (l : LayerOver Task P) (at : Place) (m : Memory) (lies : LayerLies l.table l.below l.Holds at m)
     (task : Task) (a : Ask) (e : a ≡ l.table.asks task) (q : Place) (is : q ≡ place_after at (part_place l.below.size a.part)) where
   module _ (who : ℕ) (o : Op) (at_task : l.MayBeAt who o task) where
-    part_there : a.part < l.table.parts
-    part_there = rw e (asks_fit l who o task at_task).0
+    part_exists : a.part < l.table.parts
+    part_exists = rw e (asks_fit l who o task at_task).0
 
     -- the part's memory satisfies `Holds`
     pub part_keeps : l.Holds (part q l.below.size m)
-    part_keeps = subst (λ x. l.Holds (part x l.below.size m)) (sym is) (part_holds l at m lies a.part part_there)
+    part_keeps = subst (λ x. l.Holds (part x l.below.size m)) (sym is) (part_holds l at m lies a.part part_exists)
 
     -- the part lies in the memory
     pub part_lies : LiesIn q l.below.size m
-    part_lies = subst (λ x. LiesIn x l.below.size m) (sym is) (part_inside l at m lies a.part part_there)
+    part_lies = subst (λ x. LiesIn x l.below.size m) (sym is) (part_inside l at m lies a.part part_exists)
 
     -- the part is asked after the layer's own frame is pushed; that frame is dropped if the part's
     -- operation has ended
@@ -60,14 +60,14 @@ module _ {Task P : Type 0} (l : LayerOver Task P) (at : Place) (m : Memory) (lie
         let b = l.below in
         let here = own l.table b at m in
         let suits : b.suits a.who a.op ≡ true = rw e (asks_fit l who o task at_task).1 in
-        let next = ap (λ x. (b.begins a.who a.op (part x b.size m)).next) is ∙ asked_next l at m lies a part_there ∙ ap (λ x. (asked b x here).next) e in
-        let answer = lands.answer ∙ ap ended next in
+        let next = ap (λ x. (b.begins a.who a.op (part x b.size m)).next) is ∙ asked_next l at m lies a part_exists ∙ ap (λ x. (asked b x here).next) e in
+        let answer = lands.answer ∙ ap outcome_of next in
         record {
           answer = answer;
           stack = closes ∙ part_leaves b.frames (l.table.frame task) stack (asked b (l.table.asks task) here).next given left first long answer
               (lands.stack ∙ (λ i. owns i ++ left_frames b.frames (next i)));
           memory = lands.memory ∙ ap (λ x. with_part x (b.begins a.who a.op (part x b.size m)).memory m) is
-              ∙ asked_memory l at m lies a part_there suits ∙ ap (λ x. with_part at (asked b x here).memory m) e;
+              ∙ asked_memory l at m lies a part_exists suits ∙ ap (λ x. with_part at (asked b x here).memory m) e;
         }
 
   module _ (choice : Bool) (first : ℕ) (stack : List Frame) (who : ℕ) (o : Op) (p : P)
@@ -81,7 +81,7 @@ module _ {Task P : Type 0} (l : LayerOver Task P) (at : Place) (m : Memory) (lie
         → chosen ≡ placed_bit at (pushed l.below (l.table.asks task).part p choice (own l.table l.below at m)).chosen
     part_chooses chosen chooses =
         chooses part_has_frames ∙ ap (λ x. placed_bit x (l.below.goes p choice (part x l.below.size m)).chosen) is
-        ∙ pushed_chosen l at m lies a.part p choice (part_there who o on.reached.may_be_at)
+        ∙ pushed_chosen l at m lies a.part p choice (part_exists who o on.reached.may_be_at)
         ∙ ap (λ x. placed_bit at (pushed l.below x.part p choice (own l.table l.below at m)).chosen) e
 
     -- the part makes its bit action; the layer's own frame is dropped if the part's operation has
@@ -96,11 +96,11 @@ module _ {Task P : Type 0} (l : LayerOver Task P) (at : Place) (m : Memory) (lie
         let b = l.below in
         let lands = lands_there part_has_frames in
         let here = own l.table b at m in
-        let lt = part_there who o on.reached.may_be_at in
+        let lt = part_exists who o on.reached.may_be_at in
         let next = ap (λ x. (b.goes p choice (part x b.size m)).next) is ∙ pushed_next l at m lies a.part p choice lt ∙ ap (λ x. (pushed b x.part p choice here).next) e in
-        let answer = lands.answer ∙ ap ended next in
-        let there = index_there first stack (b.frames p) (l.table.frame task) on.there in
-        let front = front_there first stack (b.frames p) (l.table.frame task) on.there in
+        let answer = lands.answer ∙ ap outcome_of next in
+        let there = index_inside first stack (b.frames p) (l.table.frame task) on.there in
+        let front = take_one_more first stack (b.frames p) (l.table.frame task) on.there in
         record {
           answer = answer;
           stack = closes ∙ part_leaves b.frames (l.table.frame task) (take first stack) (pushed b (l.table.asks task).part p choice here).next given left first
@@ -117,4 +117,4 @@ module _ {Task P : Type 0} (l : LayerOver Task P) (at : Place) (m : Memory) (lie
         → IfSome given (λ _. left ≡ take (first + 1) stack)
     part_ended given left after lands_there =
         let lands = lands_there part_has_frames in
-        own_left l.below.frames (l.below.goes p choice (part q l.below.size m)).next (take (first + 1) stack) given left lands.answer lands.stack
+        ended_leaves_front l.below.frames (l.below.goes p choice (part q l.below.size m)).next (take (first + 1) stack) given left lands.answer lands.stack

@@ -17,26 +17,26 @@ use Rattle.layers.specs.declared.nested.Continuation.{Continuation}
 use Rattle.layers.specs.declared.nested.Continuation.TheVariants as continuation
 use Rattle.frames.specs.Placed.{placed_bit}
 use Rattle.frames.specs.Behaviour.{Behaviour, Begun, Moved, Answers, ReachedOrAnswered}
-use Rattle.frames.specs.Flat.{Lands, HasFramesFrom, ended, left_frames}
-use Rattle.layers.specs.Nested.{Program, Table, layer_size, own_words, asked, pushed, advance, resume, layered}
+use Rattle.frames.specs.Flat.{Lands, HasFramesFrom, outcome_of, left_frames}
+use Rattle.layers.specs.Nested.{Program, Table, layer_size, own_words_start, asked, pushed, advance, resume, layered}
 use Rattle.layers.specs.Sound.{IsSound, IsNotSpent, IsSpent, LayerHolds, LayerReaches}
 use Rattle.layers.specs.Settled.{settled, ContinuationIsSound, run_on, follow_on}
 use Rattle.layers.specs.InPlace.{own, LayerLies}
 use Rattle.layers.specs.Flat.{task_frames, cut_where_ended}
-use Rattle.layers.specs.laws.Flat.{parts_there, index_there}
+use Rattle.layers.specs.laws.Flat.{same_item_and_rest, index_inside}
 use Rattle.layers.specs.laws.InPlace.{own_with}
 use Rattle.layers.specs.laws.Settled.{settled_is_reached, settled_holds, settled_in_place, advance_settled}
 use Rattle.layers.specs.laws.Nested.{rest_sound}
-use Rattle.layers.specs.laws.Running.{push_holds, push_is_reached, follow_well, ask_holds, ask_is_reached, run_well, put_again, lies_after}
+use Rattle.layers.specs.laws.Running.{task_pushed_holds, task_pushed_reached, follow_on_well, task_asked_holds, task_asked_reached, run_on_well, with_part_twice, lies_after}
 use Rattle.layers.specs.laws.Over.{LayerOver}
 
 -- no program goes on after this outcome, or after none: the part's operation is spent, or waits
-abbrev pub Stops : Option Outcome → Type 0
-Stops None = ⊤
-Stops (Some outcome) = IsSpent outcome
+abbrev pub WaitsOrIsSpent : Option Outcome → Type 0
+WaitsOrIsSpent None = ⊤
+WaitsOrIsSpent (Some outcome) = IsSpent outcome
 
 -- the layer has reached the continuation c and the memory m; run on from there, it reaches `aim`
-pub record ComesTo {Task P : Type 0} (t : Table Task) (b : Behaviour P) (Holds : Memory → Type 0) (MayBeAt : ℕ → Op → Task → Type 0) (at : Place) (aim : Begun (Nested Task P)) (before : Memory)
+pub record RunsOnTo {Task P : Type 0} (t : Table Task) (b : Behaviour P) (Holds : Memory → Type 0) (MayBeAt : ℕ → Op → Task → Type 0) (at : Place) (aim : Begun (Nested Task P)) (before : Memory)
     (c : Continuation Task) (m : Memory) : Type 0 where
   pub who : ℕ
   pub op : Op
@@ -46,12 +46,12 @@ pub record ComesTo {Task P : Type 0} (t : Table Task) (b : Behaviour P) (Holds :
   pub puts : (late : Memory) → LayerHolds t b Holds late → with_part at late m ≡ with_part at late before
 
 -- an operation that gives an outcome has ended with it
-pub done_of : {P : Type 0} (next : Next P) (outcome : Outcome) → ended next ≡ Some outcome → next ≡ Done outcome
+pub done_of : {P : Type 0} (next : Next P) (outcome : Outcome) → outcome_of next ≡ Some outcome → next ≡ Done outcome
 done_of (Pending p) outcome e = cc
 done_of (Done o) outcome e = let same : o ≡ outcome = cc in ap Done same
 
 -- a part's operation that has ended leaves the frames that were below its own
-pub ended_leaves : {P : Type 0} (frames : P → List Frame) (next : Next P) (given : Option Outcome) (outcome : Outcome) (front left : List Frame) → given ≡ ended next → given ≡ Some outcome
+pub ended_leaves : {P : Type 0} (frames : P → List Frame) (next : Next P) (given : Option Outcome) (outcome : Outcome) (front left : List Frame) → given ≡ outcome_of next → given ≡ Some outcome
     → left ≡ front ++ left_frames frames next → left ≡ front
 ended_leaves frames next given outcome front left answer e leaves = leaves ∙ ap (λ n. front ++ left_frames frames n) (done_of next outcome (sym answer ∙ e)) ∙ append-nil front
 
@@ -60,60 +60,60 @@ module _ {Task P : Type 0} (l : LayerOver Task P) where
   pub found_task : (who first : ℕ) (stack : List Frame) (frame : Frame) → drop first stack ≡ frame ∷ drop (first + 1) stack
       → (o : Op) (n : Nested Task P) → HasFramesFrom (layered l.table l.below).frames (LayerReaches l.table l.MayBeAt l.Reaches) who first stack o n → l.table.find who frame ≡ n.task
   found_task who first stack frame found o n on =
-      ap (l.table.find who) (parts_there first stack (l.below.frames n.below) (l.table.frame n.task) frame on.there found).0 ∙ (l.sound.frame_gives who o n.task on.reached.may_be_at).0
+      ap (l.table.find who) (same_item_and_rest first stack (l.below.frames n.below) (l.table.frame n.task) frame on.there found).0 ∙ (l.sound.frame_gives who o n.task on.reached.may_be_at).0
 
 module _ {Task P : Type 0} (l : LayerOver Task P) (at : Place) where
   -- an operation waits if its part does, and is refused if its part is spent
-  stops : (task : Task) (next : Next P) (inner : Memory) (given : Option Outcome) (front left : List Frame) (before after : Memory)
-      → Lands (task_frames l.table l.below task) at next inner front before given left after → Stops given
+  waiting_lands : (task : Task) (next : Next P) (inner : Memory) (given : Option Outcome) (front left : List Frame) (before after : Memory)
+      → Lands (task_frames l.table l.below task) at next inner front before given left after → WaitsOrIsSpent given
       → Lands (layered l.table l.below).frames at (follow_on l.table l.below task next inner).next (follow_on l.table l.below task next inner).memory front before given left after
-  stops task (Pending p) inner given front left before after lands h = record { answer = lands.answer; stack = lands.stack; memory = lands.memory }
-  stops task (Done (Spent layer)) inner given front left before after lands h = record { answer = lands.answer; stack = lands.stack; memory = lands.memory }
-  stops task (Done Written) inner given front left before after lands h = absurd (subst Stops lands.answer h)
-  stops task (Done (Value v)) inner given front left before after lands h = absurd (subst Stops lands.answer h)
+  waiting_lands task (Pending p) inner given front left before after lands h = record { answer = lands.answer; stack = lands.stack; memory = lands.memory }
+  waiting_lands task (Done (Spent layer)) inner given front left before after lands h = record { answer = lands.answer; stack = lands.stack; memory = lands.memory }
+  waiting_lands task (Done Written) inner given front left before after lands h = absurd (subst WaitsOrIsSpent lands.answer h)
+  waiting_lands task (Done (Value v)) inner given front left before after lands h = absurd (subst WaitsOrIsSpent lands.answer h)
 
   -- the layer's operation reaches its aim if the part waits or is spent
-  pub stops_there : (task : Task) (next : Next P) (inner : Memory) (given : Option Outcome) (front left : List Frame) (before after : Memory)
-      → Lands (task_frames l.table l.below task) at next inner front before given left after → Stops given → (aim : Begun (Nested Task P)) → follow_on l.table l.below task next inner ≡ aim
+  pub waiting_reaches_aim : (task : Task) (next : Next P) (inner : Memory) (given : Option Outcome) (front left : List Frame) (before after : Memory)
+      → Lands (task_frames l.table l.below task) at next inner front before given left after → WaitsOrIsSpent given → (aim : Begun (Nested Task P)) → follow_on l.table l.below task next inner ≡ aim
       → Lands (layered l.table l.below).frames at aim.next aim.memory front before given left after
-  stops_there task next inner given front left before after lands h aim e =
-      subst (λ a. Lands (layered l.table l.below).frames at a.next a.memory front before given left after) e (stops task next inner given front left before after lands h)
+  waiting_reaches_aim task next inner given front left before after lands h aim e =
+      subst (λ a. Lands (layered l.table l.below).frames at a.next a.memory front before given left after) e (waiting_lands task next inner given front left before after lands h)
 
   -- work that replaces the layer's memory has the same effect, whether or not that memory was
   -- replaced before
-  pub again : (m : Memory) → LayerLies l.table l.below l.Holds at m → (mid m1 : Memory) → m1 ≡ with_part at mid m → LayerHolds l.table l.below l.Holds mid
+  pub lands_from_earlier : (m : Memory) → LayerLies l.table l.below l.Holds at m → (mid m1 : Memory) → m1 ≡ with_part at mid m → LayerHolds l.table l.below l.Holds mid
       → (r aim : Begun (Nested Task P)) → r ≡ aim → LayerHolds l.table l.below l.Holds r.memory → (front : List Frame) (given : Option Outcome) (left : List Frame) (m2 : Memory)
       → Lands (layered l.table l.below).frames at r.next r.memory front m1 given left m2 → Lands (layered l.table l.below).frames at aim.next aim.memory front m given left m2
-  again m lies mid m1 e well r aim same late front given left m2 lands =
+  lands_from_earlier m lies mid m1 e well r aim same late front given left m2 lands =
       subst (λ a. Lands (layered l.table l.below).frames at a.next a.memory front m given left m2) same
       (record {
         answer = lands.answer;
         stack = lands.stack;
-        memory = lands.memory ∙ ap (with_part at r.memory) e ∙ put_again l at m lies mid r.memory well late;
+        memory = lands.memory ∙ ap (with_part at r.memory) e ∙ with_part_twice l at m lies mid r.memory well late;
       })
 
   -- settling a program in a store, in which the layer's own words begin at word `base`, is the same
   -- as settling it in the layer's memory there
   pub settled_in_store : (who : ℕ) (o : Op) (p : Program Task) (m : Memory) → LayerLies l.table l.below l.Holds at m
       → IsSound l.table (l.MayBeAt who o) (Answers l.table.values o) p
-      → (base : ℕ) → base ≡ at.word + own_words l.table l.below.size → (c1 : Continuation Task) (m1 : Memory)
+      → (base : ℕ) → base ≡ at.word + own_words_start l.table l.below.size → (c1 : Continuation Task) (m1 : Memory)
       → c1 ≡ (settled base p m).continuation → m1 ≡ (settled base p m).memory
-      → (c1 ≡ (settled (own_words l.table l.below.size) p (own l.table l.below at m)).continuation)
-      × (m1 ≡ with_part at (settled (own_words l.table l.below.size) p (own l.table l.below at m)).memory m)
+      → (c1 ≡ (settled (own_words_start l.table l.below.size) p (own l.table l.below at m)).continuation)
+      × (m1 ≡ with_part at (settled (own_words_start l.table l.below.size) p (own l.table l.below at m)).memory m)
   settled_in_store who o p m lies sound base is c1 m1 ec em =
-      let there = settled_in_place l.table (l.MayBeAt who o) (Answers l.table.values o) at (layer_size l.table l.below.size) (own_words l.table l.below.size) p m sound lies.inside (omega arith) lies.holds.words in (
+      let there = settled_in_place l.table (l.MayBeAt who o) (Answers l.table.values o) at (layer_size l.table l.below.size) (own_words_start l.table l.below.size) p m sound lies.inside (omega arith) lies.holds.words in (
         ec ∙ ap (λ b. (settled b p m).continuation) is ∙ there.0,
         em ∙ ap (λ b. (settled b p m).memory) is ∙ there.1,
       )
 
   module _ (who : ℕ) (o : Op) (p : Program Task) (m : Memory) (lies : LayerLies l.table l.below l.Holds at m)
       (sound : IsSound l.table (l.MayBeAt who o) (Answers l.table.values o) p) (c1 : Continuation Task) (m1 : Memory)
-      (ec : c1 ≡ (settled (own_words l.table l.below.size) p (own l.table l.below at m)).continuation)
-      (em : m1 ≡ with_part at (settled (own_words l.table l.below.size) p (own l.table l.below at m)).memory m) where
-    words_inside : own_words l.table l.below.size + l.table.words ≤ length (own l.table l.below at m).words
+      (ec : c1 ≡ (settled (own_words_start l.table l.below.size) p (own l.table l.below at m)).continuation)
+      (em : m1 ≡ with_part at (settled (own_words_start l.table l.below.size) p (own l.table l.below at m)).memory m) where
+    words_inside : own_words_start l.table l.below.size + l.table.words ≤ length (own l.table l.below at m).words
     words_inside = let w = lies.holds.size.words in omega arith
 
-    pub settled_well : LayerHolds l.table l.below l.Holds (settled (own_words l.table l.below.size) p (own l.table l.below at m)).memory
+    pub settled_well : LayerHolds l.table l.below l.Holds (settled (own_words_start l.table l.below.size) p (own l.table l.below at m)).memory
     settled_well = settled_holds l (l.MayBeAt who o) (Answers l.table.values o) p (own l.table l.below at m) sound lies.holds
 
     -- a settled program is at a task or an end that suits; the layer lies at its place; and running
@@ -121,7 +121,7 @@ module _ {Task P : Type 0} (l : LayerOver Task P) (at : Place) where
     pub settled_sound : ContinuationIsSound (l.MayBeAt who o) (Answers l.table.values o) c1
     settled_sound =
         subst (ContinuationIsSound (l.MayBeAt who o) (Answers l.table.values o)) (sym ec)
-        (settled_is_reached l.table (l.MayBeAt who o) (Answers l.table.values o) (own_words l.table l.below.size) p (own l.table l.below at m) sound words_inside lies.holds.words)
+        (settled_is_reached l.table (l.MayBeAt who o) (Answers l.table.values o) (own_words_start l.table l.below.size) p (own l.table l.below at m) sound words_inside lies.holds.words)
 
     pub settled_lies : LayerLies l.table l.below l.Holds at m1
     settled_lies = lies_after l at m lies _ m1 em settled_well
@@ -129,7 +129,7 @@ module _ {Task P : Type 0} (l : LayerOver Task P) (at : Place) where
     pub settled_runs_on : run_on l.table l.below c1 (own l.table l.below at m1) ≡ advance l.table l.below p (own l.table l.below at m)
     settled_runs_on =
         let here = own l.table l.below at m in
-        let own_1 : own l.table l.below at m1 ≡ (settled (own_words l.table l.below.size) p here).memory = ap (own l.table l.below at) em ∙ own_with l at m lies _ settled_well in
+        let own_1 : own l.table l.below at m1 ≡ (settled (own_words_start l.table l.below.size) p here).memory = ap (own l.table l.below at) em ∙ own_with l at m lies _ settled_well in
         (λ i. run_on l.table l.below (ec i) (own_1 i))
         ∙ sym (advance_settled l.table (l.MayBeAt who o) (Answers l.table.values o) l.below p here sound words_inside lies.holds.words)
 
@@ -137,20 +137,20 @@ module _ {Task P : Type 0} (l : LayerOver Task P) (at : Place) where
         → Lands (layered l.table l.below).frames at (run_on l.table l.below c1 (own l.table l.below at m1)).next (run_on l.table l.below c1 (own l.table l.below at m1)).memory stack m1 given left m2
         → Lands (layered l.table l.below).frames at aim.next aim.memory stack m given left m2
     settled_lands aim aims stack given left m2 lands =
-        let mid = (settled (own_words l.table l.below.size) p (own l.table l.below at m)).memory in
-        again m lies mid m1 em settled_well (run_on l.table l.below c1 (own l.table l.below at m1)) aim (settled_runs_on ∙ aims)
-        (run_well l who o c1 (own l.table l.below at m1) settled_sound settled_lies.holds).holds stack given left m2 lands
+        let mid = (settled (own_words_start l.table l.below.size) p (own l.table l.below at m)).memory in
+        lands_from_earlier m lies mid m1 em settled_well (run_on l.table l.below c1 (own l.table l.below at m1)) aim (settled_runs_on ∙ aims)
+        (run_on_well l who o c1 (own l.table l.below at m1) settled_sound settled_lies.holds).holds stack given left m2 lands
 
   -- after a part's operation that has ended and isn't spent, the program runs on
-  pub advances : (task : Task) (outcome : Outcome) (m : Memory) → IsNotSpent outcome → advance l.table l.below (l.table.rest task outcome) m ≡ follow_on l.table l.below task (Done outcome) m
-  advances task (Spent layer) m goes_on = absurd goes_on
-  advances task Written m goes_on = refl
-  advances task (Value v) m goes_on = refl
+  pub advance_follows : (task : Task) (outcome : Outcome) (m : Memory) → IsNotSpent outcome → advance l.table l.below (l.table.rest task outcome) m ≡ follow_on l.table l.below task (Done outcome) m
+  advance_follows task (Spent layer) m goes_on = absurd goes_on
+  advance_follows task Written m goes_on = refl
+  advance_follows task (Value v) m goes_on = refl
 
-  module _ (aim : Begun (Nested Task P)) (before : Memory) (c : Continuation Task) (m : Memory) (come : ComesTo l.table l.below l.Holds l.MayBeAt at aim before c m) where
+  module _ (aim : Begun (Nested Task P)) (before : Memory) (c : Continuation Task) (m : Memory) (come : RunsOnTo l.table l.below l.Holds l.MayBeAt at aim before c m) where
     -- a program that ends gives its outcome
-    pub ends : (outcome : Outcome) (stack : List Frame) → c ≡ continuation.Ends outcome → Lands (layered l.table l.below).frames at aim.next aim.memory stack before (Some outcome) stack m
-    ends outcome stack is =
+    pub end_lands : (outcome : Outcome) (stack : List Frame) → c ≡ continuation.Ends outcome → Lands (layered l.table l.below).frames at aim.next aim.memory stack before (Some outcome) stack m
+    end_lands outcome stack is =
         let here = own l.table l.below at m in
         let e = ap (λ d. run_on l.table l.below d here) (sym is) ∙ come.aims in
         subst (λ a. Lands (layered l.table l.below).frames at a.next a.memory stack before (Some outcome) stack m) e
@@ -166,7 +166,7 @@ module _ {Task P : Type 0} (l : LayerOver Task P) (at : Place) where
       task_may_be_at = subst (ContinuationIsSound (l.MayBeAt come.who come.op) (Answers l.table.values come.op)) is come.may_be_at
 
       asked_well : LayerHolds l.table l.below l.Holds (asked l.below (l.table.asks task) (own l.table l.below at m)).memory
-      asked_well = ask_holds l come.who come.op task (own l.table l.below at m) come.lies.holds task_may_be_at
+      asked_well = task_asked_holds l come.who come.op task (own l.table l.below at m) come.lies.holds task_may_be_at
 
       asked_aims : follow_on l.table l.below task (asked l.below (l.table.asks task) (own l.table l.below at m)).next (asked l.below (l.table.asks task) (own l.table l.below at m)).memory ≡ aim
       asked_aims = ap (λ d. run_on l.table l.below d (own l.table l.below at m)) (sym is) ∙ come.aims
@@ -175,9 +175,9 @@ module _ {Task P : Type 0} (l : LayerOver Task P) (at : Place) where
       asked_puts = lands.memory ∙ come.puts _ asked_well
 
       -- the layer's operation reaches its aim if the part that is asked waits or is spent
-      pub asks_and_stops : Stops given → Lands (layered l.table l.below).frames at aim.next aim.memory stack before given left m1
-      asks_and_stops h =
-          stops_there task _ _ given stack left before m1 (record { answer = lands.answer; stack = lands.stack; memory = asked_puts }) h aim asked_aims
+      pub asked_waiting_reaches_aim : WaitsOrIsSpent given → Lands (layered l.table l.below).frames at aim.next aim.memory stack before given left m1
+      asked_waiting_reaches_aim h =
+          waiting_reaches_aim task _ _ given stack left before m1 (record { answer = lands.answer; stack = lands.stack; memory = asked_puts }) h aim asked_aims
 
       -- the layer still lies at its place
       pub asked_lies : LayerLies l.table l.below l.Holds at m1
@@ -187,7 +187,7 @@ module _ {Task P : Type 0} (l : LayerOver Task P) (at : Place) where
       pub asked_answers : (outcome : Outcome) → given ≡ Some outcome → Answers l.below.values (l.table.asks task).op outcome
       asked_answers outcome e =
           subst (ReachedOrAnswered (l.Reaches (l.table.asks task).who (l.table.asks task).op) (Answers l.below.values (l.table.asks task).op)) (done_of _ outcome (sym lands.answer ∙ e))
-          (ask_is_reached l come.who come.op task (own l.table l.below at m) come.lies.holds task_may_be_at)
+          (task_asked_reached l come.who come.op task (own l.table l.below at m) come.lies.holds task_may_be_at)
 
       -- a part's operation that has ended leaves the frames that were below its own
       pub asked_leaves : (outcome : Outcome) → given ≡ Some outcome → left ≡ stack
@@ -195,11 +195,11 @@ module _ {Task P : Type 0} (l : LayerOver Task P) (at : Place) where
           ended_leaves (task_frames l.table l.below task) (asked l.below (l.table.asks task) (own l.table l.below at m)).next given outcome stack left lands.answer e lands.stack
 
       -- the program goes on after a part's operation that has ended
-      pub turns : (outcome : Outcome) → given ≡ Some outcome → IsNotSpent outcome → (c2 : Continuation Task) (m2 : Memory)
-          → c2 ≡ (settled (own_words l.table l.below.size) (l.table.rest task outcome) (own l.table l.below at m1)).continuation
-          → m2 ≡ with_part at (settled (own_words l.table l.below.size) (l.table.rest task outcome) (own l.table l.below at m1)).memory m1
-          → ComesTo l.table l.below l.Holds l.MayBeAt at aim before c2 m2
-      turns outcome e goes_on c2 m2 ec em =
+      pub goes_on_after : (outcome : Outcome) → given ≡ Some outcome → IsNotSpent outcome → (c2 : Continuation Task) (m2 : Memory)
+          → c2 ≡ (settled (own_words_start l.table l.below.size) (l.table.rest task outcome) (own l.table l.below at m1)).continuation
+          → m2 ≡ with_part at (settled (own_words_start l.table l.below.size) (l.table.rest task outcome) (own l.table l.below at m1)).memory m1
+          → RunsOnTo l.table l.below l.Holds l.MayBeAt at aim before c2 m2
+      goes_on_after outcome e goes_on c2 m2 ec em =
           let here = own l.table l.below at m1 in
           let asked_memory = (asked l.below (l.table.asks task) (own l.table l.below at m)).memory in
           let sound = rest_sound l come.who come.op task outcome task_may_be_at (asked_answers outcome e) goes_on in
@@ -211,10 +211,10 @@ module _ {Task P : Type 0} (l : LayerOver Task P) (at : Place) where
             op = come.op;
             may_be_at = settled_sound come.who come.op rest m1 asked_lies sound c2 m2 ec em;
             lies = settled_lies come.who come.op rest m1 asked_lies sound c2 m2 ec em;
-            aims = settled_runs_on come.who come.op rest m1 asked_lies sound c2 m2 ec em ∙ advances task outcome here goes_on
+            aims = settled_runs_on come.who come.op rest m1 asked_lies sound c2 m2 ec em ∙ advance_follows task outcome here goes_on
                 ∙ (λ i. follow_on l.table l.below task (done i) (own_1 i)) ∙ asked_aims;
-            puts = λ late h. ap (with_part at late) em ∙ put_again l at m1 asked_lies _ late (settled_well come.who come.op rest m1 asked_lies sound c2 m2 ec em) h
-                ∙ ap (with_part at late) lands.memory ∙ put_again l at m come.lies asked_memory late asked_well h ∙ come.puts late h;
+            puts = λ late h. ap (with_part at late) em ∙ with_part_twice l at m1 asked_lies _ late (settled_well come.who come.op rest m1 asked_lies sound c2 m2 ec em) h
+                ∙ ap (with_part at late) lands.memory ∙ with_part_twice l at m come.lies asked_memory late asked_well h ∙ come.puts late h;
           }
 
   -- a part's operation that is spent ends the layer's operation
@@ -246,14 +246,14 @@ module _ {Task P : Type 0} (l : LayerOver Task P) {at : Place} {m : Memory} (lie
 
     pub frame_still_there : first < length left
     frame_still_there =
-        let there = index_there first stack (drop (first + 1) stack) frame found in
+        let there = index_inside first stack (drop (first + 1) stack) frame found in
         let long = ap length left_is in
         omega (arith, there, long, length-take (first + 1) stack)
 
     pub found_again : {last : Frame} → drop first left ≡ last ∷ drop (first + 1) left → {again : Task} → again ≡ l.table.find who last → again ≡ task
     found_again {last} there e =
         let own : drop first left ≡ frame ∷ [] = ap (drop first) left_is ∙ drop-take first 1 stack ∙ ap (take 1) found in
-        e ∙ ap (l.table.find who) (parts_there first left [] frame last own there).0 ∙ sym finds
+        e ∙ ap (l.table.find who) (same_item_and_rest first left [] frame last own there).0 ∙ sym finds
 
   pub at_found_task : (o : Op) (n : Nested Task P) → HasFramesOf o n → HasFramesOf o (record { task = task; below = n.below })
   at_found_task o n on = subst (λ x. HasFramesOf o (record { task = x; below = n.below })) (sym (in_task o n on)) on
@@ -289,15 +289,15 @@ module _ {Task P : Type 0} (l : LayerOver Task P) {at : Place} {m : Memory} (lie
         for_task (take first stack) end still m1
         (subst (λ s. Lands (layered l.table l.below).frames at (follow_on l.table l.below task (moved n.below).next (moved n.below).memory).next
         (follow_on l.table l.below task (moved n.below).next (moved n.below).memory).memory (take first stack) m end s m1) (ap (λ e. cut_where_ended first e still) none)
-        (stops_there l at task (moved n.below).next (moved n.below).memory end (take first stack) left m m1 lands (subst Stops (sym none) tt)
+        (waiting_reaches_aim l at task (moved n.below).next (moved n.below).memory end (take first stack) left m m1 lands (subst WaitsOrIsSpent (sym none) tt)
         (follow_on l.table l.below task (moved n.below).next (moved n.below).memory) refl))
 
     module _ {outcome : Outcome} (is : end ≡ Some outcome) where
       pushed_well : LayerHolds l.table l.below l.Holds (moved n.below).memory
-      pushed_well = let there = at_found_task o n on in push_holds l who o task n.below choice (own l.table l.below at m) lies.holds there.reached.may_be_at there.reached.below
+      pushed_well = let there = at_found_task o n on in task_pushed_holds l who o task n.below choice (own l.table l.below at m) lies.holds there.reached.may_be_at there.reached.below
 
-      ended_so : (moved n.below).next ≡ Done outcome
-      ended_so = done_of (moved n.below).next outcome (sym lands.answer ∙ is)
+      moved_done : (moved n.below).next ≡ Done outcome
+      moved_done = done_of (moved n.below).next outcome (sym lands.answer ∙ is)
 
       -- if the part's operation has ended, the layer lies at its place, the outcome suits, and the
       -- stack is cut
@@ -308,8 +308,8 @@ module _ {Task P : Type 0} (l : LayerOver Task P) {at : Place} {m : Memory} (lie
       ended_suits =
           let there = at_found_task o n on in (
             there.reached.may_be_at,
-            subst (ReachedOrAnswered (l.Reaches (l.table.asks task).who (l.table.asks task).op) (Answers l.below.values (l.table.asks task).op)) ended_so
-                (push_is_reached l who o task n.below choice (own l.table l.below at m) lies.holds there.reached.may_be_at there.reached.below),
+            subst (ReachedOrAnswered (l.Reaches (l.table.asks task).who (l.table.asks task).op) (Answers l.below.values (l.table.asks task).op)) moved_done
+                (task_pushed_reached l who o task n.below choice (own l.table l.below at m) lies.holds there.reached.may_be_at there.reached.below),
           )
 
       ended_left : take first still ≡ take first stack
@@ -329,9 +329,9 @@ module _ {Task P : Type 0} (l : LayerOver Task P) {at : Place} {m : Memory} (lie
           let it_there = subst (λ t. Lands (layered l.table l.below).frames at (follow_on l.table l.below t (Done outcome) (own l.table l.below at m1)).next
           (follow_on l.table l.below t (Done outcome) (own l.table l.below at m1)).memory front m1 given after m2) same it in
           let here : own l.table l.below at m1 ≡ (moved n.below).memory = ap (own l.table l.below at) lands.memory ∙ own_with l at m lies (moved n.below).memory pushed_well in
-          let late = (follow_well l who o task (Done outcome) (own l.table l.below at m1) ended_lies.holds ended_suits.0 ended_suits.1).holds in
+          let late = (follow_on_well l who o task (Done outcome) (own l.table l.below at m1) ended_lies.holds ended_suits.0 ended_suits.1).holds in
           for_task (take first stack) given after m2
-          (again l at m lies (moved n.below).memory m1 lands.memory pushed_well (follow_on l.table l.below task (Done outcome) (own l.table l.below at m1))
-          (follow_on l.table l.below task (moved n.below).next (moved n.below).memory) (λ i. follow_on l.table l.below task (sym ended_so i) (here i)) late (take first stack) given after m2
+          (lands_from_earlier l at m lies (moved n.below).memory m1 lands.memory pushed_well (follow_on l.table l.below task (Done outcome) (own l.table l.below at m1))
+          (follow_on l.table l.below task (moved n.below).next (moved n.below).memory) (λ i. follow_on l.table l.below task (sym moved_done i) (here i)) late (take first stack) given after m2
           (subst (λ s. Lands (layered l.table l.below).frames at (follow_on l.table l.below task (Done outcome) (own l.table l.below at m1)).next
           (follow_on l.table l.below task (Done outcome) (own l.table l.below at m1)).memory s m1 given after m2) (cut ∙ ended_left) it_there))

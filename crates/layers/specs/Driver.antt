@@ -43,7 +43,7 @@ module _ {L S Task P : Type 0} {R : rules.Ghosts L Task} {E : comparison.Ghosts 
   -- the index in the layer's memory of the layer's first own word; the own words follow all words
   -- of the parts
   abbrev pub first_own_word : ℕ
-  first_own_word = nested.own_words table_of below_of.size
+  first_own_word = nested.own_words_start table_of below_of.size
 
   -- the layer's memory m has the right size, each part's memory in it satisfies `Kept`, and the
   -- layer's own words are in range

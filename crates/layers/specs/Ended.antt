@@ -15,7 +15,7 @@ use Rattle.frames.specs.Configuration.{running_at, is_stopped}
 use Rattle.frames.specs.Steps.{process_of}
 use Rattle.frames.specs.Recorded.{Alone}
 use Rattle.layers.specs.declared.nested.Nested.{Nested}
-use Rattle.layers.specs.Nested.{Program, Ends, Asks, Reads, Sets, Table, own_words, asked, pushed}
+use Rattle.layers.specs.Nested.{Program, Ends, Asks, Reads, Sets, Table, own_words_start, asked, pushed}
 
 -- an ended operation on a part: the task that asked for it, and its outcome
 pub record Ended (Task : Type 0) : Type 0 where
@@ -36,8 +36,8 @@ module _ {Task P : Type 0} (t : Table Task) (b : Behaviour P) where
   abbrev pub ended_by : Program Task → Memory → List (Ended Task)
   ended_by (Ends o) m = []
   ended_by (Asks task k) m = ended_after (λ o n. ended_by (k o) n) task (asked b (t.asks task) m).next (asked b (t.asks task) m).memory
-  ended_by (Reads i k) m = ended_by (k (word_at (own_words t b.size + i) m)) m
-  ended_by (Sets i x k) m = ended_by k (with_word (own_words t b.size + i) x m)
+  ended_by (Reads i k) m = ended_by (k (word_at (own_words_start t b.size + i) m)) m
+  ended_by (Sets i x k) m = ended_by k (with_word (own_words_start t b.size + i) x m)
 
   -- which operations on parts end in the step in which process `who` invokes operation o; none if
   -- `who` has an operation pending already

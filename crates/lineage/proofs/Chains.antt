@@ -52,7 +52,7 @@ module _ {X : Type 0} (s : List (Option (Node X))) (tips : List (Option ℕ)) wh
       fresh = λ k m. absurd (true≢false (sym m ∙ ap (has k) empty));
       items_are = ap (map (λ k. item_in (node_at s k))) empty;
       kept = λ k n e. e;
-      old = λ k m. refl;
+      others = λ k m. refl;
     };
   }
 
@@ -124,7 +124,7 @@ module _ {X : Type 0} (s : List (Option (Node X))) (tips : List (Option ℕ)) wh
         kept = λ k n e.
             let was = put.kept k n e in
             others k (λ same. let none : node_at t k ≡ None = ap (node_at t) same ∙ vacant in cc) ∙ was;
-        old = λ k m. others k (not_here k m) ∙ put.old k (not_before k m);
+        others = λ k m. others k (not_here k m) ∙ put.others k (not_before k m);
       };
     }
 

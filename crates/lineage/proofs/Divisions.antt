@@ -11,8 +11,8 @@ use Rattle.lineage.specs.Climbs.{IsClimb, Ends}
 use Rattle.lineage.specs.Lineages.{tip_at, is_key, node, node_at, item_in, above_in, above_node, path_to, links_to_key, holders_of, node_over, node_under, family_on, IsOn, IsSoundFamily}
 use Rattle.lineage.proofs.KeyLists.{has-head, has-tail, has_cases, reverse_cons}
 use Rattle.lineage.proofs.Walks.{path_to_is, link_within}
-use Rattle.lineage.proofs.Counts.{one, count_changed}
-use Rattle.lineage.proofs.KeptLinks.{map_same, map-map, absent_holders}
+use Rattle.lineage.proofs.Counts.{one_if, count_changed}
+use Rattle.lineage.proofs.KeptLinks.{map_on_tips, map-map, absent_holders}
 use Rattle.lineage.proofs.Pushes.{added}
 
 -- the nodes after a node is put right above another
@@ -135,15 +135,15 @@ module _ {X : Type 0} (s t : List (Option (Node X))) (tips : List (Option ℕ)) 
   apart : fresh ≢ key
   apart same = let no : node_at s key ≡ None = ap (node_at s) (sym same) ∙ vacant in cc
 
-  holders_now : (m : ℕ) → holders_of t tips m ≡ holders_of s tips m + one (nat_eq m fresh)
+  holders_now : (m : ℕ) → holders_of t tips m ≡ holders_of s tips m + one_if (nat_eq m fresh)
   holders_now m =
       let p = links_to_key m in
       let a = count_changed p refl fresh s between (λ j ne. ap p (by j ne (cases_eq j key))) in
       let b = count_changed p refl key between t (λ j ne. ap p (sym (between_other j ne))) in
-      let w = ap (λ o. one (p o)) vacant in
-      let x : one (p (node_at between fresh)) ≡ one (is_key m n.above) = ap (λ o. one (p o)) (between_other fresh apart ∙ new_is) in
-      let y : one (p (node_at between key)) ≡ one (is_key m n.above) = ap (λ o. one (p o)) (between_key ∙ there) in
-      let z : one (p (node_at t key)) ≡ one (nat_eq m fresh) = ap (λ o. one (p o)) below_is in
+      let w = ap (λ o. one_if (p o)) vacant in
+      let x : one_if (p (node_at between fresh)) ≡ one_if (is_key m n.above) = ap (λ o. one_if (p o)) (between_other fresh apart ∙ new_is) in
+      let y : one_if (p (node_at between key)) ≡ one_if (is_key m n.above) = ap (λ o. one_if (p o)) (between_key ∙ there) in
+      let z : one_if (p (node_at t key)) ≡ one_if (nat_eq m fresh) = ap (λ o. one_if (p o)) below_is in
       omega (arith, a, b, w, x, y, z)
     where
       by : (j : ℕ) → j ≢ fresh → (j ≡ key) ⊎ (j ≢ key) → node_at between j ≡ node_at s j
@@ -156,14 +156,14 @@ module _ {X : Type 0} (s t : List (Option (Node X))) (tips : List (Option ℕ)) 
       let node_is : m ≡ node item n.above 1 = cc in
       let holders : m.holders ≡ 1 = ap (λ (z : Node X). z.holders) node_is in
       let none : holders_of s tips k ≡ 0 = absent_holders s tips sound k (ap (node_at s) same ∙ vacant) in
-      let yes : one (nat_eq k fresh) ≡ 1 = ap one (eq-eqb k fresh same) in
+      let yes : one_if (nat_eq k fresh) ≡ 1 = ap one_if (eq-eqb k fresh same) in
       let all = holders_now k in
       omega (arith, holders, none, yes, all)
   counted_now k m e (inr nf) =
       let o = was k m nf e (cases_eq k key) in
       let old = sound.counted k o.0 o.1.0 in
       let same = o.1.1 in
-      let no : one (nat_eq k fresh) ≡ 0 = ap one (ne_eqb k fresh nf) in
+      let no : one_if (nat_eq k fresh) ≡ 0 = ap one_if (ne_eqb k fresh nf) in
       let all = holders_now k in
       omega (arith, old, same, no, all)
 
@@ -186,7 +186,7 @@ module _ {X : Type 0} (s t : List (Option (Node X))) (tips : List (Option ℕ)) 
 
   pub divided_paths : map (path_to t) tips ≡ map (divided_keys key fresh) (map (path_to s) tips)
   divided_paths =
-      map_same (path_to t) (λ at. divided_keys key fresh (path_to s at)) tips (λ i. divided_path (tip_at tips i) (sound.ends i))
+      map_on_tips (path_to t) (λ at. divided_keys key fresh (path_to s at)) tips (λ i. divided_path (tip_at tips i) (sound.ends i))
       ∙ sym (map-map (path_to s) (divided_keys key fresh) tips)
 
   pub divided_added : IsAdded (family_on s tips) (family_on t tips) fresh item

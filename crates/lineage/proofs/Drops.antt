@@ -8,14 +8,14 @@ use Rattle.lineage.specs.Lineages.{tip_at, node_at, item_in, above_in, above_nod
 use Rattle.lineage.proofs.KeyLists.{has-reverse}
 use Rattle.lineage.proofs.Climbs.{climb_there, climb_unique}
 use Rattle.lineage.proofs.Walks.{path_to_is, path_at, item_is, climb_at}
-use Rattle.lineage.proofs.KeptLinks.{node_from, over_path, map_same}
+use Rattle.lineage.proofs.KeptLinks.{node_from, path_stays, map_on_tips}
 use Rattle.std.proofs.lemmas.List.{get_or_read, length-map, reverse-reverse}
 use Rattle.lineage.proofs.Releases.{released_first}
 use Rattle.lineage.proofs.Removed.{map-remove}
 
 module _ {X : Type 0} (s : List (Option (Node X))) (tips : List (Option ℕ)) (sound : IsSoundFamily s tips) where
-  pub on_path : (k : ℕ) (o : IsOn s tips k) → has k (path_in (family_on s tips) o.path) ≡ true
-  on_path k o =
+  pub path_has : (k : ℕ) (o : IsOn s tips k) → has k (path_in (family_on s tips) o.path) ≡ true
+  path_has k o =
       ap (has k) (path_at s tips o.path ∙ path_to_is s (tip_at tips o.path) o.up o.is) ∙ has-reverse k o.up ∙ o.on
 
   pub path_there : (i k : ℕ) → has k (path_in (family_on s tips) i) ≡ true → (n : Node X) × (node_at s k ≡ Some n)
@@ -40,18 +40,19 @@ module _ {X : Type 0} (s : List (Option (Node X))) (tips : List (Option ℕ)) (s
     where
       by : (k : ℕ) (o : Option (Node X)) → node_at s k ≡ o → IsSome (item_in (node_at s k)) → (i : ℕ) × (has k (path_in (family_on s tips) i) ≡ true)
       by k None e some = absurd (true≢false (sym (subst (λ z. IsSome (item_in z)) e some)))
-      by k (Some n) e some = let o = sound.live k n e in (o.path, on_path k o)
+      by k (Some n) e some = let o = sound.live k n e in (o.path, path_has k o)
+
+-- the links of the nodes that are left are unchanged
+pub links_stay : {X : Type 0} (s t : List (Option (Node X))) → Stays s t → (k : ℕ) (next : Option ℕ) → above_node t k ≡ Some next → above_node s k ≡ Some next
+links_stay s t stays k next e =
+    let n = node_from (node_at t k) next e in
+    let m = stays k n.0 n.1.0 in
+    ap above_in m.1.0 ∙ ap Some (sym m.1.1.1 ∙ n.1.1)
 
 module _ {X : Type 0} (s t : List (Option (Node X))) (tips : List (Option ℕ)) (path : ℕ) (now : IsSoundFamily t (remove tips path)) (stays : Stays s t) where
-  links : (k : ℕ) (next : Option ℕ) → above_node t k ≡ Some next → above_node s k ≡ Some next
-  links k next e =
-      let n = node_from (node_at t k) next e in
-      let m = stays k n.0 n.1.0 in
-      ap above_in m.1.0 ∙ ap Some (sym m.1.1.1 ∙ n.1.1)
-
   pub dropped_paths : map (path_to t) (remove tips path) ≡ remove (map (path_to s) tips) path
   dropped_paths =
-      map_same (path_to t) (path_to s) (remove tips path) (λ i. sym (over_path t s links (tip_at (remove tips path) i) (now.ends i)))
+      map_on_tips (path_to t) (path_to s) (remove tips path) (λ i. sym (path_stays t s (links_stay s t stays) (tip_at (remove tips path) i) (now.ends i)))
       ∙ map-remove (path_to s) tips path
 
   pub released : IsReleased (family_on s tips) (family_on t (remove tips path))
@@ -67,12 +68,12 @@ module _ {X : Type 0} (s t : List (Option (Node X))) (tips : List (Option ℕ)) 
       by k None e none = ap item_in e
       by k (Some n) e none =
           let o = now.live k n e in
-          absurd (true≢false (sym (on_path t (remove tips path) now k o) ∙ none o.path))
+          absurd (true≢false (sym (path_has t (remove tips path) now k o) ∙ none o.path))
 
 -- the first step of a release: the tip that was removed from the list is being released
-pub freed_from : {X : Type 0} (s : List (Option (Node X))) (tips : List (Option ℕ)) (path : ℕ) (tip : Option ℕ) → IsSoundFamily s tips → path < length (map (path_to s) tips)
+pub dropped_first : {X : Type 0} (s : List (Option (Node X))) (tips : List (Option ℕ)) (path : ℕ) (tip : Option ℕ) → IsSoundFamily s tips → path < length (map (path_to s) tips)
     → tip ≡ get_or tips path tip → IsReleasing s s (remove tips path) tip
-freed_from s tips path tip sound paths value =
+dropped_first s tips path tip sound paths value =
     let n = length-map tips (path_to s) in
     let within : path < length tips = omega (arith, n, paths) in
     subst (IsReleasing s s (remove tips path)) (sym (get_or_read tips path tip within value None)) (released_first s tips path sound within)

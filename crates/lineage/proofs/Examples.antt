@@ -21,18 +21,18 @@ forked = family (Some 7 ∷ Some 8 ∷ []) ((0 ∷ 1 ∷ []) ∷ (0 ∷ []) ∷ 
 not_none : (x : ℕ) → Some x ≡ None → ⊥
 not_none x e = cc
 
-nothing : (front back : List ℕ) (k : ℕ) → [] ≡ front ++ k ∷ back → ⊥
-nothing [] back k e = cc
-nothing (x ∷ front) back k e = cc
+not_in_empty : (front back : List ℕ) (k : ℕ) → [] ≡ front ++ k ∷ back → ⊥
+not_in_empty [] back k e = cc
+not_in_empty (x ∷ front) back k e = cc
 
 first_of_one : (front back : List ℕ) (k : ℕ) → 0 ∷ [] ≡ front ++ k ∷ back → front ≡ []
 first_of_one [] back k e = refl
-first_of_one (x ∷ front) back k e = absurd (nothing front back k (ap (drop 1) e))
+first_of_one (x ∷ front) back k e = absurd (not_in_empty front back k (ap (drop 1) e))
 
 down_to_0 : (front back : List ℕ) → 0 ∷ 1 ∷ [] ≡ front ++ 0 ∷ back → front ≡ []
 down_to_0 [] back e = refl
 down_to_0 (x ∷ []) back e = let h : 1 ≡ 0 = ap (λ l. slice_index_or l 1 0) e in absurd (omega (arith, h))
-down_to_0 (x ∷ y ∷ front) back e = absurd (nothing front back 0 (ap (drop 2) e))
+down_to_0 (x ∷ y ∷ front) back e = absurd (not_in_empty front back 0 (ap (drop 2) e))
 
 -- a path forked at key 0 of the path 0, 1 has key 0 alone
 IsForked-holds : IsForked two_keys forked (Some 0)
@@ -42,7 +42,7 @@ IsForked-holds = record { path = 0 ∷ []; paths = refl; last = refl; shared = s
     shared k zero front back same e =
         let zero_is : 0 ≡ k = ap (λ o. unwrap_or o 0) same in
         ap (λ k. k ∷ []) zero_is ∙ sym (ap (λ front. front ++ k ∷ []) (down_to_0 front back (e ∙ ap (λ k. front ++ k ∷ back) (sym zero_is))))
-    shared k (suc i) front back same e = absurd (nothing front back k e)
+    shared k (suc i) front back same e = absurd (not_in_empty front back k e)
 
 -- a path that ends at key 0 was not forked at key 1
 IsForked-fails : IsForked two_keys forked (Some 1) → ⊥
@@ -57,7 +57,7 @@ IsForkedAbove-holds =
   where
     shared : (i : ℕ) (front back : List ℕ) → path_in one_key i ≡ front ++ 0 ∷ back → 1 ∷ [] ≡ front ++ 1 ∷ []
     shared zero front back e = sym (ap (λ front. front ++ 1 ∷ []) (first_of_one front back 0 e))
-    shared (suc i) front back e = absurd (nothing front back 0 e)
+    shared (suc i) front back e = absurd (not_in_empty front back 0 e)
 
     others : (k : ℕ) → k ≢ 1 → item_at two_keys k ≡ item_at one_key k
     others zero other = refl
@@ -125,7 +125,7 @@ IsFamily-holds = record { held = held; live = live; shared = shared }
 
     first : (i k : ℕ) (front back : List ℕ) → path_in one_key i ≡ front ++ k ∷ back → front ≡ []
     first zero k front back e = first_of_one front back k e
-    first (suc i) k front back e = absurd (nothing front back k e)
+    first (suc i) k front back e = absurd (not_in_empty front back k e)
 
     shared : (i j k : ℕ) (front back front2 back2 : List ℕ) → path_in one_key i ≡ front ++ k ∷ back → path_in one_key j ≡ front2 ++ k ∷ back2 → front ≡ front2
     shared i j k front back front2 back2 e f = first i k front back e ∙ sym (first j k front2 back2 f)

@@ -11,10 +11,10 @@ use Rattle.lineage.specs.Climbs.{IsClimb, Ends}
 use Rattle.lineage.specs.Lineages.{tip_at, is_key, node_at, item_in, above_in, above_node, path_to, with_holder, family_on, Stays, IsOn, IsSoundFamily, IsReleasing, IsPutLast}
 use Rattle.lineage.proofs.Climbs.{climb_unique}
 use Rattle.lineage.proofs.Walks.{path_at, item_is}
-use Rattle.lineage.proofs.Counts.{one}
-use Rattle.lineage.proofs.KeptLinks.{node_from, over_path}
+use Rattle.lineage.proofs.Counts.{one_if}
+use Rattle.lineage.proofs.KeptLinks.{node_from, path_stays}
 use Rattle.lineage.proofs.Forks.{forked_sound}
-use Rattle.lineage.proofs.Drops.{on_path, path_there}
+use Rattle.lineage.proofs.Drops.{path_has, path_there, links_stay}
 use Rattle.lineage.proofs.Chains.{map_on}
 
 -- removing a tip after one more is added puts the added tip in its place
@@ -72,8 +72,8 @@ module _ {X : Type 0} (t : List (Option (Node X))) (tips : List (Option ℕ)) (t
     live = λ k n e. let o = sound.live k n e in live_now k o (tip_cases tips tip o.path) (cases_eq o.path path);
     counted = λ k n e.
         let is = sound.counted k n e in
-        let a = sum_by-set (λ x. one (is_key k x)) tips path tip None within in
-        let b = sum_by_push (λ x. one (is_key k x)) tips tip in
+        let a = sum_by-set (λ x. one_if (is_key k x)) tips path tip None within in
+        let b = sum_by_push (λ x. one_if (is_key k x)) tips tip in
         omega (arith, is, a, b);
     few =
         let few = sound.few in
@@ -93,25 +93,18 @@ module _ {X : Type 0} (s t u : List (Option (Node X))) (tips now : List (Option 
   new_here : tip_at new path ≡ put.tip
   new_here = get_or-set_same tips path put.tip None within
 
-  -- the links that are left are unchanged
-  links : (k : ℕ) (next : Option ℕ) → above_node u k ≡ Some next → above_node t k ≡ Some next
-  links k next e =
-      let n = node_from (node_at u k) next e in
-      let m = stays k n.0 n.1.0 in
-      ap above_in m.1.0 ∙ ap Some (sym m.1.1.1 ∙ n.1.1)
-
   keeps : (k : ℕ) (next : Option ℕ) → above_node s k ≡ Some next → above_node t k ≡ Some next
   keeps k next e =
       let n = node_from (node_at s k) next e in
       ap above_in (put.kept k n.0 n.1.0) ∙ ap Some n.1.1
 
   path_here : path_to u (tip_at new path) ≡ keys
-  path_here = sym (over_path u t links (tip_at new path) (sound.ends path)) ∙ ap (path_to t) new_here
+  path_here = sym (path_stays u t (links_stay t u stays) (tip_at new path) (sound.ends path)) ∙ ap (path_to t) new_here
 
   path_other : (i : ℕ) → i ≢ path → path_to u (tip_at new i) ≡ path_to s (tip_at tips i)
   path_other i ne =
-      sym (over_path u t links (tip_at new i) (sound.ends i)) ∙ ap (path_to t) (get_or-set_other tips path i put.tip None ne)
-      ∙ over_path s t keeps (tip_at tips i) (before.ends i)
+      sym (path_stays u t (links_stay t u stays) (tip_at new i) (sound.ends i)) ∙ ap (path_to t) (get_or-set_other tips path i put.tip None ne)
+      ∙ path_stays s t keeps (tip_at tips i) (before.ends i)
 
   many : length (map (path_to s) tips) ≡ length tips
   many = length-map tips (path_to s)
@@ -145,7 +138,7 @@ module _ {X : Type 0} (s t u : List (Option (Node X))) (tips now : List (Option 
     paths = exchanged_paths;
     items_are = map_on (item_at (family_on u new)) (λ k. item_in (node_at t k)) keys (λ k m. item_is u new k ∙ item_left path k (on_new k m)) ∙ put.items_are;
     fresh = λ k m. item_is s tips k ∙ ap item_in (put.fresh k m);
-    kept = λ i k m off. item_is u new k ∙ item_left i k m ∙ ap item_in (put.old k off) ∙ sym (item_is s tips k);
+    kept = λ i k m off. item_is u new k ∙ item_left i k m ∙ ap item_in (put.others k off) ∙ sym (item_is s tips k);
     gone = λ k none. item_is u new k ∙ by k (node_at u k) refl none;
   }
     where
@@ -153,7 +146,7 @@ module _ {X : Type 0} (s t u : List (Option (Node X))) (tips now : List (Option 
       by k None e none = ap item_in e
       by k (Some n) e none =
           let o = sound.live k n e in
-          absurd (true≢false (sym (on_path u new sound k o) ∙ none o.path))
+          absurd (true≢false (sym (path_has u new sound k o) ∙ none o.path))
 
 -- the nodes are sound also with an empty path added
 pub opened_sound : {X : Type 0} (s : List (Option (Node X))) (tips : List (Option ℕ)) → IsSoundFamily s tips → length tips + 1 + count_by is_some s < 2 ^ 64 → IsSoundFamily s (tips ++ None ∷ [])
@@ -188,8 +181,8 @@ module _ {X : Type 0} (s reserved t : List (Option (Node X))) (tips room now aft
       tip_was =
           sym (get_or_read now path tip within_now value None ∙ ap (λ xs. tip_at xs path) put_last.tips_are ∙ get_or_append_left tips (put_last.tip ∷ []) None path within_tips)
 
-      pub freed_first : IsReleasing t t after tip
-      freed_first =
+      pub replaced_first : IsReleasing t t after tip
+      replaced_first =
           subst (λ xs. IsReleasing t t xs tip) (sym set_tip)
           (subst (IsReleasing t t (set tips path put_last.tip)) tip_was (exchanged_first t tips put_last.tip path (subst (IsSoundFamily t) put_last.tips_are put_last.sound) within_tips))
 

@@ -11,8 +11,8 @@ use Rattle.lineage.specs.Lineages.{tip_at, is_key, is_above, node, node_at, item
 use Rattle.lineage.proofs.KeyLists.{reverse_cons}
 use Rattle.lineage.proofs.Climbs.{climb_top}
 use Rattle.lineage.proofs.Walks.{path_to_is, item_is, climb_at}
-use Rattle.lineage.proofs.Counts.{one, count_same, count_few, count_weaker}
-use Rattle.lineage.proofs.KeptLinks.{over_climb, over_path, map_same, tip_push, on_within, node_climb}
+use Rattle.lineage.proofs.Counts.{one_if, count_same, count_few, count_weaker}
+use Rattle.lineage.proofs.KeptLinks.{climb_stays, path_stays, map_on_tips, tip_push, on_within, node_climb}
 
 module _ {X : Type 0} where
   held_above : (b : Bool) (o : Option (Node X)) → above_in (with_holder b o) ≡ above_in o
@@ -28,7 +28,7 @@ module _ {X : Type 0} where
   held_item false (Some n) = refl
 
   -- a node to which `with_holder` gives one holder or none was there before
-  held_from : (b : Bool) (o : Option (Node X)) (n : Node X) → with_holder b o ≡ Some n → (m : Node X) × ((o ≡ Some m) × (n.holders ≡ m.holders + one b))
+  held_from : (b : Bool) (o : Option (Node X)) (n : Node X) → with_holder b o ≡ Some n → (m : Node X) × ((o ≡ Some m) × (n.holders ≡ m.holders + one_if b))
   held_from true None n e = absurd (cc)
   held_from false None n e = absurd (cc)
   held_from true (Some m) n e =
@@ -78,22 +78,22 @@ module _ {X : Type 0} where
             let c = node_climb s tips sound k n.0 n.1 in
             record { up = k ∷ c.0; is = c.1 }
 
-    over_ends : (at : Option ℕ) → Ends (above_node s) at → Ends (above_node t) at
-    over_ends at e = record { up = e.up; is = over_climb s t keeps at e.up e.is }
+    ends_stay : (at : Option ℕ) → Ends (above_node s) at → Ends (above_node t) at
+    ends_stay at e = record { up = e.up; is = climb_stays s t keeps at e.up e.is }
 
     ends_now : (i : ℕ) → Ends (above_node t) (tip_at new i)
     ends_now i =
         subst (λ l. Ends (above_node t) (tip_at l i)) (sym tips_are)
-        (tip_push (Ends (above_node t)) tips key (λ j. over_ends (tip_at tips j) (sound.ends j)) (over_ends key ends_key) i)
+        (tip_push (Ends (above_node t)) tips key (λ j. ends_stay (tip_at tips j) (sound.ends j)) (ends_stay key ends_key) i)
 
     on_now : (k : ℕ) → IsOn s tips k → IsOn t new k
     on_now k o =
         let tip : tip_at new o.path ≡ tip_at tips o.path = ap (λ l. tip_at l o.path) tips_are ∙ get_or_append_left tips (key ∷ []) None o.path (on_within s tips k o) in
-        record { path = o.path; up = o.up; is = subst (λ z. IsClimb (above_node t) z o.up) (sym tip) (over_climb s t keeps (tip_at tips o.path) o.up o.is); on = o.on }
+        record { path = o.path; up = o.up; is = subst (λ z. IsClimb (above_node t) z o.up) (sym tip) (climb_stays s t keeps (tip_at tips o.path) o.up o.is); on = o.on }
 
-    holders_now : (m : ℕ) → holders_of t new m ≡ holders_of s tips m + one (is_key m key)
+    holders_now : (m : ℕ) → holders_of t new m ≡ holders_of s tips m + one_if (is_key m key)
     holders_now m =
-        let a = sum_by_push (λ x. one (is_key m x)) tips key in
+        let a = sum_by_push (λ x. one_if (is_key m x)) tips key in
         let b = count_same (links_to_key m) refl s t (λ j. ap (is_above m) (same_above j)) in
         let c : count_by (is_key m) new ≡ count_by (is_key m) (tips ++ key ∷ []) = ap (count_by (is_key m)) tips_are in
         omega (arith, a, b, c)
@@ -123,8 +123,8 @@ module _ {X : Type 0} where
     forked long = record {
       path = path_to s key;
       paths = ap (map (path_to t)) tips_are ∙ map_push (path_to t) tips key
-          ∙ ap (λ l. l ++ path_to t key ∷ []) (map_same (path_to t) (path_to s) tips (λ i. over_path s t keeps (tip_at tips i) (sound.ends i)))
-          ∙ ap (λ p. map (path_to s) tips ++ p ∷ []) (over_path s t keeps key ends_key);
+          ∙ ap (λ l. l ++ path_to t key ∷ []) (map_on_tips (path_to t) (path_to s) tips (λ i. path_stays s t keeps (tip_at tips i) (sound.ends i)))
+          ∙ ap (λ p. map (path_to s) tips ++ p ∷ []) (path_stays s t keeps key ends_key);
       last = ap last_of (path_to_is s key ends_key.up ends_key.is) ∙ climb_top (above_node s) key ends_key.up ends_key.is;
       shared = shared_path;
       items = same_items s t long same_item;

@@ -20,11 +20,11 @@ is_above_true k None h = absurd (cc)
 is_above_true k (Some next) h = ap Some (is_key_true k next h)
 
 -- functions that agree on each tip give the same list of values
-pub map_same : {Y : Type 0} (f g : Option ℕ → Y) (tips : List (Option ℕ)) → ((i : ℕ) → f (tip_at tips i) ≡ g (tip_at tips i)) → map f tips ≡ map g tips
-map_same f g [] h = refl
-map_same f g (t ∷ tips) h =
+pub map_on_tips : {Y : Type 0} (f g : Option ℕ → Y) (tips : List (Option ℕ)) → ((i : ℕ) → f (tip_at tips i) ≡ g (tip_at tips i)) → map f tips ≡ map g tips
+map_on_tips f g [] h = refl
+map_on_tips f g (t ∷ tips) h =
     let first : f t ≡ g t = h zero in
-    ap (λ y. y ∷ map f tips) first ∙ ap (λ l. g t ∷ l) (map_same f g tips (λ i. h (suc i)))
+    ap (λ y. y ∷ map f tips) first ∙ ap (λ l. g t ∷ l) (map_on_tips f g tips (λ i. h (suc i)))
 
 pub map-map : {A B C : Type 0} (f : A → B) (g : B → C) (xs : List A) → map g (map f xs) ≡ map (λ x. g (f x)) xs
 map-map f g [] = refl
@@ -47,11 +47,11 @@ module _ {X : Type 0} where
   node_from (Some n) next h = (n, (refl, (let e : Some n.above ≡ Some next = h in cc)))
 
   module _ (s t : List (Option (Node X))) (keeps : (k : ℕ) (next : Option ℕ) → above_node s k ≡ Some next → above_node t k ≡ Some next) where
-    pub over_climb : (at : Option ℕ) (up : List ℕ) → IsClimb (above_node s) at up → IsClimb (above_node t) at up
-    over_climb at up h = climb_kept (above_node s) (above_node t) at up (λ k next m e. keeps k next e) h
+    pub climb_stays : (at : Option ℕ) (up : List ℕ) → IsClimb (above_node s) at up → IsClimb (above_node t) at up
+    climb_stays at up h = climb_kept (above_node s) (above_node t) at up (λ k next m e. keeps k next e) h
 
-    pub over_path : (at : Option ℕ) → Ends (above_node s) at → path_to t at ≡ path_to s at
-    over_path at e = path_to_is t at e.up (over_climb at e.up e.is) ∙ sym (path_to_is s at e.up e.is)
+    pub path_stays : (at : Option ℕ) → Ends (above_node s) at → path_to t at ≡ path_to s at
+    path_stays at e = path_to_is t at e.up (climb_stays at e.up e.is) ∙ sym (path_to_is s at e.up e.is)
 
   module _ (s : List (Option (Node X))) (tips : List (Option ℕ)) where
     -- a key on a path is on a path that exists

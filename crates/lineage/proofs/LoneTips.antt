@@ -11,7 +11,7 @@ use Rattle.lineage.specs.Lineages.{tip_at, is_key, is_above, node_at, above_node
 use Rattle.lineage.proofs.KeyLists.{has-head, has-reverse, has_not_from}
 use Rattle.lineage.proofs.Climbs.{climb_step, climb_unique}
 use Rattle.lineage.proofs.Walks.{path_at, path_to_is, last_is, no_end}
-use Rattle.lineage.proofs.Counts.{one, count_none, count_no}
+use Rattle.lineage.proofs.Counts.{one_if, count_none, none_pass}
 use Rattle.lineage.proofs.KeptLinks.{is_above_true, is_key_true, node_from, node_climb}
 use Rattle.lineage.proofs.ClimbsThrough.{climb_on, not_above}
 
@@ -37,23 +37,23 @@ module _ {X : Type 0} (s : List (Option (Node X))) (tips : List (Option ℕ)) (p
 
   counts : n.holders ≡ count_by (is_key key) without + 1 + count_by (links_to_key key) s
   counts =
-      let a = sum_by-set (λ x. one (is_key key x)) tips path None None within in
-      let b : one (is_key key (tip_at tips path)) ≡ 1 = ap (λ o. one (is_key key o)) tip ∙ ap one (eq-eqb key key refl) in
+      let a = sum_by-set (λ x. one_if (is_key key x)) tips path None None within in
+      let b : one_if (is_key key (tip_at tips path)) ≡ 1 = ap (λ o. one_if (is_key key o)) tip ∙ ap one_if (eq-eqb key key refl) in
       let is = sound.counted key n there in
       omega (arith, a, b, is)
 
   has_path : (j : ℕ) → has key (path_in (family_on s tips) j) ≡ has key (sound.ends j).up
   has_path j = let e = sound.ends j in ap (has key) (path_at s tips j ∙ path_to_is s (tip_at tips j) e.up e.is) ∙ has-reverse key e.up
 
-  pub alone : n.holders ≡ 1 → EndsAlone (family_on s tips) path
-  alone one_holds = record {
+  pub alone_if_one_holder : n.holders ≡ 1 → EndsAlone (family_on s tips) path
+  alone_if_one_holder one_holds = record {
     key = key;
     last = last_is s tips path sound ∙ tip;
     own = λ j ne. has_not_from key (path_in (family_on s tips) j) (λ m.
         let e = sound.ends j in
         climb_step (above_node s) (tip_at tips j) e.up key ⊥ e.is (sym (has_path j) ∙ m)
-        (λ at. true≢false (sym (ap (is_key key) (get_or-set_other tips path j None None ne ∙ at) ∙ eq-eqb key key refl) ∙ count_no (is_key key) without j refl no_tips))
-        (λ i link _on. true≢false (sym (ap (is_above key) link ∙ eq-eqb key key refl) ∙ count_no (links_to_key key) s i refl no_nodes)));
+        (λ at. true≢false (sym (ap (is_key key) (get_or-set_other tips path j None None ne ∙ at) ∙ eq-eqb key key refl) ∙ none_pass (is_key key) without j refl no_tips))
+        (λ i link _on. true≢false (sym (ap (is_above key) link ∙ eq-eqb key key refl) ∙ none_pass (links_to_key key) s i refl no_nodes)));
   }
     where
       no_tips : count_by (is_key key) without ≡ 0
@@ -62,8 +62,8 @@ module _ {X : Type 0} (s : List (Option (Node X))) (tips : List (Option ℕ)) (p
       no_nodes : count_by (links_to_key key) s ≡ 0
       no_nodes = omega (arith, counts, one_holds)
 
-  pub not_alone : EndsAlone (family_on s tips) path → n.holders ≡ 1
-  not_alone e = omega (arith, counts, no_tips, no_nodes)
+  pub one_holder_if_alone : EndsAlone (family_on s tips) path → n.holders ≡ 1
+  one_holder_if_alone e = omega (arith, counts, no_tips, no_nodes)
     where
       same : e.key ≡ key
       same = let a : Some e.key ≡ Some key = sym e.last ∙ last_is s tips path sound ∙ tip in cc

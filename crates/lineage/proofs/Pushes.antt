@@ -11,8 +11,8 @@ use Rattle.lineage.specs.Climbs.{IsClimb, Ends}
 use Rattle.lineage.specs.Lineages.{tip_at, is_key, node, node_at, item_in, above_in, above_node, path_to, links_to_key, holders_of, family_on, IsOn, IsSoundFamily}
 use Rattle.lineage.proofs.KeyLists.{has-head, has-tail, reverse_cons}
 use Rattle.lineage.proofs.Walks.{path_to_is, path_at, item_is}
-use Rattle.lineage.proofs.Counts.{one, count_changed}
-use Rattle.lineage.proofs.KeptLinks.{over_climb, over_path, map_same, absent_holders}
+use Rattle.lineage.proofs.Counts.{one_if, count_changed}
+use Rattle.lineage.proofs.KeptLinks.{climb_stays, path_stays, map_on_tips, absent_holders}
 
 -- the nodes after a node is put at the end of a path
 pub record IsPushed {X : Type 0} (s t : List (Option (Node X))) (tips new : List (Option ℕ)) (path key : ℕ) (item : X) : Type 0 where
@@ -50,7 +50,7 @@ module _ {X : Type 0} (s t : List (Option (Node X))) (tips new : List (Option �
 
   -- the climb from the new tip
   climb_new : (up : List ℕ) → IsClimb (above_node s) (tip_at tips path) up → IsClimb (above_node t) (Some key) (key ∷ up)
-  climb_new up h = (refl, (tip_at tips path, (link, over_climb s t keeps (tip_at tips path) up h)))
+  climb_new up h = (refl, (tip_at tips path, (link, climb_stays s t keeps (tip_at tips path) up h)))
 
   ends_now : (i : ℕ) → (i ≡ path) ⊎ (i ≢ path) → Ends (above_node t) (tip_at new i)
   ends_now i (inl e) =
@@ -58,7 +58,7 @@ module _ {X : Type 0} (s t : List (Option (Node X))) (tips new : List (Option �
       record { up = key ∷ old.up; is = subst (λ o. IsClimb (above_node t) o (key ∷ old.up)) (sym (ap (tip_at new) e ∙ tip_here)) (climb_new old.up old.is) }
   ends_now i (inr ne) =
       let old = sound.ends i in
-      record { up = old.up; is = subst (λ o. IsClimb (above_node t) o old.up) (sym (tip_other i ne)) (over_climb s t keeps (tip_at tips i) old.up old.is) }
+      record { up = old.up; is = subst (λ o. IsClimb (above_node t) o old.up) (sym (tip_other i ne)) (climb_stays s t keeps (tip_at tips i) old.up old.is) }
 
   on_now : (k : ℕ) (o : IsOn s tips k) → (o.path ≡ path) ⊎ (o.path ≢ path) → IsOn t new k
   on_now k o (inl e) = record {
@@ -70,7 +70,7 @@ module _ {X : Type 0} (s t : List (Option (Node X))) (tips new : List (Option �
   on_now k o (inr ne) = record {
     path = o.path;
     up = o.up;
-    is = subst (λ z. IsClimb (above_node t) z o.up) (sym (tip_other o.path ne)) (over_climb s t keeps (tip_at tips o.path) o.up o.is);
+    is = subst (λ z. IsClimb (above_node t) z o.up) (sym (tip_other o.path ne)) (climb_stays s t keeps (tip_at tips o.path) o.up o.is);
     on = o.on;
   }
 
@@ -80,12 +80,12 @@ module _ {X : Type 0} (s t : List (Option (Node X))) (tips new : List (Option �
       record { path = path; up = key ∷ old.up; is = subst (λ z. IsClimb (above_node t) z (key ∷ old.up)) (sym tip_here) (climb_new old.up old.is); on = has-head key old.up }
 
   -- only the new node's link adds a holder
-  holders_now : (m : ℕ) → holders_of t new m ≡ holders_of s tips m + one (nat_eq m key)
+  holders_now : (m : ℕ) → holders_of t new m ≡ holders_of s tips m + one_if (nat_eq m key)
   holders_now m =
-      let a = sum_by-set (λ x. one (is_key m x)) tips path (Some key) None within in
+      let a = sum_by-set (λ x. one_if (is_key m x)) tips path (Some key) None within in
       let b = count_changed (links_to_key m) refl key s t (λ j ne. ap (links_to_key m) (others j ne)) in
-      let was : one (links_to_key m (node_at s key)) ≡ 0 = ap (λ o. one (links_to_key m o)) vacant in
-      let is : one (links_to_key m (node_at t key)) ≡ one (is_key m (tip_at tips path)) = ap (λ o. one (links_to_key m o)) here in
+      let was : one_if (links_to_key m (node_at s key)) ≡ 0 = ap (λ o. one_if (links_to_key m o)) vacant in
+      let is : one_if (links_to_key m (node_at t key)) ≡ one_if (is_key m (tip_at tips path)) = ap (λ o. one_if (links_to_key m o)) here in
       let c : count_by (is_key m) new ≡ count_by (is_key m) (set tips path (Some key)) = ap (count_by (is_key m)) now in
       omega (arith, a, b, was, is, c)
 
@@ -94,12 +94,12 @@ module _ {X : Type 0} (s t : List (Option (Node X))) (tips new : List (Option �
       let is : Some n ≡ Some (node item (tip_at tips path) 1) = sym e ∙ ap (node_at t) same ∙ here in
       let holders : n.holders ≡ 1 = cc in
       let none : holders_of s tips k ≡ 0 = absent_holders s tips sound k (ap (node_at s) same ∙ vacant) in
-      let yes : one (nat_eq k key) ≡ 1 = ap one (eq-eqb k key same) in
+      let yes : one_if (nat_eq k key) ≡ 1 = ap one_if (eq-eqb k key same) in
       let all = holders_now k in
       omega (arith, holders, none, yes, all)
   counted_now k n e (inr ne) =
       let old = sound.counted k n (sym (others k ne) ∙ e) in
-      let no : one (nat_eq k key) ≡ 0 = ap one (ne_eqb k key ne) in
+      let no : one_if (nat_eq k key) ≡ 0 = ap one_if (ne_eqb k key ne) in
       let all = holders_now k in
       omega (arith, old, no, all)
 
@@ -125,7 +125,7 @@ module _ {X : Type 0} (s t : List (Option (Node X))) (tips new : List (Option �
   pub pushed_paths : map (path_to t) new ≡ set (map (path_to s) tips) path (path_in (family_on s tips) path ++ key ∷ [])
   pushed_paths =
       ap (map (path_to t)) now ∙ map-set (path_to t) tips path (Some key)
-      ∙ ap (λ l. set l path (path_to t (Some key))) (map_same (path_to t) (path_to s) tips (λ i. over_path s t keeps (tip_at tips i) (sound.ends i)))
+      ∙ ap (λ l. set l path (path_to t (Some key))) (map_on_tips (path_to t) (path_to s) tips (λ i. path_stays s t keeps (tip_at tips i) (sound.ends i)))
       ∙ ap (set (map (path_to s) tips) path) (pushed_last ∙ ap (λ l. l ++ key ∷ []) (sym (path_at s tips path)))
 
   pub pushed_added : IsAdded (family_on s tips) (family_on t new) key item

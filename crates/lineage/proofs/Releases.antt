@@ -9,12 +9,12 @@ use Rattle.std.proofs.lemmas.List.Sums.{sum_by-remove}
 use Rattle.lineage.specs.declared.node.Node.{Node}
 use Rattle.lineage.specs.Family.{has}
 use Rattle.lineage.specs.Climbs.{IsClimb, Ends}
-use Rattle.lineage.specs.Lineages.{tip_at, is_key, is_above, node, node_at, above_in, above_node, keys_up, links_to_key, holders_of, next_up, less_one, IsOn, IsSoundFamily, IsReleasing}
+use Rattle.lineage.specs.Lineages.{tip_at, is_key, is_above, node, node_at, above_in, above_node, keys_up, links_to_key, holders_of, next_up, without_holder, IsOn, IsSoundFamily, IsReleasing}
 use Rattle.lineage.proofs.KeyLists.{has_cases, has_not_from}
 use Rattle.lineage.proofs.Climbs.{climb_unique, climb_kept, climb_step, not_again}
 use Rattle.lineage.proofs.Walks.{keys_up_is}
-use Rattle.lineage.proofs.Counts.{one, count_changed, count_some, count_no}
-use Rattle.lineage.proofs.KeptLinks.{node_from, over_climb, is_key_true, is_above_true, holders_alike}
+use Rattle.lineage.proofs.Counts.{one_if, count_changed, count_some, none_pass}
+use Rattle.lineage.proofs.KeptLinks.{node_from, climb_stays, is_key_true, is_above_true, holders_alike}
 use Rattle.lineage.proofs.ClimbsThrough.{climb_on, not_above}
 use Rattle.lineage.proofs.Removed.{removed_from, stays_at}
 
@@ -26,7 +26,7 @@ released_first {X} s tips path sound within = record {
   going = sound.ends path;
   live = λ k n e. on_rest k (sound.live k n e) (cases_eq (sound.live k n e).path path);
   counted = λ k n e.
-      let all = sum_by-remove (λ x. one (is_key k x)) tips path None within in
+      let all = sum_by-remove (λ x. one_if (is_key k x)) tips path None within in
       let is = sound.counted k n e in
       omega (arith, all, is);
   few = let l = length-remove tips path within in let few = sound.few in omega (arith, l, few);
@@ -46,7 +46,7 @@ pub released_last : {X : Type 0} (first s : List (Option (Node X))) (tips : List
 released_last {X} first s tips at r none = record {
   ends = r.ends;
   live = λ k n e. by k (r.live k n e);
-  counted = λ k n e. let is = r.counted k n e in let no : one (is_key k at) ≡ 0 = ap (λ o. one (is_key k o)) none in omega (arith, is, no);
+  counted = λ k n e. let is = r.counted k n e in let no : one_if (is_key k at) ≡ 0 = ap (λ o. one_if (is_key k o)) none in omega (arith, is, no);
   few = r.few;
 }
   where
@@ -68,12 +68,12 @@ begins p key (k ∷ rest) h =
     (rest, (ap (λ z. z ∷ rest) (sym same), (h.1.0, (ap p same ∙ h.1.1.0, h.1.1.1))))
 
 module _ {X : Type 0} (first s t : List (Option (Node X))) (tips : List (Option ℕ)) (key : ℕ) (n : Node X) (r : IsReleasing first s tips (Some key))
-    (there : node_at s key ≡ Some n) (here : node_at t key ≡ less_one (node_at s key)) (others : (k : ℕ) → k ≢ key → node_at t k ≡ node_at s k) where
+    (there : node_at s key ≡ Some n) (here : node_at t key ≡ without_holder (node_at s key)) (others : (k : ℕ) → k ≢ key → node_at t k ≡ node_at s k) where
   link : above_node s key ≡ Some n.above
   link = ap above_in there
 
   counted_here : n.holders ≡ holders_of s tips key + 1
-  counted_here = let is = r.counted key n there in let yes : one (nat_eq key key) ≡ 1 = ap one (eq-eqb key key refl) in omega (arith, is, yes)
+  counted_here = let is = r.counted key n there in let yes : one_if (nat_eq key key) ≡ 1 = ap one_if (eq-eqb key key refl) in omega (arith, is, yes)
 
   -- the rest of the climb
   rest_of : (rest : List ℕ) × ((r.going.up ≡ key ∷ rest) × IsClimb (above_node s) n.above rest)
@@ -94,7 +94,7 @@ module _ {X : Type 0} (first s t : List (Option (Node X))) (tips : List (Option 
     gone : node_at t key ≡ None
     gone =
         let le : nat_le n.holders 1 ≡ true = grind (arith, nat_tests) in
-        here ∙ ap less_one there ∙ ap (λ b. cond b None (Some (node n.item n.above (n.holders - 1)))) le
+        here ∙ ap without_holder there ∙ ap (λ b. cond b None (Some (node n.item n.above (n.holders - 1)))) le
 
     none_tips : count_by (is_key key) tips ≡ 0
     none_tips = omega (arith, counted_here, last)
@@ -105,11 +105,11 @@ module _ {X : Type 0} (first s t : List (Option (Node X))) (tips : List (Option 
     -- no path has the key
     not_on : (i : ℕ) (up : List ℕ) → IsClimb (above_node s) (tip_at tips i) up → has key up ≡ false
     not_on i up h = has_not_from key up (λ m. climb_step (above_node s) (tip_at tips i) up key ⊥ h m
-        (λ e. true≢false (sym (ap (is_key key) e ∙ eq-eqb key key refl) ∙ count_no (is_key key) tips i refl none_tips))
-        (λ j e _m. true≢false (sym (ap (is_above key) e ∙ eq-eqb key key refl) ∙ count_no (links_to_key key) s j refl none_nodes)))
+        (λ e. true≢false (sym (ap (is_key key) e ∙ eq-eqb key key refl) ∙ none_pass (is_key key) tips i refl none_tips))
+        (λ j e _m. true≢false (sym (ap (is_above key) e ∙ eq-eqb key key refl) ∙ none_pass (links_to_key key) s j refl none_nodes)))
 
-    over_without : (at : Option ℕ) (up : List ℕ) → has key up ≡ false → IsClimb (above_node s) at up → IsClimb (above_node t) at up
-    over_without at up lacks h = climb_kept (above_node s) (above_node t) at up
+    climb_stays_without : (at : Option ℕ) (up : List ℕ) → has key up ≡ false → IsClimb (above_node s) at up → IsClimb (above_node t) at up
+    climb_stays_without at up lacks h = climb_kept (above_node s) (above_node t) at up
         (λ k next m e. ap above_in (others k (λ same. true≢false (sym (subst (λ z. has z up ≡ true) same m) ∙ lacks))) ∙ e) h
 
     not_key : (k : ℕ) (m : Node X) → node_at t k ≡ Some m → k ≢ key
@@ -119,27 +119,27 @@ module _ {X : Type 0} (first s t : List (Option (Node X))) (tips : List (Option 
     was k m e = sym (others k (not_key k m e)) ∙ e
 
     on_now : (k : ℕ) → k ≢ key → IsOn s tips k ⊎ (has k r.going.up ≡ true) → IsOn t tips k ⊎ (has k rest ≡ true)
-    on_now k ne (inl o) = inl (record { path = o.path; up = o.up; is = over_without (tip_at tips o.path) o.up (not_on o.path o.up o.is) o.is; on = o.on })
+    on_now k ne (inl o) = inl (record { path = o.path; up = o.up; is = climb_stays_without (tip_at tips o.path) o.up (not_on o.path o.up o.is) o.is; on = o.on })
     on_now k ne (inr m) = inr (has_cases k key rest (has k rest ≡ true) (subst (λ u. has k u ≡ true) rest_of.1.0 m) (λ e. absurd (ne e)) (λ h. h))
 
-    counted_last : (k : ℕ) (m : Node X) → node_at t k ≡ Some m → m.holders ≡ holders_of t tips k + one (is_key k n.above)
+    counted_last : (k : ℕ) (m : Node X) → node_at t k ≡ Some m → m.holders ≡ holders_of t tips k + one_if (is_key k n.above)
     counted_last k m e =
         let is = r.counted k m (was k m e) in
-        let no : one (nat_eq k key) ≡ 0 = ap one (ne_eqb k key (not_key k m e)) in
+        let no : one_if (nat_eq k key) ≡ 0 = ap one_if (ne_eqb k key (not_key k m e)) in
         let a = count_changed (links_to_key k) refl key s t (λ j ne. ap (links_to_key k) (others j ne)) in
-        let b : one (links_to_key k (node_at s key)) ≡ one (is_key k n.above) = ap (λ o. one (links_to_key k o)) there in
-        let c : one (links_to_key k (node_at t key)) ≡ 0 = ap (λ o. one (links_to_key k o)) gone in
+        let b : one_if (links_to_key k (node_at s key)) ≡ one_if (is_key k n.above) = ap (λ o. one_if (links_to_key k o)) there in
+        let c : one_if (links_to_key k (node_at t key)) ≡ 0 = ap (λ o. one_if (links_to_key k o)) gone in
         omega (arith, is, no, a, b, c)
 
     pub released_on : IsReleasing first t tips n.above
     released_on = record {
-      ends = λ i. let e = r.ends i in record { up = e.up; is = over_without (tip_at tips i) e.up (not_on i e.up e.is) e.is };
-      going = record { up = rest; is = over_without n.above rest (not_again (above_node s) key rest whole) rest_of.1.1 };
+      ends = λ i. let e = r.ends i in record { up = e.up; is = climb_stays_without (tip_at tips i) e.up (not_on i e.up e.is) e.is };
+      going = record { up = rest; is = climb_stays_without n.above rest (not_again (above_node s) key rest whole) rest_of.1.1 };
       live = λ k m e. on_now k (not_key k m e) (r.live k m (was k m e));
       counted = counted_last;
       few =
           let a = count_changed is_some refl key s t (λ j ne. ap is_some (others j ne)) in
-          let b : one (is_some (node_at t key)) ≡ 0 = ap (λ o. one (is_some o)) gone in
+          let b : one_if (is_some (node_at t key)) ≡ 0 = ap (λ o. one_if (is_some o)) gone in
           let few = r.few in
           omega (arith, a, b, few);
       stays = λ k m e. r.stays k m (was k m e);
@@ -147,7 +147,7 @@ module _ {X : Type 0} (first s t : List (Option (Node X))) (tips : List (Option 
 
     pub released_shorter : length (keys_up t n.above) < length (keys_up s (Some key))
     released_shorter =
-        let a = ap length (keys_up_is t n.above rest (over_without n.above rest (not_again (above_node s) key rest whole) rest_of.1.1)) in
+        let a = ap length (keys_up_is t n.above rest (climb_stays_without n.above rest (not_again (above_node s) key rest whole) rest_of.1.1)) in
         let b = ap length (keys_up_is s (Some key) (key ∷ rest) whole) in
         omega (arith, a, b)
 
@@ -156,7 +156,7 @@ module _ {X : Type 0} (first s t : List (Option (Node X))) (tips : List (Option 
     less : node_at t key ≡ Some (node n.item n.above (n.holders - 1))
     less =
         let no : nat_le n.holders 1 ≡ false = grind (arith, nat_tests) in
-        here ∙ ap less_one there ∙ ap (λ b. cond b None (Some (node n.item n.above (n.holders - 1)))) no
+        here ∙ ap without_holder there ∙ ap (λ b. cond b None (Some (node n.item n.above (n.holders - 1)))) no
 
     same_above : (k : ℕ) → (k ≡ key) ⊎ (k ≢ key) → above_node t k ≡ above_node s k
     same_above k (inl same) = ap (above_node t) same ∙ ap above_in less ∙ sym link ∙ ap (above_node s) (sym same)
@@ -167,15 +167,15 @@ module _ {X : Type 0} (first s t : List (Option (Node X))) (tips : List (Option 
 
     -- each node was there before, with the same item and link; the key's node had one holder more
     was_more : (k : ℕ) (m : Node X) → node_at t k ≡ Some m → (k ≡ key) ⊎ (k ≢ key)
-        → (o : Node X) × ((node_at s k ≡ Some o) × ((m.holders + one (nat_eq k key) ≡ o.holders) × ((m.item ≡ o.item) × (m.above ≡ o.above))))
+        → (o : Node X) × ((node_at s k ≡ Some o) × ((m.holders + one_if (nat_eq k key) ≡ o.holders) × ((m.item ≡ o.item) × (m.above ≡ o.above))))
     was_more k m e (inl same) =
         let is : Some m ≡ Some (node n.item n.above (n.holders - 1)) = sym e ∙ ap (node_at t) same ∙ less in
         let node_is : m ≡ node n.item n.above (n.holders - 1) = cc in
         let holders : m.holders ≡ n.holders - 1 = ap (λ (z : Node X). z.holders) node_is in
-        let yes : one (nat_eq k key) ≡ 1 = ap one (eq-eqb k key same) in
+        let yes : one_if (nat_eq k key) ≡ 1 = ap one_if (eq-eqb k key same) in
         (n, (ap (node_at s) same ∙ there, (omega (arith, holders, yes, more), (ap (λ (z : Node X). z.item) node_is, ap (λ (z : Node X). z.above) node_is))))
     was_more k m e (inr ne) =
-        let no : one (nat_eq k key) ≡ 0 = ap one (ne_eqb k key ne) in
+        let no : one_if (nat_eq k key) ≡ 0 = ap one_if (ne_eqb k key ne) in
         (m, (sym (others k ne) ∙ e, (omega (arith, no), (refl, refl))))
 
     -- each key of the climb from `key` is on a path that is left
@@ -198,14 +198,14 @@ module _ {X : Type 0} (first s t : List (Option (Node X))) (tips : List (Option 
             from_node j.0 e (r.live j.0 w.0 w.1.0)
 
     live_more : (k : ℕ) → IsOn s tips k ⊎ (has k r.going.up ≡ true) → IsOn t tips k
-    live_more k (inl o) = record { path = o.path; up = o.up; is = over_climb s t keeps (tip_at tips o.path) o.up o.is; on = o.on }
+    live_more k (inl o) = record { path = o.path; up = o.up; is = climb_stays s t keeps (tip_at tips o.path) o.up o.is; on = o.on }
     live_more k (inr m) =
         let o = on_left k (subst (λ u. has k u ≡ true) rest_of.1.0 m) in
-        record { path = o.path; up = o.up; is = over_climb s t keeps (tip_at tips o.path) o.up o.is; on = o.on }
+        record { path = o.path; up = o.up; is = climb_stays s t keeps (tip_at tips o.path) o.up o.is; on = o.on }
 
     pub released_end : IsReleasing first t tips None
     released_end = record {
-      ends = λ i. let e = r.ends i in record { up = e.up; is = over_climb s t keeps (tip_at tips i) e.up e.is };
+      ends = λ i. let e = r.ends i in record { up = e.up; is = climb_stays s t keeps (tip_at tips i) e.up e.is };
       going = record { up = []; is = refl };
       live = λ k m e. let w = was_more k m e (cases_eq k key) in inl (live_more k (r.live k w.0 w.1.0));
       counted = λ k m e.
@@ -215,7 +215,7 @@ module _ {X : Type 0} (first s t : List (Option (Node X))) (tips : List (Option 
           omega (arith, is, a);
       few =
           let a = count_changed is_some refl key s t (λ j ne. ap is_some (others j ne)) in
-          let b : one (is_some (node_at t key)) ≡ one (is_some (node_at s key)) = ap (λ o. one (is_some o)) less ∙ sym (ap (λ o. one (is_some o)) there) in
+          let b : one_if (is_some (node_at t key)) ≡ one_if (is_some (node_at s key)) = ap (λ o. one_if (is_some o)) less ∙ sym (ap (λ o. one_if (is_some o)) there) in
           let few = r.few in
           omega (arith, a, b, few);
       stays = λ k m e.
@@ -254,7 +254,7 @@ releasing_there first s tips at key r is =
 
 -- one step of the release, from `at`, which is the key to be released
 pub releasing_next : {X : Type 0} (first s t : List (Option (Node X))) (tips : List (Option ℕ)) (at : Option ℕ) (key : ℕ) (next : Option ℕ) → IsReleasing first s tips at → at ≡ Some key
-    → node_at t key ≡ less_one (node_at s key) → ((k : ℕ) → k ≢ key → node_at t k ≡ node_at s k) → next ≡ next_up (node_at s key)
+    → node_at t key ≡ without_holder (node_at s key) → ((k : ℕ) → k ≢ key → node_at t k ≡ node_at s k) → next ≡ next_up (node_at s key)
     → IsReleasing first t tips next × (length (keys_up t next) < length (keys_up s at))
 releasing_next first s t tips at key next r is here others e =
     let n = releasing_there first s tips at key r is in

@@ -7,7 +7,7 @@ use Rattle.lineage.specs.declared.node.Node.{Node}
 use Rattle.lineage.specs.Lineages.{tip_at, node, node_at, above_in, above_node, path_to, IsSoundFamily}
 use Rattle.lineage.proofs.Walks.{link_within}
 use Rattle.lineage.proofs.Counts.{count_same}
-use Rattle.lineage.proofs.KeptLinks.{over_climb, over_path, map_same, holders_alike}
+use Rattle.lineage.proofs.KeptLinks.{climb_stays, path_stays, map_on_tips, holders_alike}
 
 -- the item at a key is replaced
 module _ {X : Type 0} (s : List (Option (Node X))) (tips : List (Option ℕ)) (key : ℕ) (n : Node X) (item : X) (sound : IsSoundFamily s tips) (there : node_at s key ≡ Some n) where
@@ -43,11 +43,11 @@ module _ {X : Type 0} (s : List (Option (Node X))) (tips : List (Option ℕ)) (k
 
   pub replaced_sound : IsSoundFamily now tips
   replaced_sound = record {
-    ends = λ i. let e = sound.ends i in record { up = e.up; is = over_climb s now keeps (tip_at tips i) e.up e.is };
+    ends = λ i. let e = sound.ends i in record { up = e.up; is = climb_stays s now keeps (tip_at tips i) e.up e.is };
     live = λ k m e.
         let w = was k m e (cases_eq k key) in
         let o = sound.live k w.0 w.1.0 in
-        record { path = o.path; up = o.up; is = over_climb s now keeps (tip_at tips o.path) o.up o.is; on = o.on };
+        record { path = o.path; up = o.up; is = climb_stays s now keeps (tip_at tips o.path) o.up o.is; on = o.on };
     counted = λ k m e.
         let w = was k m e (cases_eq k key) in
         w.1.1 ∙ sound.counted k w.0 w.1.0 ∙ holders_alike s now tips k (λ j. same_above j (cases_eq j key));
@@ -55,4 +55,4 @@ module _ {X : Type 0} (s : List (Option (Node X))) (tips : List (Option ℕ)) (k
   }
 
   pub replaced_paths : map (path_to now) tips ≡ map (path_to s) tips
-  replaced_paths = map_same (path_to now) (path_to s) tips (λ i. over_path s now keeps (tip_at tips i) (sound.ends i))
+  replaced_paths = map_on_tips (path_to now) (path_to s) tips (λ i. path_stays s now keeps (tip_at tips i) (sound.ends i))

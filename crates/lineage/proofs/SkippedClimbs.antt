@@ -8,7 +8,7 @@ use Rattle.lineage.specs.Family.{has, keys_without}
 use Rattle.lineage.specs.Climbs.{IsClimb}
 use Rattle.lineage.specs.Lineages.{tip_at, is_key, is_above, past}
 use Rattle.lineage.proofs.KeyLists.{has-head, has-tail, has_cases, reverse_cons}
-use Rattle.lineage.proofs.Counts.{one}
+use Rattle.lineage.proofs.Counts.{one_if}
 
 -- `past` of the link of a key, if the key has an item
 abbrev pub past_link : ℕ → Option ℕ → Option (Option ℕ) → Option (Option ℕ)
@@ -22,9 +22,9 @@ module _ (key : ℕ) (top : Option ℕ) where
   pub past_other : (k : ℕ) → key ≢ k → past key top (Some k) ≡ Some k
   past_other k ne = ap (λ b. cond b top (Some k)) (ne_eqb key k ne)
 
-  pub past_twice : (o : Option ℕ) → (o ≡ Some key → ⊥) → past key top o ≡ o
-  past_twice None h = refl
-  past_twice (Some k) h = past_other k (λ e. h (ap Some (sym e)))
+  pub past_unless_key : (o : Option ℕ) → (o ≡ Some key → ⊥) → past key top o ≡ o
+  past_unless_key None h = refl
+  past_unless_key (Some k) h = past_other k (λ e. h (ap Some (sym e)))
 
   pub kept_other : (k : ℕ) (keys : List ℕ) → key ≢ k → keys_without key (k ∷ keys) ≡ k ∷ keys_without key keys
   kept_other k keys ne = ap (λ b. cond (not b) (k ∷ keys_without key keys) (keys_without key keys)) (ne_eqb key k ne)
@@ -77,7 +77,7 @@ climb_past p q key top here itself links at (k ∷ up) h = by (cases_eq key k) (
         let link : Some h.1.0 ≡ Some top = sym h.1.1.0 ∙ ap p (sym e) ∙ here in
         let next : h.1.0 ≡ top = cc in
         let a : past key top at ≡ top = ap (past key top) h.0 ∙ past_key key top k e in
-        let b : past key top h.1.0 ≡ top = ap (past key top) next ∙ past_twice key top top itself in
+        let b : past key top h.1.0 ≡ top = ap (past key top) next ∙ past_unless_key key top top itself in
         subst (λ l. IsClimb q (past key top at) l) (sym (gone_key key top k up e))
         (subst (λ o. IsClimb q o (keys_without key up)) (b ∙ sym a) ih)
     by (inr ne) ih =
@@ -87,7 +87,7 @@ climb_past p q key top here itself links at (k ∷ up) h = by (cases_eq key k) (
         subst (λ l. IsClimb q (past key top at) l) (sym (kept_other key top k up ne)) c
 
 -- after `past`, a link is to m if it was to m, or to the key and the key's own link is to m
-pub each_past : (key m : ℕ) (top : Option ℕ) → m ≢ key → (o : Option ℕ) → one (is_key m (past key top o)) ≡ one (is_key m o) + cond (is_key m top) (one (is_key key o)) 0
+pub each_past : (key m : ℕ) (top : Option ℕ) → m ≢ key → (o : Option ℕ) → one_if (is_key m (past key top o)) ≡ one_if (is_key m o) + cond (is_key m top) (one_if (is_key key o)) 0
 each_past key m top ne None = by (is_key m top)
   where
     by : (b : Bool) → 0 ≡ 0 + cond b 0 0
@@ -95,7 +95,7 @@ each_past key m top ne None = by (is_key m top)
     by false = omega arith
 each_past key m top ne (Some k) = by (cases_eq key k)
   where
-    sum : (b : Bool) → one b ≡ 0 + cond b 1 0
+    sum : (b : Bool) → one_if b ≡ 0 + cond b 1 0
     sum true = omega arith
     sum false = omega arith
 
@@ -103,36 +103,36 @@ each_past key m top ne (Some k) = by (cases_eq key k)
     none n true = omega arith
     none n false = omega arith
 
-    by : (key ≡ k) ⊎ (key ≢ k) → one (is_key m (past key top (Some k))) ≡ one (nat_eq m k) + cond (is_key m top) (one (nat_eq key k)) 0
+    by : (key ≡ k) ⊎ (key ≢ k) → one_if (is_key m (past key top (Some k))) ≡ one_if (nat_eq m k) + cond (is_key m top) (one_if (nat_eq key k)) 0
     by (inl e) =
-        ap (λ o. one (is_key m o)) (past_key key top k e) ∙ sum (is_key m top)
-        ∙ ap (λ n. n + cond (is_key m top) 1 0) (sym (ap one (ne_eqb m k (λ w. ne (w ∙ sym e)))))
-        ∙ ap (λ b. one (nat_eq m k) + cond (is_key m top) (one b) 0) (sym (eq-eqb key k e))
+        ap (λ o. one_if (is_key m o)) (past_key key top k e) ∙ sum (is_key m top)
+        ∙ ap (λ n. n + cond (is_key m top) 1 0) (sym (ap one_if (ne_eqb m k (λ w. ne (w ∙ sym e)))))
+        ∙ ap (λ b. one_if (nat_eq m k) + cond (is_key m top) (one_if b) 0) (sym (eq-eqb key k e))
     by (inr nk) =
-        ap (λ o. one (is_key m o)) (past_other key top k nk) ∙ none (one (nat_eq m k)) (is_key m top)
-        ∙ ap (λ b. one (nat_eq m k) + cond (is_key m top) (one b) 0) (sym (ne_eqb key k nk))
+        ap (λ o. one_if (is_key m o)) (past_other key top k nk) ∙ none (one_if (nat_eq m k)) (is_key m top)
+        ∙ ap (λ b. one_if (nat_eq m k) + cond (is_key m top) (one_if b) 0) (sym (ne_eqb key k nk))
 
-pub each_past_link : (key m : ℕ) (top : Option ℕ) → m ≢ key → (o : Option (Option ℕ)) → one (is_above m (past_link key top o)) ≡ one (is_above m o) + cond (is_key m top) (one (is_above key o)) 0
+pub each_past_link : (key m : ℕ) (top : Option ℕ) → m ≢ key → (o : Option (Option ℕ)) → one_if (is_above m (past_link key top o)) ≡ one_if (is_above m o) + cond (is_key m top) (one_if (is_above key o)) 0
 each_past_link key m top ne None = each_past key m top ne None
 each_past_link key m top ne (Some next) = each_past key m top ne next
 
 -- if the count of each item is such a sum, so is the count of a list
-pub sum_past : {A : Type 0} (f p q : A → Bool) (b : Bool) (xs : List A) → ((x : A) → one (f x) ≡ one (p x) + cond b (one (q x)) 0) → count_by f xs ≡ count_by p xs + cond b (count_by q xs) 0
+pub sum_past : {A : Type 0} (f p q : A → Bool) (b : Bool) (xs : List A) → ((x : A) → one_if (f x) ≡ one_if (p x) + cond b (one_if (q x)) 0) → count_by f xs ≡ count_by p xs + cond b (count_by q xs) 0
 sum_past f p q true [] h = omega arith
 sum_past f p q false [] h = omega arith
 sum_past f p q true (x ∷ xs) h =
-    let a = sum_by-cons (λ y. one (f y)) x xs in let b = sum_by-cons (λ y. one (p y)) x xs in let c = sum_by-cons (λ y. one (q y)) x xs in
+    let a = sum_by-cons (λ y. one_if (f y)) x xs in let b = sum_by-cons (λ y. one_if (p y)) x xs in let c = sum_by-cons (λ y. one_if (q y)) x xs in
     let d = h x in let e = sum_past f p q true xs h in
     omega (arith, a, b, c, d, e)
 sum_past f p q false (x ∷ xs) h =
-    let a = sum_by-cons (λ y. one (f y)) x xs in let b = sum_by-cons (λ y. one (p y)) x xs in
+    let a = sum_by-cons (λ y. one_if (f y)) x xs in let b = sum_by-cons (λ y. one_if (p y)) x xs in
     let d = h x in let e = sum_past f p q false xs h in
     omega (arith, a, b, d, e)
 
 pub count_map : {A B : Type 0} (p : B → Bool) (f : A → B) (xs : List A) → count_by p (map f xs) ≡ count_by (λ x. p (f x)) xs
 count_map p f [] = refl
 count_map p f (x ∷ xs) =
-    let a = sum_by-cons (λ y. one (p y)) (f x) (map f xs) in let b = sum_by-cons (λ y. one (p (f y))) x xs in let c = count_map p f xs in
+    let a = sum_by-cons (λ y. one_if (p y)) (f x) (map f xs) in let b = sum_by-cons (λ y. one_if (p (f y))) x xs in let c = count_map p f xs in
     omega (arith, a, b, c)
 
 pub map_at : {A B : Type 0} (f : Option A → Option B) (xs : List (Option A)) (i : ℕ) → f None ≡ None → get_or (map f xs) i None ≡ f (get_or xs i None)
@@ -140,9 +140,9 @@ map_at f [] i h = sym h
 map_at f (x ∷ xs) zero h = refl
 map_at f (x ∷ xs) (suc i) h = map_at f xs i h
 
-pub both : (b : Bool) (x y : ℕ) → cond b x 0 + cond b y 0 ≡ cond b (x + y) 0
-both true x y = refl
-both false x y = omega arith
+pub cond_add : (b : Bool) (x y : ℕ) → cond b x 0 + cond b y 0 ≡ cond b (x + y) 0
+cond_add true x y = refl
+cond_add false x y = omega arith
 
 -- a list whose items are the tips, each past the key, is `past` applied to each tip
 pub all_past : (key : ℕ) (top : Option ℕ) (xs ys : List (Option ℕ)) → length ys ≡ length xs → ((k : ℕ) → k < length xs → tip_at ys k ≡ past key top (tip_at xs k)) → ys ≡ map (past key top) xs
@@ -152,9 +152,9 @@ all_past key top xs ys len h =
 
 -- if each item passes at most one of two tests, and each that passes one of them also passes a
 -- third, then the counts of the two tests add up to at most that of the third
-pub sum_apart : {A : Type 0} (p q r : A → Bool) (xs : List A) → ((x : A) → one (p x) + one (q x) ≤ one (r x)) → count_by p xs + count_by q xs ≤ count_by r xs
+pub sum_apart : {A : Type 0} (p q r : A → Bool) (xs : List A) → ((x : A) → one_if (p x) + one_if (q x) ≤ one_if (r x)) → count_by p xs + count_by q xs ≤ count_by r xs
 sum_apart p q r [] h = omega arith
 sum_apart p q r (x ∷ xs) h =
-    let a = sum_by-cons (λ y. one (p y)) x xs in let b = sum_by-cons (λ y. one (q y)) x xs in let c = sum_by-cons (λ y. one (r y)) x xs in
+    let a = sum_by-cons (λ y. one_if (p y)) x xs in let b = sum_by-cons (λ y. one_if (q y)) x xs in let c = sum_by-cons (λ y. one_if (r y)) x xs in
     let d = h x in let e = sum_apart p q r xs h in
     omega (arith, a, b, c, d, e)

@@ -11,39 +11,39 @@ use Rattle.lineage.specs.Climbs.{IsClimb}
 use Rattle.lineage.specs.Lineages.{tip_at, is_key, is_above, node, node_at, item_in, above_in, above_node, path_to, links_to_key, holders_of, past, past_node, passed_on, family_on, IsSoundFamily}
 use Rattle.lineage.proofs.KeyLists.{has-head}
 use Rattle.lineage.proofs.Walks.{path_to_is, item_is, link_within}
-use Rattle.lineage.proofs.Counts.{one, count_changed, count_same, count_few}
-use Rattle.lineage.proofs.KeptLinks.{map_same, map-map, node_climb, node_from, linked_there}
+use Rattle.lineage.proofs.Counts.{one_if, count_changed, count_same, count_few}
+use Rattle.lineage.proofs.KeptLinks.{map_on_tips, map-map, node_climb, node_from, linked_there}
 use Rattle.lineage.proofs.Climbs.{not_again}
-use Rattle.lineage.proofs.SkippedClimbs.{past_link, past_twice, without-reverse, has_without, climb_past, each_past, each_past_link, sum_past, count_map, map_at, both, sum_apart}
+use Rattle.lineage.proofs.SkippedClimbs.{past_link, past_unless_key, without-reverse, has_without, climb_past, each_past, each_past_link, sum_past, count_map, map_at, cond_add, sum_apart}
 
 module _ {X : Type 0} where
-  link_of : (key : ℕ) (top : Option ℕ) (b : Bool) (h : ℕ) (o : Option (Node X)) → above_in (past_node key top (passed_on b h o)) ≡ past_link key top (above_in o)
-  link_of key top true h None = refl
-  link_of key top false h None = refl
-  link_of key top true h (Some m) = refl
-  link_of key top false h (Some m) = refl
+  skipped_link : (key : ℕ) (top : Option ℕ) (b : Bool) (h : ℕ) (o : Option (Node X)) → above_in (past_node key top (passed_on b h o)) ≡ past_link key top (above_in o)
+  skipped_link key top true h None = refl
+  skipped_link key top false h None = refl
+  skipped_link key top true h (Some m) = refl
+  skipped_link key top false h (Some m) = refl
 
-  item_of : (key : ℕ) (top : Option ℕ) (b : Bool) (h : ℕ) (o : Option (Node X)) → item_in (past_node key top (passed_on b h o)) ≡ item_in o
-  item_of key top true h None = refl
-  item_of key top false h None = refl
-  item_of key top true h (Some m) = refl
-  item_of key top false h (Some m) = refl
+  skipped_item : (key : ℕ) (top : Option ℕ) (b : Bool) (h : ℕ) (o : Option (Node X)) → item_in (past_node key top (passed_on b h o)) ≡ item_in o
+  skipped_item key top true h None = refl
+  skipped_item key top false h None = refl
+  skipped_item key top true h (Some m) = refl
+  skipped_item key top false h (Some m) = refl
 
-  some_of : (key : ℕ) (top : Option ℕ) (b : Bool) (h : ℕ) (o : Option (Node X)) → is_some (past_node key top (passed_on b h o)) ≡ is_some o
-  some_of key top true h None = refl
-  some_of key top false h None = refl
-  some_of key top true h (Some m) = refl
-  some_of key top false h (Some m) = refl
+  skipped_is_some : (key : ℕ) (top : Option ℕ) (b : Bool) (h : ℕ) (o : Option (Node X)) → is_some (past_node key top (passed_on b h o)) ≡ is_some o
+  skipped_is_some key top true h None = refl
+  skipped_is_some key top false h None = refl
+  skipped_is_some key top true h (Some m) = refl
+  skipped_is_some key top false h (Some m) = refl
 
-  was_of : (key : ℕ) (top : Option ℕ) (b : Bool) (h : ℕ) (o : Option (Node X)) (m : Node X) → past_node key top (passed_on b h o) ≡ Some m
+  skipped_was : (key : ℕ) (top : Option ℕ) (b : Bool) (h : ℕ) (o : Option (Node X)) (m : Node X) → past_node key top (passed_on b h o) ≡ Some m
       → (w : Node X) × ((o ≡ Some w) × (m.holders ≡ cond b (w.holders - 1 + h) w.holders))
-  was_of key top true h None m e = absurd (cc)
-  was_of key top false h None m e = absurd (cc)
-  was_of key top true h (Some w) m e =
+  skipped_was key top true h None m e = absurd (cc)
+  skipped_was key top false h None m e = absurd (cc)
+  skipped_was key top true h (Some w) m e =
       let is : Some (node w.item (past key top w.above) (w.holders - 1 + h)) ≡ Some m = e in
       let same : node w.item (past key top w.above) (w.holders - 1 + h) ≡ m = cc in
       (w, (refl, sym (ap (λ (z : Node X). z.holders) same)))
-  was_of key top false h (Some w) m e =
+  skipped_was key top false h (Some w) m e =
       let is : Some (node w.item (past key top w.above) w.holders) ≡ Some m = e in
       let same : node w.item (past key top w.above) w.holders ≡ m = cc in
       (w, (refl, sym (ap (λ (z : Node X). z.holders) same)))
@@ -80,45 +80,45 @@ module _ {X : Type 0} where
         let ne : k ≢ key = λ same. not_itself (e ∙ ap Some same) in
         let a = sound.counted k m (sym (others k ne) ∙ here) in
         let b = sound.counted key n there in
-        let some = get_or-le-sum_by (λ o. one (links_to_key k o)) s key None (link_within s key n.above (ap above_in there)) in
-        let c : one (links_to_key k (node_at s key)) ≡ 1 = ap (λ o. one (links_to_key k o)) there ∙ ap (λ o. one (is_key k o)) e ∙ ap one (eq-eqb k k refl) in
+        let some = get_or-le-sum_by (λ o. one_if (links_to_key k o)) s key None (link_within s key n.above (ap above_in there)) in
+        let c : one_if (links_to_key k (node_at s key)) ≡ 1 = ap (λ o. one_if (links_to_key k o)) there ∙ ap (λ o. one_if (is_key k o)) e ∙ ap one_if (eq-eqb k k refl) in
         let d = sum_apart (is_key k) (is_key key) (λ _. true) tips (apart_tip k ne) in
         let f = sum_apart (links_to_key k) (links_to_key key) is_some s (apart_node k ne) in
         let h = count_few (λ (_ : Option ℕ). true) tips in
         let few = sound.few in
         (omega (arith, a, some, c), omega (arith, a, b, d, f, h, few, some, c))
       where
-        both_not : (i : ℕ) → i ≢ key → (j : ℕ) → one (nat_eq i j) + one (nat_eq key j) ≤ 1
+        both_not : (i : ℕ) → i ≢ key → (j : ℕ) → one_if (nat_eq i j) + one_if (nat_eq key j) ≤ 1
         both_not i ne j = on (cases_eq i j)
           where
-            least : (b : Bool) → 0 + one b ≤ 1
+            least : (b : Bool) → 0 + one_if b ≤ 1
             least true = omega arith
             least false = omega arith
 
-            on : (i ≡ j) ⊎ (i ≢ j) → one (nat_eq i j) + one (nat_eq key j) ≤ 1
+            on : (i ≡ j) ⊎ (i ≢ j) → one_if (nat_eq i j) + one_if (nat_eq key j) ≤ 1
             on (inl same) =
-                let x = ap one (eq-eqb i j same) in
-                let y = ap one (ne_eqb key j (λ w. ne (same ∙ sym w))) in
+                let x = ap one_if (eq-eqb i j same) in
+                let y = ap one_if (ne_eqb key j (λ w. ne (same ∙ sym w))) in
                 omega (arith, x, y)
-            on (inr no_one) = let x = ap one (ne_eqb i j no_one) in let y = least (nat_eq key j) in omega (arith, x, y)
+            on (inr no_one) = let x = ap one_if (ne_eqb i j no_one) in let y = least (nat_eq key j) in omega (arith, x, y)
 
-        apart_tip : (i : ℕ) → i ≢ key → (o : Option ℕ) → one (is_key i o) + one (is_key key o) ≤ 1
+        apart_tip : (i : ℕ) → i ≢ key → (o : Option ℕ) → one_if (is_key i o) + one_if (is_key key o) ≤ 1
         apart_tip i ne None = omega arith
         apart_tip i ne (Some j) = both_not i ne j
 
-        apart_node : (i : ℕ) → i ≢ key → (o : Option (Node X)) → one (links_to_key i o) + one (links_to_key key o) ≤ one (is_some o)
+        apart_node : (i : ℕ) → i ≢ key → (o : Option (Node X)) → one_if (links_to_key i o) + one_if (links_to_key key o) ≤ one_if (is_some o)
         apart_node i ne None = omega arith
         apart_node i ne (Some w) = apart_tip i ne w.above
 
   -- nodes after a removal: in p the holders are passed on, and in t the links also skip the key
-  none_of : (key : ℕ) (top : Option ℕ) (b : Bool) (h : ℕ) (o : Option (Node X)) → o ≡ None → past_node key top (passed_on b h o) ≡ None
-  none_of key top true h o e = ap (λ z. past_node key top (passed_on true h z)) e
-  none_of key top false h o e = ap (λ z. past_node key top (passed_on false h z)) e
+  skipped_none : (key : ℕ) (top : Option ℕ) (b : Bool) (h : ℕ) (o : Option (Node X)) → o ≡ None → past_node key top (passed_on b h o) ≡ None
+  skipped_none key top true h o e = ap (λ z. past_node key top (passed_on true h z)) e
+  skipped_none key top false h o e = ap (λ z. past_node key top (passed_on false h z)) e
 
   module _ (s r p t : List (Option (Node X))) (key : ℕ) (top : Option ℕ) (h : ℕ) (passed : (k : ℕ) → node_at p k ≡ passed_on (is_key k top) h (node_at r k))
       (skipped : (k : ℕ) → node_at t k ≡ past_node key top (node_at p k)) where
     pub gone_from : node_at r key ≡ None → node_at t key ≡ None
-    gone_from e = skipped key ∙ ap (past_node key top) (passed key) ∙ none_of key top (is_key key top) h (node_at r key) e
+    gone_from e = skipped key ∙ ap (past_node key top) (passed key) ∙ skipped_none key top (is_key key top) h (node_at r key) e
 
     pub others_from : ((k : ℕ) → k ≢ key → node_at r k ≡ node_at s k) → (k : ℕ) → k ≢ key → node_at t k ≡ past_node key top (passed_on (is_key k top) h (node_at s k))
     others_from others k ne = skipped k ∙ ap (past_node key top) (passed k ∙ ap (passed_on (is_key k top) h) (others k ne))
@@ -129,7 +129,7 @@ module _ {X : Type 0} where
     itself = not_itself s tips key n sound there
 
     links_now : (k : ℕ) → k ≢ key → above_node t k ≡ past_link key n.above (above_node s k)
-    links_now k ne = ap above_in (others k ne) ∙ link_of key n.above (is_key k n.above) n.holders (node_at s k)
+    links_now k ne = ap above_in (others k ne) ∙ skipped_link key n.above (is_key k n.above) n.holders (node_at s k)
 
     tip_is : (i : ℕ) → tip_at new i ≡ past key n.above (tip_at tips i)
     tip_is i = ap (λ l. tip_at l i) now ∙ map_at (past key n.above) tips i refl
@@ -143,7 +143,7 @@ module _ {X : Type 0} where
     not_key k m e same = let none : node_at t k ≡ None = ap (node_at t) same ∙ gone in cc
 
     was : (k : ℕ) (m : Node X) → node_at t k ≡ Some m → (w : Node X) × ((node_at s k ≡ Some w) × (m.holders ≡ cond (is_key k n.above) (w.holders - 1 + n.holders) w.holders))
-    was k m e = was_of key n.above (is_key k n.above) n.holders (node_at s k) m (sym (others k (not_key k m e)) ∙ e)
+    was k m e = skipped_was key n.above (is_key k n.above) n.holders (node_at s k) m (sym (others k (not_key k m e)) ∙ e)
 
     within : key < length s
     within = link_within s key n.above (ap above_in there)
@@ -157,15 +157,15 @@ module _ {X : Type 0} where
     rest_other : (k : ℕ) → k ≢ key → node_at rest k ≡ node_at s k
     rest_other k ne = get_or-set_other s key k None None ne
 
-    nodes_now : (m : ℕ) → m ≢ key → count_by (links_to_key m) t + one (is_key m n.above) ≡ count_by (links_to_key m) s + cond (is_key m n.above) (count_by (links_to_key key) s) 0
+    nodes_now : (m : ℕ) → m ≢ key → count_by (links_to_key m) t + one_if (is_key m n.above) ≡ count_by (links_to_key m) s + cond (is_key m n.above) (count_by (links_to_key key) s) 0
     nodes_now m ne =
         let p = λ (o : Option (Node X)). is_above m (past_link key n.above (above_in o)) in
         let a = count_same (links_to_key m) refl (map (past_node key n.above) rest) t (λ j. each j (cases_eq j key)) in
         let b = count_map (links_to_key m) (past_node key n.above) rest in
-        let c = sum_past (λ o. links_to_key m (past_node key n.above o)) p p false rest (λ o. ap one (same o) ∙ (let z : one (p o) ≡ one (p o) + 0 = omega arith in z)) in
-        let d = sum_by-set (λ o. one (p o)) s key None None within in
+        let c = sum_past (λ o. links_to_key m (past_node key n.above o)) p p false rest (λ o. ap one_if (same o) ∙ (let z : one_if (p o) ≡ one_if (p o) + 0 = omega arith in z)) in
+        let d = sum_by-set (λ o. one_if (p o)) s key None None within in
         let e = sum_past p (links_to_key m) (links_to_key key) (is_key m n.above) s (λ o. each_past_link key m n.above ne (above_in o)) in
-        let f : one (p (node_at s key)) ≡ one (is_key m n.above) = ap (λ o. one (p o)) there ∙ ap (λ o. one (is_key m o)) (past_twice key n.above n.above itself) in
+        let f : one_if (p (node_at s key)) ≡ one_if (is_key m n.above) = ap (λ o. one_if (p o)) there ∙ ap (λ o. one_if (is_key m o)) (past_unless_key key n.above n.above itself) in
         omega (arith, a, b, c, d, e, f)
       where
         same : (o : Option (Node X)) → links_to_key m (past_node key n.above o) ≡ is_above m (past_link key n.above (above_in o))
@@ -180,24 +180,24 @@ module _ {X : Type 0} where
             ap (is_above m) (links_now j ne)
             ∙ sym (same (node_at s j)) ∙ sym (ap (links_to_key m) (map_at (past_node key n.above) rest j refl ∙ ap (past_node key n.above) (rest_other j ne)))
 
-    holders_now : (m : ℕ) → m ≢ key → holders_of t new m + one (is_key m n.above) ≡ holders_of s tips m + cond (is_key m n.above) n.holders 0
+    holders_now : (m : ℕ) → m ≢ key → holders_of t new m + one_if (is_key m n.above) ≡ holders_of s tips m + cond (is_key m n.above) n.holders 0
     holders_now m ne =
         let a = nodes_now m ne in
         let b : count_by (is_key m) new ≡ count_by (is_key m) (map (past key n.above) tips) = ap (count_by (is_key m)) now in
         let c = count_map (is_key m) (past key n.above) tips in
         let d = sum_past (λ o. is_key m (past key n.above o)) (is_key m) (is_key key) (is_key m n.above) tips (each_past key m n.above ne) in
-        let e = both (is_key m n.above) (count_by (is_key key) tips) (count_by (links_to_key key) s) in
+        let e = cond_add (is_key m n.above) (count_by (is_key key) tips) (count_by (links_to_key key) s) in
         let f = ap (λ h. cond (is_key m n.above) h 0) (sound.counted key n there) in
         omega (arith, a, b, c, d, e, f)
 
     counted_by : (k : ℕ) (m : Node X) (e : node_at t k ≡ Some m) (b : Bool) → is_key k n.above ≡ b
         → (m.holders ≡ cond b ((was k m e).0.holders - 1 + n.holders) (was k m e).0.holders)
-        × (holders_of t new k + one b ≡ (was k m e).0.holders + cond b n.holders 0)
+        × (holders_of t new k + one_if b ≡ (was k m e).0.holders + cond b n.holders 0)
     counted_by k m e b it =
         let w = was k m e in
         let old = sound.counted k w.0 w.1.0 in
         let all = holders_now k (not_key k m e) in
-        let x = ap one it in
+        let x = ap one_if it in
         let y = ap (λ b. cond b n.holders 0) it in
         (w.1.1 ∙ ap (λ b. cond b (w.0.holders - 1 + n.holders) w.0.holders) it, omega (arith, old, all, x, y))
 
@@ -207,11 +207,11 @@ module _ {X : Type 0} where
         by : (b : Bool) → is_key k n.above ≡ b → m.holders ≡ holders_of t new k
         by true it =
             let old = sound.counted k (was k m e).0 (was k m e).1.0 in
-            let both = counted_by k m e true it in
-            let some = get_or-le-sum_by (λ o. one (links_to_key k o)) s key None within in
-            let z : one (links_to_key k (node_at s key)) ≡ 1 = ap (λ o. one (links_to_key k o)) there ∙ ap one it in
-            omega (arith, old, both.0, both.1, some, z)
-        by false it = let both = counted_by k m e false it in omega (arith, both.0, both.1)
+            let sums = counted_by k m e true it in
+            let some = get_or-le-sum_by (λ o. one_if (links_to_key k o)) s key None within in
+            let z : one_if (links_to_key k (node_at s key)) ≡ 1 = ap (λ o. one_if (links_to_key k o)) there ∙ ap one_if it in
+            omega (arith, old, sums.0, sums.1, some, z)
+        by false it = let sums = counted_by k m e false it in omega (arith, sums.0, sums.1)
 
     pub skipped_sound : IsSoundFamily t new
     skipped_sound = record {
@@ -223,8 +223,8 @@ module _ {X : Type 0} where
       counted = counted_now;
       few =
           let a = ap length now in let b = length-map tips (past key n.above) in
-          let c = count_changed is_some refl key s t (λ j ne. ap is_some (others j ne) ∙ some_of key n.above (is_key j n.above) n.holders (node_at s j)) in
-          let d = ap (λ o. one (is_some o)) gone in
+          let c = count_changed is_some refl key s t (λ j ne. ap is_some (others j ne) ∙ skipped_is_some key n.above (is_key j n.above) n.holders (node_at s j)) in
+          let d = ap (λ o. one_if (is_some o)) gone in
           let few = sound.few in
           omega (arith, a, b, c, d, few);
     }
@@ -232,14 +232,14 @@ module _ {X : Type 0} where
     pub skipped_paths : map (path_to t) new ≡ map (keys_without key) (map (path_to s) tips)
     skipped_paths =
         ap (map (path_to t)) now ∙ map-map (past key n.above) (path_to t) tips
-        ∙ map_same (λ o. path_to t (past key n.above o)) (λ o. keys_without key (path_to s o)) tips (λ i.
+        ∙ map_on_tips (λ o. path_to t (past key n.above o)) (λ o. keys_without key (path_to s o)) tips (λ i.
         let e = sound.ends i in
         ap (path_to t) (sym (tip_is i)) ∙ path_to_is t (tip_at new i) (keys_without key e.up) (climbs i e.up e.is) ∙ without-reverse key n.above e.up
         ∙ ap (keys_without key) (sym (path_to_is s (tip_at tips i) e.up e.is)))
         ∙ sym (map-map (path_to s) (keys_without key) tips)
 
     pub skipped_items : (k : ℕ) → k ≢ key → item_at (family_on t new) k ≡ item_at (family_on s tips) k
-    skipped_items k ne = item_is t new k ∙ ap item_in (others k ne) ∙ item_of key n.above (is_key k n.above) n.holders (node_at s k) ∙ sym (item_is s tips k)
+    skipped_items k ne = item_is t new k ∙ ap item_in (others k ne) ∙ skipped_item key n.above (is_key k n.above) n.holders (node_at s k) ∙ sym (item_is s tips k)
 
 -- in t the links of nodes below `place` skip the key; in u that of the node at `place` does too
 module _ {X : Type 0} (s t u : List (Option (Node X))) (place : ℕ) where

@@ -50,14 +50,14 @@ module _ {X : Type 0} (s : List (Option (Node X))) where
       ap last_of (path_at tips i ∙ path_to_is (tip_at tips i) e.up e.is) ∙ climb_top (above_node s) (tip_at tips i) e.up e.is
 
   -- one step up from `at` to the link of its node n: the rest of the climb ends, and is shorter
-  pub record Onward (at : Option ℕ) (n : Node X) : Type 0 where
+  pub record StepsUp (at : Option ℕ) (n : Node X) : Type 0 where
     pub ends : Ends (above_node s) n.above
     pub shorter : length (keys_up s n.above) < length (keys_up s at)
     pub keys : (k : ℕ) → at ≡ Some k → keys_up s at ≡ k ∷ keys_up s n.above
 
-  onward_at : (k : ℕ) (n : Node X) (up : List ℕ) → IsClimb (above_node s) (Some k) up → node_at s k ≡ Some n → Onward (Some k) n
-  onward_at k n [] h e = let no : Some k ≡ None = h in absurd (cc)
-  onward_at k n (j ∷ up) h e =
+  steps_up_at : (k : ℕ) (n : Node X) (up : List ℕ) → IsClimb (above_node s) (Some k) up → node_at s k ≡ Some n → StepsUp (Some k) n
+  steps_up_at k n [] h e = let no : Some k ≡ None = h in absurd (cc)
+  steps_up_at k n (j ∷ up) h e =
       let same : k ≡ j = let w : Some k ≡ Some j = h.0 in cc in
       let found : above_node s k ≡ Some n.above = ap above_in e in
       let found2 : above_node s k ≡ Some h.1.0 = ap (above_node s) same ∙ h.1.1.0 in
@@ -72,9 +72,9 @@ module _ {X : Type 0} (s : List (Option (Node X))) where
         keys = λ i e2. let i_is : i ≡ k = let w : Some k ≡ Some i = e2 in cc in rw (i_is, keys) refl;
       }
 
-  pub onward : (at : Option ℕ) (k : ℕ) (n : Node X) → Ends (above_node s) at → at ≡ Some k → node_at s k ≡ Some n → Onward at n
-  onward at k n h is e =
-      subst (λ o. Onward o n) (sym is) (onward_at k n h.up (subst (λ o. IsClimb (above_node s) o h.up) is h.is) e)
+  pub steps_up : (at : Option ℕ) (k : ℕ) (n : Node X) → Ends (above_node s) at → at ≡ Some k → node_at s k ≡ Some n → StepsUp at n
+  steps_up at k n h is e =
+      subst (λ o. StepsUp o n) (sym is) (steps_up_at k n h.up (subst (λ o. IsClimb (above_node s) o h.up) is h.is) e)
 
   no_end_at : (k : ℕ) (up : List ℕ) → IsClimb (above_node s) (Some k) up → node_at s k ≡ None → ⊥
   no_end_at k [] h e = let no : Some k ≡ None = h in cc

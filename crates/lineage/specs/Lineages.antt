@@ -85,9 +85,9 @@ module _ {X : Type 0} where
   node_under key (Some n) = Some (node n.item (Some key) n.holders)
 
   -- a node with one holder less; None if it has no holder left
-  abbrev pub less_one : Option (Node X) → Option (Node X)
-  less_one None = None
-  less_one (Some n) = if nat_le n.holders 1 then None else Some (node n.item n.above (n.holders - 1))
+  abbrev pub without_holder : Option (Node X) → Option (Node X)
+  without_holder None = None
+  without_holder (Some n) = if nat_le n.holders 1 then None else Some (node n.item n.above (n.holders - 1))
 
   -- when this node loses a holder, the key whose node loses a holder next: this node's link if the
   -- holder was its last, so that this node is dropped; otherwise None
@@ -153,7 +153,7 @@ module _ {X : Type 0} where
     pub fresh : (k : ℕ) → has k (path_to t tip) ≡ true → node_at s k ≡ None
     pub items_are : map (λ k. item_in (node_at t k)) (path_to t tip) ≡ map Some items
     pub kept : (k : ℕ) (n : Node X) → node_at s k ≡ Some n → node_at t k ≡ Some n
-    pub old : (k : ℕ) → has k (path_to t tip) ≡ false → node_at t k ≡ node_at s k
+    pub others : (k : ℕ) → has k (path_to t tip) ≡ false → node_at t k ≡ node_at s k
 
   -- what nodes and tips represent: the item of each node, and the path that ends with each tip
   abbrev pub family_on : List (Option (Node X)) → List (Option ℕ) → Family X
@@ -164,5 +164,5 @@ module _ {X : Type 0} where
   family_of t = family_on t.nodes.slots t.tips.items
 
   -- the invariant of a lineage's fields: their nodes and tips are as `IsSoundFamily` says
-  abbrev pub IsHeldFamily : Inside X → Type 0
-  IsHeldFamily t = IsSoundFamily t.nodes.slots t.tips.items
+  abbrev pub IsSoundLineage : Inside X → Type 0
+  IsSoundLineage t = IsSoundFamily t.nodes.slots t.tips.items

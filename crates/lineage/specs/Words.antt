@@ -6,6 +6,6 @@ abbrev pub key_of_word : ℕ → Option ℕ
 key_of_word word = if nat_eq word (2 ^ 64 - 1) then None else Some word
 
 -- the word that stores a key, or no key
-abbrev pub word_of : Option ℕ → ℕ
-word_of None = 2 ^ 64 - 1
-word_of (Some key) = key
+abbrev pub word_of_key : Option ℕ → ℕ
+word_of_key None = 2 ^ 64 - 1
+word_of_key (Some key) = key

@@ -1,4 +1,4 @@
-//! Paths, which are lists of items. Several paths can have the same beginning.
+//! The fields of a lineage, and the calls that read it or change one item.
 
 ghost use Rattle.std.specs.Prelude.{ℕ, ◌≡◌, ◌≤◌, List, ◌++◌, length, [], ◌∷◌, map, Some, None, IfOk, IfSome, IfNone, IsSome, slice_set, true, false};
 ghost use Rattle.std.specs.Option.{option_copied, option_map};
@@ -35,11 +35,11 @@ impl<X> Model for Lineage<X> {
 
     ghost Value = { Family X };
 
-    ghost use Rattle.lineage.specs.Lineages.{family_of, IsHeldFamily};
+    ghost use Rattle.lineage.specs.Lineages.{family_of, IsSoundLineage};
 
     ghost view = { family_of };
 
-    ghost invariant = { IsHeldFamily };
+    ghost invariant = { IsSoundLineage };
 }
 
 impl<X: Drop> Lineage<X> {

@@ -21,11 +21,11 @@ impl Model for Above {
 
     ghost Value = { Option ℕ };
 
-    ghost use Rattle.lineage.specs.Words.{key_of_word, word_of};
+    ghost use Rattle.lineage.specs.Words.{key_of_word, word_of_key};
 
     ghost view = { λ a. key_of_word a.word };
 
-    ghost inverse = { λ o. record { word = word_of o } };
+    ghost inverse = { λ o. record { word = word_of_key o } };
 }
 
 impl Copy for Above {}

@@ -2,6 +2,6 @@ pub mod Codes
 pub mod Phases
 pub mod PhaseSteps
 pub mod Moves
-pub mod Ledger
+pub mod HistorySteps
 pub mod RanksFromCodes
 pub mod Kept

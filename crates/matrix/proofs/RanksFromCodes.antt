@@ -1,4 +1,4 @@
--- If each step changes codes as `Steps` says, the operations can be given ranks: their codes.
+-- If each step changes codes as `StepChanges` says, the operations can be given ranks: their codes.
 use Rattle.std.proofs.Common.{◌≡◌, ℕ, ◌+◌, ◌%◌, ◌<◌, ◌≤◌, max, Bool, true, false, List, [], ◌∷◌, ◌++◌, Option, Some, None, inl, inr, refl, sym, ap, subst, ◌∙◌, arith, append_assoc}
 use Rattle.std.specs.Prelude.{◌⊎◌, ⊤, if◌then◌else◌, ◌==◌}
 use Rattle.std.proofs.lemmas.Bool.{cases_eq, cases_lt}
@@ -10,9 +10,9 @@ use Rattle.frames.specs.declared.types.StepEvents.{StepEvents}
 use Rattle.frames.specs.Recorded.{at_index, indexed}
 use Rattle.frames.proofs.Seen.{Allowed}
 use Rattle.frames.proofs.Pointwise.{put, put_same, put_other, put_all}
-use Rattle.matrix.proofs.Codes.{Coded, Known}
-use Rattle.matrix.proofs.Moves.{returned, invoked, closed, took_code, took_at, took_else, took_others}
-use Rattle.matrix.proofs.Ledger.{Counts, Fresh, Takes, Steps, uncoded}
+use Rattle.matrix.proofs.Codes.{Coded, IsKnownCode}
+use Rattle.matrix.proofs.Moves.{returned, invoked, after_refusal, took_code, own_code_taken, own_other_codes, others_codes}
+use Rattle.matrix.proofs.HistorySteps.{EventChanges, TakesNewCode, MayTakeCode, StepChanges, uncoded}
 use Rattle.frames.specs.correctness.Ranks.{Ranking, at_first, HasRank, after_rank, Ranked}
 
 abbrev pub CodeTable : Type 0
@@ -45,7 +45,7 @@ pub record RanksAgree (values : ℕ) (c : Coded) (final_codes : CodeTable) (r : 
   pub issued : (x : ℕ) → IsIssued c final_codes x → r.values x ≡ Some (x % values)
   pub unissued : (x : ℕ) → (IsIssued c final_codes x → ⊥) → r.values x ≡ None
 
-known_is_issued : (values : ℕ) (c : Coded) (final_codes : CodeTable) (x : ℕ) → AreConsistent c → AreFinalCodes values c final_codes → Known c x → IsIssued c final_codes x
+known_is_issued : (values : ℕ) (c : Coded) (final_codes : CodeTable) (x : ℕ) → AreConsistent c → AreFinalCodes values c final_codes → IsKnownCode c x → IsIssued c final_codes x
 known_is_issued values c final_codes x s h k = elim k [
   | inl e ↦ inl e
   | inr w ↦ inr (
@@ -68,12 +68,12 @@ some_same x y e = cc
 
 -- when a write takes a code, c becomes d: d is consistent too, final codes of d are final codes of
 -- c, and a ranking that agrees with c agrees with d
-module _ (values : ℕ) (c d : Coded) (t : Fresh values c d) where
+module _ (values : ℕ) (c d : Coded) (t : TakesNewCode values c d) where
   took_consistent : AreConsistent c → AreConsistent d
   took_consistent s = subst AreConsistent (sym t.after) (record {
     later = λ q k lt. elim (cases_eq q t.process) [
-      | inr ne ↦ took_others t.process t.code_taken q k c ne ∙ s.later q k lt
-      | inl e ↦ ap (λ i. (took_code t.process t.code_taken c).code i k) e ∙ took_else t.process t.code_taken k c (λ u. (let w = ap c.count e in omega (arith, u, lt, w))) ∙ ap (λ i. c.code i k) (sym e) ∙ s.later q k lt
+      | inr ne ↦ others_codes t.process t.code_taken q k c ne ∙ s.later q k lt
+      | inl e ↦ ap (λ i. (took_code t.process t.code_taken c).code i k) e ∙ own_other_codes t.process t.code_taken k c (λ u. (let w = ap c.count e in omega (arith, u, lt, w))) ∙ ap (λ i. c.code i k) (sym e) ∙ s.later q k lt
     ];
     low = s.low;
     apart = λ q k r l x a b. both q k r l x (where_from q k x a) (where_from r l x b);
@@ -81,10 +81,10 @@ module _ (values : ℕ) (c d : Coded) (t : Fresh values c d) where
     where
       where_from : (q k x : ℕ) → (took_code t.process t.code_taken c).code q k ≡ Some x → (c.code q k ≡ Some x) ⊎ ((q ≡ t.process) × ((k ≡ c.count t.process) × (t.code_taken ≡ x)))
       where_from q k x a = elim (cases_eq q t.process) [
-        | inr ne ↦ inl (sym (took_others t.process t.code_taken q k c ne) ∙ a)
+        | inr ne ↦ inl (sym (others_codes t.process t.code_taken q k c ne) ∙ a)
         | inl e ↦ elim (cases_eq k (c.count t.process)) [
-          | inr ne ↦ inl (ap (λ i. c.code i k) e ∙ sym (took_else t.process t.code_taken k c ne) ∙ ap (λ i. (took_code t.process t.code_taken c).code i k) (sym e) ∙ a)
-          | inl i ↦ inr (e, (i, some_same t.code_taken x (sym (took_at t.process t.code_taken c) ∙ sym (ap ((took_code t.process t.code_taken c).code t.process) i) ∙ ap (λ j. (took_code t.process t.code_taken c).code j k) (sym e) ∙ a)))
+          | inr ne ↦ inl (ap (λ i. c.code i k) e ∙ sym (own_other_codes t.process t.code_taken k c ne) ∙ ap (λ i. (took_code t.process t.code_taken c).code i k) (sym e) ∙ a)
+          | inl i ↦ inr (e, (i, some_same t.code_taken x (sym (own_code_taken t.process t.code_taken c) ∙ sym (ap ((took_code t.process t.code_taken c).code t.process) i) ∙ ap (λ j. (took_code t.process t.code_taken c).code j k) (sym e) ∙ a)))
         ]
       ]
 
@@ -97,26 +97,26 @@ module _ (values : ℕ) (c d : Coded) (t : Fresh values c d) where
   took_final : (final_codes : CodeTable) → AreFinalCodes values d final_codes → AreFinalCodes values c final_codes
   took_final final_codes g =
       let h : AreFinalCodes values (took_code t.process t.code_taken c) final_codes = subst (λ z. AreFinalCodes values z final_codes) t.after g in
-      let there : final_codes t.process (c.count t.process) ≡ Some t.code_taken = h.kept t.process (c.count t.process) t.code_taken (took_at t.process t.code_taken c) in
+      let there : final_codes t.process (c.count t.process) ≡ Some t.code_taken = h.kept t.process (c.count t.process) t.code_taken (own_code_taken t.process t.code_taken c) in
       record {
         kept = λ q k x e. elim (cases_eq q t.process) [
-          | inr ne ↦ h.kept q k x (took_others t.process t.code_taken q k c ne ∙ e)
+          | inr ne ↦ h.kept q k x (others_codes t.process t.code_taken q k c ne ∙ e)
           | inl i ↦ elim (cases_eq k (c.count t.process)) [
-            | inr ne ↦ h.kept q k x (ap (λ j. (took_code t.process t.code_taken c).code j k) i ∙ took_else t.process t.code_taken k c ne ∙ ap (λ j. c.code j k) (sym i) ∙ e)
-            | inl u ↦ absurd (let w : None ≡ Some x = sym t.none ∙ sym (ap (c.code t.process) u) ∙ ap (λ j. c.code j k) (sym i) ∙ e in cc)
+            | inr ne ↦ h.kept q k x (ap (λ j. (took_code t.process t.code_taken c).code j k) i ∙ own_other_codes t.process t.code_taken k c ne ∙ ap (λ j. c.code j k) (sym i) ∙ e)
+            | inl u ↦ absurd (let w : None ≡ Some x = sym t.had_no_code ∙ sym (ap (c.code t.process) u) ∙ ap (λ j. c.code j k) (sym i) ∙ e in cc)
           ]
         ];
         past = λ q k lt. h.past q k lt ∙ elim (cases_eq q t.process) [
-          | inr ne ↦ took_others t.process t.code_taken q k c ne
-          | inl i ↦ ap (λ j. (took_code t.process t.code_taken c).code j k) i ∙ took_else t.process t.code_taken k c (λ u. (let w = ap c.count i in omega (arith, u, lt, w))) ∙ ap (λ j. c.code j k) (sym i)
+          | inr ne ↦ others_codes t.process t.code_taken q k c ne
+          | inl i ↦ ap (λ j. (took_code t.process t.code_taken c).code j k) i ∙ own_other_codes t.process t.code_taken k c (λ u. (let w = ap c.count i in omega (arith, u, lt, w))) ∙ ap (λ j. c.code j k) (sym i)
         ];
         ended = λ q e. h.ended q e ∙ elim (cases_eq q t.process) [
-          | inr ne ↦ took_others t.process t.code_taken q (c.count q) c ne
+          | inr ne ↦ others_codes t.process t.code_taken q (c.count q) c ne
           | inl i ↦ absurd (let w : true ≡ false = sym t.writes ∙ ap c.writing (sym i) ∙ e in cc)
         ];
         apart = h.apart;
         above = λ q x w e u. elim (cases_eq q t.process) [
-          | inr ne ↦ h.above q x w (took_others t.process t.code_taken q (c.count q) c ne ∙ e) u
+          | inr ne ↦ h.above q x w (others_codes t.process t.code_taken q (c.count q) c ne ∙ e) u
           | inl i ↦
               (let same : t.code_taken ≡ x = some_same t.code_taken x (sym there ∙ ap (λ j. final_codes j (c.count j)) (sym i) ∙ u) in
               let a : c.floor t.process < t.code_taken = t.above in
@@ -128,15 +128,15 @@ module _ (values : ℕ) (c d : Coded) (t : Fresh values c d) where
   took_agrees : (final_codes : CodeTable) (r : Ranking) → RanksAgree values c final_codes r → RanksAgree values d final_codes r
   took_agrees final_codes r a = subst (λ z. RanksAgree values z final_codes r) (sym t.after) (record { top = a.top; floor = a.floor; mine = a.mine; rest = a.rest; issued = a.issued; unissued = a.unissued })
 
-takes_consistent : (values : ℕ) (c d : Coded) → Takes values c d → AreConsistent c → AreConsistent d
+takes_consistent : (values : ℕ) (c d : Coded) → MayTakeCode values c d → AreConsistent c → AreConsistent d
 takes_consistent values c d (inl e) s = subst AreConsistent (sym e) s
 takes_consistent values c d (inr t) s = took_consistent values c d t s
 
-takes_final : (values : ℕ) (c d : Coded) (final_codes : CodeTable) → Takes values c d → AreFinalCodes values d final_codes → AreFinalCodes values c final_codes
+takes_final : (values : ℕ) (c d : Coded) (final_codes : CodeTable) → MayTakeCode values c d → AreFinalCodes values d final_codes → AreFinalCodes values c final_codes
 takes_final values c d final_codes (inl e) h = subst (λ z. AreFinalCodes values z final_codes) e h
 takes_final values c d final_codes (inr t) h = took_final values c d t final_codes h
 
-takes_agrees : (values : ℕ) (c d : Coded) (final_codes : CodeTable) (r : Ranking) → Takes values c d → RanksAgree values c final_codes r → RanksAgree values d final_codes r
+takes_agrees : (values : ℕ) (c d : Coded) (final_codes : CodeTable) (r : Ranking) → MayTakeCode values c d → RanksAgree values c final_codes r → RanksAgree values d final_codes r
 takes_agrees values c d final_codes r (inl e) a = subst (λ z. RanksAgree values z final_codes r) (sym e) a
 takes_agrees values c d final_codes r (inr t) a = took_agrees values c d t final_codes r a
 
@@ -169,8 +169,8 @@ final_before_write_ends values p c z final_codes k h = record {
 returned_ends_write : (p n : ℕ) (c : Coded) → EndsWrite p c (returned p n c)
 returned_ends_write p n c = record { code = λ q k. refl; count = λ q. refl; over = put_same p false c.writing; writing = λ q ne. put_other p q false c.writing ne; floor = λ q ne. refl; value = λ q ne. refl }
 
-closed_ends_write : (p : ℕ) (c : Coded) → EndsWrite p c (closed p c)
-closed_ends_write p c = record { code = λ q k. refl; count = λ q. refl; over = put_same p false c.writing; writing = λ q ne. put_other p q false c.writing ne; floor = λ q ne. refl; value = λ q ne. refl }
+refusal_ends_write : (p : ℕ) (c : Coded) → EndsWrite p c (after_refusal p c)
+refusal_ends_write p c = record { code = λ q k. refl; count = λ q. refl; over = put_same p false c.writing; writing = λ q ne. put_other p q false c.writing ne; floor = λ q ne. refl; value = λ q ne. refl }
 
 read_ends_write : (p : ℕ) (c : Coded) → EndsWrite p c (invoked p Read c)
 read_ends_write p c = record {
@@ -191,20 +191,20 @@ still_writes p q w e = elim (cases_eq q p) [
 
 -- if processes in no write have no rank, this still holds once p's write is over and p's rank is
 -- removed
-rest_put : (p : ℕ) (m : ℕ → Option ℕ) (w : ℕ → Bool) → ((q : ℕ) → w q ≡ false → m q ≡ None) → (q : ℕ) → put p false w q ≡ false → put p None m q ≡ None
-rest_put p m w h q e = elim (cases_eq q p) as (λ _. put p None m q ≡ None) [
+no_rank_put : (p : ℕ) (m : ℕ → Option ℕ) (w : ℕ → Bool) → ((q : ℕ) → w q ≡ false → m q ≡ None) → (q : ℕ) → put p false w q ≡ false → put p None m q ≡ None
+no_rank_put p m w h q e = elim (cases_eq q p) as (λ _. put p None m q ≡ None) [
   | inl i ↦ ap (put p None m) i ∙ put_same p None m
   | inr ne ↦ put_other p q None m ne ∙ h q (sym (put_other p q false w ne) ∙ e)
 ]
 
-rest_more : (p : ℕ) (o : Option ℕ) (m : ℕ → Option ℕ) (w : ℕ → Bool) → ((q : ℕ) → w q ≡ false → m q ≡ None) → (q : ℕ) → put p true w q ≡ false → put p o m q ≡ None
-rest_more p o m w h q e = elim (cases_eq q p) as (λ _. put p o m q ≡ None) [
+no_rank_more : (p : ℕ) (o : Option ℕ) (m : ℕ → Option ℕ) (w : ℕ → Bool) → ((q : ℕ) → w q ≡ false → m q ≡ None) → (q : ℕ) → put p true w q ≡ false → put p o m q ≡ None
+no_rank_more p o m w h q e = elim (cases_eq q p) as (λ _. put p o m q ≡ None) [
   | inl i ↦ absurd (let f : true ≡ false = sym (put_same p true w) ∙ ap (put p true w) (sym i) ∙ e in cc)
   | inr ne ↦ put_other p q o m ne ∙ h q (sym (put_other p q true w ne) ∙ e)
 ]
 
-rest_same : (p : ℕ) (m : ℕ → Option ℕ) (w : ℕ → Bool) → m p ≡ None → ((q : ℕ) → w q ≡ false → m q ≡ None) → (q : ℕ) → put p false w q ≡ false → m q ≡ None
-rest_same p m w none h q e = elim (cases_eq q p) [
+no_rank_same : (p : ℕ) (m : ℕ → Option ℕ) (w : ℕ → Bool) → m p ≡ None → ((q : ℕ) → w q ≡ false → m q ≡ None) → (q : ℕ) → put p false w q ≡ false → m q ≡ None
+no_rank_same p m w none h q e = elim (cases_eq q p) [
   | inl i ↦ ap m i ∙ none
   | inr ne ↦ h q (sym (put_other p q false w ne) ∙ e)
 ]
@@ -214,7 +214,7 @@ same_put p x y f g e h q = elim (q == p) as (λ b. (if b then x else f q) ≡ (i
 
 -- event e leads from c to z: z is consistent; final codes of z are final codes of c; and with some
 -- rank for e, a ranking that agrees with c becomes one that agrees with z
-record EventIs (values : ℕ) (e : Event) (c z : Coded) : Type 0 where
+record EventLeads (values : ℕ) (e : Event) (c z : Coded) : Type 0 where
   consistent : AreConsistent z
   final : (final_codes : CodeTable) → AreFinalCodes values z final_codes → AreFinalCodes values c final_codes
   ranks : (final_codes : CodeTable) → AreFinalCodes values z final_codes → (r : Ranking) → RanksAgree values c final_codes r → (n : Option ℕ) × (HasRank r e n × RanksAgree values z final_codes (after_rank r e n))
@@ -227,7 +227,7 @@ got_agrees values p n c final_codes r quiet a = record {
   top = ap (λ t. max t n) a.top;
   floor = a.floor;
   mine = λ q w. a.mine q (still_writes p q c.writing w).1;
-  rest = rest_same p r.mine c.writing (a.rest p quiet) a.rest;
+  rest = no_rank_same p r.mine c.writing (a.rest p quiet) a.rest;
   issued = a.issued;
   unissued = a.unissued;
 }
@@ -237,13 +237,13 @@ wrote_agrees values p n c final_codes r a = record {
   top = ap (λ t. max t n) a.top;
   floor = a.floor;
   mine = λ q w. (let u = still_writes p q c.writing w in put_other p q None r.mine u.0 ∙ a.mine q u.1);
-  rest = rest_put p r.mine c.writing a.rest;
+  rest = no_rank_put p r.mine c.writing a.rest;
   issued = a.issued;
   unissued = a.unissued;
 }
 
-got_is : (values p x n : ℕ) (c : Coded) → AreConsistent c → Known c n → x ≡ n % values → c.floor p ≤ n → c.writing p ≡ false → EventIs values (Got p x) c (returned p n c)
-got_is values p x n c s k e le quiet = record {
+got_leads : (values p x n : ℕ) (c : Coded) → AreConsistent c → IsKnownCode c n → x ≡ n % values → c.floor p ≤ n → c.writing p ≡ false → EventLeads values (Got p x) c (returned p n c)
+got_leads values p x n c s k e le quiet = record {
   consistent = returned_consistent p n c s;
   final = λ final_codes h. final_before_write_ends values p c (returned p n c) final_codes (returned_ends_write p n c) h;
   ranks = λ final_codes h r a.
@@ -251,8 +251,8 @@ got_is values p x n c s k e le quiet = record {
       (Some n, ((let u = a.floor p in omega (arith, u, le), a.issued n (known_is_issued values c final_codes n s g k) ∙ ap Some (sym e)), got_agrees values p n c final_codes r quiet a)));
 }
 
-wrote_is : (values p n : ℕ) (c : Coded) → AreConsistent c → c.code p (c.count p) ≡ Some n → c.writing p ≡ true → EventIs values (Wrote p) c (returned p n c)
-wrote_is values p n c s e w = record {
+wrote_leads : (values p n : ℕ) (c : Coded) → AreConsistent c → c.code p (c.count p) ≡ Some n → c.writing p ≡ true → EventLeads values (Wrote p) c (returned p n c)
+wrote_leads values p n c s e w = record {
   consistent = returned_consistent p n c s;
   final = λ final_codes h. final_before_write_ends values p c (returned p n c) final_codes (returned_ends_write p n c) h;
   ranks = λ final_codes h r a.
@@ -260,8 +260,8 @@ wrote_is values p n c s e w = record {
       (Some n, (a.mine p w ∙ g.kept p (c.count p) n e, wrote_agrees values p n c final_codes r a)));
 }
 
-read_is : (values p : ℕ) (c : Coded) → AreConsistent c → EventIs values (Invoke p Read) c (invoked p Read c)
-read_is values p c s = record {
+read_leads : (values p : ℕ) (c : Coded) → AreConsistent c → EventLeads values (Invoke p Read) c (invoked p Read c)
+read_leads values p c s = record {
   consistent = record { later = s.later; low = s.low; apart = s.apart };
   final = λ final_codes h. final_before_write_ends values p c (invoked p Read c) final_codes (read_ends_write p c) h;
   ranks = λ final_codes h r a. (
@@ -272,7 +272,7 @@ read_is values p c s = record {
         top = a.top;
         floor = same_put p r.top c.top r.floor c.floor a.top a.floor;
         mine = λ q w. (let u = still_writes p q c.writing w in put_other p q None r.mine u.0 ∙ a.mine q u.1);
-        rest = rest_put p r.mine c.writing a.rest;
+        rest = no_rank_put p r.mine c.writing a.rest;
         issued = a.issued;
         unissued = a.unissued;
       },
@@ -285,26 +285,26 @@ module _ (values p v : ℕ) (c : Coded) (s : AreConsistent c) where
   abbrev z : Coded
   z = invoked p (Write v) c
 
-  more : z.count p ≡ c.count p + 1
-  more = put_same p (c.count p + 1) c.count
+  count_raised : z.count p ≡ c.count p + 1
+  count_raised = put_same p (c.count p + 1) c.count
 
-  fewer : (q : ℕ) → c.count q ≤ z.count q
-  fewer = put_all (λ q y. c.count q ≤ y) p (c.count p + 1) c.count (omega arith) (λ q ne. omega arith)
+  count_no_lower : (q : ℕ) → c.count q ≤ z.count q
+  count_no_lower = put_all (λ q y. c.count q ≤ y) p (c.count p + 1) c.count (omega arith) (λ q ne. omega arith)
 
   write_consistent : AreConsistent z
-  write_consistent = record { later = λ q k lt. s.later q k (let w = fewer q in omega (arith, w, lt)); low = s.low; apart = s.apart }
+  write_consistent = record { later = λ q k lt. s.later q k (let w = count_no_lower q in omega (arith, w, lt)); low = s.low; apart = s.apart }
 
   write_final : (final_codes : CodeTable) → AreFinalCodes values z final_codes → AreFinalCodes values c final_codes
   write_final final_codes h = record {
     kept = h.kept;
-    past = λ q k lt. h.past q k (let w = fewer q in omega (arith, w, lt));
+    past = λ q k lt. h.past q k (let w = count_no_lower q in omega (arith, w, lt));
     ended = λ q e. elim (cases_eq q p) as (λ _. final_codes q (c.count q) ≡ c.code q (c.count q)) [
-      | inl i ↦ h.past q (c.count q) (let w = more in let u = ap z.count i in let t = ap c.count i in omega (arith, w, u, t))
+      | inl i ↦ h.past q (c.count q) (let w = count_raised in let u = ap z.count i in let t = ap c.count i in omega (arith, w, u, t))
       | inr ne ↦ ap (final_codes q) (sym (same q ne)) ∙ h.ended q (put_other p q true c.writing ne ∙ e) ∙ ap (c.code q) (same q ne)
     ];
     apart = h.apart;
     above = λ q x w e u. elim (cases_eq q p) [
-      | inl i ↦ absurd (let f : None ≡ Some x = sym e ∙ sym (h.past q (c.count q) (let w = more in let u = ap z.count i in let t = ap c.count i in omega (arith, w, u, t))) ∙ u in cc)
+      | inl i ↦ absurd (let f : None ≡ Some x = sym e ∙ sym (h.past q (c.count q) (let w = count_raised in let u = ap z.count i in let t = ap c.count i in omega (arith, w, u, t))) ∙ u in cc)
       | inr ne ↦
           (let g = h.above q x (put_other p q true c.writing ne ∙ w) (ap (c.code q) (same q ne) ∙ e) (ap (final_codes q) (same q ne) ∙ u) in
           (let a : z.floor q < x = g.0 in let b : z.floor q ≡ c.floor q = put_other p q c.top c.floor ne in omega (arith, a, b), g.1 ∙ put_other p q v c.value ne))
@@ -317,7 +317,7 @@ module _ (values p v : ℕ) (c : Coded) (s : AreConsistent c) where
   -- codes that were issued are still issued
   issued_more : (final_codes : CodeTable) (x : ℕ) → IsIssued c final_codes x → IsIssued z final_codes x
   issued_more final_codes x (inl e) = inl e
-  issued_more final_codes x (inr k) = inr (k.0, (k.1.0, (let w = fewer k.0 in let l : k.1.0 ≤ c.count k.0 = k.1.1.0 in omega (arith, w, l), k.1.1.1)))
+  issued_more final_codes x (inr k) = inr (k.0, (k.1.0, (let w = count_no_lower k.0 in let l : k.1.0 ≤ c.count k.0 = k.1.1.0 in omega (arith, w, l), k.1.1.1)))
 
   -- besides the codes issued before, only that of the new write is issued
   issued_else : (final_codes : CodeTable) (x : ℕ) → (final_codes p (c.count p + 1) ≡ Some x → ⊥) → IsIssued z final_codes x → IsIssued c final_codes x
@@ -329,7 +329,7 @@ module _ (values p v : ℕ) (c : Coded) (s : AreConsistent c) where
         | inr other ↦ (let w = put_other p k.0 (c.count p + 1) c.count other in let l : k.1.0 ≤ z.count k.0 = k.1.1.0 in omega (arith, w, l))
         | inl i ↦ elim (cases_eq k.1.0 (c.count p + 1)) [
           | inl last ↦ absurd (ne (ap (final_codes p) (sym last) ∙ ap (λ q. final_codes q k.1.0) (sym i) ∙ k.1.1.1))
-          | inr other ↦ (let w = more in let u = ap z.count i in let t = ap c.count i in let l : k.1.0 ≤ z.count k.0 = k.1.1.0 in omega (arith, w, u, t, l, other))
+          | inr other ↦ (let w = count_raised in let u = ap z.count i in let t = ap c.count i in let l : k.1.0 ≤ z.count k.0 = k.1.1.0 in omega (arith, w, u, t, l, other))
         ]
       ]
 
@@ -342,18 +342,18 @@ module _ (values p v : ℕ) (c : Coded) (s : AreConsistent c) where
         top = a.top;
         floor = same_put p r.top c.top r.floor c.floor a.top a.floor;
         mine = λ q w. elim (cases_eq q p) as (λ _. put p None r.mine q ≡ final_codes q (z.count q)) [
-          | inl i ↦ ap (put p None r.mine) i ∙ put_same p None r.mine ∙ sym (ap (λ j. final_codes j (z.count j)) i ∙ ap (final_codes p) more ∙ e)
+          | inl i ↦ ap (put p None r.mine) i ∙ put_same p None r.mine ∙ sym (ap (λ j. final_codes j (z.count j)) i ∙ ap (final_codes p) count_raised ∙ e)
           | inr ne ↦ put_other p q None r.mine ne ∙ a.mine q (sym (put_other p q true c.writing ne) ∙ w) ∙ ap (final_codes q) (sym (put_other p q (c.count p + 1) c.count ne))
         ];
-        rest = rest_more p None r.mine c.writing a.rest;
+        rest = no_rank_more p None r.mine c.writing a.rest;
         issued = λ x k. a.issued x (issued_else final_codes x (λ f. (let u : None ≡ Some x = sym e ∙ f in cc)) k);
         unissued = λ x ne. a.unissued x (λ k. ne (issued_more final_codes x k));
       },
     ),
   )
   write_ranks final_codes h r a (Some n) e =
-      let free : z.code p (z.count p) ≡ None = ap (c.code p) more ∙ s.later p (c.count p + 1) (omega arith) in
-      let there : final_codes p (z.count p) ≡ Some n = ap (final_codes p) more ∙ e in
+      let free : z.code p (z.count p) ≡ None = ap (c.code p) count_raised ∙ s.later p (c.count p + 1) (omega arith) in
+      let there : final_codes p (z.count p) ≡ Some n = ap (final_codes p) count_raised ∙ e in
       let g = h.above p n (put_same p true c.writing) free there in
       let over : c.top < n = (let u : z.floor p < n = g.0 in let w : z.floor p ≡ c.top = put_same p c.top c.floor in omega (arith, u, w)) in (
         Some n,
@@ -366,7 +366,7 @@ module _ (values p v : ℕ) (c : Coded) (s : AreConsistent c) where
               | inl i ↦ ap (put p (Some n) r.mine) i ∙ put_same p (Some n) r.mine ∙ sym (ap (λ j. final_codes j (z.count j)) i ∙ there)
               | inr ne ↦ put_other p q (Some n) r.mine ne ∙ a.mine q (sym (put_other p q true c.writing ne) ∙ w) ∙ ap (final_codes q) (sym (put_other p q (c.count p + 1) c.count ne))
             ];
-            rest = rest_more p (Some n) r.mine c.writing a.rest;
+            rest = no_rank_more p (Some n) r.mine c.writing a.rest;
             issued = λ x k. elim (cases_eq x n) as (λ _. put n (Some v) r.values x ≡ Some (x % values)) [
               | inl i ↦ ap (put n (Some v) r.values) i ∙ put_same n (Some v) r.values ∙ ap Some (sym (g.1 ∙ put_same p v c.value)) ∙ ap (λ j. Some (j % values)) (sym i)
               | inr ne ↦ put_other n x (Some v) r.values ne ∙ a.issued x (issued_else final_codes x (λ f. ne (sym (some_same n x (sym e ∙ f)))) k)
@@ -386,43 +386,43 @@ module _ (values p v : ℕ) (c : Coded) (s : AreConsistent c) where
           let t = ap c.count q.0 in
           let u : k.1.0 ≡ c.count p + 1 = q.1 in omega (arith, l, t, u)
 
-  write_is : EventIs values (Invoke p (Write v)) c z
-  write_is = record { consistent = write_consistent; final = write_final; ranks = λ final_codes h r a. write_ranks final_codes h r a (final_codes p (c.count p + 1)) refl }
+  write_leads : EventLeads values (Invoke p (Write v)) c z
+  write_leads = record { consistent = write_consistent; final = write_final; ranks = λ final_codes h r a. write_ranks final_codes h r a (final_codes p (c.count p + 1)) refl }
 
-refused_ranks : (values p : ℕ) (c : Coded) (final_codes : CodeTable) (r : Ranking) → (c.writing p ≡ false) ⊎ ((c.code p (c.count p) ≡ None) × (c.writing p ≡ true)) → AreFinalCodes values (closed p c) final_codes → RanksAgree values c final_codes r → (r.mine p ≡ None) × RanksAgree values (closed p c) final_codes r
+refused_ranks : (values p : ℕ) (c : Coded) (final_codes : CodeTable) (r : Ranking) → (c.writing p ≡ false) ⊎ ((c.code p (c.count p) ≡ None) × (c.writing p ≡ true)) → AreFinalCodes values (after_refusal p c) final_codes → RanksAgree values c final_codes r → (r.mine p ≡ None) × RanksAgree values (after_refusal p c) final_codes r
 refused_ranks values p c final_codes r q h a = (
   none,
-  record { top = a.top; floor = a.floor; mine = λ q u. a.mine q (still_writes p q c.writing u).1; rest = rest_same p r.mine c.writing none a.rest; issued = a.issued; unissued = a.unissued },
+  record { top = a.top; floor = a.floor; mine = λ q u. a.mine q (still_writes p q c.writing u).1; rest = no_rank_same p r.mine c.writing none a.rest; issued = a.issued; unissued = a.unissued },
 )
   where
     none : r.mine p ≡ None
     none = elim q [ inl e ↦ a.rest p e | inr w ↦ a.mine p w.1 ∙ h.ended p (put_same p false c.writing) ∙ w.0 ]
 
-event_is : (values : ℕ) (e : Event) (c z : Coded) → AreConsistent c → Counts values (Some e) c z → EventIs values e c z
-event_is values (Invoke p (Write v)) c z s h = subst (EventIs values (Invoke p (Write v)) c) (sym h) (write_is values p v c s)
-event_is values (Invoke p Read) c z s h = subst (EventIs values (Invoke p Read) c) (sym h) (read_is values p c s)
-event_is values (Got p x) c z s h = subst (EventIs values (Got p x) c) (sym h.1.1.1.1.1) (got_is values p x h.0 c s h.1.0 h.1.1.0 h.1.1.1.0 h.1.1.1.1.0)
-event_is values (Wrote p) c z s h = subst (EventIs values (Wrote p) c) (sym h.1.1.1) (wrote_is values p h.0 c s h.1.0 h.1.1.0)
-event_is values (Refused p layer) c z s h = subst (EventIs values (Refused p layer) c) (sym h.1) (record {
+event_leads : (values : ℕ) (e : Event) (c z : Coded) → AreConsistent c → EventChanges values (Some e) c z → EventLeads values e c z
+event_leads values (Invoke p (Write v)) c z s h = subst (EventLeads values (Invoke p (Write v)) c) (sym h) (write_leads values p v c s)
+event_leads values (Invoke p Read) c z s h = subst (EventLeads values (Invoke p Read) c) (sym h) (read_leads values p c s)
+event_leads values (Got p x) c z s h = subst (EventLeads values (Got p x) c) (sym h.1.1.1.1.1) (got_leads values p x h.0 c s h.1.0 h.1.1.0 h.1.1.1.0 h.1.1.1.1.0)
+event_leads values (Wrote p) c z s h = subst (EventLeads values (Wrote p) c) (sym h.1.1.1) (wrote_leads values p h.0 c s h.1.0 h.1.1.0)
+event_leads values (Refused p layer) c z s h = subst (EventLeads values (Refused p layer) c) (sym h.1) (record {
   consistent = record { later = s.later; low = s.low; apart = s.apart };
-  final = λ final_codes g. final_before_write_ends values p c (closed p c) final_codes (closed_ends_write p c) g;
+  final = λ final_codes g. final_before_write_ends values p c (after_refusal p c) final_codes (refusal_ends_write p c) g;
   ranks = λ final_codes g r a. (None, refused_ranks values p c final_codes r h.0 g a);
 })
-event_is values (Void p reason) c z s h = subst (EventIs values (Void p reason) c) (sym h) (record { consistent = s; final = λ final_codes g. g; ranks = λ final_codes g r a. (None, (tt, a)) })
-event_is values (Stop p) c z s h = subst (EventIs values (Stop p) c) (sym h) (record { consistent = s; final = λ final_codes g. g; ranks = λ final_codes g r a. (None, (tt, a)) })
-event_is values (Chosen p bit v) c z s h = subst (EventIs values (Chosen p bit v) c) (sym h) (record { consistent = s; final = λ final_codes g. g; ranks = λ final_codes g r a. (None, (tt, a)) })
+event_leads values (Void p reason) c z s h = subst (EventLeads values (Void p reason) c) (sym h) (record { consistent = s; final = λ final_codes g. g; ranks = λ final_codes g r a. (None, (tt, a)) })
+event_leads values (Stop p) c z s h = subst (EventLeads values (Stop p) c) (sym h) (record { consistent = s; final = λ final_codes g. g; ranks = λ final_codes g r a. (None, (tt, a)) })
+event_leads values (Chosen p bit v) c z s h = subst (EventLeads values (Chosen p bit v) c) (sym h) (record { consistent = s; final = λ final_codes g. g; ranks = λ final_codes g r a. (None, (tt, a)) })
 
 -- step i has event e, or none, and leads from c to z: z is consistent; final codes of z are final
 -- codes of c; and ranks for the events after it give ranks for them and e
-record StepIs (values i : ℕ) (e : Option Event) (c z : Coded) : Type 0 where
+record StepLeads (values i : ℕ) (e : Option Event) (c z : Coded) : Type 0 where
   consistent : AreConsistent z
   final : (final_codes : CodeTable) → AreFinalCodes values z final_codes → AreFinalCodes values c final_codes
   join : (final_codes : CodeTable) → AreFinalCodes values z final_codes → (rest : List (ℕ × Event)) → ((r : Ranking) → RanksAgree values z final_codes r → Ranked r rest) → (r : Ranking) → RanksAgree values c final_codes r → Ranked r (at_index i e ++ rest)
 
-step_is : (values i : ℕ) (e : Option Event) (c z : Coded) → AreConsistent c → Counts values e c z → StepIs values i e c z
-step_is values i None c z s h = subst (StepIs values i None c) (sym h) (record { consistent = s; final = λ final_codes g. g; join = λ final_codes g rest more r a. more r a })
-step_is values i (Some e) c z s h =
-    let k = event_is values e c z s h in
+step_leads : (values i : ℕ) (e : Option Event) (c z : Coded) → AreConsistent c → EventChanges values e c z → StepLeads values i e c z
+step_leads values i None c z s h = subst (StepLeads values i None c) (sym h) (record { consistent = s; final = λ final_codes g. g; join = λ final_codes g rest more r a. more r a })
+step_leads values i (Some e) c z s h =
+    let k = event_leads values e c z s h in
     record { consistent = k.consistent; final = k.final; join = λ final_codes g rest more r a. (let x = k.ranks final_codes g r a in (x.0, (x.1.0, more (after_rank r e x.0) x.1.1))) }
 
 -- the operations of all these steps can be given ranks
@@ -431,7 +431,7 @@ record CanBeRanked (values i : ℕ) (c : Coded) (es : List StepEvents) : Type 0 
   final : AreFinalCodes values c final_codes
   ranked : (r : Ranking) → RanksAgree values c final_codes r → Ranked r (indexed i es)
 
-ranks_from_codes : (values i : ℕ) (c : Coded) (es : List StepEvents) → AreConsistent c → Allowed (Steps values) c es → CanBeRanked values i c es
+ranks_from_codes : (values i : ℕ) (c : Coded) (es : List StepEvents) → AreConsistent c → Allowed (StepChanges values) c es → CanBeRanked values i c es
 ranks_from_codes values i c [] s h = record {
   final_codes = c.code;
   final = record { kept = λ q k x e. e; past = λ q k lt. refl; ended = λ q e. refl; apart = s.apart; above = λ q x w e u. absurd (let f : None ≡ Some x = sym e ∙ u in cc) };
@@ -441,9 +441,9 @@ ranks_from_codes values i c (e ∷ es) s h =
     let z : Coded = h.0 in
     let t = h.1.0 in
     let s1 = takes_consistent values c t.taken t.takes s in
-    let one = step_is values i e.first t.taken t.mid s1 t.first in
+    let one = step_leads values i e.first t.taken t.mid s1 t.first in
     let s2 = takes_consistent values t.mid t.later t.retakes one.consistent in
-    let two = step_is values i e.second t.later z s2 t.second in
+    let two = step_leads values i e.second t.later z s2 t.second in
     let rest = ranks_from_codes values (i + 1) z es two.consistent h.1.1 in
     let f3 = rest.final in
     let f2 = two.final rest.final_codes f3 in
@@ -458,9 +458,9 @@ ranks_from_codes values i c (e ∷ es) s h =
           r (takes_agrees values c t.taken rest.final_codes r t.takes a));
     }
 
--- if steps from the first configuration on change codes as `Steps` says, their operations have
--- ranks
-pub ranked_from_first : (limit : ℕ → Bool) (values v : ℕ) (es : List StepEvents) → v < values → v % values ≡ v → Allowed (Steps values) (uncoded limit v) es → Ranked (at_first v v) (indexed 0 es)
+-- if steps from the first configuration on change codes as `StepChanges` says, their operations
+-- have ranks
+pub ranked_from_first : (limit : ℕ → Bool) (values v : ℕ) (es : List StepEvents) → v < values → v % values ≡ v → Allowed (StepChanges values) (uncoded limit v) es → Ranked (at_first v v) (indexed 0 es)
 ranked_from_first limit values v es lt small h =
     let x = ranks_from_codes values 0 (uncoded limit v) es (record { later = λ q k l. refl; low = omega arith; apart = λ q k r l x e f. absurd (let g : None ≡ Some x = e in cc) }) h in
     x.ranked (at_first v v) (record {

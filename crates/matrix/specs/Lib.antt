@@ -1,5 +1,5 @@
 pub mod Program
 pub mod Limits
 pub mod laws
-pub mod Turns
+pub mod NextTasks
 pub mod Rows

@@ -15,9 +15,9 @@ use Rattle.frames.specs.Configuration.{in_order, chosen_of}
 use Rattle.frames.specs.OneWriter.{one_writer}
 use Rattle.frames.specs.laws.OneWriter as writer
 use Rattle.frames.specs.correctness.Regularity.{in_progress, IsSafe}
-use Rattle.frames.proofs.Seen.{Seen, opening, sees, got, now_last, IsFreshAlone, ended}
+use Rattle.frames.proofs.Seen.{Seen, opening, sees, got, now_last, IsFreshAlone, end_event}
 use Rattle.frames.proofs.KnownAndSeen.{fresh_alike}
-use Rattle.frames.proofs.VerdictFacts.{none_in, is_fresh, fresh_value}
+use Rattle.frames.proofs.VerdictFacts.{none_in_progress, is_fresh, fresh_value}
 use Rattle.frames.proofs.Pointwise.{put, put_same, put_other, put_zero, put_all}
 use Rattle.layers.specs.Nested.{Ends, Table, layered}
 use Rattle.layers.specs.Sound.{IsNotSpent, IsSoundTable, FitsBelow}
@@ -168,8 +168,8 @@ other_reader : (p r : ℕ) (s : Seen) → (r ≡ p → ⊥) → reader r s ≡ r
 other_reader p r s ne = λ i. record { fresh = sym (put_other p r s.last s.fresh ne) i; overlaps = sym (put_other p r (in_progress s.writing) s.overlaps ne) i }
 
 -- the high and the low bit of a value give the value again
-whole : (v : ℕ) → 2 * high_of v + low_of v ≡ v
-whole v = by_test (nat_le 2 v) refl
+value_of_bits : (v : ℕ) → 2 * high_of v + low_of v ≡ v
+value_of_bits v = by_test (nat_le 2 v) refl
   where
     by_test : (c : Bool) → nat_le 2 v ≡ c → 2 * (if c then 1 else 0) + (if c then v - 2 else v) ≡ v
     by_test true e = let big : 2 ≤ v = grind (arith, nat_tests, e) in omega (arith, big)
@@ -214,7 +214,7 @@ module _ (processes : ℕ) where
       let now : (r : ℕ) → 1 ≤ r → ReaderAt u mid (j.tasks r) r =
       λ r l. busy v (j.tasks r) (writes u) (writes u) (reader r u) (reader r (j.parts 0)) (reader r (j.parts 1)) (reader r (j.parts 0)) (reader r s) h.writing (rs r l) in (
         (u, (on, set_writer u mid p (Some (record { op = op; task = WriteLow v })) zp here now)),
-        λ o answers pass good. by_write (low_of v) (λ o. Runs t two_bits_watch p op Out (Ends Written) (record j { parts = put 1 (sees (Some (ended 0 o)) s) j.parts })) o answers pass
+        λ o answers pass good. by_write (low_of v) (λ o. Runs t two_bits_watch p op Out (Ends Written) (record j { parts = put 1 (sees (Some (end_event 0 o)) s) j.parts })) o answers pass
             (write_ends v p op Out u end zp done refl now oe),
       )
 
@@ -233,7 +233,7 @@ module _ (processes : ℕ) where
       let on : Out None z = begun IsFreshAlone p (Write v) None u refl tt in
       let oe : Out (Some (Wrote p)) (sees (Some (Wrote p)) z) = begun IsFreshAlone p (Write v) (Some (Wrote p)) u refl tt in (
         (z, (on, set_writer z mid p (Some (record { op = Write v; task = WriteHigh v })) zp here now)),
-        λ o answers pass good. by_write (high_of v) (λ o. Runs t two_bits_watch p (Write v) Out (write_low v) (record j { parts = put 0 (sees (Some (ended 0 o)) s) j.parts })) o answers pass
+        λ o answers pass good. by_write (high_of v) (λ o. Runs t two_bits_watch p (Write v) Out (write_low v) (record j { parts = put 0 (sees (Some (end_event 0 o)) s) j.parts })) o answers pass
             (writes_low v p (Write v) Out z end zp done now on oe),
       )
 
@@ -249,7 +249,7 @@ module _ (processes : ℕ) where
   read_ends p high low op Out u j lo wr rs me good oe =
       let x : ℕ = 2 * high + low in
       let right : u.overlaps p ≡ [] → x ≡ u.fresh p = λ o.
-      (let f = me o in ap (λ b. 2 * b + low) f.0 ∙ ap (λ b. 2 * high_of (u.fresh p) + b) (bit_given p low (j.parts 1) good f.1.overlaps ∙ f.1.fresh) ∙ whole (u.fresh p)) in
+      (let f = me o in ap (λ b. 2 * b + low) f.0 ∙ ap (λ b. 2 * high_of (u.fresh p) + b) (bit_given p low (j.parts 1) good f.1.overlaps ∙ f.1.fresh) ∙ value_of_bits (u.fresh p)) in
       (u, (oe x (λ o. is_fresh (record { reader = p; value = x; fresh = u.fresh p; overlaps = u.overlaps p }) (right o)), set_reader u j p None lo wr rs tt))
 
   -- the rest of a read that got this high bit keeps the invariant
@@ -276,7 +276,7 @@ module _ (processes : ℕ) where
         },
       )) in (
         (u, (on, set_reader u mid p (Some n) lo wr others mine)),
-        λ o answers pass good. by_read (λ o. AllByRecursion IsFreshAlone (got (Some (ended p o)) s) → Runs t two_bits_watch p op Out (with_bit (λ low. Ends (Value (2 * high + low))) o) (record j { parts = put 1 (sees (Some (ended p o)) s) j.parts }))
+        λ o answers pass good. by_read (λ o. AllByRecursion IsFreshAlone (got (Some (end_event p o)) s) → Runs t two_bits_watch p op Out (with_bit (λ low. Ends (Value (2 * high + low))) o) (record j { parts = put 1 (sees (Some (end_event p o)) s) j.parts }))
             o answers pass (λ low good. read_ends p high low op Out u mid lo wr others mine good.0 oe) good,
       )
 
@@ -293,7 +293,7 @@ module _ (processes : ℕ) where
       subst (λ y. ReaderSays (j.tasks r) (writes z) (reader r z) y (reader r (j.parts 1))) (other_reader p r q ne)
       (subst (λ y. ReaderSays (j.tasks r) (writes u) y (reader r q) (reader r (j.parts 1))) (other_reader p r u ne) (h.readers r l)) in
       let mine : ReaderAt z mid (Some n) p = λ o.
-      (let none : u.writing ≡ None = none_in u.writing (sym (put_same p (in_progress u.writing) u.overlaps) ∙ o) in
+      (let none : u.writing ≡ None = none_in_progress u.writing (sym (put_same p (in_progress u.writing) u.overlaps) ∙ o) in
       let st : Still (writes u) (writes q) (writes (j.parts 1)) = still (j.tasks 0) (writes u) (writes q) (writes (j.parts 1)) h.writer none in
       let last : u.last ≡ z.fresh p = sym (put_same p u.last u.fresh) in record {
         writing = none;
@@ -303,21 +303,21 @@ module _ (processes : ℕ) where
       }) in
       let on : Out None z = begun IsFreshAlone p Read None u refl tt in (
         (z, (on, set_reader z mid p (Some n) lo h.writer others mine)),
-        λ o answers pass good. by_read (λ o. AllByRecursion IsFreshAlone (got (Some (ended p o)) s) → Runs t two_bits_watch p Read Out (with_bit (read_low p) o) (record j { parts = put 0 (sees (Some (ended p o)) s) j.parts }))
+        λ o answers pass good. by_read (λ o. AllByRecursion IsFreshAlone (got (Some (end_event p o)) s) → Runs t two_bits_watch p Read Out (with_bit (read_low p) o) (record j { parts = put 0 (sees (Some (end_event p o)) s) j.parts }))
             o answers pass (λ high good. reads_low p high Read Out z mid lo h.writer others mine good.0 on (λ x g. begun IsFreshAlone p Read (Some (Got p x)) u refl (g, tt))) good,
       )
 
   begins : (u : Seen) (j : View TwoBitsTask) (p : ℕ) (op : Op) → TwoBitsInv u j → j.tasks p ≡ None → one_writer 4 processes p op ≡ true
       → Runs t two_bits_watch p op (λ e. IsGoodStep IsFreshAlone u (in_order (Some (Invoke p op)) e)) (two_bits_program p op) j
   begins u j p (Write v) h free s = begins_write u j p v h free (writer.writer_zero 4 processes p v s)
-  begins u j p Read h free s = begins_read u j p h (writer.reader_some 4 processes p s)
+  begins u j p Read h free s = begins_read u j p h (writer.reader_is_not_zero 4 processes p s)
 
   -- the run of p's operation once its task has ended with this outcome
   abbrev GoesOn : Seen → View TwoBitsTask → ℕ → Op → Option (ℕ × Bool) → TwoBitsTask → Outcome → Type 0
   GoesOn u j p op chosen task o =
-      Answers 2 (t.asks task).op o → IsNotSpent o → AllByRecursion IsFreshAlone (got (Some (ended (t.asks task).who o)) (j.parts (t.asks task).part))
+      Answers 2 (t.asks task).op o → IsNotSpent o → AllByRecursion IsFreshAlone (got (Some (end_event (t.asks task).who o)) (j.parts (t.asks task).part))
       → Runs t two_bits_watch p op (λ e. IsGoodStep IsFreshAlone u (in_order (chosen_of p chosen) e)) (two_bits_rest task o)
-      (record j { parts = put (t.asks task).part (sees (Some (ended (t.asks task).who o)) (j.parts (t.asks task).part)) j.parts })
+      (record j { parts = put (t.asks task).part (sees (Some (end_event (t.asks task).who o)) (j.parts (t.asks task).part)) j.parts })
 
   goes_write_high : (u : Seen) (j : View TwoBitsTask) (p v : ℕ) (op : Op) (chosen : Option (ℕ × Bool)) (o : Outcome) → TwoBitsInv u j → p ≡ 0 → InHigh v (writes u) (writes (j.parts 0)) (writes (j.parts 1))
       → GoesOn u j p op chosen (WriteHigh v) o
@@ -330,7 +330,7 @@ module _ (processes : ℕ) where
         high_idle = refl;
         here = wr.low_idle;
       } in
-      by_write (high_of v) (λ o. Runs t two_bits_watch p op Out (write_low v) (record j { parts = put 0 (sees (Some (ended 0 o)) (j.parts 0)) j.parts })) o answers pass
+      by_write (high_of v) (λ o. Runs t two_bits_watch p op Out (write_low v) (record j { parts = put 0 (sees (Some (end_event 0 o)) (j.parts 0)) j.parts })) o answers pass
       (writes_low v p op Out u (record j { parts = put 0 e j.parts }) zp done h.readers
       (gone IsFreshAlone p chosen None u refl tt) (gone IsFreshAlone p chosen (Some (Wrote p)) u refl tt))
 
@@ -340,7 +340,7 @@ module _ (processes : ℕ) where
       let Out : Option Event → Seen → Type 0 = λ e. IsGoodStep IsFreshAlone u (in_order (chosen_of p chosen) e) in
       let e : Seen = sees (Some (Wrote 0)) (j.parts 1) in
       let done : InLow v None (writes u) (writes (j.parts 0)) (writes e) = record { writing = wr.writing; high_last = wr.high_last; high_idle = wr.high_idle; here = refl } in
-      by_write (low_of v) (λ o. Runs t two_bits_watch p op Out (Ends Written) (record j { parts = put 1 (sees (Some (ended 0 o)) (j.parts 1)) j.parts })) o answers pass
+      by_write (low_of v) (λ o. Runs t two_bits_watch p op Out (Ends Written) (record j { parts = put 1 (sees (Some (end_event 0 o)) (j.parts 1)) j.parts })) o answers pass
       (write_ends v p op Out u (record j { parts = put 1 e j.parts }) zp done (ap (λ o. now_last o (j.parts 1).last) wr.here) h.readers
       (gone IsFreshAlone p chosen (Some (Wrote p)) u refl tt))
 
@@ -348,7 +348,7 @@ module _ (processes : ℕ) where
       → GoesOn u j p Read chosen (ReadHigh p) o
   goes_read_high u j p chosen o h lo at = λ answers pass good.
       let Out : Option Event → Seen → Type 0 = λ e. IsGoodStep IsFreshAlone u (in_order (chosen_of p chosen) e) in
-      by_read (λ o. AllByRecursion IsFreshAlone (got (Some (ended p o)) (j.parts 0)) → Runs t two_bits_watch p Read Out (with_bit (read_low p) o) (record j { parts = put 0 (sees (Some (ended p o)) (j.parts 0)) j.parts }))
+      by_read (λ o. AllByRecursion IsFreshAlone (got (Some (end_event p o)) (j.parts 0)) → Runs t two_bits_watch p Read Out (with_bit (read_low p) o) (record j { parts = put 0 (sees (Some (end_event p o)) (j.parts 0)) j.parts }))
       o answers pass (λ high good. reads_low p high Read Out u (record j { parts = put 0 (j.parts 0) j.parts }) lo h.writer (λ r l ne. h.readers r l) (subst (λ y. ReaderAt u j y p) at (h.readers p lo)) good.0
       (gone IsFreshAlone p chosen None u refl tt) (λ x g. gone IsFreshAlone p chosen (Some (Got p x)) u refl (g, tt))) good
 
@@ -356,7 +356,7 @@ module _ (processes : ℕ) where
       → GoesOn u j p Read chosen (ReadLow p high) o
   goes_read_low u j p high chosen o h lo at = λ answers pass good.
       let Out : Option Event → Seen → Type 0 = λ e. IsGoodStep IsFreshAlone u (in_order (chosen_of p chosen) e) in
-      by_read (λ o. AllByRecursion IsFreshAlone (got (Some (ended p o)) (j.parts 1)) → Runs t two_bits_watch p Read Out (with_bit (λ low. Ends (Value (2 * high + low))) o) (record j { parts = put 1 (sees (Some (ended p o)) (j.parts 1)) j.parts }))
+      by_read (λ o. AllByRecursion IsFreshAlone (got (Some (end_event p o)) (j.parts 1)) → Runs t two_bits_watch p Read Out (with_bit (λ low. Ends (Value (2 * high + low))) o) (record j { parts = put 1 (sees (Some (end_event p o)) (j.parts 1)) j.parts }))
       o answers pass (λ low good. read_ends p high low Read Out u (record j { parts = put 1 (j.parts 1) j.parts }) lo h.writer (λ r l ne. h.readers r l) (subst (λ y. ReaderAt u j y p) at (h.readers p lo)) good.0
       (λ x g. gone IsFreshAlone p chosen (Some (Got p x)) u refl (g, tt))) good
 

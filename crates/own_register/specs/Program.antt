@@ -34,8 +34,8 @@ with_bit go (Spent layer) = Ends (Spent layer)
 abbrev pub write_low : ℕ → Program TwoBitsTask
 write_low v = Asks (WriteLow v) (λ o. Ends Written)
 
--- the rest of a read by `who` that got `high` from the high bit: it reads the low bit, and gives the
--- value of the two bits
+-- the rest of a read by `who` that got `high` from the high bit: it reads the low bit, and gives
+-- the value of the two bits
 abbrev pub read_low : ℕ → ℕ → Program TwoBitsTask
 read_low who high = Asks (ReadLow who high) (with_bit (λ low. Ends (Value (2 * high + low))))
 

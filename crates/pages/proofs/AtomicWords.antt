@@ -17,7 +17,7 @@ use Rattle.frames.specs.correctness.Verdicts.{Known, is_refused, counts, accepte
 use Rattle.frames.specs.correctness.Regularity.{in_progress, OnReturn, by_number, IsNumber, Numbered, IsAtomic}
 use Rattle.pages.specs.VerdictWords.{begins_or_ends, IsQuiet, InProgress, has_role, IsOneWriterHistory, ReturnedRead, during, afterwards, is_written, is_got, returned_reads, RecordsHistories}
 use Rattle.pages.specs.LawWords.{returned_writes, IsWrite, NumbersRead, AreNumbered, IsAtomicInWords}
-use Rattle.pages.proofs.VerdictKnown.{no_event, HaveRoles, roles-right, history-left, noting, known, known-append, parted, writing_of_progress, progress_of_writing, noting_returned, known_grows, EndsWrites, ends_after, reading_of_progress}
+use Rattle.pages.proofs.VerdictKnown.{no_event, HaveRoles, roles-right, history-left, noting, known, known-append, noting_split, writing_of_progress, progress_of_writing, noting_returned, known_grows, EndsWrites, ends_writes_after, reading_of_progress}
 use Rattle.pages.proofs.VerdictOverlaps.{write_ends, still_unrefused, returned_unrefused, roles_since}
 use Rattle.pages.proofs.VerdictWords.{ends_writes, then_known, read_of}
 
@@ -32,16 +32,16 @@ writes_first e es = count_write (is_written e.1) e (filter (λ x. is_written x.1
 writes-append : (xs ys : List (ℕ × Event)) → returned_writes (xs ++ ys) ≡ returned_writes xs + returned_writes ys
 writes-append xs ys = ap length (filter-append (λ e. is_written e.1) xs ys) ∙ length-append (filter (λ e. is_written e.1) xs) (filter (λ e. is_written e.1) ys)
 
-unwritten : (e : Event) → begins_or_ends 0 e ≡ false → has_role e ≡ true → is_written e ≡ false
-unwritten (Wrote p) q r = absurd (true≢false (sym r ∙ q))
-unwritten e q r = refl
+not_written_if_quiet : (e : Event) → begins_or_ends 0 e ≡ false → has_role e ≡ true → is_written e ≡ false
+not_written_if_quiet (Wrote p) q r = absurd (true≢false (sym r ∙ q))
+not_written_if_quiet e q r = refl
 
 quiet_writes : (xs : List (ℕ × Event)) → IsQuiet 0 xs → HaveRoles xs → returned_writes xs ≡ 0
 quiet_writes [] q r = refl
 quiet_writes (e ∷ es) q r =
     let quiet = or_parts (begins_or_ends 0 e.1) (list_any (λ x. begins_or_ends 0 x.1) es) q in
     let roles = and_parts (has_role e.1) (list_all (λ x. has_role x.1) es) r in
-    writes_first e es ∙ ap (λ b. cond b 1 0 + returned_writes es) (unwritten e.1 quiet.0 roles.0) ∙ ap (λ n. 0 + n) (quiet_writes es quiet.1 roles.1) ∙ (omega arith)
+    writes_first e es ∙ ap (λ b. cond b 1 0 + returned_writes es) (not_written_if_quiet e.1 quiet.0 roles.0) ∙ ap (λ n. 0 + n) (quiet_writes es quiet.1 roles.1) ∙ (omega arith)
 
 -- no write returns while one is in progress
 progress_writes : (v : ℕ) (xs : List (ℕ × Event)) (w : InProgress 0 (op.Write v) xs) → HaveRoles xs → returned_writes xs ≡ returned_writes w.earlier
@@ -64,7 +64,7 @@ one_returned k i e es later ends = ap length (noting_returned (counts e (is_refu
 returned_count : (k : Known) (xs later : List (ℕ × Event)) → EndsWrites k xs later → length (known k xs later).returned ≡ length k.returned + returned_writes xs
 returned_count k [] later ends = omega arith
 returned_count k (e ∷ es) later ends =
-    let rest = returned_count (noting (counts e.1 (is_refused (es ++ later))) e.1 k) es later (ends_after k e es later ends) in
+    let rest = returned_count (noting (counts e.1 (is_refused (es ++ later))) e.1 k) es later (ends_writes_after k e es later ends) in
     let one = one_returned k e.0 e.1 es later ends in
     let first = writes_first e es in
     omega (arith, rest, one, first)
@@ -99,7 +99,7 @@ return_head k i e es later m d r low high =
 
 return_after : (k : Known) (e : ℕ × Event) (es later : List (ℕ × Event)) (m v : ℕ) → ReturnAt (noting (counts e.1 (is_refused (es ++ later))) e.1 k) es later m v → ReturnAt k (e ∷ es) later m v
 return_after k e es later m v r =
-    let same = sym (parted k e.1 es r.before r.since later (r.step, Wrote 0) r.split) in
+    let same = sym (noting_split k e.1 es r.before r.since later (r.step, Wrote 0) r.split) in
     record {
       before = e ∷ r.before;
       step = r.step;
@@ -121,9 +121,11 @@ return_at k (e ∷ es) later m d r low high =
     ]
 
 module _ (initial : ℕ) where
+  -- what is known before the first event
   abbrev first : Known
   first = initially initial
 
+  -- the values of the writes that have returned, and then that of the one in progress
   abbrev values : List (ℕ × Event) → List (ℕ × Event) → List ℕ
   values xs later = (known first xs later).returned ++ in_progress (known first xs later).writing
 
@@ -236,30 +238,30 @@ module _ (initial : ℕ) where
     abbrev before : List (ℕ × Event)
     before = r.earlier ++ during r
 
-    full : IsOneWriterHistory (before ++ afterwards r)
-    full = subst IsOneWriterHistory r.split h
+    whole_history : IsOneWriterHistory (before ++ afterwards r)
+    whole_history = subst IsOneWriterHistory r.split h
 
     -- how many writes had returned as a read was invoked
-    since_is : (reading r.process (then_known initial r)).since ≡ returned_writes r.earlier
-    since_is =
-        let left = history-left r.earlier (during r) (history-left before (afterwards r) full) in
+    since_is_returned_writes : (reading r.process (then_known initial r)).since ≡ returned_writes r.earlier
+    since_is_returned_writes =
+        let left = history-left r.earlier (during r) (history-left before (afterwards r) whole_history) in
         ap (λ (x : Reading). x.since) (reading_of_progress r.process first r.earlier r.since (afterwards r) r.invoked r.quiet)
         ∙ returned_count first r.earlier (during r ++ afterwards r) (ends_writes initial r.earlier (during r ++ afterwards r) left) ∙ (omega arith)
 
     number_in_words : (n : ℕ) → IsNumber initial (then_known initial r) r.process r.value n → NumbersRead initial n r
-    number_in_words n is = record { low = (let s = since_is in let low = is.low in omega (arith, s, low)); write = by n is.high is.value_of }
+    number_in_words n is = record { low = (let s = since_is_returned_writes in let low = is.low in omega (arith, s, low)); write = by n is.high is.value_of }
       where
         by : (n : ℕ) → n < length (initial ∷ values before (afterwards r)) → get_or (initial ∷ values before (afterwards r)) n initial ≡ r.value
             → ((n ≡ 0) × (r.value ≡ initial)) ⊎ IsWrite n r.value before (afterwards r)
         by zero high value = inl (refl, sym value)
         by (suc m) high value =
-            inr (subst (λ i. IsWrite i r.value before (afterwards r)) (let e : m + 1 ≡ suc m = omega arith in e) (write_of_value before (afterwards r) m r.value initial full (omega (arith, high)) value))
+            inr (subst (λ i. IsWrite i r.value before (afterwards r)) (let e : m + 1 ≡ suc m = omega arith in e) (write_of_value before (afterwards r) m r.value initial whole_history (omega (arith, high)) value))
 
     number_by_words : (n : ℕ) → NumbersRead initial n r → IsNumber initial (then_known initial r) r.process r.value n
     number_by_words n w = by w.write
       where
         low : (reading r.process (then_known initial r)).since ≤ n
-        low = let s = since_is in let l = w.low in omega (arith, s, l)
+        low = let s = since_is_returned_writes in let l = w.low in omega (arith, s, l)
 
         by : ((n ≡ 0) × (r.value ≡ initial)) ⊎ IsWrite n r.value before (afterwards r) → IsNumber initial (then_known initial r) r.process r.value n
         by (inl z) = record {
@@ -267,11 +269,11 @@ module _ (initial : ℕ) where
           high = (let e : n ≡ 0 = z.0 in omega (arith, e));
           value_of = ap (λ i. get_or (by_number initial (then_known initial r)) i initial) z.0 ∙ sym z.1;
         }
-        by (inr write) = let v = value_of_write before (afterwards r) n r.value full write in record { low = low; high = v.high; value_of = v.value }
+        by (inr write) = let v = value_of_write before (afterwards r) n r.value whole_history write in record { low = low; high = v.high; value_of = v.value }
 
   -- numbers for the returned reads of a history: `number i`, which is at least `floor`, is for the
   -- read that returns after i others, and is its number by `IsNumber`
-  record Given (floor : ℕ) (k : Known) (history : List (ℕ × Event)) : Type 0 where
+  record NumbersOfReads (floor : ℕ) (k : Known) (history : List (ℕ × Event)) : Type 0 where
     number : ℕ → ℕ
     least : (i : ℕ) → floor ≤ number i
     rises : (i j : ℕ) → i ≤ j → number i ≤ number j
@@ -282,23 +284,23 @@ module _ (initial : ℕ) where
   Says n k e = OnReturn (λ k p x. IsNumber initial k p x n) k e
 
   -- a number for the first event, if this counts, and numbers for the others (`Numbered`)
-  record Cut (counted : Bool) (floor : ℕ) (k : Known) (e : Event) (rest : List (ℕ × Event)) : Type 0 where
+  record FirstNumbered (counted : Bool) (floor : ℕ) (k : Known) (e : Event) (rest : List (ℕ × Event)) : Type 0 where
     n : ℕ
     low : floor ≤ n
     says : counted ≡ true → Says n k e
     others : Numbered initial n (noting counted e k) rest
 
-  cut_of : (counted : Bool) (floor : ℕ) (k : Known) (x : ℕ × Event) (xs : List (ℕ × Event)) → Numbered initial floor k (if counted then x ∷ xs else xs) → Cut counted floor k x.1 xs
-  cut_of true floor k x xs h = record { n = h.0; low = h.1.0; says = λ e. h.1.1.0; others = h.1.1.1 }
-  cut_of false floor k x xs h = record { n = floor; low = omega arith; says = λ e. absurd (true≢false (sym e)); others = h }
+  first_from_numbered : (counted : Bool) (floor : ℕ) (k : Known) (x : ℕ × Event) (xs : List (ℕ × Event)) → Numbered initial floor k (if counted then x ∷ xs else xs) → FirstNumbered counted floor k x.1 xs
+  first_from_numbered true floor k x xs h = record { n = h.0; low = h.1.0; says = λ e. h.1.1.0; others = h.1.1.1 }
+  first_from_numbered false floor k x xs h = record { n = floor; low = omega arith; says = λ e. absurd (true≢false (sym e)); others = h }
 
-  lower : (floor n : ℕ) (k : Known) (xs : List (ℕ × Event)) → floor ≤ n → Numbered initial n k xs → Numbered initial floor k xs
-  lower floor n k [] le h = tt
-  lower floor n k (e ∷ es) le h = (h.0, (let l : n ≤ h.0 = h.1.0 in omega (arith, le, l), h.1.1))
+  numbered_lower : (floor n : ℕ) (k : Known) (xs : List (ℕ × Event)) → floor ≤ n → Numbered initial n k xs → Numbered initial floor k xs
+  numbered_lower floor n k [] le h = tt
+  numbered_lower floor n k (e ∷ es) le h = (h.0, (let l : n ≤ h.0 = h.1.0 in omega (arith, le, l), h.1.1))
 
-  numbered_cut : (counted : Bool) (floor : ℕ) (k : Known) (x : ℕ × Event) (xs : List (ℕ × Event)) → Cut counted floor k x.1 xs → Numbered initial floor k (if counted then x ∷ xs else xs)
-  numbered_cut true floor k x xs c = (c.n, (c.low, (c.says refl, c.others)))
-  numbered_cut false floor k x xs c = lower floor c.n k xs c.low c.others
+  numbered_from_first : (counted : Bool) (floor : ℕ) (k : Known) (x : ℕ × Event) (xs : List (ℕ × Event)) → FirstNumbered counted floor k x.1 xs → Numbered initial floor k (if counted then x ∷ xs else xs)
+  numbered_from_first true floor k x xs c = (c.n, (c.low, (c.says refl, c.others)))
+  numbered_from_first false floor k x xs c = numbered_lower floor c.n k xs c.low c.others
 
   -- one more number in front, if the first event is a read's return
   abbrev with_first : Bool → ℕ → (ℕ → ℕ) → ℕ → ℕ
@@ -306,28 +308,28 @@ module _ (initial : ℕ) where
   with_first true n f (suc i) = f i
   with_first false n f i = f i
 
-  first_least : (b : Bool) (floor n : ℕ) (f : ℕ → ℕ) → floor ≤ n → ((i : ℕ) → n ≤ f i) → (i : ℕ) → floor ≤ with_first b n f i
-  first_least true floor n f low least zero = low
-  first_least true floor n f low least (suc i) = let l = least i in omega (arith, low, l)
-  first_least false floor n f low least i = let l = least i in omega (arith, low, l)
+  with_first_least : (b : Bool) (floor n : ℕ) (f : ℕ → ℕ) → floor ≤ n → ((i : ℕ) → n ≤ f i) → (i : ℕ) → floor ≤ with_first b n f i
+  with_first_least true floor n f low least zero = low
+  with_first_least true floor n f low least (suc i) = let l = least i in omega (arith, low, l)
+  with_first_least false floor n f low least i = let l = least i in omega (arith, low, l)
 
-  first_rises : (b : Bool) (n : ℕ) (f : ℕ → ℕ) → ((i : ℕ) → n ≤ f i) → ((i j : ℕ) → i ≤ j → f i ≤ f j) → (i j : ℕ) → i ≤ j → with_first b n f i ≤ with_first b n f j
-  first_rises true n f least rises zero zero le = omega arith
-  first_rises true n f least rises zero (suc j) le = least j
-  first_rises true n f least rises (suc i) zero le = let x : ⊥ = omega (arith, le) in absurd x
-  first_rises true n f least rises (suc i) (suc j) le = rises i j (omega (arith, le))
-  first_rises false n f least rises i j le = rises i j le
+  with_first_rises : (b : Bool) (n : ℕ) (f : ℕ → ℕ) → ((i : ℕ) → n ≤ f i) → ((i j : ℕ) → i ≤ j → f i ≤ f j) → (i j : ℕ) → i ≤ j → with_first b n f i ≤ with_first b n f j
+  with_first_rises true n f least rises zero zero le = omega arith
+  with_first_rises true n f least rises zero (suc j) le = least j
+  with_first_rises true n f least rises (suc i) zero le = let x : ⊥ = omega (arith, le) in absurd x
+  with_first_rises true n f least rises (suc i) (suc j) le = rises i j (omega (arith, le))
+  with_first_rises false n f least rises i j le = rises i j le
 
-  first_next : (b : Bool) (n : ℕ) (f : ℕ → ℕ) (e : ℕ × Event) (es : List (ℕ × Event)) → f (length es) ≡ with_first b n f (length (cond b (e ∷ es) es))
-  first_next true n f e es = ap (with_first true n f) (let l : suc (length es) ≡ length (e ∷ es) = omega arith in l)
-  first_next false n f e es = refl
+  with_first_next : (b : Bool) (n : ℕ) (f : ℕ → ℕ) (e : ℕ × Event) (es : List (ℕ × Event)) → f (length es) ≡ with_first b n f (length (cond b (e ∷ es) es))
+  with_first_next true n f e es = ap (with_first true n f) (let l : suc (length es) ≡ length (e ∷ es) = omega arith in l)
+  with_first_next false n f e es = refl
 
-  given_more : (floor : ℕ) (k : Known) (e : ℕ × Event) (es : List (ℕ × Event)) (c : Cut (counts e.1 (is_refused es)) floor k e.1 (accepted es))
-      → Given c.n (noting (counts e.1 (is_refused es)) e.1 k) es → Given floor k (e ∷ es)
-  given_more floor k e es c g = record {
+  numbers_with_first : (floor : ℕ) (k : Known) (e : ℕ × Event) (es : List (ℕ × Event)) (c : FirstNumbered (counts e.1 (is_refused es)) floor k e.1 (accepted es))
+      → NumbersOfReads c.n (noting (counts e.1 (is_refused es)) e.1 k) es → NumbersOfReads floor k (e ∷ es)
+  numbers_with_first floor k e es c g = record {
     number = with_first (is_got e.1) c.n g.number;
-    least = first_least (is_got e.1) floor c.n g.number c.low g.least;
-    rises = first_rises (is_got e.1) c.n g.number g.least g.rises;
+    least = with_first_least (is_got e.1) floor c.n g.number c.low g.least;
+    rises = with_first_rises (is_got e.1) c.n g.number g.least g.rises;
     each = at;
   }
     where
@@ -342,15 +344,15 @@ module _ (initial : ℕ) where
           let whole : e ≡ x = cc s in
           let tails : es ≡ xs ++ (i, Got p v) ∷ ys = cc s in
           subst (λ y. IsNumber initial (known k (y ∷ xs) ((i, Got p v) ∷ ys)) p v (with_first (is_got e.1) c.n g.number (returned_reads (y ∷ xs)))) whole
-          (subst (IsNumber initial (known k (e ∷ xs) ((i, Got p v) ∷ ys)) p v) (first_next (is_got e.1) c.n g.number e (filter (λ x. is_got x.1) xs))
+          (subst (IsNumber initial (known k (e ∷ xs) ((i, Got p v) ∷ ys)) p v) (with_first_next (is_got e.1) c.n g.number e (filter (λ x. is_got x.1) xs))
           (subst (λ l. IsNumber initial (known (noting (counts e.1 (is_refused l)) e.1 k) xs ((i, Got p v) ∷ ys)) p v (g.number (returned_reads xs))) tails
           (g.each xs i p v ys tails)))
 
-  given_of : (floor : ℕ) (k : Known) (history : List (ℕ × Event)) → Numbered initial floor k (accepted history) → Given floor k history
-  given_of floor k [] h = record { number = λ i. floor; least = λ i. omega arith; rises = λ i j le. omega arith; each = λ xs i p v ys s. absurd (no_event xs (i, Got p v) ys s) }
-  given_of floor k (e ∷ es) h =
-      let c = cut_of (counts e.1 (is_refused es)) floor k e (accepted es) h in
-      given_more floor k e es c (given_of c.n (noting (counts e.1 (is_refused es)) e.1 k) es c.others)
+  numbers_from_numbered : (floor : ℕ) (k : Known) (history : List (ℕ × Event)) → Numbered initial floor k (accepted history) → NumbersOfReads floor k history
+  numbers_from_numbered floor k [] h = record { number = λ i. floor; least = λ i. omega arith; rises = λ i j le. omega arith; each = λ xs i p v ys s. absurd (no_event xs (i, Got p v) ys s) }
+  numbers_from_numbered floor k (e ∷ es) h =
+      let c = first_from_numbered (counts e.1 (is_refused es)) floor k e (accepted es) h in
+      numbers_with_first floor k e es c (numbers_from_numbered c.n (noting (counts e.1 (is_refused es)) e.1 k) es c.others)
 
   -- the number of the first event, if it is a read's return, and the numbers of the others
   abbrev first_of : Bool → ℕ → (ℕ → ℕ) → ℕ
@@ -361,54 +363,54 @@ module _ (initial : ℕ) where
   without_first true f i = f (suc i)
   without_first false f i = f i
 
-  without_least : (b : Bool) (floor : ℕ) (f : ℕ → ℕ) → ((i : ℕ) → floor ≤ f i) → ((i j : ℕ) → i ≤ j → f i ≤ f j) → (i : ℕ) → first_of b floor f ≤ without_first b f i
-  without_least true floor f least rises i = rises 0 (suc i) (omega arith)
-  without_least false floor f least rises i = least i
+  without_first_least : (b : Bool) (floor : ℕ) (f : ℕ → ℕ) → ((i : ℕ) → floor ≤ f i) → ((i j : ℕ) → i ≤ j → f i ≤ f j) → (i : ℕ) → first_of b floor f ≤ without_first b f i
+  without_first_least true floor f least rises i = rises 0 (suc i) (omega arith)
+  without_first_least false floor f least rises i = least i
 
-  without_rises : (b : Bool) (f : ℕ → ℕ) → ((i j : ℕ) → i ≤ j → f i ≤ f j) → (i j : ℕ) → i ≤ j → without_first b f i ≤ without_first b f j
-  without_rises true f rises i j le = rises (suc i) (suc j) (omega (arith, le))
-  without_rises false f rises i j le = rises i j le
+  without_first_rises : (b : Bool) (f : ℕ → ℕ) → ((i j : ℕ) → i ≤ j → f i ≤ f j) → (i j : ℕ) → i ≤ j → without_first b f i ≤ without_first b f j
+  without_first_rises true f rises i j le = rises (suc i) (suc j) (omega (arith, le))
+  without_first_rises false f rises i j le = rises i j le
 
-  without_next : (b : Bool) (f : ℕ → ℕ) (e : ℕ × Event) (es : List (ℕ × Event)) → f (length (cond b (e ∷ es) es)) ≡ without_first b f (length es)
-  without_next true f e es = ap f (let l : length (e ∷ es) ≡ suc (length es) = omega arith in l)
-  without_next false f e es = refl
+  without_first_next : (b : Bool) (f : ℕ → ℕ) (e : ℕ × Event) (es : List (ℕ × Event)) → f (length (cond b (e ∷ es) es)) ≡ without_first b f (length es)
+  without_first_next true f e es = ap f (let l : length (e ∷ es) ≡ suc (length es) = omega arith in l)
+  without_first_next false f e es = refl
 
-  first_low : (b : Bool) (floor : ℕ) (f : ℕ → ℕ) → ((i : ℕ) → floor ≤ f i) → floor ≤ first_of b floor f
-  first_low true floor f least = least 0
-  first_low false floor f least = omega arith
+  first_of_least : (b : Bool) (floor : ℕ) (f : ℕ → ℕ) → ((i : ℕ) → floor ≤ f i) → floor ≤ first_of b floor f
+  first_of_least true floor f least = least 0
+  first_of_least false floor f least = omega arith
 
-  first_says : (floor : ℕ) (k : Known) (i : ℕ) (e : Event) (es : List (ℕ × Event)) (g : Given floor k ((i, e) ∷ es)) → Says (first_of (is_got e) floor g.number) k e
-  first_says floor k i (Got p v) es g = g.each [] i p v es refl
-  first_says floor k i e es g = tt
+  first_of_says : (floor : ℕ) (k : Known) (i : ℕ) (e : Event) (es : List (ℕ × Event)) (g : NumbersOfReads floor k ((i, e) ∷ es)) → Says (first_of (is_got e) floor g.number) k e
+  first_of_says floor k i (Got p v) es g = g.each [] i p v es refl
+  first_of_says floor k i e es g = tt
 
-  given_after : (floor : ℕ) (k : Known) (e : ℕ × Event) (es : List (ℕ × Event)) (g : Given floor k (e ∷ es))
-      → Given (first_of (is_got e.1) floor g.number) (noting (counts e.1 (is_refused es)) e.1 k) es
-  given_after floor k e es g = record {
+  numbers_without_first : (floor : ℕ) (k : Known) (e : ℕ × Event) (es : List (ℕ × Event)) (g : NumbersOfReads floor k (e ∷ es))
+      → NumbersOfReads (first_of (is_got e.1) floor g.number) (noting (counts e.1 (is_refused es)) e.1 k) es
+  numbers_without_first floor k e es g = record {
     number = without_first (is_got e.1) g.number;
-    least = without_least (is_got e.1) floor g.number g.least g.rises;
-    rises = without_rises (is_got e.1) g.number g.rises;
+    least = without_first_least (is_got e.1) floor g.number g.least g.rises;
+    rises = without_first_rises (is_got e.1) g.number g.rises;
     each = λ xs i p v ys s.
-        subst (IsNumber initial (known (noting (counts e.1 (is_refused es)) e.1 k) xs ((i, Got p v) ∷ ys)) p v) (without_next (is_got e.1) g.number e (filter (λ x. is_got x.1) xs))
+        subst (IsNumber initial (known (noting (counts e.1 (is_refused es)) e.1 k) xs ((i, Got p v) ∷ ys)) p v) (without_first_next (is_got e.1) g.number e (filter (λ x. is_got x.1) xs))
         (subst (λ l. IsNumber initial (known (noting (counts e.1 (is_refused l)) e.1 k) xs ((i, Got p v) ∷ ys)) p v (g.number (returned_reads (e ∷ xs)))) (sym s)
         (g.each (e ∷ xs) i p v ys (ap (λ l. e ∷ l) s)));
   }
 
-  numbered_of : (floor : ℕ) (k : Known) (history : List (ℕ × Event)) → Given floor k history → Numbered initial floor k (accepted history)
-  numbered_of floor k [] g = tt
-  numbered_of floor k (e ∷ es) g =
+  numbered_from_numbers : (floor : ℕ) (k : Known) (history : List (ℕ × Event)) → NumbersOfReads floor k history → Numbered initial floor k (accepted history)
+  numbered_from_numbers floor k [] g = tt
+  numbered_from_numbers floor k (e ∷ es) g =
       let n = first_of (is_got e.1) floor g.number in
       let counted = counts e.1 (is_refused es) in
-      numbered_cut counted floor k e (accepted es) (record {
+      numbered_from_first counted floor k e (accepted es) (record {
         n = n;
-        low = first_low (is_got e.1) floor g.number g.least;
-        says = λ c. first_says floor k e.0 e.1 es g;
-        others = numbered_of n (noting counted e.1 k) es (given_after floor k e es g);
+        low = first_of_least (is_got e.1) floor g.number g.least;
+        says = λ c. first_of_says floor k e.0 e.1 es g;
+        others = numbered_from_numbers n (noting counted e.1 k) es (numbers_without_first floor k e es g);
       })
 
   module _ (history : List (ℕ × Event)) (h : IsOneWriterHistory history) where
     numbered_in_words : Numbered initial 0 first (accepted history) → AreNumbered initial history
     numbered_in_words numbered =
-        let g = given_of 0 first history numbered in
+        let g = numbers_from_numbered 0 first history numbered in
         record {
           number = g.number;
           rises = g.rises;
@@ -416,7 +418,7 @@ module _ (initial : ℕ) where
         }
 
     numbered_by_words : AreNumbered initial history → Numbered initial 0 first (accepted history)
-    numbered_by_words a = numbered_of 0 first history (record {
+    numbered_by_words a = numbered_from_numbers 0 first history (record {
       number = a.number;
       least = λ i. omega arith;
       rises = a.rises;

@@ -81,67 +81,68 @@ not_stray_if_seen Overlap A B h s = λ e. cc
 not_stray_if_seen Stray A B h (inl a) = absurd (h.0 a)
 not_stray_if_seen Stray A B h (inr b) = absurd (h.1 b)
 
-fresh_if_so : (verdict : Verdict) (A B : Type 0) → MatchVerdict verdict A B → verdict ≡ Fresh → A
-fresh_if_so Fresh A B h e = h
-fresh_if_so Overlap A B h e = absurd cc
-fresh_if_so Stray A B h e = absurd cc
+value_fresh_if_verdict : (verdict : Verdict) (A B : Type 0) → MatchVerdict verdict A B → verdict ≡ Fresh → A
+value_fresh_if_verdict Fresh A B h e = h
+value_fresh_if_verdict Overlap A B h e = absurd cc
+value_fresh_if_verdict Stray A B h e = absurd cc
 
-so_if_fresh : (verdict : Verdict) (A B : Type 0) → MatchVerdict verdict A B → A → verdict ≡ Fresh
-so_if_fresh Fresh A B h a = refl
-so_if_fresh Overlap A B h a = absurd (h.0 a)
-so_if_fresh Stray A B h a = absurd (h.0 a)
+verdict_fresh_if_value : (verdict : Verdict) (A B : Type 0) → MatchVerdict verdict A B → A → verdict ≡ Fresh
+verdict_fresh_if_value Fresh A B h a = refl
+verdict_fresh_if_value Overlap A B h a = absurd (h.0 a)
+verdict_fresh_if_value Stray A B h a = absurd (h.0 a)
 
 -- there are no values exactly if no value passes either test
-none_among : (xs : List ℕ) (o : Option ℕ) → xs ++ in_progress o ≡ [] → (v : ℕ) → (list_any (λ u. u == v) xs || is_value v o) ≡ false
-none_among [] None e v = refl
-none_among [] (Some u) e v = absurd cc
-none_among (x ∷ xs) o e v = absurd cc
+no_value_passes : (xs : List ℕ) (o : Option ℕ) → xs ++ in_progress o ≡ [] → (v : ℕ) → (list_any (λ u. u == v) xs || is_value v o) ≡ false
+no_value_passes [] None e v = refl
+no_value_passes [] (Some u) e v = absurd cc
+no_value_passes (x ∷ xs) o e v = absurd cc
 
-none_if_none : (xs : List ℕ) (o : Option ℕ) → ((v : ℕ) → (list_any (λ u. u == v) xs || is_value v o) ≢ true) → xs ++ in_progress o ≡ []
-none_if_none [] None n = refl
-none_if_none [] (Some u) n = absurd (n u (eq-eqb u u refl))
-none_if_none (x ∷ xs) o n = absurd (n x (ap (λ b. (b || list_any (λ u. u == x) xs) || is_value x o) (eq-eqb x x refl)))
+empty_if_no_value_passes : (xs : List ℕ) (o : Option ℕ) → ((v : ℕ) → (list_any (λ u. u == v) xs || is_value v o) ≢ true) → xs ++ in_progress o ≡ []
+empty_if_no_value_passes [] None n = refl
+empty_if_no_value_passes [] (Some u) n = absurd (n u (eq-eqb u u refl))
+empty_if_no_value_passes (x ∷ xs) o n = absurd (n x (ap (λ b. (b || list_any (λ u. u == x) xs) || is_value x o) (eq-eqb x x refl)))
 
 module _ (initial : ℕ) (history : List (ℕ × Event)) (h : IsOneWriterHistory history) (r : ReturnedRead history) where
-  abbrev all : Known
-  all = then_known initial r
+  -- what is known when the read returns, and what was known when it was invoked
+  abbrev known_at_return : Known
+  known_at_return = then_known initial r
 
-  abbrev upto : Known
-  upto = known (initially initial) r.earlier (during r ++ afterwards r)
+  abbrev known_at_invocation : Known
+  known_at_invocation = known (initially initial) r.earlier (during r ++ afterwards r)
 
-  full : IsOneWriterHistory ((r.earlier ++ during r) ++ afterwards r)
-  full = subst IsOneWriterHistory r.split h
+  whole_history : IsOneWriterHistory ((r.earlier ++ during r) ++ afterwards r)
+  whole_history = subst IsOneWriterHistory r.split h
 
-  whole : IsOneWriterHistory (r.earlier ++ during r)
-  whole = history-left (r.earlier ++ during r) (afterwards r) full
+  history_before_return : IsOneWriterHistory (r.earlier ++ during r)
+  history_before_return = history-left (r.earlier ++ during r) (afterwards r) whole_history
 
-  invoked : reading r.process all ≡ invoked_now r.process upto
-  invoked = reading_of_progress r.process (initially initial) r.earlier r.since (afterwards r) r.invoked r.quiet
+  reading_is_as_invoked : reading r.process known_at_return ≡ invoked_now r.process known_at_invocation
+  reading_is_as_invoked = reading_of_progress r.process (initially initial) r.earlier r.since (afterwards r) r.invoked r.quiet
 
   -- if `Known` has no value that overlaps a read, no write overlaps it; and back
-  alone_in_words : overlapped r.process all ≡ [] → (v : ℕ) → ¬ Overlaps v r
+  alone_in_words : overlapped r.process known_at_return ≡ [] → (v : ℕ) → ¬ Overlaps v r
   alone_in_words e v w =
-      let none : drop (length upto.returned) all.returned ++ in_progress all.writing ≡ [] =
-      subst (λ (x : Reading). drop x.since all.returned ++ in_progress all.writing ≡ []) invoked e in
-      let test = test_of_crossing initial v r.earlier (during r) (afterwards r) whole (crossing_of_words v r.earlier (during r) (afterwards r) full w) in
-      absurd (true≢false (sym test ∙ none_among _ all.writing none v))
+      let none : drop (length known_at_invocation.returned) known_at_return.returned ++ in_progress known_at_return.writing ≡ [] =
+      subst (λ (x : Reading). drop x.since known_at_return.returned ++ in_progress known_at_return.writing ≡ []) reading_is_as_invoked e in
+      let test = test_of_crossing initial v r.earlier (during r) (afterwards r) history_before_return (crossing_of_words v r.earlier (during r) (afterwards r) whole_history w) in
+      absurd (true≢false (sym test ∙ no_value_passes _ known_at_return.writing none v))
 
-  alone_by_words : ((v : ℕ) → ¬ Overlaps v r) → overlapped r.process all ≡ []
+  alone_by_words : ((v : ℕ) → ¬ Overlaps v r) → overlapped r.process known_at_return ≡ []
   alone_by_words n =
-      subst (λ (x : Reading). drop x.since all.returned ++ in_progress all.writing ≡ []) (sym invoked)
-      (none_if_none _ all.writing (λ v test. n v (words_of_crossing v r.earlier (during r) (afterwards r) full.roles (crossing_of_test initial v r.earlier (during r) (afterwards r) whole test))))
+      subst (λ (x : Reading). drop x.since known_at_return.returned ++ in_progress known_at_return.writing ≡ []) (sym reading_is_as_invoked)
+      (empty_if_no_value_passes _ known_at_return.writing (λ v test. n v (words_of_crossing v r.earlier (during r) (afterwards r) whole_history.roles (crossing_of_test initial v r.earlier (during r) (afterwards r) history_before_return test))))
 
-  safe_in_words : FreshAlone all r.process r.value → FreshIfAlone initial r
-  safe_in_words says alone = fresh_if_so (judged all r.process r.value) _ _ (verdict_words initial history h r) (says (alone_by_words alone))
+  safe_in_words : FreshAlone known_at_return r.process r.value → FreshIfAlone initial r
+  safe_in_words says alone = value_fresh_if_verdict (judged known_at_return r.process r.value) _ _ (verdict_words initial history h r) (says (alone_by_words alone))
 
-  safe_by_words : FreshIfAlone initial r → FreshAlone all r.process r.value
-  safe_by_words says alone = so_if_fresh (judged all r.process r.value) _ _ (verdict_words initial history h r) (says (alone_in_words alone))
+  safe_by_words : FreshIfAlone initial r → FreshAlone known_at_return r.process r.value
+  safe_by_words says alone = verdict_fresh_if_value (judged known_at_return r.process r.value) _ _ (verdict_words initial history h r) (says (alone_in_words alone))
 
-  regular_in_words : NotStray all r.process r.value → FreshOrOverlapping initial r
-  regular_in_words says = seen_unless_stray (judged all r.process r.value) _ _ (verdict_words initial history h r) says
+  regular_in_words : NotStray known_at_return r.process r.value → FreshOrOverlapping initial r
+  regular_in_words says = seen_unless_stray (judged known_at_return r.process r.value) _ _ (verdict_words initial history h r) says
 
-  regular_by_words : FreshOrOverlapping initial r → NotStray all r.process r.value
-  regular_by_words says = not_stray_if_seen (judged all r.process r.value) _ _ (verdict_words initial history h r) says
+  regular_by_words : FreshOrOverlapping initial r → NotStray known_at_return r.process r.value
+  regular_by_words says = not_stray_if_seen (judged known_at_return r.process r.value) _ _ (verdict_words initial history h r) says
 
 -- from the law that `Says` holds of each read as it returns to the law in words, and back
 module _ {P : Type 0} (b : Behaviour P) (records : HasOneWriter b → RecordsHistories b) where

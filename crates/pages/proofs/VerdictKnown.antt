@@ -58,9 +58,9 @@ known-append k (e ∷ xs) ys later =
     ∙ known-append (noting (counts e.1 (is_refused (xs ++ (ys ++ later)))) e.1 k) xs ys later
 
 -- how an event is noted depends on all events after it, however these are split into lists
-pub parted : (k : Known) (e : Event) (xs before since later : List (ℕ × Event)) (x : ℕ × Event) → xs ≡ before ++ x ∷ since
+pub noting_split : (k : Known) (e : Event) (xs before since later : List (ℕ × Event)) (x : ℕ × Event) → xs ≡ before ++ x ∷ since
     → noting (counts e (is_refused (xs ++ later))) e k ≡ noting (counts e (is_refused (before ++ (x ∷ (since ++ later))))) e k
-parted k e xs before since later x s = ap (λ es. noting (counts e (is_refused es)) e k) (ap (λ es. es ++ later) s ∙ append_assoc before (x ∷ since) later)
+noting_split k e xs before since later x s = ap (λ es. noting (counts e (is_refused es)) e k) (ap (λ es. es ++ later) s ∙ append_assoc before (x ∷ since) later)
 
 returning_reads : (o : Option ℕ) (k : Known) → (returning o k).reads ≡ k.reads
 returning_reads None k = refl
@@ -137,19 +137,19 @@ progress_still p o before i e t h = record {
 }
 
 -- if k has v as the value being written, a write of v is in progress and isn't refused later
-abbrev Writes : Known → List (ℕ × Event) → List (ℕ × Event) → Type 0
-Writes k before later = (v : ℕ) → k.writing ≡ Some v → InProgress 0 (op.Write v) before × (is_refused later ≡ false)
+abbrev WritingIsInProgress : Known → List (ℕ × Event) → List (ℕ × Event) → Type 0
+WritingIsInProgress k before later = (v : ℕ) → k.writing ≡ Some v → InProgress 0 (op.Write v) before × (is_refused later ≡ false)
 
-writes_on : (k : Known) (before : List (ℕ × Event)) (i : ℕ) (e : Event) (later : List (ℕ × Event)) → begins_or_ends 0 e ≡ false → has_role e ≡ true → Writes k before ((i, e) ∷ later)
-    → Writes k (with_event before i e) later
-writes_on k before i e later t r h v w =
+in_progress_after_other : (k : Known) (before : List (ℕ × Event)) (i : ℕ) (e : Event) (later : List (ℕ × Event)) → begins_or_ends 0 e ≡ false → has_role e ≡ true → WritingIsInProgress k before ((i, e) ∷ later)
+    → WritingIsInProgress k (with_event before i e) later
+in_progress_after_other k before i e later t r h v w =
     let was = h v w in
     (progress_still 0 (op.Write v) before i e t was.0, sym (quiet_refused_by e (is_refused later) t r) ∙ was.1)
 
--- `Writes` holds also after one more event
-writes_more : (k : Known) (before : List (ℕ × Event)) (i : ℕ) (e : Event) (later : List (ℕ × Event)) → Follows before e → has_role e ≡ true → Writes k before ((i, e) ∷ later)
-    → Writes (noting (counts e (is_refused later)) e k) (with_event before i e) later
-writes_more k before i (Invoke p (op.Write u)) later f r h v w = by (is_refused later) refl w
+-- `WritingIsInProgress` holds also after one more event
+in_progress_after : (k : Known) (before : List (ℕ × Event)) (i : ℕ) (e : Event) (later : List (ℕ × Event)) → Follows before e → has_role e ≡ true → WritingIsInProgress k before ((i, e) ∷ later)
+    → WritingIsInProgress (noting (counts e (is_refused later)) e k) (with_event before i e) later
+in_progress_after k before i (Invoke p (op.Write u)) later f r h v w = by (is_refused later) refl w
   where
     by : (b : Bool) → is_refused later ≡ b → (noting (counts (Invoke p (op.Write u)) b) (Invoke p (op.Write u)) k).writing ≡ Some v
         → InProgress 0 (op.Write v) (with_event before i (Invoke p (op.Write u))) × (is_refused later ≡ false)
@@ -160,30 +160,30 @@ writes_more k before i (Invoke p (op.Write u)) later f r h v w = by (is_refused 
     by true e w =
         let writer = eqb-true p 0 r in
         absurd (f (op.Write v) (subst (λ q. InProgress q (op.Write v) before) (sym writer) (h v w).0))
-writes_more k before i (Invoke p op.Read) later f r h v w = writes_on k before i (Invoke p op.Read) later (not-true (p == 0) r) r h v w
-writes_more k before i (Got p u) later f r h v w = writes_on k before i (Got p u) later (not-true (p == 0) r) r h v w
-writes_more k before i (Wrote p) later f r h v w = let none = returning_none k.writing k refl in cc
-writes_more k before i (Refused p layer) later f r h v w = by (p == 0) refl w
+in_progress_after k before i (Invoke p op.Read) later f r h v w = in_progress_after_other k before i (Invoke p op.Read) later (not-true (p == 0) r) r h v w
+in_progress_after k before i (Got p u) later f r h v w = in_progress_after_other k before i (Got p u) later (not-true (p == 0) r) r h v w
+in_progress_after k before i (Wrote p) later f r h v w = let none = returning_none k.writing k refl in cc
+in_progress_after k before i (Refused p layer) later f r h v w = by (p == 0) refl w
   where
     by : (b : Bool) → (p == 0) ≡ b → (noting (not b) (Refused p layer) k).writing ≡ Some v
         → InProgress 0 (op.Write v) (with_event before i (Refused p layer)) × (is_refused later ≡ false)
     by true e w = absurd (true≢false (sym (ap (λ b. b || is_refused later) e) ∙ (h v w).1))
-    by false e w = writes_on k before i (Refused p layer) later e refl h v w
-writes_more k before i (Void p reason) later f r h v w = writes_on k before i (Void p reason) later refl refl h v w
-writes_more k before i (Stop p) later f r h v w = writes_on k before i (Stop p) later refl refl h v w
-writes_more k before i (Chosen p bit u) later f r h v w = writes_on k before i (Chosen p bit u) later refl refl h v w
+    by false e w = in_progress_after_other k before i (Refused p layer) later e refl h v w
+in_progress_after k before i (Void p reason) later f r h v w = in_progress_after_other k before i (Void p reason) later refl refl h v w
+in_progress_after k before i (Stop p) later f r h v w = in_progress_after_other k before i (Stop p) later refl refl h v w
+in_progress_after k before i (Chosen p bit u) later f r h v w = in_progress_after_other k before i (Chosen p bit u) later refl refl h v w
 
-writes_all : (k : Known) (before xs later : List (ℕ × Event)) → IsOneWriterHistory (before ++ xs) → Writes k before (xs ++ later) → Writes (known k xs later) (before ++ xs) later
-writes_all k before [] later h w = subst (λ b. Writes k b later) (sym (append-nil before)) w
-writes_all k before (e ∷ es) later h w =
+in_progress_after_all : (k : Known) (before xs later : List (ℕ × Event)) → IsOneWriterHistory (before ++ xs) → WritingIsInProgress k before (xs ++ later) → WritingIsInProgress (known k xs later) (before ++ xs) later
+in_progress_after_all k before [] later h w = subst (λ b. WritingIsInProgress k b later) (sym (append-nil before)) w
+in_progress_after_all k before (e ∷ es) later h w =
     let role = and_parts (has_role e.1) (list_all (λ x. has_role x.1) es) (roles-right before (e ∷ es) h.roles) in
-    let one = writes_more k before e.0 e.1 (es ++ later) (h.follows before e.0 e.1 es refl) role.0 w in
-    subst (λ b. Writes (known k (e ∷ es) later) b later) (append_assoc before (e ∷ []) es)
-    (writes_all (noting (counts e.1 (is_refused (es ++ later))) e.1 k) (before ++ e ∷ []) es later (subst IsOneWriterHistory (sym (append_assoc before (e ∷ []) es)) h) one)
+    let one = in_progress_after k before e.0 e.1 (es ++ later) (h.follows before e.0 e.1 es refl) role.0 w in
+    subst (λ b. WritingIsInProgress (known k (e ∷ es) later) b later) (append_assoc before (e ∷ []) es)
+    (in_progress_after_all (noting (counts e.1 (is_refused (es ++ later))) e.1 k) (before ++ e ∷ []) es later (subst IsOneWriterHistory (sym (append_assoc before (e ∷ []) es)) h) one)
 
 pub progress_of_writing : (initial v : ℕ) (xs later : List (ℕ × Event)) → IsOneWriterHistory xs → (known (initially initial) xs later).writing ≡ Some v
     → InProgress 0 (op.Write v) xs × (is_refused later ≡ false)
-progress_of_writing initial v xs later h w = writes_all (initially initial) [] xs later h (λ u e. absurd (cc e)) v w
+progress_of_writing initial v xs later h w = in_progress_after_all (initially initial) [] xs later h (λ u e. absurd (cc e)) v w
 
 -- the fresh value and the values of returned writes change only when a write returns
 after_kept : (k : Known) (e : Event) → is_written e ≡ false → ((after k e).fresh ≡ k.fresh) × ((after k e).returned ≡ k.returned)
@@ -214,22 +214,22 @@ known_fresh k (e ∷ es) later n =
     known_fresh (noting counted e.1 k) es later none.1 ∙ noting_fresh counted k e.1 none.0
 
 -- n has the values of returned writes that k has, and then maybe more
-abbrev Grown : Known → Known → Type 0
-Grown k n = (more : List ℕ) × (n.returned ≡ k.returned ++ more)
+abbrev HasGrown : Known → Known → Type 0
+HasGrown k n = (more : List ℕ) × (n.returned ≡ k.returned ++ more)
 
-returning_grows : (o : Option ℕ) (k : Known) → Grown k (returning o k)
+returning_grows : (o : Option ℕ) (k : Known) → HasGrown k (returning o k)
 returning_grows None k = ([], sym (append-nil k.returned))
 returning_grows (Some v) k = (v ∷ [], refl)
 
-after_grows : (k : Known) (e : Event) → Grown k (after k e)
+after_grows : (k : Known) (e : Event) → HasGrown k (after k e)
 after_grows k (Wrote p) = returning_grows k.writing k
 after_grows k e = ([], after_returned k e refl ∙ sym (append-nil k.returned))
 
-noting_grows : (counted : Bool) (k : Known) (e : Event) → Grown k (noting counted e k)
+noting_grows : (counted : Bool) (k : Known) (e : Event) → HasGrown k (noting counted e k)
 noting_grows true k e = after_grows k e
 noting_grows false k e = ([], sym (append-nil k.returned))
 
-pub known_grows : (k : Known) (xs later : List (ℕ × Event)) → Grown k (known k xs later)
+pub known_grows : (k : Known) (xs later : List (ℕ × Event)) → HasGrown k (known k xs later)
 known_grows k [] later = ([], sym (append-nil k.returned))
 known_grows k (e ∷ es) later =
     let counted = counts e.1 (is_refused (es ++ later)) in
@@ -278,7 +278,7 @@ among_after k v e xs later r =
       since = r.since;
       split = ap (λ es. e ∷ es) r.split;
       writing =
-          ap (λ n. (known n r.before ((r.step, Wrote 0) ∷ (r.since ++ later))).writing) (sym (parted k e.1 xs r.before r.since later (r.step, Wrote 0) r.split))
+          ap (λ n. (known n r.before ((r.step, Wrote 0) ∷ (r.since ++ later))).writing) (sym (noting_split k e.1 xs r.before r.since later (r.step, Wrote 0) r.split))
           ∙ r.writing;
     }
 
@@ -328,16 +328,18 @@ EndsWrites k xs later =
     (before : List (ℕ × Event)) (i p : ℕ) (rest : List (ℕ × Event)) → xs ≡ before ++ (i, Wrote p) ∷ rest
     → (v : ℕ) × ((known k before ((i, Wrote p) ∷ (rest ++ later))).writing ≡ Some v) × (p ≡ 0)
 
-pub ends_after : (k : Known) (e : ℕ × Event) (es later : List (ℕ × Event)) → EndsWrites k (e ∷ es) later → EndsWrites (noting (counts e.1 (is_refused (es ++ later))) e.1 k) es later
-ends_after k e es later ends before i p rest s =
+pub ends_writes_after : (k : Known) (e : ℕ × Event) (es later : List (ℕ × Event)) → EndsWrites k (e ∷ es) later → EndsWrites (noting (counts e.1 (is_refused (es ++ later))) e.1 k) es later
+ends_writes_after k e es later ends before i p rest s =
     let w = ends (e ∷ before) i p rest (ap (λ xs. e ∷ xs) s) in
-    (w.0, ap (λ n. (known n before ((i, Wrote p) ∷ (rest ++ later))).writing) (parted k e.1 es before rest later (i, Wrote p) s) ∙ w.1, w.2)
+    (w.0, ap (λ n. (known n before ((i, Wrote p) ∷ (rest ++ later))).writing) (noting_split k e.1 es before rest later (i, Wrote p) s) ∙ w.1, w.2)
 
 -- the last return of a write among these events, which is of the value that is then fresh
 pub record LastReturn (k : Known) (xs later : List (ℕ × Event)) : Type 0 where
   pub among : ReturnedAmong k (known k xs later).fresh xs later
   pub last : NoWriteReturns among.since
 
+-- the fresh value is as before these events, as no write returns in them, or is that of the last
+-- one that does
 abbrev FreshSince : Known → List (ℕ × Event) → List (ℕ × Event) → Type 0
 FreshSince k xs later = (((known k xs later).fresh ≡ k.fresh) × NoWriteReturns xs) ⊎ LastReturn k xs later
 
@@ -356,7 +358,7 @@ pub last_return : (k : Known) (xs later : List (ℕ × Event)) → EndsWrites k 
 unfolding among_after
 last_return k [] later ends = inl (refl, refl)
 last_return k (e ∷ es) later ends =
-    elim (last_return (noting (counts e.1 (is_refused (es ++ later))) e.1 k) es later (ends_after k e es later ends)) [
+    elim (last_return (noting (counts e.1 (is_refused (es ++ later))) e.1 k) es later (ends_writes_after k e es later ends)) [
       | inl w ↦ last_head k e.0 e.1 es later ends w.0 w.1
       | inr l ↦ inr (record { among = among_after k (known k (e ∷ es) later).fresh e es later l.among; last = l.last })
     ]
@@ -449,16 +451,16 @@ reads_head true e xs ys n h =
     ∙ count_head (is_got e.1) e (filter (λ x. is_got x.1) ys)
 reads_head false e xs ys n h = h ∙ ap (λ b. length (cond b (e ∷ filter (λ x. is_got x.1) ys) (filter (λ x. is_got x.1) ys))) (sym (n refl))
 
-reads_of : (xs later : List (ℕ × Event)) → returned_reads (accepted_of xs later) ≡ returned_reads xs
-reads_of [] later = refl
-reads_of (e ∷ es) later = reads_head (counts e.1 (is_refused (es ++ later))) e (accepted_of es later) es (reads_count e.1 (is_refused (es ++ later))) (reads_of es later)
+reads_accepted_of : (xs later : List (ℕ × Event)) → returned_reads (accepted_of xs later) ≡ returned_reads xs
+reads_accepted_of [] later = refl
+reads_accepted_of (e ∷ es) later = reads_head (counts e.1 (is_refused (es ++ later))) e (accepted_of es later) es (reads_count e.1 (is_refused (es ++ later))) (reads_accepted_of es later)
 
 reads_accepted : (xs : List (ℕ × Event)) → returned_reads (accepted xs) ≡ returned_reads xs
 reads_accepted [] = refl
 reads_accepted (e ∷ es) = reads_head (counts e.1 (is_refused es)) e (accepted es) es (reads_count e.1 (is_refused es)) (reads_accepted es)
 
 pub length-verdicts_of : (k : Known) (xs later : List (ℕ × Event)) → length (verdicts_from k (accepted_of xs later)) ≡ returned_reads xs
-length-verdicts_of k xs later = length-verdicts_from k (accepted_of xs later) ∙ reads_of xs later
+length-verdicts_of k xs later = length-verdicts_from k (accepted_of xs later) ∙ reads_accepted_of xs later
 
 pub length-verdicts : (k : Known) (xs : List (ℕ × Event)) → length (verdicts_from k (accepted xs)) ≡ returned_reads xs
 length-verdicts k xs = length-verdicts_from k (accepted xs) ∙ reads_accepted xs

@@ -212,8 +212,8 @@ crossing_of_words v earlier during later whole o =
     ]
 
 -- what follows an event of `earlier` is the rest of `earlier`, and then `later`
-pub goes_on : (before since rest earlier later : List (ℕ × Event)) (x : ℕ × Event) → earlier ++ later ≡ before ++ x ∷ since → earlier ≡ before ++ x ∷ rest → since ≡ rest ++ later
-goes_on before since rest earlier later x whole part =
+pub rest_then_later : (before since rest earlier later : List (ℕ × Event)) (x : ℕ × Event) → earlier ++ later ≡ before ++ x ∷ since → earlier ≡ before ++ x ∷ rest → since ≡ rest ++ later
+rest_then_later before since rest earlier later x whole part =
     let same : x ∷ since ≡ x ∷ (rest ++ later) =
     append_cancel_left before (x ∷ since) (x ∷ (rest ++ later)) (sym whole ∙ ap (λ es. es ++ later) part ∙ append_assoc before (x ∷ rest) later) in
     cc same
@@ -254,7 +254,7 @@ words_of_crossing v earlier during later roles (inl p) =
       step = w.step;
       since = w.since;
       split = w.split;
-      unreturned = λ rest s. no_return w.since rest during w.quiet (goes_on w.earlier w.since rest earlier during x w.split s);
+      unreturned = λ rest s. no_return w.since rest during w.quiet (rest_then_later w.earlier w.since rest earlier during x w.split s);
       unrefused = still_unrefused w.since later w.quiet (roles_since (earlier ++ during) later w.earlier w.since x roles w.split) p.1;
     }
 words_of_crossing v earlier during later roles (inr r) =
@@ -269,6 +269,6 @@ words_of_crossing v earlier during later roles (inr r) =
           ∙ sym (append_assoc earlier r.before ((r.step, Wrote 0) ∷ r.since))
           ∙ ap (λ es. es ++ (r.step, Wrote 0) ∷ r.since) w.split
           ∙ append_assoc w.earlier (x ∷ w.since) ((r.step, Wrote 0) ∷ r.since);
-      unreturned = λ rest s. no_return w.since rest r.before w.quiet (goes_on w.earlier w.since rest earlier r.before x w.split s);
+      unreturned = λ rest s. no_return w.since rest r.before w.quiet (rest_then_later w.earlier w.since rest earlier r.before x w.split s);
       unrefused = returned_unrefused w.since r.since later r.step w.quiet;
     }

@@ -15,6 +15,7 @@ use Rattle.pages.proofs.VerdictOverlaps.{ReturnsIn, Crosses, crossing_of_words, 
 use Rattle.pages.proofs.VerdictKnown.{HaveRoles, roles-left, roles-right, history-left, known, known-append, writing_of_progress, progress_of_writing, known_fresh, returned_among, ReturnedAmong, among_of_returned, EndsWrites, last_return, reading_of_progress, accepted_of, verdicts-append, length-verdicts_of, length-verdicts}
 
 module _ (initial : ℕ) where
+  -- what is known after the events xs, if the events `later` follow
   abbrev known_after : List (ℕ × Event) → List (ℕ × Event) → Known
   known_after xs later = known (initially initial) xs later
 
@@ -64,49 +65,51 @@ module _ (initial : ℕ) where
 
   -- values of writes that overlap the events `during`, which come between `earlier` and `later`
   module _ (v : ℕ) (earlier during later : List (ℕ × Event)) (h : IsOneWriterHistory (earlier ++ during)) where
-    abbrev upto : Known
-    upto = known_after earlier (during ++ later)
+    -- what is known before and after the events `during`
+    abbrev known_before_during : Known
+    known_before_during = known_after earlier (during ++ later)
 
-    abbrev all : Known
-    all = known_after (earlier ++ during) later
+    abbrev known_after_during : Known
+    known_after_during = known_after (earlier ++ during) later
 
-    abbrev since_then : Bool
-    since_then = has_returned v (length upto.returned) all || is_value v all.writing
+    -- whether, by what is known, a write of v has returned in `during` or is in progress
+    abbrev overlap_test : Bool
+    overlap_test = has_returned v (length known_before_during.returned) known_after_during || is_value v known_after_during.writing
 
     -- a split of `during` is also one of `during` followed by `later`
     cut : (before : List (ℕ × Event)) (x : ℕ × Event) (since : List (ℕ × Event)) → during ≡ before ++ x ∷ since → during ++ later ≡ before ++ (x ∷ (since ++ later))
     cut before x since s = ap (λ es. es ++ later) s ∙ append_assoc before (x ∷ since) later
 
-    known_at : (before rest : List (ℕ × Event)) → during ++ later ≡ before ++ rest → known upto before rest ≡ known_after (earlier ++ before) rest
+    known_at : (before rest : List (ℕ × Event)) → during ++ later ≡ before ++ rest → known known_before_during before rest ≡ known_after (earlier ++ before) rest
     known_at before rest q = ap (λ es. known (known_after earlier es) before rest) q ∙ sym (known-append (initially initial) earlier before rest)
 
-    left_of : (before : List (ℕ × Event)) (x : ℕ × Event) (since : List (ℕ × Event)) → during ≡ before ++ x ∷ since → IsOneWriterHistory (earlier ++ before)
-    left_of before x since s = history-left (earlier ++ before) (x ∷ since) (subst IsOneWriterHistory (ap (λ es. earlier ++ es) s ∙ sym (append_assoc earlier before (x ∷ since))) h)
+    history_left_of : (before : List (ℕ × Event)) (x : ℕ × Event) (since : List (ℕ × Event)) → during ≡ before ++ x ∷ since → IsOneWriterHistory (earlier ++ before)
+    history_left_of before x since s = history-left (earlier ++ before) (x ∷ since) (subst IsOneWriterHistory (ap (λ es. earlier ++ es) s ∙ sym (append_assoc earlier before (x ∷ since))) h)
 
-    pub test_of_crossing : Crosses v earlier during later → since_then ≡ true
+    pub test_of_crossing : Crosses v earlier during later → overlap_test ≡ true
     test_of_crossing (inl w) =
-        or_right (has_returned v (length upto.returned) all) _
+        or_right (has_returned v (length known_before_during.returned) known_after_during) _
         (ap (is_value v) (writing_of_progress (initially initial) v (earlier ++ during) later w.0 h.roles w.1) ∙ eq-eqb v v refl)
     test_of_crossing (inr r) =
         let x : ℕ × Event = (r.step, Wrote 0) in
-        let writing : (known upto r.before (x ∷ (r.since ++ later))).writing ≡ Some v =
+        let writing : (known known_before_during r.before (x ∷ (r.since ++ later))).writing ≡ Some v =
         ap (λ (k : Known). k.writing) (known_at r.before (x ∷ (r.since ++ later)) (cut r.before x r.since r.split))
-        ∙ writing_of_progress (initially initial) v (earlier ++ r.before) (x ∷ (r.since ++ later)) r.write (left_of r.before x r.since r.split).roles refl in
-        let found : has_returned v (length upto.returned) all ≡ true =
-        ap (has_returned v (length upto.returned)) (known-append (initially initial) earlier during later ∙ ap (λ es. known upto es later) r.split)
-        ∙ returned_among upto v r.before r.since later r.step writing in
-        ap (λ b. b || is_value v all.writing) found
+        ∙ writing_of_progress (initially initial) v (earlier ++ r.before) (x ∷ (r.since ++ later)) r.write (history_left_of r.before x r.since r.split).roles refl in
+        let found : has_returned v (length known_before_during.returned) known_after_during ≡ true =
+        ap (has_returned v (length known_before_during.returned)) (known-append (initially initial) earlier during later ∙ ap (λ es. known known_before_during es later) r.split)
+        ∙ returned_among known_before_during v r.before r.since later r.step writing in
+        ap (λ b. b || is_value v known_after_during.writing) found
 
-    pub crossing_of_test : since_then ≡ true → Crosses v earlier during later
+    pub crossing_of_test : overlap_test ≡ true → Crosses v earlier during later
     crossing_of_test t =
-        elim (or_cases (has_returned v (length upto.returned) all) (is_value v all.writing) t) [
-          | inl returned ↦ inr (of_returned (among_of_returned upto during later v (length upto.returned) (roles-right earlier during h.roles) (omega arith)
-              (ap (has_returned v (length upto.returned)) (sym (known-append (initially initial) earlier during later)) ∙ returned)))
-          | inr writing ↦ inl (progress_of_writing initial v (earlier ++ during) later h (value_of_option all.writing v writing))
+        elim (or_cases (has_returned v (length known_before_during.returned) known_after_during) (is_value v known_after_during.writing) t) [
+          | inl returned ↦ inr (of_returned (among_of_returned known_before_during during later v (length known_before_during.returned) (roles-right earlier during h.roles) (omega arith)
+              (ap (has_returned v (length known_before_during.returned)) (sym (known-append (initially initial) earlier during later)) ∙ returned)))
+          | inr writing ↦ inl (progress_of_writing initial v (earlier ++ during) later h (value_of_option known_after_during.writing v writing))
         ]
       where
-        of_returned : (has_returned v (length upto.returned) upto ≡ true) ⊎ ReturnedAmong upto v during later → ReturnsIn v earlier during
-        of_returned (inl old) = absurd (true≢false (sym old ∙ ap (list_any (λ u. u == v)) (drop-length upto.returned)))
+        of_returned : (has_returned v (length known_before_during.returned) known_before_during ≡ true) ⊎ ReturnedAmong known_before_during v during later → ReturnsIn v earlier during
+        of_returned (inl old) = absurd (true≢false (sym old ∙ ap (list_any (λ u. u == v)) (drop-length known_before_during.returned)))
         of_returned (inr r) =
             let x : ℕ × Event = (r.step, Wrote 0) in
             record {
@@ -114,7 +117,7 @@ module _ (initial : ℕ) where
               step = r.step;
               since = r.since;
               split = r.split;
-              write = (progress_of_writing initial v (earlier ++ r.before) (x ∷ (r.since ++ later)) (left_of r.before x r.since r.split)
+              write = (progress_of_writing initial v (earlier ++ r.before) (x ∷ (r.since ++ later)) (history_left_of r.before x r.since r.split)
                   (ap (λ (k : Known). k.writing) (sym (known_at r.before (x ∷ (r.since ++ later)) (cut r.before x r.since r.split))) ∙ r.writing)).0;
             }
 

@@ -1,9 +1,11 @@
 -- Breaks: the conditions that a seek looks for, on a step's events or on the memory after the step.
-use Rattle.std.specs.Prelude.{ℕ, Bool, true, false, ◌==◌, ◌||◌, ◌&&◌, nat_lt, List, [], ◌∷◌, Option, Some, None, length, if◌then◌else◌}
+use Rattle.std.specs.Prelude.{ℕ, Bool, true, false, ◌==◌, ◌||◌, ◌&&◌, nat_lt, List, [], ◌∷◌, Option, Some, None, length}
 use Rattle.safe_bit.specs.Memory.{Memory, cell_at}
 use Rattle.frames.specs.declared.types.Event.{Event}
 use Rattle.frames.specs.declared.types.Event.TheVariants as event
 use Rattle.frames.specs.declared.types.StepEvents.{StepEvents}
+use Rattle.frames.specs.SafeBit.{value_of}
+use Rattle.frames.specs.correctness.Regularity.{is_refusal}
 use Rattle.pages.specs.declared.breakpoint.Break.{Break}
 use Rattle.pages.specs.declared.breakpoint.Break.TheVariants.{Returns, Bit, Chosen, Void, Refused}
 
@@ -27,18 +29,13 @@ abbrev pub is_void : Event → Bool
 is_void (event.Void q reason) = true
 is_void e = false
 
--- whether an event is the refusal of an operation
-abbrev pub is_refused_event : Event → Bool
-is_refused_event (event.Refused q layer) = true
-is_refused_event e = false
-
 -- whether an event meets a break; no event meets a break on a bit, which only a memory can meet
 abbrev pub is_met_by : Break → Event → Bool
 is_met_by (Returns p) e = is_return_of p e
 is_met_by (Bit j v) e = false
 is_met_by Chosen e = is_choice e
 is_met_by Void e = is_void e
-is_met_by Refused e = is_refused_event e
+is_met_by Refused e = is_refusal e
 
 -- whether there is an event, and it meets a break
 abbrev pub is_met_by_option : Break → Option Event → Bool
@@ -49,14 +46,10 @@ is_met_by_option break (Some e) = is_met_by break e
 abbrev pub is_met_by_events : Break → StepEvents → Bool
 is_met_by_events break events = is_met_by_option break events.first || is_met_by_option break events.second
 
--- the value of a bit, as 0 or 1
-abbrev pub bit_number : Bool → ℕ
-bit_number v = if v then 1 else 0
-
 -- whether a memory meets a break: the break is on a bit that the memory has, and the bit's value is
 -- the break's
 abbrev pub is_met_by_memory : Break → Memory → Bool
-is_met_by_memory (Bit j v) m = nat_lt j (length m.cells) && (bit_number (cell_at j m).value == v)
+is_met_by_memory (Bit j v) m = nat_lt j (length m.cells) && (value_of (cell_at j m).value == v)
 is_met_by_memory (Returns p) m = false
 is_met_by_memory Chosen m = false
 is_met_by_memory Void m = false

@@ -55,7 +55,7 @@ pub record IsWriteBefore {history : List (ℕ × Event)} (order : Order) (n v : 
 -- in the order, the last write before place n is one of v
 pub record IsLastWrite (history : List (ℕ × Event)) (order : Order) (n v : ℕ) : Type 0 where
   pub write : Operation history
-  pub it : IsWriteBefore order n v write
+  pub is_before : IsWriteBefore order n v write
   pub last : (other : Operation history) (u : ℕ) → IsWriteBefore order n u other → order.place other.number ≤ order.place write.number
 
 -- v is the value of the last write before place n, or the initial value if there is none

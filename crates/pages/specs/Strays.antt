@@ -40,8 +40,8 @@ Judges b page = OnVerdicts (AreVerdictsOn b) page
 
 -- if `judged` is a register, not `None`, and a page shows verdicts, they are on a history that this
 -- register records
-abbrev pub JudgesIts : {R P : Type 0} → (R → Behaviour P) → Option R → Page → Type 0
-JudgesIts is judged page = IfSome judged (λ register. Judges (is register) page)
+abbrev pub JudgesRegister : {R P : Type 0} → (R → Behaviour P) → Option R → Page → Type 0
+JudgesRegister is judged page = IfSome judged (λ register. Judges (is register) page)
 
 -- if a page shows verdicts, none of them is stray: each read gives the fresh value, or that of a
 -- write that overlaps it

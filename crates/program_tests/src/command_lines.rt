@@ -179,12 +179,12 @@ Options:
 ";
 
 /// Lines that ask for the help.
-const ASKING: &str =
+const HELP_LINES: &str =
     "--help\n-h\ntower --help\n--cells 4 -h\n--workers 4 --help\n--help --workers 5\n";
 
 #[test]
 fn help(rt: HostRuntime) -> Result<(), Fail> {
-    for line in ASKING.lines() {
+    for line in HELP_LINES.lines() {
         let words = split(rt.alloc(), line)?;
         match parse_words(rt.alloc(), words.as_slice()) {
             Invocation::Help(text) => assert_eq!(rt; text.as_str(), HELP, "{line}"),

@@ -6,8 +6,8 @@ use Rattle.frames.specs.declared.types.Op.{Op}
 use Rattle.question_file.specs.Asked.{lists_of, no_lists}
 
 -- one more vector without operations makes the empty lists those of n + 1 processes
-pub one_more : (all : List (Vec Op)) (v : Vec Op) (n : ℕ) → v.items ≡ [] → lists_of all ≡ no_lists n → lists_of (all ++ v ∷ []) ≡ no_lists (n + 1)
-one_more all v n empty so_far =
+pub no_lists_more : (all : List (Vec Op)) (v : Vec Op) (n : ℕ) → v.items ≡ [] → lists_of all ≡ no_lists n → lists_of (all ++ v ∷ []) ≡ no_lists (n + 1)
+no_lists_more all v n empty so_far =
     map-append (λ (w : Vec Op). w.items) all (v ∷ [])
     ∙ ap₂ (λ (xs : List (List Op)) (x : List Op). xs ++ x ∷ []) so_far empty
     ∙ replicate_more n []

@@ -38,14 +38,14 @@ at_end n read (line ∷ other ∷ others) some end = absurd cc
 pub few_lines : (bytes : List ℕ) (ls : List (List ℕ)) → ls ≡ lines bytes → length bytes < 2 ^ 63 → length ls ≤ 2 ^ 63
 few_lines bytes ls e few = omega (arith, ap length e, length-slice_split (λ b. b == 10) bytes, count_by-le-length (λ b. b == 10) bytes)
 
-some_line : (ls : List (List ℕ)) → 0 < length ls → is_end ls ≡ false
-some_line [] some = absurd (omega arith)
-some_line (l ∷ ls) some = refl
+not_at_end : (ls : List (List ℕ)) → 0 < length ls → is_end ls ≡ false
+not_at_end [] some = absurd (omega arith)
+not_at_end (l ∷ ls) some = refl
 
 -- there is at least one line
-pub some_lines : (bytes : List ℕ) → is_end (lines bytes) ≡ false
-some_lines bytes = some_line (lines bytes) (omega (arith, length-slice_split (λ b. b == 10) bytes))
+pub lines_not_at_end : (bytes : List ℕ) → is_end (lines bytes) ≡ false
+lines_not_at_end bytes = not_at_end (lines bytes) (omega (arith, length-slice_split (λ b. b == 10) bytes))
 
-pub one_less : (ls : List (List ℕ)) → is_end ls ≡ false → length (after_next ls) + 1 ≡ length ls
-one_less [] some = absurd cc
-one_less (l ∷ ls) some = omega arith
+pub one_line_less : (ls : List (List ℕ)) → is_end ls ≡ false → length (after_next ls) + 1 ≡ length ls
+one_line_less [] some = absurd cc
+one_line_less (l ∷ ls) some = omega arith

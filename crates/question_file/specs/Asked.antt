@@ -1,4 +1,4 @@
--- The contents of a question file.
+-- What a question file says, and what it leaves to a default.
 use Rattle.std.specs.Prelude.{ℕ, nat_le, ◌&&◌, Bool, true, List, [], Option, Some, None, map, replicate, unwrap_or}
 use Rattle.std.specs.Global.{Vec}
 use Rattle.frames.specs.declared.types.Op.{Op}
@@ -7,9 +7,9 @@ use Rattle.tower_file.specs.declared.tower.TowerSpec.{TowerSpec}
 use Rattle.tower_file.specs.declared.tower.TowerSpec.TheVariants.{Safe, Copies, Regular, Unary, Stamped, Matrix}
 use Rattle.tower_file.specs.Towers.{processes_of}
 
--- the contents of a question file: a tower and its register's initial value; for each process its
+-- what a question file says: a tower and its register's initial value; for each process its
 -- operations; which operations follow which; the processes that may stop; and the most states to
--- search, if the file gives them
+-- search, if the file gives their number
 pub record Asked : Type 0 where
   pub tower : TowerSpec
   pub value : ℕ

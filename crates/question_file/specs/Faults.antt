@@ -15,8 +15,8 @@ out_of_memory_kind = Shared of_tower.Memory
 abbrev pub question_fault : QuestionFaultKind → ℕ → QuestionFault
 question_fault kind line = record { kind = kind; line = line }
 
--- What a kind of fault prints: its number, a space and its name. A kind that a tower file may have too
--- prints what it prints there.
+-- What a kind of fault prints: its number, a space and its name. A kind that a tower file may have
+-- too prints what it prints there.
 abbrev pub question_kind_display : QuestionFaultKind → List ℕ
 question_kind_display BadLine = codes "60 BadLine"
 question_kind_display (Shared kind) = kind_display kind

@@ -42,8 +42,8 @@ abbrev pub is_empty_list : Option (List Op) → Bool
 is_empty_list None = false
 is_empty_list (Some list) = length list == 0
 
--- whether process p can get these operations: it exists and has none yet, there is at least one, and
--- each fits it
+-- whether process p can get these operations: it exists and has none yet, there is at least one,
+-- and each fits it
 abbrev pub may_make : Asked → ℕ → List Op → Bool
 may_make a p list = (is_empty_list (slice_get a.operations p) && not (length list == 0)) && list_all (suits a.tower p) list
 

@@ -18,19 +18,19 @@ is_comment [] = true
 is_comment (b ∷ bs) = b == 35
 
 -- what the lines so far say, the last of which is the tower's; or that line's fault
-abbrev pub begun : Result TowerSpec QuestionFaultKind → Result (Option Asked) QuestionFaultKind
-begun (Ok t) = Ok (Some (asked_of t))
-begun (Err k) = Err k
+abbrev pub begun_with : Result TowerSpec QuestionFaultKind → Result (Option Asked) QuestionFaultKind
+begun_with (Ok t) = Ok (Some (asked_of t))
+begun_with (Err k) = Err k
 
--- what the lines so far say, one of which gave a tower; or the fault of the last
-abbrev pub gone_on : Result Asked QuestionFaultKind → Result (Option Asked) QuestionFaultKind
-gone_on (Ok a) = Ok (Some a)
-gone_on (Err k) = Err k
+-- what is asked, as what the lines so far say; or the fault as it is
+abbrev pub as_some : Result Asked QuestionFaultKind → Result (Option Asked) QuestionFaultKind
+as_some (Ok a) = Ok (Some a)
+as_some (Err k) = Err k
 
 -- What the lines so far say, with one more that isn't a comment. At first no tower is given.
 abbrev pub with_content_line : Option Asked → List ℕ → Result (Option Asked) QuestionFaultKind
-with_content_line None line = begun (tower_in line)
-with_content_line (Some a) line = gone_on (with_entry a (words line))
+with_content_line None line = begun_with (tower_in line)
+with_content_line (Some a) line = as_some (with_entry a (words line))
 
 -- what the lines so far say, with one more; or that line's fault
 abbrev pub with_line : Option Asked → List ℕ → Result (Option Asked) QuestionFaultKind

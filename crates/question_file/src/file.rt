@@ -7,7 +7,7 @@ ghost use Rattle.question_file.specs.Asked.{is_limit};
 use answers::question::Question;
 use tower_file::TowerSpec;
 
-/// How many states are searched at most if the file doesn't say.
+/// The most states to search if the file doesn't give their number.
 pub const STATES_IF_LEFT_OUT: u32 = 1 << 20;
 
 /// What a question file says: a tower, a question about its register, and the most states to search

@@ -1,8 +1,8 @@
 //! Question files: a tower, the operations that its processes make, and how they may run, as text.
 //!
 //! A file is lines of bytes 0x20 to 0x7E, each ended by a line feed. A line that is empty or begins
-//! with `#` says nothing. The first other line is a tower, as in a tower file. Words and numbers are
-//! those of a tower file too. Each further line is one of
+//! with `#` says nothing. The first other line is a tower, as in a tower file. Words and numbers
+//! are those of a tower file too. Each further line is one of
 //!
 //! - `process P OP..`: process P makes these operations, at least one, in this order; each is `w V`
 //!   or `r`, and fits the process. A process has at most one such line.

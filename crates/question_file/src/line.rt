@@ -20,7 +20,7 @@ use std::alloc::{AllocError, Global};
 use tower_file::TowerSpec;
 use words::number::{four_numbers, number, one_number};
 use words::parts::Parts;
-use words::step::is;
+use words::step::is_word;
 use words::text::{push_bytes, push_text};
 
 /// The tower file that has this line as its tower and no steps. It is made because `tower_file`
@@ -63,7 +63,7 @@ fn next_operation(words: &mut Parts<'_>) -> Option<Op>
 }
 
 /// The operations that the words spell; `None` if they spell none.
-#[tactic(auto, using(crate::proofs::Operations::goes_on, crate::proofs::Operations::fails, crate::proofs::Operations::ends, crate::proofs::Operations::fewer))]
+#[tactic(auto, using(crate::proofs::Operations::operation_read, crate::proofs::Operations::no_operation_read, crate::proofs::Operations::no_words_left, crate::proofs::Operations::fewer_words))]
 fn operations(alloc: Global, words: &mut Parts<'_>) -> Result<Option<Vec<Op>>, AllocError>
     ensures some { IfOk result (λ list. IfSome list (λ list.
         spec.operations_from [] words.old ≡ Some list.items)) }
@@ -221,16 +221,16 @@ impl QuestionFile {
     {
         let mut words = Parts::new(line, b' ');
         let name = words.next();
-        if is(name, "process") {
+        if is_word(name, "process") {
             return self.take_process(alloc, &mut words);
         }
-        if is(name, "after") {
+        if is_word(name, "after") {
             return self.take_after(&mut words);
         }
-        if is(name, "stop") {
+        if is_word(name, "stop") {
             return self.take_stop(&mut words);
         }
-        if is(name, "most") {
+        if is_word(name, "most") {
             return self.take_most(&mut words);
         }
         Err(QuestionFaultKind::BadLine)

@@ -27,7 +27,7 @@ fn is_comment(line: &[u8]) -> bool
 }
 
 /// Whether a file may have this byte.
-fn is_plain(b: u8) -> bool
+fn is_file_byte(b: u8) -> bool
     ensures { result ≡ is_file_byte b }
 {
     b == b'\n' || (0x20 <= b && b <= 0x7e)
@@ -37,7 +37,7 @@ fn is_plain(b: u8) -> bool
 fn is_ascii(line: &[u8]) -> bool
     ensures { result ≡ list_all is_file_byte line.now }
 {
-    line.iter().all(|b| is_plain(*b))
+    line.iter().all(|b| is_file_byte(*b))
 }
 
 /// Begins a file with the line of its tower.
@@ -115,7 +115,7 @@ fn lines_of(bytes: &[u8]) -> Lines<'_>
 
 /// What the bytes of a question file say. If they have a fault, the first one; if memory runs out
 /// before it is found, Memory, on the line that was being read.
-#[tactic(auto, using(crate::proofs::ReadLines::line_said, crate::proofs::ReadLines::line_faulty, crate::proofs::ReadLines::at_end, crate::proofs::ReadLines::one_less))]
+#[tactic(auto, using(crate::proofs::ReadLines::line_said, crate::proofs::ReadLines::line_faulty, crate::proofs::ReadLines::at_end, crate::proofs::ReadLines::one_line_less))]
 pub fn parse_question(alloc: Global, bytes: &[u8]) -> Result<QuestionFile, QuestionFault>
     ensures read { IfOk result (λ file. spec.question_reading bytes.now ≡ Ok (as_asked file)) }
     ensures fault { IfErr result (λ e. e.kind ≢ out_of_memory_kind

@@ -14,9 +14,9 @@ use Rattle.frames.specs.Configuration.{in_order, chosen_of}
 use Rattle.frames.specs.OneWriter.{one_writer}
 use Rattle.frames.specs.laws.OneWriter as writer
 use Rattle.frames.specs.correctness.Regularity.{in_progress, IsSafe}
-use Rattle.frames.proofs.Seen.{Seen, Returned, opening, sees, got, now_last, IsFreshAlone, ended}
+use Rattle.frames.proofs.Seen.{Seen, Returned, opening, sees, got, now_last, IsFreshAlone, end_event}
 use Rattle.frames.proofs.KnownAndSeen.{fresh_alike}
-use Rattle.frames.proofs.VerdictFacts.{none_in, is_fresh, fresh_value}
+use Rattle.frames.proofs.VerdictFacts.{none_in_progress, is_fresh, fresh_value}
 use Rattle.frames.proofs.Pointwise.{put, put_same, put_other, put_zero, put_back, put_all}
 use Rattle.layers.specs.Nested.{Ends, Table, layered}
 use Rattle.layers.specs.Sound.{IsNotSpent, IsSoundTable, FitsBelow}
@@ -36,55 +36,55 @@ pub record WriteReached (m r v : ℕ) (u : Seen) (parts : ℕ → Seen) : Type 0
 
 -- a write of v is in progress: the copies of the readers before r hold v, and only reader r's copy
 -- is being written
-pub record Within (m r v : ℕ) (u : Seen) (parts : ℕ → Seen) : Type 0 where
+pub record WritesCopy (m r v : ℕ) (u : Seen) (parts : ℕ → Seen) : Type 0 where
   pub writing : u.writing ≡ Some v
   pub here : (parts (r - 1)).writing ≡ Some v
   pub last : (k : ℕ) → k + 1 < r → (parts k).last ≡ v
   pub quiet : (k : ℕ) → k < m → (k ≡ r - 1 → ⊥) → (parts k).writing ≡ None
 
 -- no write is in progress, no copy is being written, and all copies hold the value written last
-pub record Still (m : ℕ) (u : Seen) (parts : ℕ → Seen) : Type 0 where
+pub record Idle (m : ℕ) (u : Seen) (parts : ℕ → Seen) : Type 0 where
   pub writing : u.writing ≡ None
   pub last : (k : ℕ) → k < m → (parts k).last ≡ u.last
   pub quiet : (k : ℕ) → k < m → (parts k).writing ≡ None
 
 -- what each task of the writer says of the register and of the copies
 abbrev pub CopierAt : ℕ → CopiesTask → Seen → (ℕ → Seen) → Type 0
-CopierAt m (Writing v r) u parts = Within m r v u parts
+CopierAt m (Writing v r) u parts = WritesCopy m r v u parts
 CopierAt m (Reading r) u parts = ⊥
 
 -- what the writer's task says; if it has none, all copies are idle and hold the value written last
 abbrev pub CopierSays : ℕ → Option (TaskInProgress CopiesTask) → Seen → (ℕ → Seen) → Type 0
-CopierSays m None u parts = Still m u parts
+CopierSays m None u parts = Idle m u parts
 CopierSays m (Some n) u parts = CopierAt m n.task u parts
 
 -- if a reader's last read overlaps no write, it overlaps no write of the reader's copy, the fresh
 -- value is the same on both, and no write is in progress
-abbrev pub Alone : ℕ → Seen → (ℕ → Seen) → Type 0
-Alone m u parts = (r : ℕ) → 1 ≤ r → r ≤ m → u.overlaps r ≡ [] → ((parts (r - 1)).overlaps 1 ≡ []) × (((parts (r - 1)).fresh 1 ≡ u.fresh r) × (u.writing ≡ None))
+abbrev pub AloneReadsAgree : ℕ → Seen → (ℕ → Seen) → Type 0
+AloneReadsAgree m u parts = (r : ℕ) → 1 ≤ r → r ≤ m → u.overlaps r ≡ [] → ((parts (r - 1)).overlaps 1 ≡ []) × (((parts (r - 1)).fresh 1 ≡ u.fresh r) × (u.writing ≡ None))
 
 -- the invariant: reads that no write overlaps, and what the writer's task says
 pub record CopiesInv (m : ℕ) (u : Seen) (j : View CopiesTask) : Type 0 where
-  pub alone : Alone m u j.parts
+  pub alone : AloneReadsAgree m u j.parts
   pub copier : CopierSays m (j.tasks 0) u j.parts
 
 abbrev pub copies_watch : ℕ → Watch CopiesTask Seen
 copies_watch m = record { Good = IsFreshAlone; Inv = CopiesInv m }
 
--- while a write is in progress, every last read overlaps it, so `Alone` holds whatever the copies
--- show
-alone_none : (m v : ℕ) (u z : Seen) (parts to : ℕ → Seen) → u.writing ≡ Some v → Alone m u parts → ((r : ℕ) → z.overlaps r ≡ u.overlaps r) → Alone m z to
-alone_none m v u z parts to e h o r lo hi k =
+-- while a write is in progress, every last read overlaps it, so `AloneReadsAgree` holds whatever
+-- the copies show
+agree_while_writing : (m v : ℕ) (u z : Seen) (parts to : ℕ → Seen) → u.writing ≡ Some v → AloneReadsAgree m u parts → ((r : ℕ) → z.overlaps r ≡ u.overlaps r) → AloneReadsAgree m z to
+agree_while_writing m v u z parts to e h o r lo hi k =
     let n : u.writing ≡ None = (h r lo hi (sym (o r) ∙ k)).1.1 in
     let f : ⊥ = cc in
     absurd f
 
 -- while no write is in progress, no copy is being written, and all hold the value written last
-writer_still : (m : ℕ) (task : Option (TaskInProgress CopiesTask)) (u : Seen) (parts : ℕ → Seen) → CopierSays m task u parts → u.writing ≡ None → Still m u parts
-writer_still m None u parts h e = h
-writer_still m (Some n) u parts h e = at n.task h
+writer_idle : (m : ℕ) (task : Option (TaskInProgress CopiesTask)) (u : Seen) (parts : ℕ → Seen) → CopierSays m task u parts → u.writing ≡ None → Idle m u parts
+writer_idle m None u parts h e = h
+writer_idle m (Some n) u parts h e = at n.task h
   where
-    at : (task : CopiesTask) → CopierAt m task u parts → Still m u parts
+    at : (task : CopiesTask) → CopierAt m task u parts → Idle m u parts
     at (Writing v r) h = let q : u.writing ≡ Some v = h.writing in let f : ⊥ = cc in absurd f
     at (Reading r) h = absurd h
 
@@ -99,9 +99,9 @@ copier_same m (Some n) u z parts to ul uw l w h = at n.task h
     at (Reading r) h = h
 
 -- the process that acts on a copy: the writer, or the copy's reader
-abbrev pub copies_user : ℕ → ℕ → ℕ
-copies_user k zero = zero
-copies_user k (suc q) = suc k
+abbrev pub copies_user_of : ℕ → ℕ → ℕ
+copies_user_of k zero = zero
+copies_user_of k (suc q) = suc k
 
 module _ (m values : ℕ) where
   abbrev t : Table CopiesTask
@@ -110,7 +110,7 @@ module _ (m values : ℕ) where
   abbrev w : Watch CopiesTask Seen
   w = copies_watch m
 
-  runs_writes : (copies_left r v p : ℕ) (op : Op) (Out : Option Event → Seen → Type 0) (u : Seen) (j : View CopiesTask) → p ≡ 0 → 1 ≤ r → r + copies_left ≡ m + 1 → WriteReached m r v u j.parts → Alone m u j.parts
+  runs_writes : (copies_left r v p : ℕ) (op : Op) (Out : Option Event → Seen → Type 0) (u : Seen) (j : View CopiesTask) → p ≡ 0 → 1 ≤ r → r + copies_left ≡ m + 1 → WriteReached m r v u j.parts → AloneReadsAgree m u j.parts
       → Out None u → Out (Some (Wrote p)) (sees (Some (Wrote p)) u) → Runs t w p op Out (write_from v r copies_left) j
   runs_writes zero r v p op Out u j zp lo room h a on oe =
       let z : Seen = sees (Some (Wrote p)) u in (
@@ -118,7 +118,7 @@ module _ (m values : ℕ) where
         (
           oe,
           record {
-            alone = alone_none m v u z j.parts j.parts h.writing a (λ r. refl);
+            alone = agree_while_writing m v u z j.parts j.parts h.writing a (λ r. refl);
             copier = subst (λ y. CopierSays m y z j.parts) (sym (put_zero p None j.tasks zp)) (record {
               writing = refl;
               last = λ k lk. h.last k (omega (arith, lk, room)) ∙ sym (ap (λ o. now_last o u.last) h.writing);
@@ -137,7 +137,7 @@ module _ (m values : ℕ) where
           (
             on,
             record {
-              alone = alone_none m v u u j.parts (put i s j.parts) h.writing a (λ r. refl);
+              alone = agree_while_writing m v u u j.parts (put i s j.parts) h.writing a (λ r. refl);
               copier = subst (λ y. CopierSays m y u (put i s j.parts)) (sym (put_zero p n j.tasks zp)) (record {
                 writing = h.writing;
                 here = ap (λ x. x.writing) (put_same i s j.parts);
@@ -147,14 +147,14 @@ module _ (m values : ℕ) where
             },
           ),
         ),
-        λ o ans pass good. elim o as (λ o. Answers values (Write v) o → IsNotSpent o → Runs t w p op Out (write_from v (r + 1) copies_left) (record j { parts = put i (sees (Some (ended 0 o)) s) j.parts })) [
+        λ o ans pass good. elim o as (λ o. Answers values (Write v) o → IsNotSpent o → Runs t w p op Out (write_from v (r + 1) copies_left) (record j { parts = put i (sees (Some (end_event 0 o)) s) j.parts })) [
           | Value x ↦ λ ans pass. absurd ans
           | Written ↦ λ ans pass. runs_writes copies_left (r + 1) v p op Out u (record j { parts = put i e j.parts }) zp (omega (arith, lo)) (omega (arith, room))
               (record {
                 writing = h.writing;
                 last = put_all (λ k x. k + 1 < r + 1 → x.last ≡ v) i e j.parts (λ lk. refl) (λ k ne lk. h.last k (omega (arith, lk, ne, lo)));
                 quiet = put_all (λ k x. k < m → x.writing ≡ None) i e j.parts (λ lk. refl) (λ k ne lk. h.quiet k lk);
-              }) (alone_none m v u u j.parts (put i e j.parts) h.writing a (λ r. refl)) on oe
+              }) (agree_while_writing m v u u j.parts (put i e j.parts) h.writing a (λ r. refl)) on oe
           | Spent l ↦ λ ans pass. absurd pass
         ] ans pass,
       )
@@ -162,7 +162,7 @@ module _ (m values : ℕ) where
   begin_write : (u : Seen) (j : View CopiesTask) (p v : ℕ) → CopiesInv m u j → j.tasks p ≡ None → p ≡ 0
       → Runs t w p (Write v) (λ e. IsGoodStep IsFreshAlone u (in_order (Some (Invoke p (Write v))) e)) (write_from v 1 m) j
   begin_write u j p v h free zp =
-      let idle : Still m u j.parts = subst (λ y. CopierSays m y u j.parts) (sym (ap j.tasks zp) ∙ free) h.copier in
+      let idle : Idle m u j.parts = subst (λ y. CopierSays m y u j.parts) (sym (ap j.tasks zp) ∙ free) h.copier in
       let z : Seen = sees (Some (Invoke p (Write v))) u in
       runs_writes m 1 v p (Write v) (λ e. IsGoodStep IsFreshAlone u (in_order (Some (Invoke p (Write v))) e)) z j zp (omega arith) (omega arith)
       (record { writing = refl; last = λ k lk. (let f : ⊥ = omega (arith, lk) in absurd f); quiet = idle.quiet })
@@ -170,9 +170,9 @@ module _ (m values : ℕ) where
       (good_begun IsFreshAlone p (Write v) None u refl tt) (good_begun IsFreshAlone p (Write v) (Some (Wrote p)) u refl tt)
 
   -- if a read that overlaps no write gives what its copy's read gave, this is the fresh value
-  gives : (r x : ℕ) (u s : Seen) → (u.overlaps r ≡ [] → (s.overlaps 1 ≡ []) × ((s.fresh 1 ≡ u.fresh r) × (u.writing ≡ None)))
+  gives_fresh : (r x : ℕ) (u s : Seen) → (u.overlaps r ≡ [] → (s.overlaps 1 ≡ []) × ((s.fresh 1 ≡ u.fresh r) × (u.writing ≡ None)))
       → IsFreshAlone (record { reader = 1; value = x; fresh = s.fresh 1; overlaps = s.overlaps 1 }) → IsFreshAlone (record { reader = r; value = x; fresh = u.fresh r; overlaps = u.overlaps r })
-  gives r x u s a g o =
+  gives_fresh r x u s a g o =
       let y : Returned = record { reader = 1; value = x; fresh = s.fresh 1; overlaps = s.overlaps 1 } in
       let f = a o in
       is_fresh (record { reader = r; value = x; fresh = u.fresh r; overlaps = u.overlaps r }) (fresh_value y (g f.0) ∙ f.1.0)
@@ -190,10 +190,10 @@ module _ (m values : ℕ) where
       let me : mid i ≡ s = put_same i s j.parts in
       let copier : CopierSays m (j.tasks 0) z mid =
       copier_same m (j.tasks 0) u z j.parts mid refl refl (put_all (λ k x. (j.parts k).last ≡ x.last) i s j.parts refl (λ k ne. refl)) (put_all (λ k x. (j.parts k).writing ≡ x.writing) i s j.parts refl (λ k ne. refl)) h.copier in
-      let alone : Alone m z mid = λ r rl rh. elim (cases_eq r p) as (λ c. z.overlaps r ≡ [] → ((mid (r - 1)).overlaps 1 ≡ []) × (((mid (r - 1)).fresh 1 ≡ z.fresh r) × (z.writing ≡ None))) [
+      let alone : AloneReadsAgree m z mid = λ r rl rh. elim (cases_eq r p) as (λ c. z.overlaps r ≡ [] → ((mid (r - 1)).overlaps 1 ≡ []) × (((mid (r - 1)).fresh 1 ≡ z.fresh r) × (z.writing ≡ None))) [
         | inl e ↦ λ o.
-            let n : u.writing ≡ None = none_in u.writing (sym zo ∙ sym (ap (λ x. z.overlaps x) e) ∙ o) in
-            let st : Still m u j.parts = writer_still m (j.tasks 0) u j.parts h.copier n in (
+            let n : u.writing ≡ None = none_in_progress u.writing (sym zo ∙ sym (ap (λ x. z.overlaps x) e) ∙ o) in
+            let st : Idle m u j.parts = writer_idle m (j.tasks 0) u j.parts h.copier n in (
               ap (λ x. (mid (x - 1)).overlaps 1) e ∙ ap (λ x. x.overlaps 1) me ∙ ap in_progress (st.quiet i li),
               (ap (λ x. (mid (x - 1)).fresh 1) e ∙ ap (λ x. x.fresh 1) me ∙ st.last i li ∙ sym zf ∙ sym (ap (λ x. z.fresh x) e), n),
             )
@@ -214,13 +214,13 @@ module _ (m values : ℕ) where
             },
           ),
         ),
-        λ o ans pass good. elim o as (λ o. Answers values Read o → IsNotSpent o → AllByRecursion IsFreshAlone (got (Some (ended 1 o)) s)
-            → Runs t w p Read (λ e. IsGoodStep IsFreshAlone u (in_order (Some (Invoke p Read)) e)) (Ends o) (record j { parts = put i (sees (Some (ended 1 o)) s) j.parts })) [
+        λ o ans pass good. elim o as (λ o. Answers values Read o → IsNotSpent o → AllByRecursion IsFreshAlone (got (Some (end_event 1 o)) s)
+            → Runs t w p Read (λ e. IsGoodStep IsFreshAlone u (in_order (Some (Invoke p Read)) e)) (Ends o) (record j { parts = put i (sees (Some (end_event 1 o)) s) j.parts })) [
               | Value x ↦ λ ans pass good. (
                 z,
                 (
                   good_begun IsFreshAlone p Read (Some (Got p x)) u refl
-                      (gives p x z s (λ o. let f = alone p lo hi o in (sym (ap (λ x. x.overlaps 1) me) ∙ f.0, (sym (ap (λ x. x.fresh 1) me) ∙ f.1.0, f.1.1))) good.0, tt),
+                      (gives_fresh p x z s (λ o. let f = alone p lo hi o in (sym (ap (λ x. x.overlaps 1) me) ∙ f.0, (sym (ap (λ x. x.fresh 1) me) ∙ f.1.0, f.1.1))) good.0, tt),
                   record {
                     alone = alone;
                     copier = subst (λ y. CopierSays m y z mid) (sym (put_other p 0 None j.tasks (λ q. omega (arith, q, lo)))) copier;
@@ -235,17 +235,17 @@ module _ (m values : ℕ) where
   begins : (u : Seen) (j : View CopiesTask) (p : ℕ) (op : Op) → CopiesInv m u j → j.tasks p ≡ None → one_writer values (m + 1) p op ≡ true
       → Runs t w p op (λ e. IsGoodStep IsFreshAlone u (in_order (Some (Invoke p op)) e)) (copies_program m p op) j
   begins u j p (Write v) h free s = begin_write u j p v h free (writer.writer_zero values (m + 1) p v s)
-  begins u j p Read h free s = let lo = writer.reader_some values (m + 1) p s in let hi = writer.reader_few values (m + 1) p s in begin_read u j p h lo (omega (arith, hi))
+  begins u j p Read h free s = let lo = writer.reader_is_not_zero values (m + 1) p s in let hi = writer.reader_below_processes values (m + 1) p s in begin_read u j p h lo (omega (arith, hi))
 
   go_ends : (u : Seen) (j : View CopiesTask) (p : ℕ) (op : Op) (task : CopiesTask) (chosen : Option (ℕ × Bool)) (o : Outcome) → CopiesInv m u j → j.tasks p ≡ Some (record { op = op; task = task })
       → CopiesMayBeAt m values p op task
-      → Answers values (t.asks task).op o → IsNotSpent o → AllByRecursion IsFreshAlone (got (Some (ended (t.asks task).who o)) (j.parts (t.asks task).part))
+      → Answers values (t.asks task).op o → IsNotSpent o → AllByRecursion IsFreshAlone (got (Some (end_event (t.asks task).who o)) (j.parts (t.asks task).part))
       → Runs t w p op (λ e. IsGoodStep IsFreshAlone u (in_order (chosen_of p chosen) e)) (copies_rest m task o)
-      (record j { parts = put (t.asks task).part (sees (Some (ended (t.asks task).who o)) (j.parts (t.asks task).part)) j.parts })
+      (record j { parts = put (t.asks task).part (sees (Some (end_event (t.asks task).who o)) (j.parts (t.asks task).part)) j.parts })
   go_ends u j p (Write x) (Writing v r) chosen (Value y) h mine st ans pass good = absurd ans
   go_ends u j p (Write x) (Writing v r) chosen (Spent l) h mine st ans pass good = absurd pass
   go_ends u j p (Write x) (Writing v r) chosen Written h mine st ans pass good =
-      let h0 : Within m r v u j.parts = subst (λ y. CopierSays m y u j.parts) (sym (ap j.tasks st.0) ∙ mine) h.copier in
+      let h0 : WritesCopy m r v u j.parts = subst (λ y. CopierSays m y u j.parts) (sym (ap j.tasks st.0) ∙ mine) h.copier in
       let i : ℕ = r - 1 in
       let e : Seen = sees (Some (Wrote 0)) (j.parts i) in
       let lo : 1 ≤ r = st.3 in
@@ -255,7 +255,7 @@ module _ (m values : ℕ) where
         writing = h0.writing;
         last = put_all (λ k x. k + 1 < r + 1 → x.last ≡ v) i e j.parts (λ lk. ap (λ o. now_last o (j.parts i).last) h0.here) (λ k ne lk. h0.last k (omega (arith, lk, ne, lo)));
         quiet = put_all (λ k x. k < m → x.writing ≡ None) i e j.parts (λ lk. refl) (λ k ne lk. h0.quiet k lk ne);
-      }) (alone_none m v u u j.parts (put i e j.parts) h0.writing h.alone (λ r. refl))
+      }) (agree_while_writing m v u u j.parts (put i e j.parts) h0.writing h.alone (λ r. refl))
       (good_gone IsFreshAlone p chosen None u refl tt) (good_gone IsFreshAlone p chosen (Some (Wrote p)) u refl tt)
   go_ends u j p Read (Reading r) chosen Written h mine st ans pass good = absurd ans
   go_ends u j p Read (Reading r) chosen (Spent l) h mine st ans pass good = absurd pass
@@ -267,7 +267,7 @@ module _ (m values : ℕ) where
         u,
         (
           good_gone IsFreshAlone p chosen (Some (Got p x)) u refl
-              (subst (λ q. IsFreshAlone (record { reader = q; value = x; fresh = u.fresh q; overlaps = u.overlaps q })) is (gives r x u (j.parts i) (h.alone r lo st.2) good.0), tt),
+              (subst (λ q. IsFreshAlone (record { reader = q; value = x; fresh = u.fresh q; overlaps = u.overlaps q })) is (gives_fresh r x u (j.parts i) (h.alone r lo st.2) good.0), tt),
           record { alone = h.alone; copier = subst (λ y. CopierSays m y u j.parts) (sym (put_other p 0 None j.tasks (λ q. omega (arith, q, lo, is)))) h.copier },
         ),
       )
@@ -287,14 +287,14 @@ module _ (m values : ℕ) where
     goes = λ u j p n chosen o h mine s ans pass good. go_ends u j p n.op n.task chosen o h mine s ans pass good;
   }
 
-  pub copies_user_is : IsUser t (CopiesMayBeAt m values) copies_user
-  copies_user_is p (Write x) (Writing v r) s = sym s.0
-  copies_user_is p Read (Reading r) s = let lo : 1 ≤ r = s.1 in let is : r ≡ p = s.0 in omega (arith, lo, is)
-  copies_user_is p (Write x) (Reading r) s = absurd s
-  copies_user_is p Read (Writing v r) s = absurd s
+  pub copies_user : IsUser t (CopiesMayBeAt m values) copies_user_of
+  copies_user p (Write x) (Writing v r) s = sym s.0
+  copies_user p Read (Reading r) s = let lo : 1 ≤ r = s.1 in let is : r ≡ p = s.0 in omega (arith, lo, is)
+  copies_user p (Write x) (Reading r) s = absurd s
+  copies_user p Read (Writing v r) s = absurd s
 
 -- copies of a safe register are safe
 pub copies_over_safe : {P : Type 0} (b : Behaviour P) (Holds : Memory → Type 0) (Reaches : ℕ → Op → P → Type 0) (readers values : ℕ) (left : CopiesTask → ℕ) → IsLawful b Holds Reaches
     → IsSoundTable (copies_table readers values) (CopiesMayBeAt readers values) left → FitsBelow (copies_table readers values) b → IsSafe b → IsSafe (layered (copies_table readers values) b)
 copies_over_safe b Holds Reaches readers values left lawful sound fit safe =
-    layer_promises (over lawful sound fit) copies_user (copies_user_is readers values) IsFreshAlone (copies_watch readers) fresh_alike fresh_alike (λ who o h. h) safe (copies_kept readers values)
+    layer_promises (over lawful sound fit) copies_user_of (copies_user readers values) IsFreshAlone (copies_watch readers) fresh_alike fresh_alike (λ who o h. h) safe (copies_kept readers values)

@@ -4,7 +4,7 @@ ghost use Rattle.std.specs.Prelude.{◌≡◌, ℕ, ◌<◌, ◌≤◌, ◌^◌,
 ghost use Rattle.frames.specs.declared.limits.TheConstants.{MOST_READERS};
 ghost use Rattle.layers.specs.Nested.{layered};
 ghost use Rattle.reader_copies.specs.Program.{copies_table, copies_refusal, CopiesMayBeAt, copies_left};
-ghost use Rattle.reader_copies.specs.laws.Sound.{copies_sound, copies_task_decides, layers_alike};
+ghost use Rattle.reader_copies.specs.laws.Sound.{copies_sound, copies_task_decides, copies_table_alike};
 
 use crate::task::CopiesTask;
 use layers::prelude::*;
@@ -89,7 +89,7 @@ impl Construction for CopiesRules {
         0
     }
 
-    #[tactic(auto, using(crate::specs::laws::Sound::settled_more))]
+    #[tactic(auto, using(crate::specs::laws::Sound::settled_with_copies_left))]
     fn start(&self, _store: &mut Store, _base: u32, who: u32, op: Op) -> Continuation<CopiesTask> {
         Continuation::Asks(match op {
             Op::Write(v) => CopiesTask::Writing { v, reader: 1 },
@@ -97,7 +97,7 @@ impl Construction for CopiesRules {
         })
     }
 
-    #[tactic(auto, using(crate::specs::laws::Sound::settled_more, crate::specs::laws::Sound::settled_none))]
+    #[tactic(auto, using(crate::specs::laws::Sound::settled_with_copies_left, crate::specs::laws::Sound::settled_without_copies_left))]
     fn after(
         &self,
         _store: &mut Store,
@@ -160,7 +160,7 @@ impl Construction for CopiesRules {
 
     ghost sound = { λ l. copies_sound l.readers l.values l.some l.few };
 
-    ghost alike = { λ a b h. layers_alike a.readers b.readers a.values b.values h };
+    ghost alike = { λ a b h. copies_table_alike a.readers b.readers a.values b.values h };
 
     ghost same_task = { copies_task_decides };
 }

@@ -8,6 +8,7 @@ use Rattle.frames.specs.declared.types.Frame.{Frame}
 use Rattle.frames.specs.Behaviour.{Behaviour}
 use Rattle.frames.specs.Flat.{HasFramesFrom}
 
+-- both registers, and the memory in which they lie
 pub record Neighbours (R : Type 0) : Type 0 where
   pub register : R
   pub memory : Memory
@@ -23,5 +24,6 @@ pub record AreNeighbours {P : Type 0} (b : Behaviour P) (Holds : Memory → Type
 abbrev pub IsAtPoint : {P : Type 0} → Behaviour P → (ℕ → Op → P → Type 0) → ℕ → List Frame → Type 0
 IsAtPoint {P} b Reaches who stack = (o : Op) × ((p : P) × HasFramesFrom b.frames Reaches who 0 stack o p)
 
+-- as `IsAtPoint`, unless the operation has ended with an outcome
 abbrev pub IsAtPointUnlessEnded : {P : Type 0} → Behaviour P → (ℕ → Op → P → Type 0) → ℕ → List Frame → Option Outcome → Type 0
 IsAtPointUnlessEnded b Reaches who stack end = MatchOption end (IsAtPoint b Reaches who stack) (λ _. ⊤)

@@ -20,10 +20,12 @@ abbrev pub read_first_program : ℕ → Op → Program Op
 read_first_program who (op.Write v) = Reads 0 (λ read. if read == 0 then Ends (Spent Stamped) else Asks (op.Write v) Ends)
 read_first_program who op.Read = Sets 0 1 (Asks op.Read Ends)
 
+-- what a task asks for: the operation of the only part
 abbrev pub read_first_asks : Op → Ask
 read_first_asks (op.Write v) = record { part = 0; who = 0; op = op.Write v }
 read_first_asks op.Read = record { part = 0; who = 1; op = op.Read }
 
+-- the rules of the register
 abbrev pub read_first_table : Table Op
 read_first_table = record {
   values = 8;

@@ -261,7 +261,7 @@ fn assert_easiest<R: Register>(
     Ok(())
 }
 
-/// The register is 0, process 0 writes 1, and process `i + 1` makes `readers[i]` reads.
+/// A question: the register is 0, process 0 writes 1, and process `i + 1` makes `readers[i]` reads.
 fn asked(alloc: Global, readers: &[usize]) -> Result<Question, AllocError> {
     let mut operations = Vec::new(alloc);
     operations.push(Vec::from_slice(alloc, &[Op::Write(1)])?)?;

@@ -11,14 +11,14 @@ use std::test::Fail;
 use tower_file::{FaultKind, FileFault, TowerFile, TowerSpec, Version, laws, parse, print};
 
 /// A file with a stamped register of two values, and 16 steps.
-const STAMPED_BEST: &[u8] = b"tower 1\nstamped 2 1\nw 0 1\ng 0 0\ng 0 0\ng 0 0\n\
+const STAMPED_FILE: &[u8] = b"tower 1\nstamped 2 1\nw 0 1\ng 0 0\ng 0 0\ng 0 0\n\
     r 1\ng 1 0\ng 1 0\ng 1 0\ng 1 0\ng 1 0\ng 1 0\ng 1 0\ng 1 0\nr 1\ng 1 0\ng 1 1\n";
 
-/// `STAMPED_BEST` as a sample. The file has 18 lines; the tower's name has 7 bytes, and the second
+/// `STAMPED_FILE` as a sample. The file has 18 lines; the tower's name has 7 bytes, and the second
 /// line has 12 bytes.
 pub(crate) const SAMPLE: Sample = Sample {
     file: FileKind::Tower,
-    bytes: STAMPED_BEST,
+    bytes: STAMPED_FILE,
     name_end: 8 + 7,
     second_end: 8 + 12,
     lines: 18,
@@ -122,7 +122,7 @@ const SCHEDULES: [&[u8]; 10] = [
     b"tower 1\nsafe 0\nr 1\ng 1 0\n",
     b"tower 1\nregular 1 0\nw 0 0\n",
     b"tower 1\nunary 4 1 0\nw 0 3\ng 0 0\ng 0 0\ng 0 0\ng 0 0\n",
-    STAMPED_BEST,
+    STAMPED_FILE,
     b"tower 1\nstamped 2 1\nw 0 1\ng 0 0\ng 0 0\ng 0 0\ng 0 0\nw 0 0\n",
     b"tower 1\nmatrix 2 2 1 0\nr 0\ng 0 0\ng 0 0\ng 0 0\ng 0 0\n",
 ];
@@ -179,7 +179,7 @@ fn two_writes(alloc: Global) -> Result<Vec<u8>, AllocError> {
 }
 
 /// A file with a read that begins during a write of a unary number.
-fn overlap(alloc: Global) -> Result<Vec<u8>, AllocError> {
+fn overlapping_read(alloc: Global) -> Result<Vec<u8>, AllocError> {
     repeated(
         alloc,
         b"tower 1\nunary 4 1 0\nw 0 3\ng 0 0\ng 0 0\nr 1\ng 0 0\n",
@@ -204,12 +204,12 @@ fn assert_same_of(rt: &(impl Abort + AllocGlobal), bytes: &[u8], count: usize) -
 #[test]
 fn printed_again_long(rt: HostRuntime) -> Result<(), Fail> {
     assert_same_of(&rt, &thousand_steps(rt.alloc())?, 1000)?;
-    assert_same(&rt, FileKind::Tower, &overlap(rt.alloc())?)?;
+    assert_same(&rt, FileKind::Tower, &overlapping_read(rt.alloc())?)?;
     assert_same_of(&rt, &two_writes(rt.alloc())?, 44)
 }
 
 /// A unary number for one reader.
-const NUMBER: TowerSpec = TowerSpec::Unary {
+const UNARY: TowerSpec = TowerSpec::Unary {
     values: 4,
     readers: 1,
     init: 3,
@@ -226,9 +226,9 @@ fn is_refused(
     Ok(TowerFile::new(version, spec, steps).is_none())
 }
 
-/// Asserts the tower and the text of a file of two steps of `NUMBER`.
+/// Asserts the tower and the text of a file of two steps of `UNARY`.
 fn assert_two_steps(rt: &impl Abort, alloc: Global, file: &TowerFile) -> Result<(), Fail> {
-    assert_eq!(rt; file.spec, NUMBER);
+    assert_eq!(rt; file.spec, UNARY);
     assert_eq!(rt; file.steps.as_slice().len(), 2);
     let printed = print(alloc, file)?;
     assert_eq!(rt;
@@ -238,26 +238,26 @@ fn assert_two_steps(rt: &impl Abort, alloc: Global, file: &TowerFile) -> Result<
     Ok(())
 }
 
-/// Makes a file of a write of 2 and a read.
+/// Makes a file of a write of 2 and a read, and asserts its tower and its text.
 fn assert_made(rt: &impl Abort, alloc: Global) -> Result<(), Fail> {
     let steps = [Step::Write { p: 0, v: 2 }, Step::Read { p: 1 }];
     let steps = Vec::from_slice(alloc, &steps)?;
-    let file = TowerFile::new(Version::One, NUMBER, steps).ok_or("the steps fit")?;
+    let file = TowerFile::new(Version::One, UNARY, steps).ok_or("the steps fit")?;
     assert_two_steps(rt, alloc, &file)
 }
 
 #[test]
 fn made_by_hand(rt: HostRuntime) -> Result<(), Fail> {
-    assert!(rt; NUMBER.is_lawful());
-    assert!(rt; NUMBER.fits(Step::Go { p: 1, c: 1 }));
-    assert!(rt; !NUMBER.fits(Step::Go { p: 2, c: 1 }));
+    assert!(rt; UNARY.is_lawful());
+    assert!(rt; UNARY.fits(Step::Go { p: 1, c: 1 }));
+    assert!(rt; !UNARY.fits(Step::Go { p: 2, c: 1 }));
     assert_made(&rt, rt.alloc())?;
     let beyond = [Step::Read { p: 2 }];
-    assert!(rt; is_refused(rt.alloc(), Version::One, NUMBER, &beyond)?);
+    assert!(rt; is_refused(rt.alloc(), Version::One, UNARY, &beyond)?);
     let unlawful = TowerSpec::Safe { init: 2 };
     assert!(rt; is_refused(rt.alloc(), Version::Two, unlawful, &[])?);
     let stop = [Step::Stop { p: 1 }];
-    assert!(rt; is_refused(rt.alloc(), Version::One, NUMBER, &stop)?);
+    assert!(rt; is_refused(rt.alloc(), Version::One, UNARY, &stop)?);
     Ok(())
 }
 

@@ -42,7 +42,7 @@ const WRITE_AFTER_READ: After = After {
     },
 };
 
-/// The register is 0, process 0 makes the operations `first`, and process 1 makes `second`.
+/// A question: the register is 0, process 0 makes the operations `first`, and process 1 `second`.
 fn asked(alloc: Global, first: &[Op], second: &[Op]) -> Result<Question, AllocError> {
     let mut operations = Vec::new(alloc);
     operations.push(Vec::from_slice(alloc, first)?)?;

@@ -17,7 +17,7 @@ use Rattle.frames.specs.OneWriter.{one_writer}
 use Rattle.frames.specs.laws.OneWriter as writer
 use Rattle.frames.specs.correctness.Regularity.{in_progress, IsSafe, IsRegular}
 use Rattle.frames.proofs.KnownAndSeen.{fresh_alike, stray_alike}
-use Rattle.frames.proofs.Seen.{Seen, Returned, among, opening, sees, got, now_last, IsFreshAlone, IsNotStray, ended, among_more, among_here}
+use Rattle.frames.proofs.Seen.{Seen, Returned, among, opening, sees, got, now_last, IsFreshAlone, IsNotStray, end_event, among_more, among_here}
 use Rattle.frames.proofs.VerdictFacts.{fresh_value}
 use Rattle.frames.proofs.Pointwise.{put, put_same, put_other}
 use Rattle.layers.specs.Nested.{Ends, Asks, Sets, Table, layered}
@@ -37,8 +37,8 @@ WordSays word (Some v) last = (word ≡ v) × ((v ≡ last → ⊥) × v < 2)
 
 -- a read overlaps no write below, none is in progress, and its fresh value is the one written last;
 -- or it overlaps a write of a value other than the fresh one
-abbrev pub HasOther : ℕ → List ℕ → ℕ → Option ℕ → Type 0
-HasOther fresh overlaps last writing =
+abbrev pub AloneOrOverlapsOther : ℕ → List ℕ → ℕ → Option ℕ → Type 0
+AloneOrOverlapsOther fresh overlaps last writing =
     ((overlaps ≡ []) × ((fresh ≡ last) × (writing ≡ None)))
     ⊎ ((x : ℕ) × (IsTrue (among x overlaps) × ((x ≡ fresh → ⊥) × x < 2)))
 
@@ -53,7 +53,7 @@ pub record Agree (u s : Seen) (word : ℕ) : Type 0 where
   pub last_small : s.last < 2
   pub fresh_small : (r : ℕ) → s.fresh r < 2
   pub says : WordSays word s.writing s.last
-  pub other : (r : ℕ) → HasOther (s.fresh r) (s.overlaps r) s.last s.writing
+  pub other : (r : ℕ) → AloneOrOverlapsOther (s.fresh r) (s.overlaps r) s.last s.writing
 
 among_both : (x v : ℕ) (vs ws : List ℕ) → (IsTrue (among x vs) → IsTrue (among x ws)) → IsTrue (among x (v ∷ vs)) → IsTrue (among x (v ∷ ws))
 among_both x v vs ws f h = go (v == x) h
@@ -118,7 +118,7 @@ agree_same p v u s word a idle e =
       other = a.other;
     }
 
-begun_other : (w : Option ℕ) (last word : ℕ) → WordSays word w last → HasOther last (in_progress w) last w
+begun_other : (w : Option ℕ) (last word : ℕ) → WordSays word w last → AloneOrOverlapsOther last (in_progress w) last w
 begun_other None last word h = inl (refl, (refl, refl))
 begun_other (Some v) last word h = inr (v, (among_here v [], h.1))
 
@@ -134,7 +134,7 @@ agree_read p u s word a = record {
   last_small = a.last_small;
   fresh_small = λ r. elim (r == p) as (λ c. (if c then s.last else s.fresh r) < 2) [ true ↦ a.last_small | false ↦ a.fresh_small r ];
   says = a.says;
-  other = λ r. elim (r == p) as (λ c. HasOther (if c then s.last else s.fresh r) (if c then in_progress s.writing else s.overlaps r) s.last s.writing) [
+  other = λ r. elim (r == p) as (λ c. AloneOrOverlapsOther (if c then s.last else s.fresh r) (if c then in_progress s.writing else s.overlaps r) s.last s.writing) [
     | true ↦ begun_other s.writing s.last word a.says
     | false ↦ a.other r
   ];
@@ -152,9 +152,9 @@ not_stray_overlap x e h = go (x.value == x.fresh) (sym (ap (λ d. if x.value == 
     go true k = cc
     go false k = cc
 
-agree_got : (p : ℕ) (u s : Seen) (word x : ℕ) → Agree u s word → x < 2 → IsFreshAlone (record { reader = p; value = x; fresh = s.fresh p; overlaps = s.overlaps p })
+got_not_stray : (p : ℕ) (u s : Seen) (word x : ℕ) → Agree u s word → x < 2 → IsFreshAlone (record { reader = p; value = x; fresh = s.fresh p; overlaps = s.overlaps p })
     → IsNotStray (record { reader = p; value = x; fresh = u.fresh p; overlaps = u.overlaps p })
-agree_got p u s word x a l g =
+got_not_stray p u s word x a l g =
     let here : Returned = record { reader = p; value = x; fresh = u.fresh p; overlaps = u.overlaps p } in
     let below : Returned = record { reader = p; value = x; fresh = s.fresh p; overlaps = s.overlaps p } in
     elim (a.other p) [
@@ -183,22 +183,22 @@ module _ (processes : ℕ) where
   abbrev t : Table RegularTask
   t = regular_table processes
 
-  abbrev OutOf : Seen → ℕ → Op → Option Event → Seen → Type 0
-  OutOf u p o e = IsGoodStep IsNotStray u (in_order (Some (Invoke p o)) e)
+  abbrev GoodStepInvoking : Seen → ℕ → Op → Option Event → Seen → Type 0
+  GoodStepInvoking u p o e = IsGoodStep IsNotStray u (in_order (Some (Invoke p o)) e)
 
-  busy : (p : ℕ) (n : TaskInProgress RegularTask) (f : ℕ → Option (TaskInProgress RegularTask)) → p ≡ 0 → put p (Some n) f 0 ≡ None → ⊥
-  busy p n f e k =
+  writer_is_busy : (p : ℕ) (n : TaskInProgress RegularTask) (f : ℕ → Option (TaskInProgress RegularTask)) → p ≡ 0 → put p (Some n) f 0 ≡ None → ⊥
+  writer_is_busy p n f e k =
       let s : put p (Some n) f p ≡ Some n = put_same p (Some n) f in
       let m : put p (Some n) f p ≡ put p (Some n) f 0 = ap (put p (Some n) f) e in
       cc
 
   begin_write : (u : Seen) (j : View RegularTask) (p v : ℕ) → RegularInv u j → j.tasks p ≡ None → p ≡ 0 → v < 2
-      → Runs t regular_watch p (Write v) (OutOf u p (Write v)) (regular_program p (Write v)) j
+      → Runs t regular_watch p (Write v) (GoodStepInvoking u p (Write v)) (regular_program p (Write v)) j
   begin_write u j p v h free zero_p l = go (j.words 0 == v) refl
     where
       ends : (o : Outcome) → Answers 2 (Write v) o → IsNotSpent o → Agree (sees (Some (Invoke p (Write v))) u) (sees (Some (Invoke 0 (Write v))) (j.parts 0)) v
-          → (z : Seen) × (OutOf u p (Write v) (Some (ended p o)) z
-          × RegularInv z (record { words = put 0 v j.words; tasks = put p None j.tasks; parts = put 0 (sees (Some (ended 0 o)) (sees (Some (Invoke 0 (Write v))) (j.parts 0))) j.parts }))
+          → (z : Seen) × (GoodStepInvoking u p (Write v) (Some (end_event p o)) z
+          × RegularInv z (record { words = put 0 v j.words; tasks = put p None j.tasks; parts = put 0 (sees (Some (end_event 0 o)) (sees (Some (Invoke 0 (Write v))) (j.parts 0))) j.parts }))
       ends (Value x) ans pass a = absurd ans
       ends (Spent s) ans pass a = absurd pass
       ends Written ans pass a = (
@@ -209,7 +209,7 @@ module _ (processes : ℕ) where
         ),
       )
 
-      go : (c : Bool) → (j.words 0 == v) ≡ c → Runs t regular_watch p (Write v) (OutOf u p (Write v)) (if c then Ends Written else Sets 0 v (Asks (Writing v) Ends)) j
+      go : (c : Bool) → (j.words 0 == v) ≡ c → Runs t regular_watch p (Write v) (GoodStepInvoking u p (Write v)) (if c then Ends Written else Sets 0 v (Asks (Writing v) Ends)) j
       go true e =
           let idle : (j.parts 0).writing ≡ None = h.idle (sym (ap j.tasks zero_p) ∙ free) in (
             sees (Some (Wrote p)) (sees (Some (Invoke p (Write v))) u),
@@ -225,52 +225,52 @@ module _ (processes : ℕ) where
               sees (Some (Invoke p (Write v))) u,
               (
                 good_begun IsNotStray p (Write v) None u refl tt,
-                record { agree = a; idle = λ k. absurd (busy p (record { op = Write v; task = Writing v }) j.tasks zero_p k) },
+                record { agree = a; idle = λ k. absurd (writer_is_busy p (record { op = Write v; task = Writing v }) j.tasks zero_p k) },
               ),
             ),
             λ o ans pass good. ends o ans pass a,
           )
 
-  other_task : (p : ℕ) (n : Option (TaskInProgress RegularTask)) (f : ℕ → Option (TaskInProgress RegularTask)) → 1 ≤ p → put p n f 0 ≡ None → f 0 ≡ None
-  other_task p n f l e = sym (put_other p 0 n f (λ k. omega (arith, l, k))) ∙ e
+  writer_was_idle : (p : ℕ) (n : Option (TaskInProgress RegularTask)) (f : ℕ → Option (TaskInProgress RegularTask)) → 1 ≤ p → put p n f 0 ≡ None → f 0 ≡ None
+  writer_was_idle p n f l e = sym (put_other p 0 n f (λ k. omega (arith, l, k))) ∙ e
 
-  begin_read : (u : Seen) (j : View RegularTask) (p : ℕ) → RegularInv u j → 1 ≤ p → Runs t regular_watch p Read (OutOf u p Read) (regular_program p Read) j
+  begin_read : (u : Seen) (j : View RegularTask) (p : ℕ) → RegularInv u j → 1 ≤ p → Runs t regular_watch p Read (GoodStepInvoking u p Read) (regular_program p Read) j
   begin_read u j p h l =
       let a = agree_read p u (j.parts 0) (j.words 0) h.agree in (
         (
           sees (Some (Invoke p Read)) u,
           (
             good_begun IsNotStray p Read None u refl tt,
-            record { agree = a; idle = λ k. h.idle (other_task p (Some (record { op = Read; task = Reading p })) j.tasks l k) },
+            record { agree = a; idle = λ k. h.idle (writer_was_idle p (Some (record { op = Read; task = Reading p })) j.tasks l k) },
           ),
         ),
         λ o ans pass good. ends o ans pass good a,
       )
     where
-      ends : (o : Outcome) → Answers 2 Read o → IsNotSpent o → AllByRecursion IsFreshAlone (got (Some (ended p o)) (sees (Some (Invoke p Read)) (j.parts 0)))
+      ends : (o : Outcome) → Answers 2 Read o → IsNotSpent o → AllByRecursion IsFreshAlone (got (Some (end_event p o)) (sees (Some (Invoke p Read)) (j.parts 0)))
           → Agree (sees (Some (Invoke p Read)) u) (sees (Some (Invoke p Read)) (j.parts 0)) (j.words 0)
-          → (z : Seen) × (OutOf u p Read (Some (ended p o)) z
-          × RegularInv z (record { words = j.words; tasks = put p None j.tasks; parts = put 0 (sees (Some (ended p o)) (sees (Some (Invoke p Read)) (j.parts 0))) j.parts }))
+          → (z : Seen) × (GoodStepInvoking u p Read (Some (end_event p o)) z
+          × RegularInv z (record { words = j.words; tasks = put p None j.tasks; parts = put 0 (sees (Some (end_event p o)) (sees (Some (Invoke p Read)) (j.parts 0))) j.parts }))
       ends Written ans pass good a = absurd ans
       ends (Spent s) ans pass good a = absurd pass
       ends (Value x) ans pass good a = (
         sees (Some (Invoke p Read)) u,
         (
-          good_begun IsNotStray p Read (Some (Got p x)) u refl (agree_got p _ _ (j.words 0) x a ans good.0, tt),
-          record { agree = a; idle = λ k. h.idle (other_task p None j.tasks l k) },
+          good_begun IsNotStray p Read (Some (Got p x)) u refl (got_not_stray p _ _ (j.words 0) x a ans good.0, tt),
+          record { agree = a; idle = λ k. h.idle (writer_was_idle p None j.tasks l k) },
         ),
       )
 
   begins : (u : Seen) (j : View RegularTask) (p : ℕ) (o : Op) → RegularInv u j → j.tasks p ≡ None → one_writer 2 processes p o ≡ true
-      → Runs t regular_watch p o (OutOf u p o) (regular_program p o) j
+      → Runs t regular_watch p o (GoodStepInvoking u p o) (regular_program p o) j
   begins u j p (Write v) h free s = begin_write u j p v h free (writer.writer_zero 2 processes p v s) (writer.no_other_value 2 processes p v s)
-  begins u j p Read h free s = begin_read u j p h (writer.reader_some 2 processes p s)
+  begins u j p Read h free s = begin_read u j p h (writer.reader_is_not_zero 2 processes p s)
 
   go_ends : (u : Seen) (j : View RegularTask) (p : ℕ) (op : Op) (task : RegularTask) (chosen : Option (ℕ × Bool)) (o : Outcome)
       → RegularInv u j → RegularMayBeAt processes p op task → Answers 2 (t.asks task).op o → IsNotSpent o
-      → AllByRecursion IsFreshAlone (got (Some (ended (t.asks task).who o)) (j.parts (t.asks task).part))
+      → AllByRecursion IsFreshAlone (got (Some (end_event (t.asks task).who o)) (j.parts (t.asks task).part))
       → Runs t regular_watch p op (λ e. IsGoodStep IsNotStray u (in_order (chosen_of p chosen) e)) (Ends o)
-      (record j { parts = put (t.asks task).part (sees (Some (ended (t.asks task).who o)) (j.parts (t.asks task).part)) j.parts })
+      (record j { parts = put (t.asks task).part (sees (Some (end_event (t.asks task).who o)) (j.parts (t.asks task).part)) j.parts })
   go_ends u j p (Write w) (Writing v) chosen Written h s ans pass good =
       (sees (Some (Wrote p)) u, (good_gone IsNotStray p chosen (Some (Wrote p)) u refl tt, record { agree = agree_wrote p 0 u (j.parts 0) (j.words 0) h.agree; idle = λ k. refl }))
   go_ends u j p (Write w) (Writing v) chosen (Value x) h s ans pass good = absurd ans
@@ -282,15 +282,15 @@ module _ (processes : ℕ) where
       let l : 1 ≤ p = subst (λ i. 1 ≤ i) s.0 s.1 in (
         u,
         (
-          good_gone IsNotStray p chosen (Some (Got p x)) u refl (agree_got p u (j.parts 0) (j.words 0) x h.agree ans g.0, tt),
-          record { agree = h.agree; idle = λ k. h.idle (other_task p None j.tasks l k) },
+          good_gone IsNotStray p chosen (Some (Got p x)) u refl (got_not_stray p u (j.parts 0) (j.words 0) x h.agree ans g.0, tt),
+          record { agree = h.agree; idle = λ k. h.idle (writer_was_idle p None j.tasks l k) },
         ),
       )
   go_ends u j p (Write w) (Reading q) chosen o h s ans pass good = absurd s
   go_ends u j p Read (Writing v) chosen o h s ans pass good = absurd s
 
-  at_first : (v : ℕ) → v < 2 → (j : View RegularTask) → j.words 0 ≡ v → j.parts 0 ≡ opening v → RegularInv (opening v) j
-  at_first v l j ew ep =
+  holds_at_first : (v : ℕ) → v < 2 → (j : View RegularTask) → j.words 0 ≡ v → j.parts 0 ≡ opening v → RegularInv (opening v) j
+  holds_at_first v l j ew ep =
       let a : Agree (opening v) (opening v) v = record {
         last = refl;
         writing = refl;
@@ -309,7 +309,7 @@ module _ (processes : ℕ) where
   -- the invariant holds at first, every step keeps it, and no returned read is stray
   pub regular_kept : IsKept t (RegularMayBeAt processes) regular_watch opening (IsGoodStep IsNotStray)
   regular_kept = record {
-    initial = λ v l j ew et ep. at_first v l j (ew 0 (omega arith)) (ep 0 (omega arith));
+    initial = λ v l j ew et ep. holds_at_first v l j (ew 0 (omega arith)) (ep 0 (omega arith));
     passes = good_passes regular_watch IsNotStray;
     begins = begins;
     goes = λ u j p n chosen o h mine s ans pass good. go_ends u j p n.op n.task chosen o h s ans pass good;

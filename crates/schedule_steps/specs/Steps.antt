@@ -1,4 +1,4 @@
--- The process that makes a step.
+-- Steps of a schedule.
 use Rattle.std.specs.Prelude.{ℕ}
 use Rattle.schedule_steps.specs.declared.types.Step.{Step}
 use Rattle.schedule_steps.specs.declared.types.Step.TheVariants as step

@@ -52,7 +52,7 @@ impl Step {
 pub trait HasStep: Copy {
     ghost use Rattle.schedule_steps.specs.declared.types.Step.{Step};
 
-    // The step that the item holds.
+    // The item's step, as contracts see it.
     ghost step_in: { Self → Step };
 
     /// The step that the item holds.

@@ -7,6 +7,7 @@ pub mod NamedLengths
 pub mod Editions
 pub mod changes
 pub mod Marks
+pub mod Notes
 pub use Rattle.branch_terms.specs.Forest
 pub use Rattle.branch_terms.specs.Limbs
 pub use Rattle.branch_terms.specs.Names

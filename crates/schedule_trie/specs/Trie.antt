@@ -350,9 +350,9 @@ keys_by (Some i) branches = Some (keys_in branches i)
 
 -- why a query is refused, given the result that it should have: NoBranch if this result is None (no
 -- branch has the name), else Memory
-abbrev pub if_lacks : {X : Type 0} → Option X → Refusal
-if_lacks None = NoBranch
-if_lacks (Some x) = Memory
+abbrev pub query_refusal : {X : Type 0} → Option X → Refusal
+query_refusal None = NoBranch
+query_refusal (Some x) = Memory
 
 -- a segment with the given note instead of its own, or with no note if None is given
 abbrev pub with_note : {T : Type 0} → Option T → SegmentOf T → SegmentOf T

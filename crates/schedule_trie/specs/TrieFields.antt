@@ -50,7 +50,7 @@ module _ {T : Type 0} where
 
   -- the invariant of a trie: it is correct and within its limits, with one path for each
   -- branch (`IsHeldTrie`); cached lengths are right; and each name has the form of a branch's name
-  pub record IsKept (t : Inside T) : Type 0 where
+  pub record IsTrie (t : Inside T) : Type 0 where
     pub held : IsHeldTrie t
     pub lengths : AreLengths t.branches.entries (forest (trie_of t)).branches
     pub names : AreNames (names_of t)

@@ -8,6 +8,7 @@
 mod branch_list;
 pub mod edit;
 mod mark;
+mod note;
 mod segment;
 pub mod trie;
 

@@ -5,6 +5,7 @@ ghost use Rattle.std.specs.List.{remove};
 ghost use Rattle.schedule_trie.specs.Slots.{set_step};
 ghost use Rattle.branch_terms.specs.Forest.{renumbered};
 
+use crate::note::Note;
 use branch_terms::slot::Slot;
 use schedule_steps::types::Step;
 use std::alloc::{AllocError, Global};
@@ -20,7 +21,7 @@ pub type SegKey = usize;
 #[derive(Drop)]
 pub(crate) struct Segment<T> {
     pub(crate) slots: Vec<Slot>,
-    pub(crate) note: Option<T>,
+    pub(crate) note: Note<T>,
 }
 
 impl<T: Drop> Segment<T> {
@@ -31,7 +32,10 @@ impl<T: Drop> Segment<T> {
     {
         let mut slots = Vec::new(alloc);
         slots.push(slot)?;
-        Ok(Segment { slots, note: None })
+        Ok(Segment {
+            slots,
+            note: Note::none(),
+        })
     }
 
     /// A segment of new cells, numbered from `first` on, with the steps of `slots` in order. It has
@@ -56,7 +60,7 @@ impl<T: Drop> Segment<T> {
         }
         Ok(Segment {
             slots: renumbered,
-            note: None,
+            note: Note::none(),
         })
     }
 
@@ -72,8 +76,8 @@ impl<T: Drop> Segment<T> {
         Ok(())
     }
 
-    /// Inserts a cell at an offset, and clears the note. If memory runs out, nothing changes. Cells
-    /// are copied to `copies` for a time, so what was in it is lost.
+    /// Inserts a cell at an offset, and clears the note. If memory runs out, nothing changes. Uses
+    /// `copies` as scratch memory, so what was in it is lost.
     pub(crate) fn insert(
         &mut self,
         copies: &mut Vec<Slot>,
@@ -87,10 +91,10 @@ impl<T: Drop> Segment<T> {
         ensures err_slots { OnErr result (self.new.slots.items ≡ self.old.slots.items) }
         ensures err_note { OnErr result (self.new.note ≡ self.old.note) }
     {
-        // (copying many cells out and back is cheaper than moving each of them by one)
+        // copying many cells out and back is cheaper than moving each of them by one
         copy_from(copies, &self.slots, offset)?;
         self.slots.reserve(1)?;
-        end_with(&mut self.slots, offset, slot, copies);
+        replace_end(&mut self.slots, offset, slot, copies);
         self.clear_note();
         Ok(())
     }
@@ -129,7 +133,7 @@ impl<T: Drop> Segment<T> {
         ensures slots { self.new.slots ≡ self.old.slots }
         ensures note { self.new.note ≡ note }
     {
-        self.note = note;
+        self.note.set(note);
     }
 
     /// Clears the note.
@@ -137,7 +141,7 @@ impl<T: Drop> Segment<T> {
         ensures slots { self.new.slots ≡ self.old.slots }
         ensures note { self.new.note ≡ None }
     {
-        self.note = None;
+        self.note.clear();
     }
 }
 
@@ -152,7 +156,7 @@ fn copy_from(copies: &mut Vec<Slot>, slots: &[Slot], offset: usize) -> Result<()
 
 /// Replaces the cells from `offset` to the end by the cell `slot` and then `others`. Memory for
 /// these has to be reserved.
-fn end_with(slots: &mut Vec<Slot>, offset: usize, slot: Slot, others: &[Slot])
+fn replace_end(slots: &mut Vec<Slot>, offset: usize, slot: Slot, others: &[Slot])
     requires offset { offset ≤ length slots.old.items }
     requires room { offset + 1 + length others.now ≤ vec_capacity slots.old }
     ensures { slots.new.items ≡ take offset slots.old.items ++ slot ∷ others.now }

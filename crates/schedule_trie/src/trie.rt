@@ -7,7 +7,7 @@ ghost use Rattle.std.specs.List.{position};
 ghost use Rattle.branch_terms.specs.Forest.{path_of, step_of, cell_on_branch, place_of, is_cell, opened, opening_forest, lone_branch, IsRefused, index_of, slots_in, name_in, len_of, AreNamedApart, IsForest};
 ghost use Rattle.schedule_trie.specs.Edits.{Replace, IsEdited, IsUnedited};
 ghost use Rattle.branch_terms.specs.Limbs.{is_name, HaveNames};
-ghost use Rattle.schedule_trie.specs.Trie.{IsBlank, IsNoted, IsWhole, above_of, before_key, keys_by, if_lacks, note_of, AreLimits, has, IsOwnEnd, IsPushed, LackedByOthers, forest, IsCut, IsStepSet, segment_at, slots_of, keys_in, line, SpotHasCellAt};
+ghost use Rattle.schedule_trie.specs.Trie.{IsBlank, IsNoted, IsWhole, above_of, before_key, keys_by, query_refusal, note_of, AreLimits, has, IsOwnEnd, IsPushed, LackedByOthers, forest, IsCut, IsStepSet, segment_at, slots_of, keys_in, line, SpotHasCellAt};
 ghost use Rattle.branch_terms.specs.declared.limits.TheConstants.{MOST_CELLS_MADE};
 
 mod climb;
@@ -47,19 +47,19 @@ pub struct Trie<T> {
     limits: Limits,
     // the index of the branch whose length was cached last
     last_cached: usize,
-    // memory in which an insert copies cells; what is in it means nothing
+    // scratch memory, into which an insert copies cells
     copies: Vec<Slot>,
 }
 
 impl<T> Model for Trie<T> {
     ghost use Rattle.schedule_trie.specs.Trie.{TrieOf};
-    ghost use Rattle.schedule_trie.specs.TrieFields.{trie_of, IsKept};
+    ghost use Rattle.schedule_trie.specs.TrieFields.{trie_of, IsTrie};
 
     ghost Value = { TrieOf T };
 
     ghost view = { trie_of };
 
-    ghost invariant = { IsKept };
+    ghost invariant = { IsTrie };
 }
 
 impl<T: Drop> Trie<T> {
@@ -205,7 +205,7 @@ impl<T: Drop> Trie<T> {
     pub fn path(&self, alloc: Global, branch: &Name) -> Result<Vec<Step>, Refusal>
         ensures ok { IfOk result (λ steps. path_of (forest self.now) branch.now
             ≡ Some steps.items) }
-        ensures err { IfErr result (λ e. if_lacks (path_of (forest self.now) branch.now) ≡ e) }
+        ensures err { IfErr result (λ e. query_refusal (path_of (forest self.now) branch.now) ≡ e) }
     {
         let Some(index) = self.index(branch) else {
             return Err(Refusal::NoBranch);
@@ -244,7 +244,7 @@ impl<T: Drop> Trie<T> {
             (λ keys. keys_by (index_of (forest self.now).branches branch.now) self.now.branches
             ≡ Some keys.items) }
         ensures err { IfErr result
-            (λ e. if_lacks
+            (λ e. query_refusal
             (keys_by (index_of (forest self.now).branches branch.now) self.now.branches) ≡ e) }
     {
         let Some(index) = self.index(branch) else {
@@ -277,7 +277,7 @@ impl<T: Drop> Trie<T> {
     pub fn note(&self, key: SegKey) -> Option<&T>
         ensures { option_copied result ≡ note_of (segment_at self.now.segments key) }
     {
-        self.segments.item(key)?.note.as_ref()
+        self.segments.item(key)?.note.get()
     }
 
     /// The note of the segment at `key`, `None` if it has none; and the key of the segment right
@@ -291,7 +291,7 @@ impl<T: Drop> Trie<T> {
             → keys_in self.now.branches i ≡ front ++ key ∷ back → result.1 ≡ last_of front }
     {
         match self.segments.step_up(key) {
-            Some((segment, above)) => (segment.note.as_ref(), above),
+            Some((segment, above)) => (segment.note.get(), above),
             None => (None, None),
         }
     }
@@ -307,7 +307,7 @@ impl<T: Drop> Trie<T> {
             → keys_in self.now.branches i ≡ front ++ key ∷ back → result.1 ≡ last_of front }
     {
         let (segment, above) = self.segments.step_up_from(key);
-        (segment.note.as_ref(), above.get())
+        (segment.note.get(), above.get())
     }
 
     /// Sets the note of a segment, or clears it if `note` is `None`; nothing else changes. If no

@@ -1,10 +1,10 @@
 -- The bytes of words, and of the text that joins them.
-use Rattle.std.proofs.Common.{◌≡◌, ◌==◌, ℕ, ◌+◌, ◌*◌, ◌<◌, ◌≤◌, ◌^◌, Bool, true, false, cond, ◌&&◌, nat_le, nat_lt, List, [], ◌∷◌, ◌++◌, length, map, refl, sym, ap, ◌∙◌, subst, arith, length-append}
+use Rattle.std.proofs.Common.{◌≡◌, ◌==◌, ℕ, ◌+◌, ◌*◌, ◌≤◌, ◌^◌, Bool, true, false, cond, ◌&&◌, nat_le, nat_lt, List, [], ◌∷◌, ◌++◌, length, map, refl, sym, ap, ◌∙◌, subst, arith, length-append}
 use Rattle.std.specs.List.{list_all, onto_first, join_with_byte}
 use Rattle.std.specs.Char.{is_ascii_digit}
 use Rattle.std.specs.Fmt.{decimal}
 use Rattle.std.specs.Prelude.{Some}
-use Rattle.std.proofs.lemmas.Bool.{and_parts, and_from}
+use Rattle.std.proofs.lemmas.Bool.{and_parts, and_from, ltb-true, leb-true}
 use Rattle.std.proofs.lemmas.Bool.Decides.{nat_tests}
 use Rattle.words.specs.Words.{words, number}
 use Rattle.words.proofs.Digits.{digit_bounds}
@@ -19,20 +19,14 @@ use Rattle.script.proofs.Shapes.{is_small}
 abbrev pub are_visible : List (List ℕ) → Bool
 are_visible ws = list_all (list_all is_visible) ws
 
-pub lt_is : (m n : ℕ) → nat_lt m n ≡ true → m < n
-lt_is m n h = grind (arith, nat_tests)
-
-le_is : (m n : ℕ) → nat_le m n ≡ true → m ≤ n
-le_is m n h = grind (arith, nat_tests)
-
 visible_byte : (b : ℕ) → is_call_byte b ≡ true → (b == 32) ≡ false → is_visible b ≡ true
 visible_byte b h k = grind (arith, nat_tests)
 
 visible_is_plain : (b : ℕ) → is_visible b ≡ true → is_call_byte b ≡ true
 visible_is_plain b h = grind (arith, nat_tests)
 
-visible_stays : (b : ℕ) → is_visible b ≡ true → is_not 32 b ≡ true
-visible_stays b h = grind (arith, nat_tests)
+visible_is_no_space : (b : ℕ) → is_visible b ≡ true → is_not 32 b ≡ true
+visible_is_no_space b h = grind (arith, nat_tests)
 
 digit_is_visible : (b : ℕ) → is_ascii_digit b ≡ true → is_visible b ≡ true
 digit_is_visible b h = let d = digit_bounds b h in grind (arith, nat_tests, d)
@@ -45,15 +39,15 @@ onto_visible b (w ∷ ws) h k =
     let a = and_parts (list_all is_visible w) (are_visible ws) k in
     and_from (is_visible b && list_all is_visible w) (are_visible ws) (and_from (is_visible b) (list_all is_visible w) h a.0) a.1
 
-by_byte : (b : ℕ) (ws : List (List ℕ)) (t : Bool) → (b == 32) ≡ t → is_call_byte b ≡ true → are_visible ws ≡ true → are_visible (cond t ([] ∷ ws) (onto_first b ws)) ≡ true
-by_byte b ws true e h k = k
-by_byte b ws false e h k = onto_visible b ws (visible_byte b h e) k
+visible_after_byte : (b : ℕ) (ws : List (List ℕ)) (t : Bool) → (b == 32) ≡ t → is_call_byte b ≡ true → are_visible ws ≡ true → are_visible (cond t ([] ∷ ws) (onto_first b ws)) ≡ true
+visible_after_byte b ws true e h k = k
+visible_after_byte b ws false e h k = onto_visible b ws (visible_byte b h e) k
 
 pub visible_words : (text : List ℕ) → list_all is_call_byte text ≡ true → are_visible (words text) ≡ true
 visible_words [] h = refl
 visible_words (b ∷ bs) h =
     let a = and_parts (is_call_byte b) (list_all is_call_byte bs) h in
-    by_byte b (words bs) (b == 32) refl a.0 (visible_words bs a.1)
+    visible_after_byte b (words bs) (b == 32) refl a.0 (visible_words bs a.1)
 
 -- words that are within their sizes and visible are sound
 pub sound_words : (shape : List Word) → list_all is_small shape ≡ true → are_visible (map spelled shape) ≡ true → list_all is_sound shape ≡ true
@@ -71,13 +65,13 @@ sound_words (x ∷ xs) h k =
 -- ---- sound words
 
 decimal_digits : (n : ℕ) → nat_lt n (10 ^ 9) ≡ true → list_all is_ascii_digit (decimal n) ≡ true
-decimal_digits n h = digits-decimal n (lt_is n (10 ^ 9) h)
+decimal_digits n h = digits-decimal n (ltb-true n (10 ^ 9) h)
 
 decimal_visible : (n : ℕ) → nat_lt n (10 ^ 9) ≡ true → list_all is_visible (decimal n) ≡ true
 decimal_visible n h = all_weaker is_ascii_digit is_visible digit_is_visible (decimal n) (decimal_digits n h)
 
 decimal_short : (n : ℕ) → nat_lt n (10 ^ 9) ≡ true → length (decimal n) ≤ 9
-decimal_short n h = nine_digits n (lt_is n (10 ^ 9) h)
+decimal_short n h = nine_digits n (ltb-true n (10 ^ 9) h)
 
 word_visible : (x : Word) → is_sound x ≡ true → list_all is_visible (spelled x) ≡ true
 word_visible (Text t) h = (and_parts (nat_le 1 (length t) && nat_le (length t) 16) (list_all is_visible t) h).1
@@ -87,7 +81,7 @@ word_visible (Guard n) h = decimal_visible n h
 word_short : (x : Word) → is_sound x ≡ true → length (spelled x) ≤ 16
 word_short (Text t) h =
     let a = and_parts (nat_le 1 (length t) && nat_le (length t) 16) (list_all is_visible t) h in
-    le_is (length t) 16 (and_parts (nat_le 1 (length t)) (nat_le (length t) 16) a.0).1
+    leb-true (length t) 16 (and_parts (nat_le 1 (length t)) (nat_le (length t) 16) a.0).1
 word_short (Number n) h = omega (arith, decimal_short n h)
 word_short (Guard n) h = omega (arith, decimal_short n h)
 
@@ -102,10 +96,10 @@ sound_visible (x ∷ xs) h =
 pub words-join : (w : List ℕ) (ws : List (List ℕ)) → are_visible (w ∷ ws) ≡ true → words (join_with_byte 32 (w ∷ ws)) ≡ w ∷ ws
 words-join w [] h =
     let a = and_parts (list_all is_visible w) true h in
-    no_cut 32 w (all_weaker is_visible (is_not 32) visible_stays w a.0)
+    no_cut 32 w (all_weaker is_visible (is_not 32) visible_is_no_space w a.0)
 words-join w (v ∷ vs) h =
     let a = and_parts (list_all is_visible w) (are_visible (v ∷ vs)) h in
-    cut_at 32 w (join_with_byte 32 (v ∷ vs)) (all_weaker is_visible (is_not 32) visible_stays w a.0) ∙ ap (λ rest. w ∷ rest) (words-join v vs a.1)
+    cut_at 32 w (join_with_byte 32 (v ∷ vs)) (all_weaker is_visible (is_not 32) visible_is_no_space w a.0) ∙ ap (λ rest. w ∷ rest) (words-join v vs a.1)
 
 pub plain-join : (w : List ℕ) (ws : List (List ℕ)) → are_visible (w ∷ ws) ≡ true → list_all is_call_byte (join_with_byte 32 (w ∷ ws)) ≡ true
 plain-join w [] h =
@@ -131,18 +125,18 @@ no_comment : (b : ℕ) → is_ascii_digit b ≡ true → (b == 35) ≡ false
 no_comment b h = let d = digit_bounds b h in grind (arith, nat_tests, d)
 
 -- a text that isn't blank: it has a first byte, which isn't `#`
-pub record Speaks (text : List ℕ) : Type 0 where
+pub record IsNotBlank (text : List ℕ) : Type 0 where
   pub first : ℕ
   pub others : List ℕ
   pub same : text ≡ first ∷ others
   pub plain : (first == 35) ≡ false
 
-speaks_so : (d : ℕ) (ds : List ℕ) (ws : List (List ℕ)) → is_ascii_digit d ≡ true → Speaks (join_with_byte 32 ((d ∷ ds) ∷ ws))
-speaks_so d ds [] h = record { first = d; others = ds; same = refl; plain = no_comment d h }
-speaks_so d ds (v ∷ vs) h = record { first = d; others = ds ++ 32 ∷ join_with_byte 32 (v ∷ vs); same = refl; plain = no_comment d h }
+digit_is_not_blank : (d : ℕ) (ds : List ℕ) (ws : List (List ℕ)) → is_ascii_digit d ≡ true → IsNotBlank (join_with_byte 32 ((d ∷ ds) ∷ ws))
+digit_is_not_blank d ds [] h = record { first = d; others = ds; same = refl; plain = no_comment d h }
+digit_is_not_blank d ds (v ∷ vs) h = record { first = d; others = ds ++ 32 ∷ join_with_byte 32 (v ∷ vs); same = refl; plain = no_comment d h }
 
-pub speaks : (w : List ℕ) (ws : List (List ℕ)) (n : ℕ) → number w ≡ Some n → Speaks (join_with_byte 32 (w ∷ ws))
-speaks w ws n h =
+pub number_is_not_blank : (w : List ℕ) (ws : List (List ℕ)) (n : ℕ) → number w ≡ Some n → IsNotBlank (join_with_byte 32 (w ∷ ws))
+number_is_not_blank w ws n h =
     let a = decimal-number w n h in
     let d = digit_first n a.0 in
-    subst (λ (x : List ℕ). Speaks (join_with_byte 32 (x ∷ ws))) (sym (a.1 ∙ d.3)) (speaks_so d.0 d.1 ws d.2)
+    subst (λ (x : List ℕ). IsNotBlank (join_with_byte 32 (x ∷ ws))) (sym (a.1 ∙ d.3)) (digit_is_not_blank d.0 d.1 ws d.2)

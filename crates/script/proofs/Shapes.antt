@@ -1,9 +1,9 @@
 -- Words of a given shape: each is spelled as the shape has it, and is within its size.
-use Rattle.std.proofs.Common.{◌≡◌, ◌==◌, ℕ, ◌<◌, ◌^◌, Bool, true, false, cond, ◌&&◌, nat_le, nat_lt, List, [], ◌∷◌, length, map, Option, Some, None, refl, sym, ap, ◌∙◌, subst, arith}
+use Rattle.std.proofs.Common.{◌≡◌, ◌==◌, ℕ, ◌^◌, Bool, true, false, cond, ◌&&◌, nat_le, nat_lt, List, [], ◌∷◌, length, map, Option, Some, None, refl, sym, ap, ◌∙◌, subst, arith}
 use Rattle.std.specs.Option.{option_map, option_and_then}
 use Rattle.std.specs.List.{list_all}
 use Rattle.std.specs.Str.{bytes_eq}
-use Rattle.std.proofs.lemmas.Bool.{and_from}
+use Rattle.std.proofs.lemmas.Bool.{and_from, lt-ltb}
 use Rattle.std.proofs.lemmas.Bool.Decides.{nat_tests}
 use Rattle.std.proofs.lemmas.Option.{cond_some, same_Some}
 use Rattle.words.specs.Words.{next, after_next, is_end, number, one_number, two_numbers}
@@ -15,6 +15,7 @@ use Rattle.script.specs.Lines.{branch_word, if_no_more}
 use Rattle.script.specs.Spelling.{Word, spelled}
 use Rattle.script.specs.Spelling.{Text, Number, Guard}
 
+-- the call of this request by this session
 abbrev pub call_with : ℕ → Request → Call
 call_with session request = record { session = session; request = request }
 
@@ -29,25 +30,25 @@ pub record Shows (ws : List (List ℕ)) (shape : List Word) : Type 0 where
   pub same : ws ≡ map spelled shape
   pub small : list_all is_small shape ≡ true
 
-pub one_more : (w : List ℕ) (ws : List (List ℕ)) (x : Word) (xs : List Word) → w ≡ spelled x → is_small x ≡ true → Shows ws xs → Shows (w ∷ ws) (x ∷ xs)
-one_more w ws x xs e s h = record {
+pub one_more_shown : (w : List ℕ) (ws : List (List ℕ)) (x : Word) (xs : List Word) → w ≡ spelled x → is_small x ≡ true → Shows ws xs → Shows (w ∷ ws) (x ∷ xs)
+one_more_shown w ws x xs e s h = record {
   same = ap (λ v. v ∷ ws) e ∙ ap (λ vs. spelled x ∷ vs) h.same;
   small = and_from (is_small x) (list_all is_small xs) s h.small;
 }
 
-pub begins : (ws : List (List ℕ)) (w : List ℕ) (x : Word) (xs : List Word) → ws ≡ w ∷ after_next ws → w ≡ spelled x → is_small x ≡ true → Shows (after_next ws) xs → Shows ws (x ∷ xs)
-begins ws w x xs e f s h = subst (λ (vs : List (List ℕ)). Shows vs (x ∷ xs)) (sym e) (one_more w (after_next ws) x xs f s h)
+pub first_shown : (ws : List (List ℕ)) (w : List ℕ) (x : Word) (xs : List Word) → ws ≡ w ∷ after_next ws → w ≡ spelled x → is_small x ≡ true → Shows (after_next ws) xs → Shows ws (x ∷ xs)
+first_shown ws w x xs e f s h = subst (λ (vs : List (List ℕ)). Shows vs (x ∷ xs)) (sym e) (one_more_shown w (after_next ws) x xs f s h)
 
-pub at_end : (ws : List (List ℕ)) → is_end ws ≡ true → Shows ws []
-at_end [] h = record { same = refl; small = refl }
-at_end (w ∷ ws) h = absurd cc
+pub none_shown : (ws : List (List ℕ)) → is_end ws ≡ true → Shows ws []
+none_shown [] h = record { same = refl; small = refl }
+none_shown (w ∷ ws) h = absurd cc
 
 -- if the first word is the text v, and the others have this shape, all have v and then this shape
-pub keyword : (ws : List (List ℕ)) (v : List ℕ) (shape : List Word) → is_small (Text v) ≡ true → bytes_eq (next ws) v ≡ true → Shows (after_next ws) shape → Shows ws (Text v ∷ shape)
-keyword [] v shape s e h =
+pub keyword_shown : (ws : List (List ℕ)) (v : List ℕ) (shape : List Word) → is_small (Text v) ≡ true → bytes_eq (next ws) v ≡ true → Shows (after_next ws) shape → Shows ws (Text v ∷ shape)
+keyword_shown [] v shape s e h =
     let bad : is_small (Text []) ≡ true = subst (λ (x : List ℕ). is_small (Text x) ≡ true) (sym (is_word [] v e)) s in
     absurd cc
-keyword (w ∷ ws) v shape s e h = one_more w ws (Text v) shape (is_word w v e) s h
+keyword_shown (w ∷ ws) v shape s e h = one_more_shown w ws (Text v) shape (is_word w v e) s h
 
 -- ---- what was read, and how
 
@@ -75,8 +76,8 @@ mapped_to P f sub c h k =
     let a = mapped f sub c k in
     subst P a.2 (h a.0 a.1)
 
-pub alone_to : {A : Type 0} (P : A → Type 0) (it c : A) (ws : List (List ℕ)) → (is_end ws ≡ true → P it) → if_no_more it ws ≡ Some c → P c
-alone_to P it c ws h k =
+pub if_no_more_to : {A : Type 0} (P : A → Type 0) (it c : A) (ws : List (List ℕ)) → (is_end ws ≡ true → P it) → if_no_more it ws ≡ Some c → P c
+if_no_more_to P it c ws h k =
     let a = cond_some (is_end ws) it c k in
     subst P a.1 (h a.0)
 
@@ -85,32 +86,29 @@ some_to P it c h k = subst P (same_Some it c k) h
 
 -- ---- numbers and names
 
-lt_true : (m n : ℕ) → m < n → nat_lt m n ≡ true
-lt_true m n h = grind (arith, nat_tests)
-
-some_bytes : (n : ℕ) → (n == 0) ≡ false → nat_le 1 n ≡ true
-some_bytes n h = grind (arith, nat_tests)
+at_least_one : (n : ℕ) → (n == 0) ≡ false → nat_le 1 n ≡ true
+at_least_one n h = grind (arith, nat_tests)
 
 pub number_shows : (w : List ℕ) (n : ℕ) → number w ≡ Some n → (w ≡ spelled (Number n)) × (is_small (Number n) ≡ true)
 number_shows w n h =
     let d = decimal-number w n h in
-    (d.1, lt_true n (10 ^ 9) d.0)
+    (d.1, lt-ltb n (10 ^ 9) d.0)
 
-pub branch_shows : (w b : List ℕ) → branch_word w ≡ Some b → (w ≡ spelled (Text b)) × (is_small (Text b) ≡ true)
-branch_shows w b h = by (length w == 0) refl h
+pub branch_word_shows : (w b : List ℕ) → branch_word w ≡ Some b → (w ≡ spelled (Text b)) × (is_small (Text b) ≡ true)
+branch_word_shows w b h = by (length w == 0) refl h
   where
     by : (t : Bool) → (length w == 0) ≡ t → cond t None (cond (nat_le (length w) 16) (Some w) None) ≡ Some b → (w ≡ spelled (Text b)) × (is_small (Text b) ≡ true)
     by true e k = absurd cc
     by false e k =
         let a = cond_some (nat_le (length w) 16) w b k in
-        (a.1, subst (λ (x : List ℕ). is_small (Text x) ≡ true) a.1 (and_from (nat_le 1 (length w)) (nat_le (length w) 16) (some_bytes (length w) e) a.0))
+        (a.1, subst (λ (x : List ℕ). is_small (Text x) ≡ true) a.1 (and_from (nat_le 1 (length w)) (nat_le (length w) 16) (at_least_one (length w) e) a.0))
 
 pub one_shows : (ws : List (List ℕ)) (n : ℕ) → one_number ws ≡ Some n → Shows ws (Number n ∷ [])
 one_shows ws n h =
     let a = first_word number (λ x. cond (is_end (after_next ws)) (Some x) None) ws n refl h in
     let e = cond_some (is_end (after_next ws)) a.1 n a.4 in
     let s = number_shows a.0 a.1 a.3 in
-    subst (λ x. Shows ws (Number x ∷ [])) e.1 (begins ws a.0 (Number a.1) [] a.2 s.0 s.1 (at_end (after_next ws) e.0))
+    subst (λ x. Shows ws (Number x ∷ [])) e.1 (first_shown ws a.0 (Number a.1) [] a.2 s.0 s.1 (none_shown (after_next ws) e.0))
 
 pub two_shows : (ws : List (List ℕ)) (n : ℕ × ℕ) → two_numbers ws ≡ Some n → Shows ws (Number n.0 ∷ Number n.1 ∷ [])
 two_shows ws n h =
@@ -118,4 +116,4 @@ two_shows ws n h =
     let b = some_then (one_number (after_next ws)) (λ y. Some (a.1, y)) n a.4 in
     let s = number_shows a.0 a.1 a.3 in
     subst (λ (m : ℕ × ℕ). Shows ws (Number m.0 ∷ Number m.1 ∷ [])) (same_Some (a.1, b.0) n b.2)
-    (begins ws a.0 (Number a.1) (Number b.0 ∷ []) a.2 s.0 s.1 (one_shows (after_next ws) b.0 b.1))
+    (first_shown ws a.0 (Number a.1) (Number b.0 ∷ []) a.2 s.0 s.1 (one_shows (after_next ws) b.0 b.1))

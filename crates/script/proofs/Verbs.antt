@@ -19,43 +19,43 @@ pub verb_from_reads : (word first : List ℕ) → length word ≡ length first �
 verb_from_reads word first same bytes = ap verb_of (sym (text_from_reads word first same bytes))
 
 -- the word that selects a verb
-abbrev pub text_of : Verb → List ℕ
-text_of (verb.Look look.Branches) = codes "branches"
-text_of (verb.Look look.Cursor) = codes "cursor"
-text_of (verb.Look look.Steps) = codes "steps"
-text_of (verb.Look look.Process) = codes "process"
-text_of (verb.Look look.State) = codes "state"
-text_of (verb.Look look.Pending) = codes "pending"
-text_of (verb.Look look.Bits) = codes "bits"
-text_of (verb.Look look.History) = codes "history"
-text_of (verb.Look look.Verdict) = codes "verdict"
-text_of verb.Fill = codes "fill"
-text_of (verb.Command command_verb.Join) = codes "join"
-text_of (verb.Command command_verb.Leave) = codes "leave"
-text_of (verb.Command command_verb.Seek) = codes "seek"
-text_of (verb.Command command_verb.Back) = codes "back"
-text_of (verb.Command command_verb.Go) = codes "go"
-text_of (verb.Command command_verb.Break) = codes "break"
-text_of (verb.Command command_verb.Clear) = codes "clear"
-text_of (verb.Command command_verb.Insert) = codes "insert"
-text_of (verb.Command command_verb.Remove) = codes "remove"
-text_of (verb.Command command_verb.Replace) = codes "replace"
-text_of (verb.Command command_verb.Fork) = codes "fork"
-text_of (verb.Command command_verb.Detach) = codes "detach"
-text_of (verb.Command command_verb.Drop) = codes "drop"
+abbrev pub verb_text : Verb → List ℕ
+verb_text (verb.Look look.Branches) = codes "branches"
+verb_text (verb.Look look.Cursor) = codes "cursor"
+verb_text (verb.Look look.Steps) = codes "steps"
+verb_text (verb.Look look.Process) = codes "process"
+verb_text (verb.Look look.State) = codes "state"
+verb_text (verb.Look look.Pending) = codes "pending"
+verb_text (verb.Look look.Bits) = codes "bits"
+verb_text (verb.Look look.History) = codes "history"
+verb_text (verb.Look look.Verdict) = codes "verdict"
+verb_text verb.Fill = codes "fill"
+verb_text (verb.Command command_verb.Join) = codes "join"
+verb_text (verb.Command command_verb.Leave) = codes "leave"
+verb_text (verb.Command command_verb.Seek) = codes "seek"
+verb_text (verb.Command command_verb.Back) = codes "back"
+verb_text (verb.Command command_verb.Go) = codes "go"
+verb_text (verb.Command command_verb.Break) = codes "break"
+verb_text (verb.Command command_verb.Clear) = codes "clear"
+verb_text (verb.Command command_verb.Insert) = codes "insert"
+verb_text (verb.Command command_verb.Remove) = codes "remove"
+verb_text (verb.Command command_verb.Replace) = codes "replace"
+verb_text (verb.Command command_verb.Fork) = codes "fork"
+verb_text (verb.Command command_verb.Detach) = codes "detach"
+verb_text (verb.Command command_verb.Drop) = codes "drop"
 
 -- whether a row has the word that selects its verb
-abbrev is_named : List ℕ × Verb → Bool
-is_named row = bytes_eq row.0 (text_of row.1)
+abbrev is_own_row : List ℕ × Verb → Bool
+is_own_row row = bytes_eq row.0 (verb_text row.1)
 
-named_in : (rows : List (List ℕ × Verb)) (word : List ℕ) (v : Verb) → list_all is_named rows ≡ true → verb_in rows word ≡ Some v → bytes_eq word (text_of v) ≡ true
-named_in [] word v all h = absurd cc
-named_in (row ∷ rows) word v all h =
-    let a = and_parts (is_named row) (list_all is_named rows) all in
+word_is_verb_text_in : (rows : List (List ℕ × Verb)) (word : List ℕ) (v : Verb) → list_all is_own_row rows ≡ true → verb_in rows word ≡ Some v → bytes_eq word (verb_text v) ≡ true
+word_is_verb_text_in [] word v all h = absurd cc
+word_is_verb_text_in (row ∷ rows) word v all h =
+    let a = and_parts (is_own_row row) (list_all is_own_row rows) all in
     either (bytes_eq word row.0) (Some row.1) (verb_in rows word) v
-    (λ b e. subst (λ (x : Verb). bytes_eq word (text_of x) ≡ true) (same_Some row.1 v e) (subst (λ (t : List ℕ). bytes_eq word t ≡ true) (is_word row.0 (text_of row.1) a.0) b))
-    (named_in rows word v a.1) h
+    (λ b e. subst (λ (x : Verb). bytes_eq word (verb_text x) ≡ true) (same_Some row.1 v e) (subst (λ (t : List ℕ). bytes_eq word t ≡ true) (is_word row.0 (verb_text row.1) a.0) b))
+    (word_is_verb_text_in rows word v a.1) h
 
 -- only a verb's own word selects it
-pub named : (word : List ℕ) (v : Verb) → verb_of word ≡ Some v → bytes_eq word (text_of v) ≡ true
-named word v h = named_in verb_words word v refl h
+pub word_is_verb_text : (word : List ℕ) (v : Verb) → verb_of word ≡ Some v → bytes_eq word (verb_text v) ≡ true
+word_is_verb_text word v h = word_is_verb_text_in verb_words word v refl h

@@ -21,13 +21,13 @@ use Rattle.script.specs.Lines.{read_line}
 use Rattle.script.specs.Texts.{answer_text, filled_text, bad_line_text}
 
 -- the text of a page, or nothing if there is no page
-abbrev pub text_of : ℕ → Option Page → List ℕ
-text_of session None = []
-text_of session (Some page) = page_text session page
+abbrev pub page_text_or_nothing : ℕ → Option Page → List ℕ
+page_text_or_nothing session None = []
+page_text_or_nothing session (Some page) = page_text session page
 
 -- the text of the page that a look shows in world w; nothing if the look is refused
 abbrev pub shown_text : {P : Type 0} → ℕ → Query → World P → List ℕ
-shown_text session query w = text_of session (shown_in w query)
+shown_text session query w = page_text_or_nothing session (shown_in w query)
 
 -- this text; or, if memory ran out, that of the refusal Memory
 abbrev pub unless_memory : Bool → ℕ → List ℕ → List ℕ

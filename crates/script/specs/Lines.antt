@@ -50,8 +50,8 @@ place_in ws = do
   Some (b, k)
 
 -- reads a branch's name and a place, and the words after them by `read`
-abbrev pub placed : {A : Type 0} → (List (List ℕ) → Option A) → List (List ℕ) → Option (List ℕ × ℕ × A)
-placed read ws = do
+abbrev pub place_and_rest : {A : Type 0} → (List (List ℕ) → Option A) → List (List ℕ) → Option (List ℕ × ℕ × A)
+place_and_rest read ws = do
   p ← place_in ws
   x ← read (after_next (after_next ws))
   Some (p.0, p.1, x)
@@ -118,7 +118,7 @@ abbrev pub look_of : ℕ → LookVerb → List (List ℕ) → Option Query
 look_of session look.Branches ws = if_no_more Branches ws
 look_of session look.Cursor ws = if_no_more (Cursor session) ws
 look_of session look.Steps ws = option_map Steps (only_branch ws)
-look_of session look.Process ws = option_map (λ p. Process p.0 p.1 p.2) (placed one_number ws)
+look_of session look.Process ws = option_map (λ p. Process p.0 p.1 p.2) (place_and_rest one_number ws)
 look_of session look.State ws = option_map (λ p. State p.0 p.1) (branch_and_place ws)
 look_of session look.Pending ws = option_map (λ p. Pending p.0 p.1) (branch_and_place ws)
 look_of session look.Bits ws = option_map (λ p. Bits p.0 p.1) (branch_and_place ws)
@@ -134,10 +134,10 @@ command_of command_verb.Back ws = if_no_more command.Back ws
 command_of command_verb.Go ws = option_map (λ p. command.Go p.0 p.1) (branch_and_place ws)
 command_of command_verb.Break ws = option_map command.Break (break_of ws)
 command_of command_verb.Clear ws = option_map command.Clear (break_of ws)
-command_of command_verb.Insert ws = option_map (λ p. command.Insert p.0 p.1 p.2) (placed step_of_words ws)
+command_of command_verb.Insert ws = option_map (λ p. command.Insert p.0 p.1 p.2) (place_and_rest step_of_words ws)
 command_of command_verb.Remove ws = option_map (λ p. command.Remove p.0 p.1) (branch_and_place ws)
-command_of command_verb.Replace ws = option_map (λ p. command.Replace p.0 p.1 p.2) (placed step_of_words ws)
-command_of command_verb.Fork ws = option_map (λ p. command.Fork p.0 p.1 p.2) (placed only_branch ws)
+command_of command_verb.Replace ws = option_map (λ p. command.Replace p.0 p.1 p.2) (place_and_rest step_of_words ws)
+command_of command_verb.Fork ws = option_map (λ p. command.Fork p.0 p.1 p.2) (place_and_rest only_branch ws)
 command_of command_verb.Detach ws = option_map command.Detach (only_branch ws)
 command_of command_verb.Drop ws = option_map command.Drop (only_branch ws)
 
@@ -193,11 +193,11 @@ call_or_bad (Some c) = line.Call c
 
 -- what a line that isn't blank says: the call that it spells, if it has at most 255 bytes and all
 -- are call bytes; else that it is bad
-abbrev pub called : List ℕ → Line
-called text = if nat_le (length text) 255 && list_all is_call_byte text then call_or_bad (call_of (words text)) else line.Bad
+abbrev pub call_line : List ℕ → Line
+call_line text = if nat_le (length text) 255 && list_all is_call_byte text then call_or_bad (call_of (words text)) else line.Bad
 
 -- what a line says: nothing if it is empty or begins with `#`; otherwise the call that it spells;
 -- or that it is bad, if it spells no call
 abbrev pub read_line : List ℕ → Line
 read_line [] = line.Blank
-read_line (b ∷ bs) = if b == 35 then line.Blank else called (b ∷ bs)
+read_line (b ∷ bs) = if b == 35 then line.Blank else call_line (b ∷ bs)

@@ -111,7 +111,7 @@ IsOwn session r = ⊤
 pub record SpellsCall (text : List ℕ) (c : Call) : Type 0 where
   pub own : IsOwn c.session c.request
   pub sound : list_all is_sound (call_words c) ≡ true
-  pub spelled_so : text ≡ call_text c
+  pub text_is : text ≡ call_text c
 
 -- a line is blank: it is empty, or begins with `#`
 abbrev pub IsBlankLine : List ℕ → Type 0

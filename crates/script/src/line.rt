@@ -19,7 +19,7 @@ use sessions::command::Command;
 use views::breakpoint::Break;
 use words::number::{number, one_number, two_numbers};
 use words::parts::Parts;
-use words::step::{is, step_of};
+use words::step::{is_word, step_of};
 
 /// The most bytes of a call.
 const MOST_BYTES: usize = 255;
@@ -43,7 +43,7 @@ fn reading(line: &[u8]) -> Line
     if matches!(line.first(), None | Some(b'#')) {
         return Line::Blank;
     }
-    if line.len() > MOST_BYTES || !all_plain(line) {
+    if line.len() > MOST_BYTES || !are_call_bytes(line) {
         return Line::Bad;
     }
     let words = &mut Parts::new(line, b' ');
@@ -55,7 +55,7 @@ fn reading(line: &[u8]) -> Line
 }
 
 /// Whether each byte is one of 0x20 to 0x7E.
-fn all_plain(line: &[u8]) -> bool
+fn are_call_bytes(line: &[u8]) -> bool
     ensures { result ≡ list_all spec.is_call_byte line.now }
 {
     // Without an early exit, many bytes can be tested at once.
@@ -157,11 +157,11 @@ fn break_of(words: &mut Parts<'_>) -> Option<Break>
     ensures { result ≡ spec.break_of words.old }
 {
     let word = words.next();
-    if is(word, "returns") {
+    if is_word(word, "returns") {
         let process = one_number(words)?;
         return Some(Break::Returns(process));
     }
-    if is(word, "bit") {
+    if is_word(word, "bit") {
         let (bit, value) = two_numbers(words)?;
         return Some(Break::Bit(bit, value));
     }
@@ -172,11 +172,11 @@ fn break_of(words: &mut Parts<'_>) -> Option<Break>
 fn kind_of(word: &[u8]) -> Option<Break>
     ensures { result ≡ spec.kind_of word.now }
 {
-    if is(word, "chosen") {
+    if is_word(word, "chosen") {
         Some(Break::Chosen)
-    } else if is(word, "void") {
+    } else if is_word(word, "void") {
         Some(Break::Void)
-    } else if is(word, "refused") {
+    } else if is_word(word, "refused") {
         Some(Break::Refused)
     } else {
         None
@@ -185,7 +185,7 @@ fn kind_of(word: &[u8]) -> Option<Break>
 
 /// Reads a branch, a place and a step, after which the line has to end.
 fn step_at(words: &mut Parts<'_>) -> Option<(Name, u32, Step)>
-    ensures { result ≡ spec.placed step_of_words words.old }
+    ensures { result ≡ spec.place_and_rest step_of_words words.old }
 {
     let (branch, place) = place_in(words)?;
     step_of(words).map(|step| (branch, place, step))

@@ -1,5 +1,5 @@
 -- What a book is after a command.
-use Rattle.std.proofs.Common.{◌≡◌, ℕ, ◌+◌, ◌<◌, Bool, true, false, [], ◌∷◌, ◌++◌, Option, cond, nat_le, length, refl, sym, ap, subst, ◌∙◌, arith}
+use Rattle.std.proofs.Common.{◌≡◌, ℕ, ◌+◌, ◌<◌, true, false, [], ◌∷◌, ◌++◌, Option, cond, nat_le, length, refl, sym, ap, subst, ◌∙◌, arith}
 use Rattle.std.proofs.lemmas.Bool.Decides.{nat_tests}
 use Rattle.std.proofs.lemmas.List.{length_push}
 use Rattle.frames.specs.Behaviour.{Behaviour}
@@ -12,25 +12,23 @@ use Rattle.schedule_trie.specs.declared.refusal.Refusal.TheVariants.{Memory}
 use Rattle.sessions.specs.World.{opening}
 use Rattle.sessions.specs.Acts.{command_result, is_full, with_one_logged}
 use Rattle.sessions.specs.Logs.{IsLegal, is_logged, world_after, acted_by}
-use Rattle.sessions.specs.Books.{BookOf, IsBook, IsLawfulWorld, NoneDue, ActsOnBook, book_of, opening_of, opening_over, stored, world_of}
+use Rattle.sessions.specs.Books.{BookOf, IsBook, IsLawfulWorld, HasNoRefusal, ActsOnBook, book_of, opening_of, opening_over, stored, world_of}
 use Rattle.sessions.specs.declared.workspace.Workspace.{Workspace}
 use Rattle.std.specs.Global.{Vec}
 use Rattle.cutoff.specs.Charts.{Charted}
-use Rattle.sessions.proofs.LegalLogs.{legal_more, after_more}
+use Rattle.sessions.proofs.General.{lt_from_not_le}
+use Rattle.sessions.proofs.LegalLogs.{legal_more, world_after_more}
 use Rattle.sessions.proofs.LoggedReplies.{acted_logged, never_memory}
 use Rattle.sessions.proofs.Sound.{command_sound}
 
-pub below : (a b : ℕ) (t : Bool) → nat_le a b ≡ t → t ≡ false → b < a
-below a b t e f = grind (arith, e, f)
-
-above : (a b : ℕ) → b < a → nat_le a b ≡ false
-above a b h = grind (arith, nat_tests)
+le_false : (a b : ℕ) → b < a → nat_le a b ≡ false
+le_false a b h = grind (arith, nat_tests)
 
 -- a book keeps the chart that it opened with, and its world: so its opening stays the same; and if
 -- its log does too, the book still has what its type guarantees
 module _ {R P : Type 0} (is : R → Behaviour P) (old new : BookOf R P) (is_first : new.first ≡ old.first) (is_world : world_of is new.now ≡ world_of is old.now) where
-  pub opens_same : opening_of is new ≡ opening_of is old
-  opens_same = λ i. opening (is (is_first i).start.register) (is_first i).value (is_world i).limits (forest (is_first i).trie)
+  pub same_opening : opening_of is new ≡ opening_of is old
+  same_opening = λ i. opening (is (is_first i).start.register) (is_first i).value (is_world i).limits (forest (is_first i).trie)
 
   pub book_same : (limit : ℕ) → new.log ≡ old.log → IsBook is limit old → IsBook is limit new
   book_same limit is_log b =
@@ -39,8 +37,8 @@ module _ {R P : Type 0} (is : R → Behaviour P) (old new : BookOf R P) (is_firs
       let most = ap (λ w. w.limits.log) is_world in
       record {
         held = record {
-          legal = rw (opens_same, is_log) h.legal;
-          after = is_world ∙ h.after ∙ λ i. world_after (sym opens_same i) (sym is_log i);
+          legal = rw (same_opening, is_log) h.legal;
+          after = is_world ∙ h.after ∙ λ i. world_after (sym same_opening i) (sym is_log i);
           count = ap length is_log ∙ h.count ∙ sym logged;
           few = omega (arith, logged, most, h.few);
           most_log = omega (arith, most, h.most_log);
@@ -60,16 +58,16 @@ module _ {R P : Type 0} (is : R → Behaviour P) (first : Charted R P) (s t : Wo
   abbrev old : BookOf R P
   old = book_of first s log
 
-  pub room : is_full (world_of is old.now) ≡ false
-  room = let most = b.same_limit in above s.chart.trie.limits.log (length log.items) (omega (arith, most, count, less))
+  pub log_not_full : is_full (world_of is old.now) ≡ false
+  log_not_full = let most = b.same_limit in le_false s.chart.trie.limits.log (length log.items) (omega (arith, most, count, less))
 
   -- memory runs out for a command: the opening stays the same, and the book's invariant holds
-  module _ (who : ℕ) (guard : Option ℕ) (c : Command) (has : (n : ℕ) → is_full (world_of is (stored s n)) ≡ false → NoneDue who guard c (world_of is (stored s n)) × (world_of is (stored t n) ≡ world_of is (stored s n))) where
+  module _ (who : ℕ) (guard : Option ℕ) (c : Command) (has : (n : ℕ) → is_full (world_of is (stored s n)) ≡ false → HasNoRefusal who guard c (world_of is (stored s n)) × (world_of is (stored t n) ≡ world_of is (stored s n))) where
     world_kept : world_of is (stored t (length reserved.items)) ≡ world_of is old.now
-    world_kept = ap (λ l. world_of is (stored t (length l))) kept ∙ (has (length log.items) room).1
+    world_kept = ap (λ l. world_of is (stored t (length l))) kept ∙ (has (length log.items) log_not_full).1
 
-    pub opens_kept : opening_of is (book_of first t reserved) ≡ opening_of is old
-    opens_kept = opens_same is old (book_of first t reserved) refl world_kept
+    pub opening_kept : opening_of is (book_of first t reserved) ≡ opening_of is old
+    opening_kept = same_opening is old (book_of first t reserved) refl world_kept
 
     pub book_kept : IsBook is limit (book_of first t reserved)
     book_kept = book_same is old (book_of first t reserved) refl world_kept limit kept b
@@ -80,40 +78,40 @@ module _ {R P : Type 0} (is : R → Behaviour P) (first : Charted R P) (s t : Wo
     abbrev new : BookOf R P
     new = book_of first t more
 
-    added : more.items ≡ log.items ++ e ∷ []
-    added = pushed ∙ λ i. kept i ++ is_made i ∷ []
+    log_after : more.items ≡ log.items ++ e ∷ []
+    log_after = pushed ∙ λ i. kept i ++ is_made i ∷ []
 
-    counted : length more.items ≡ length log.items + 1
-    counted = ap length added ∙ length_push log.items e
+    length_log_after : length more.items ≡ length log.items + 1
+    length_log_after = ap length log_after ∙ length_push log.items e
 
     acts : command_result e.who e.if_at e.command (world_of is old.now) ≡ record { world = world_of is new.now; reply = e.reply }
-    acts = has (length log.items) room ∙ λ i. record { world = world_of is (stored t (sym counted i)); reply = e.reply }
+    acts = has (length log.items) log_not_full ∙ λ i. record { world = world_of is (stored t (sym length_log_after i)); reply = e.reply }
 
     in_log : is_logged e.reply ≡ true
-    in_log = ap (λ a. is_logged a.reply) (sym acts) ∙ (acted_logged e.who (world_of is old.now) e.if_at e.command room).0
+    in_log = ap (λ a. is_logged a.reply) (sym acts) ∙ (acted_logged e.who (world_of is old.now) e.if_at e.command log_not_full).0
 
     limits_same : new.now.limits ≡ old.now.limits
-    limits_same = ap (λ a. a.world.limits) (sym acts) ∙ (acted_logged e.who (world_of is old.now) e.if_at e.command room).2
+    limits_same = ap (λ a. a.world.limits) (sym acts) ∙ (acted_logged e.who (world_of is old.now) e.if_at e.command log_not_full).2
 
-    pub done_acts : ActsOnBook is old new e
-    done_acts = record { acts = acts; logs = added ∙ ap (λ t. cond t (old.log ++ e ∷ []) old.log) (sym in_log) }
+    pub acts_on_book : ActsOnBook is old new e
+    acts_on_book = record { acts = acts; logs = log_after ∙ ap (λ t. cond t (old.log ++ e ∷ []) old.log) (sym in_log) }
 
-    pub opens_more : opening_of is new ≡ opening_of is old
-    opens_more = ap (opening_over is first) limits_same
+    pub opening_after : opening_of is new ≡ opening_of is old
+    opening_after = ap (opening_over is first) limits_same
 
-    pub book_more : IsForest (forest s.chart.trie) → IsForest (forest t.chart.trie) → IsBook is limit new
-    book_more before after =
+    pub book_after : IsForest (forest s.chart.trie) → IsForest (forest t.chart.trie) → IsBook is limit new
+    book_after before after =
         let h = b.held in
         let w = opening_of is old in
-        let few : length log.items < old.now.limits.log = below old.now.limits.log (length log.items) (nat_le old.now.limits.log (length log.items)) refl room in
+        let few : length log.items < old.now.limits.log = lt_from_not_le old.now.limits.log (length log.items) log_not_full in
         let log_limit : new.now.limits.log ≡ old.now.limits.log = ap (λ l. l.log) limits_same in
-        let count = counted in
+        let count = length_log_after in
         let replied : (acted_by e (world_after w old.log)).reply ≡ e.reply = ap (λ v. (acted_by e v).reply) (sym h.after) ∙ ap (λ a. a.reply) acts in
         let apart = subst (λ f. AreNamedApart f.branches) (sym (ap (λ a. a.world.forest) acts)) after.apart in
         record {
           held = record {
-            legal = subst (λ v. IsLegal v new.log) (sym opens_more) (subst (IsLegal w) (sym added) (legal_more w old.log e h.legal replied in_log));
-            after = ap (λ a. a.world) (sym acts) ∙ ap (λ v. (acted_by e v).world) h.after ∙ sym (after_more w old.log e) ∙ λ i. world_after (sym opens_more i) (sym added i);
+            legal = subst (λ v. IsLegal v new.log) (sym opening_after) (subst (IsLegal w) (sym log_after) (legal_more w old.log e h.legal replied in_log));
+            after = ap (λ a. a.world) (sym acts) ∙ ap (λ v. (acted_by e v).world) h.after ∙ sym (world_after_more w old.log e) ∙ λ i. world_after (sym opening_after i) (sym log_after i);
             count = refl;
             few = omega (arith, count, log_limit, few);
             most_log = omega (arith, log_limit, h.most_log);
@@ -123,4 +121,4 @@ module _ {R P : Type 0} (is : R → Behaviour P) (first : Charted R P) (s t : Wo
         }
 
     pub never_out_of_memory : e.reply ≡ No Memory → ⊥
-    never_out_of_memory = never_memory e.who (world_of is old.now) e.if_at e.command _ e.reply room acts
+    never_out_of_memory = never_memory e.who (world_of is old.now) e.if_at e.command _ e.reply log_not_full acts

@@ -34,14 +34,11 @@ use Rattle.sessions.specs.Edits.{moved_by, drops_occupied}
 use Rattle.sessions.specs.Bounds.{AreWithin}
 use Rattle.sessions.specs.Cursors.{AreAtPlaces, first_cursor, IsAtPlace, cursor_at, each_cursor, is_occupied, is_on_branch, cursor, acts_in, is_shifted_by, shifted, shifted_place}
 use Rattle.branch_terms.specs.declared.limits.TheConstants.{MOST_CELLS_MADE}
-use Rattle.sessions.proofs.General.{not_above, not_below}
-use Rattle.sessions.proofs.EditCases.{asked_ok, found_ok, from_ok}
+use Rattle.sessions.proofs.General.{le_from_not_lt, lt_from_not_le, lt_from_true}
+use Rattle.sessions.proofs.EditCases.{tested_ok, found_ok, from_ok}
 
 lt_false : (a b : ℕ) → b ≤ a → nat_lt a b ≡ false
 lt_false a b h = grind (arith, nat_tests)
-
-above : (a b : ℕ) → nat_lt a b ≡ true → a < b
-above a b e = grind (arith, nat_tests)
 
 same_number : (a b : ℕ) → nat_eq a b ≡ true → a ≡ b
 same_number a b e = grind (arith, nat_tests)
@@ -63,7 +60,7 @@ same_name (x ∷ xs) (y ∷ ys) e = by (same_name xs ys) (nat_eq x y) refl e
     by rest false h g = cc
 
 -- a cursor is at a place that exists: its branch has this index, and is long enough
-pub record IsOnBranch (bs : List Branch) (c : Cursor) : Type 0 where
+pub record IsWithinBranch (bs : List Branch) (c : Cursor) : Type 0 where
   pub index : ℕ
   pub named : name_in bs index ≡ Some c.branch
   pub within : c.place ≤ length (slots_in bs index)
@@ -74,26 +71,26 @@ named_at name bs i e =
     let same : name ≡ get_or (map name_of bs) i name = same_name name (get_or (map name_of bs) i name) p.1 in
     slice_get-get_or (map name_of bs) i name p.0 ∙ ap Some (sym same)
 
-looked : (f : Forest) (place : ℕ) (o : Option ℕ) → forests.on_found o (looked_at f place) ≡ Ok f → (i : ℕ) × (o ≡ Some i) × (place ≤ length (slots_in f.branches i))
-looked f place None e = absurd (cc)
-looked f place (Some i) e = (i, refl, by (nat_lt (length (slots_in f.branches i)) place) refl e)
+found_if_looked : (f : Forest) (place : ℕ) (o : Option ℕ) → forests.on_found o (looked_at f place) ≡ Ok f → (i : ℕ) × (o ≡ Some i) × (place ≤ length (slots_in f.branches i))
+found_if_looked f place None e = absurd (cc)
+found_if_looked f place (Some i) e = (i, refl, by (nat_lt (length (slots_in f.branches i)) place) refl e)
   where
     by : (b : Bool) → nat_lt (length (slots_in f.branches i)) place ≡ b → cond b (Err NoPlace) (Ok f) ≡ Ok f → place ≤ length (slots_in f.branches i)
     by true h g = absurd (cc)
-    by false h g = not_above (length (slots_in f.branches i)) place h
+    by false h g = le_from_not_lt (length (slots_in f.branches i)) place h
 
-pub on_branch : (f : Forest) (c : Cursor) → IsAtPlace f c → IsOnBranch f.branches c
-on_branch f c e =
-    let p = looked f c.place (index_of f.branches c.branch) e in
+pub within_branch : (f : Forest) (c : Cursor) → IsAtPlace f c → IsWithinBranch f.branches c
+within_branch f c e =
+    let p = found_if_looked f c.place (index_of f.branches c.branch) e in
     record { index = p.0; named = named_at c.branch f.branches p.0 p.1; within = p.2 }
 
-pub from_branch : (f : Forest) (c : Cursor) → AreNamedApart f.branches → IsOnBranch f.branches c → IsAtPlace f c
-from_branch f c apart s =
+pub at_place_if_within : (f : Forest) (c : Cursor) → AreNamedApart f.branches → IsWithinBranch f.branches c → IsAtPlace f c
+at_place_if_within f c apart s =
     ap (λ o. forests.on_found o (looked_at f c.place)) (found_apart f.branches s.index c.branch apart s.named)
     ∙ ap (λ b. cond b (Err NoPlace) (Ok f)) (lt_false (length (slots_in f.branches s.index)) c.place s.within)
 
 -- a cursor's place still exists if the branches keep their names and none of them is shorter
-pub on_longer : (bs cs : List Branch) (c : Cursor) → map name_of cs ≡ map name_of bs → ((j : ℕ) → length (slots_in bs j) ≤ length (slots_in cs j)) → IsOnBranch bs c → IsOnBranch cs c
+pub on_longer : (bs cs : List Branch) (c : Cursor) → map name_of cs ≡ map name_of bs → ((j : ℕ) → length (slots_in bs j) ≤ length (slots_in cs j)) → IsWithinBranch bs c → IsWithinBranch cs c
 on_longer bs cs c names longer s =
     let more = longer s.index in
     record { index = s.index; named = ap (λ ns. slice_get ns s.index) names ∙ s.named; within = omega (arith, s.within) }
@@ -143,32 +140,32 @@ module _ (x : ℕ) (new : Slot) where
       by rest false = omega arith
 
 -- none of these cells has the number x
-abbrev pub Lacks : ℕ → List Slot → Type 0
-Lacks x slots = (k : ℕ) (s : Slot) → slice_get slots k ≡ Some s → s.cell ≡ x → ⊥
+abbrev pub HasNoCell : ℕ → List Slot → Type 0
+HasNoCell x slots = (k : ℕ) (s : Slot) → slice_get slots k ≡ Some s → s.cell ≡ x → ⊥
 
 -- the number x is the number of at most one of these cells
-abbrev pub HasOnce : ℕ → List Slot → Type 0
-HasOnce x slots = (k l : ℕ) (s t : Slot) → slice_get slots k ≡ Some s → slice_get slots l ≡ Some t → s.cell ≡ x → t.cell ≡ x → k ≡ l
+abbrev pub HasCellAtMostOnce : ℕ → List Slot → Type 0
+HasCellAtMostOnce x slots = (k l : ℕ) (s t : Slot) → slice_get slots k ≡ Some s → slice_get slots l ≡ Some t → s.cell ≡ x → t.cell ≡ x → k ≡ l
 
 -- if no cell has the number x, removing the cells with this number removes none
-pub none_gone : (x : ℕ) (slots : List Slot) → Lacks x slots → length slots ≤ length (without x slots)
-none_gone x [] h = omega arith
-none_gone x (y ∷ ys) h = by (none_gone x ys (λ k s e c. h (suc k) s e c)) (nat_eq y.cell x) refl
+pub without_none : (x : ℕ) (slots : List Slot) → HasNoCell x slots → length slots ≤ length (without x slots)
+without_none x [] h = omega arith
+without_none x (y ∷ ys) h = by (without_none x ys (λ k s e c. h (suc k) s e c)) (nat_eq y.cell x) refl
   where
     by : length ys ≤ length (without x ys) → (b : Bool) → nat_eq y.cell x ≡ b → suc (length ys) ≤ length (cond (not b) (y ∷ without x ys) (without x ys))
     by rest true e = absurd (h 0 y refl (same_number y.cell x e))
     by rest false e = omega arith
 
 -- if at most one cell has the number x, removing the cells with this number removes at most one
-pub one_gone : (x : ℕ) (slots : List Slot) → HasOnce x slots → length slots ≤ suc (length (without x slots))
-one_gone x [] h = omega arith
-one_gone x (y ∷ ys) h = by (one_gone x ys (λ k l s t d e a b. let same : suc k ≡ suc l = h (suc k) (suc l) s t d e a b in omega arith)) (nat_eq y.cell x) refl
+pub without_one : (x : ℕ) (slots : List Slot) → HasCellAtMostOnce x slots → length slots ≤ suc (length (without x slots))
+without_one x [] h = omega arith
+without_one x (y ∷ ys) h = by (without_one x ys (λ k l s t d e a b. let same : suc k ≡ suc l = h (suc k) (suc l) s t d e a b in omega arith)) (nat_eq y.cell x) refl
   where
-    lacks : y.cell ≡ x → Lacks x ys
+    lacks : y.cell ≡ x → HasNoCell x ys
     lacks e k s at c = let same : 0 ≡ suc k = h 0 (suc k) y s refl at e c in omega arith
 
     by : length ys ≤ suc (length (without x ys)) → (b : Bool) → nat_eq y.cell x ≡ b → suc (length ys) ≤ suc (length (cond (not b) (y ∷ without x ys) (without x ys)))
-    by rest true e = let all = none_gone x ys (lacks (same_number y.cell x e)) in omega arith
+    by rest true e = let all = without_none x ys (lacks (same_number y.cell x e)) in omega arith
     by rest false e = omega arith
 
 -- if place k was found for the number x, there is a cell at k, and its number is x
@@ -178,7 +175,7 @@ cell_found x k slots d e =
     (get_or slots k d, slice_get-get_or slots k d p.0, same_number (get_or slots k d).cell x p.1)
 
 -- if no place was found for the number x, no cell has this number
-pub cell_lacked : (x : ℕ) (slots : List Slot) → position (is_cell x) slots ≡ None → Lacks x slots
+pub cell_lacked : (x : ℕ) (slots : List Slot) → position (is_cell x) slots ≡ None → HasNoCell x slots
 cell_lacked x slots e k s at c = by (nat_lt (position_or_len (is_cell x) slots) (length slots)) refl e
   where
     inside : k < length slots
@@ -190,18 +187,18 @@ cell_lacked x slots e k s at c = by (nat_lt (position_or_len (is_cell x) slots) 
     by : (b : Bool) → nat_lt (position_or_len (is_cell x) slots) (length slots) ≡ b → cond b (Some (position_or_len (is_cell x) slots)) None ≡ None → ⊥
     by true h g = absurd (cc)
     by false h g =
-        let past : length slots ≤ position_or_len (is_cell x) slots = not_above (position_or_len (is_cell x) slots) (length slots) h in
+        let past : length slots ≤ position_or_len (is_cell x) slots = le_from_not_lt (position_or_len (is_cell x) slots) (length slots) h in
         let other : is_cell x (get_or slots k s) ≡ false = fails_before_first (is_cell x) slots k s (omega (arith, inside)) in
         other_number s.cell x (ap (is_cell x) (sym here) ∙ other) c
 
-pub at_place : (slots : List Slot) (k : ℕ) → k < length slots → (s : Slot) × (slice_get slots k ≡ Some s)
-at_place [] k h = absurd (omega arith)
-at_place (y ∷ ys) zero h = (y, refl)
-at_place (y ∷ ys) (suc k) h = at_place ys k (omega arith)
+pub slot_at_place : (slots : List Slot) (k : ℕ) → k < length slots → (s : Slot) × (slice_get slots k ≡ Some s)
+slot_at_place [] k h = absurd (omega arith)
+slot_at_place (y ∷ ys) zero h = (y, refl)
+slot_at_place (y ∷ ys) (suc k) h = slot_at_place ys k (omega arith)
 
-some_at : (o : Option ℕ) → is_some o ≡ true → (k : ℕ) × (o ≡ Some k)
-some_at None e = absurd (cc)
-some_at (Some k) e = (k, refl)
+value_if_some : (o : Option ℕ) → is_some o ≡ true → (k : ℕ) × (o ≡ Some k)
+value_if_some None e = absurd (cc)
+value_if_some (Some k) e = (k, refl)
 
 -- cells of one branch that have the same number are at the same place
 same_place : (f : Forest) → IsForest f → (j k l : ℕ) (s t : Slot) → slice_get (slots_in f.branches j) k ≡ Some s → slice_get (slots_in f.branches j) l ≡ Some t → s.cell ≡ t.cell → k ≡ l
@@ -216,15 +213,15 @@ same_place f held j k l s t d e c =
     omega arith
 
 -- an edit at a place of a branch, and a cursor
-module _ (f : Forest) (held : IsForest f) (name : List ℕ) (place i : ℕ) (found : index_of f.branches name ≡ Some i) (c : Cursor) (s : IsOnBranch f.branches c) where
+module _ (f : Forest) (held : IsForest f) (name : List ℕ) (place i : ℕ) (found : index_of f.branches name ≡ Some i) (c : Cursor) (s : IsWithinBranch f.branches c) where
   abbrev here : List Slot
   here = slots_in f.branches i
 
   abbrev there : List Slot
   there = slots_in f.branches s.index
 
-  placed : (x : ℕ) → place_of f c.branch x ≡ position (is_cell x) there
-  placed x = ap (λ o. place_by o f x) (found_apart f.branches s.index c.branch held.apart s.named)
+  place_of_is : (x : ℕ) → place_of f c.branch x ≡ position (is_cell x) there
+  place_of_is x = ap (λ o. place_by o f x) (found_apart f.branches s.index c.branch held.apart s.named)
 
   cell_is : (t : Slot) → slice_get here place ≡ Some t → cell_on_branch f name place ≡ Some t.cell
   cell_is t e = ap (λ o. cell_by o f place) found ∙ ap (option_map cell_of) e
@@ -240,7 +237,7 @@ module _ (f : Forest) (held : IsForest f) (name : List ℕ) (place i : ℕ) (fou
       let index : Some i ≡ Some s.index = sym found ∙ ap (index_of f.branches) same ∙ found_apart f.branches s.index c.branch held.apart s.named in
       let one : i ≡ s.index = cc in
       let lengths : length here ≡ length there = ap (λ j. length (slots_in f.branches j)) one in
-      let ahead : place < c.place = above place c.place p.1 in
+      let ahead : place < c.place = lt_from_true place c.place p.1 in
       omega (arith, s.within)
 
   -- if an edit at a cell moves the cursor, the cursor's branch has the cell, and the cursor is
@@ -248,28 +245,28 @@ module _ (f : Forest) (held : IsForest f) (name : List ℕ) (place i : ℕ) (fou
   shifted_after : (t : Slot) → slice_get here place ≡ Some t → is_shifted_by f name place c ≡ true → ((k : ℕ) × (position (is_cell t.cell) there ≡ Some k)) × (place < c.place)
   shifted_after t at e =
       let p = and_parts (is_some (place_of f c.branch t.cell)) (nat_lt place c.place) (ap (λ o. acts_in o f name c.branch && nat_lt place c.place) (sym (cell_is t at)) ∙ e) in
-      (some_at (position (is_cell t.cell) there) (ap is_some (sym (placed t.cell)) ∙ p.0), above place c.place p.1)
+      (value_if_some (position (is_cell t.cell) there) (ap is_some (sym (place_of_is t.cell)) ∙ p.0), lt_from_true place c.place p.1)
 
-  goes : (cs : List Branch) (sh : Shift) → (is_shifted_by f name place c ≡ true → IsOnBranch cs (cursor c.branch (shifted_place sh c.place)))
-      → (is_shifted_by f name place c ≡ false → IsOnBranch cs c) → IsOnBranch cs (shifted sh f name place c)
-  goes cs sh up down = by (is_shifted_by f name place c) refl
+  shifted_within_branch : (cs : List Branch) (sh : Shift) → (is_shifted_by f name place c ≡ true → IsWithinBranch cs (cursor c.branch (shifted_place sh c.place)))
+      → (is_shifted_by f name place c ≡ false → IsWithinBranch cs c) → IsWithinBranch cs (shifted sh f name place c)
+  shifted_within_branch cs sh up down = by (is_shifted_by f name place c) refl
     where
-      by : (b : Bool) → is_shifted_by f name place c ≡ b → IsOnBranch cs (cond b (cursor c.branch (shifted_place sh c.place)) c)
+      by : (b : Bool) → is_shifted_by f name place c ≡ b → IsWithinBranch cs (cond b (cursor c.branch (shifted_place sh c.place)) c)
       by true e = up e
       by false e = down e
 
-  insert_last : (new : Slot) → length here ≤ place → IsOnBranch (only_in i (put_last new) f.branches) (shifted shift.Up f name place c)
+  insert_last : (new : Slot) → length here ≤ place → IsWithinBranch (only_in i (put_last new) f.branches) (shifted shift.Up f name place c)
   insert_last new past =
-      goes (only_in i (put_last new) f.branches) shift.Up (λ e. absurd (none_shifted past e))
+      shifted_within_branch (only_in i (put_last new) f.branches) shift.Up (λ e. absurd (none_shifted past e))
       (λ e. on_longer f.branches (only_in i (put_last new) f.branches) c (names_only_in i (put_last new) f.branches)
       (longer_only_in i (put_last new) f.branches (λ l. let more = length-append l (new ∷ []) in omega arith)) s)
 
-  insert_before : (new t : Slot) → slice_get here place ≡ Some t → IsOnBranch (everywhere (put_before t.cell new) f.branches) (shifted shift.Up f name place c)
+  insert_before : (new t : Slot) → slice_get here place ≡ Some t → IsWithinBranch (everywhere (put_before t.cell new) f.branches) (shifted shift.Up f name place c)
   insert_before new t at =
       let g = put_before t.cell new in
       let cs = everywhere g f.branches in
       let names = names_everywhere g f.branches in
-      goes cs shift.Up
+      shifted_within_branch cs shift.Up
       (λ e.
       let p = shifted_after t at e in
       let q = cell_found t.cell p.0.0 there t p.0.1 in
@@ -280,8 +277,8 @@ module _ (f : Forest) (held : IsForest f) (name : List ℕ) (place i : ℕ) (fou
       (λ j. let same : length (slots_in cs j) ≡ length (g (slots_in f.branches j)) = ap length (slots_everywhere g f.branches j refl) in
       let more = put_longer t.cell new (slots_in f.branches j) in omega arith) s)
 
-  once : (x : ℕ) → HasOnce x there
-  once x k l a b e d m n = same_place f held s.index k l a b e d (m ∙ sym n)
+  cell_once : (x : ℕ) → HasCellAtMostOnce x there
+  cell_once x k l a b e d m n = same_place f held s.index k l a b e d (m ∙ sym n)
 
   -- a cell has the same place in each branch that has it
   one_place : (t : Slot) → slice_get here place ≡ Some t → (k : ℕ) → position (is_cell t.cell) there ≡ Some k → (k ≡ place) × (k < length there)
@@ -295,26 +292,26 @@ module _ (f : Forest) (held : IsForest f) (name : List ℕ) (place i : ℕ) (fou
       let lengths : length (take (suc place) here) ≡ length (take (suc k) there) = ap length shared in
       (omega arith, within_k)
 
-  stays : (t : Slot) → slice_get here place ≡ Some t → is_shifted_by f name place c ≡ false → (o : Option ℕ) → position (is_cell t.cell) there ≡ o
+  unshifted_within : (t : Slot) → slice_get here place ≡ Some t → is_shifted_by f name place c ≡ false → (o : Option ℕ) → position (is_cell t.cell) there ≡ o
       → (n : ℕ) → n ≡ length (without t.cell there) → length there ≤ suc (length (without t.cell there)) → c.place ≤ n
-  stays t at e None h n same few = let all = none_gone t.cell there (cell_lacked t.cell there h) in omega (arith, s.within)
-  stays t at e (Some k) h n same few =
+  unshifted_within t at e None h n same few = let all = without_none t.cell there (cell_lacked t.cell there h) in omega (arith, s.within)
+  unshifted_within t at e (Some k) h n same few =
       let one = one_place t at k h in
       let acts : (true && nat_lt place c.place) ≡ false =
-      ap (λ o. is_some o && nat_lt place c.place) (sym (placed t.cell ∙ h)) ∙ ap (λ o. acts_in o f name c.branch && nat_lt place c.place) (sym (cell_is t at)) ∙ e in
-      let before : c.place ≤ place = not_above place c.place acts in
+      ap (λ o. is_some o && nat_lt place c.place) (sym (place_of_is t.cell ∙ h)) ∙ ap (λ o. acts_in o f name c.branch && nat_lt place c.place) (sym (cell_is t at)) ∙ e in
+      let before : c.place ≤ place = le_from_not_lt place c.place acts in
       omega (arith, one)
 
-  remove_at : (t : Slot) → slice_get here place ≡ Some t → IsOnBranch (everywhere (without t.cell) f.branches) (shifted shift.Down f name place c)
+  remove_at : (t : Slot) → slice_get here place ≡ Some t → IsWithinBranch (everywhere (without t.cell) f.branches) (shifted shift.Down f name place c)
   remove_at t at =
       let g = without t.cell in
       let cs = everywhere g f.branches in
       let named = ap (λ ns. slice_get ns s.index) (names_everywhere g f.branches) ∙ s.named in
       let same : length (slots_in cs s.index) ≡ length (g there) = ap length (slots_everywhere g f.branches s.index refl) in
-      let few : length there ≤ suc (length (g there)) = one_gone t.cell there (once t.cell) in
-      goes cs shift.Down
+      let few : length there ≤ suc (length (g there)) = without_one t.cell there (cell_once t.cell) in
+      shifted_within_branch cs shift.Down
       (λ e. let p = shifted_after t at e in record { index = s.index; named = named; within = omega (arith, s.within, p.1) })
-      (λ e. record { index = s.index; named = named; within = stays t at e (position (is_cell t.cell) there) refl (length (slots_in cs s.index)) same few })
+      (λ e. record { index = s.index; named = named; within = unshifted_within t at e (position (is_cell t.cell) there) refl (length (slots_in cs s.index)) same few })
 
 -- with more branches after these, a branch keeps its name and its slots, and a cursor its place
 name_more : (bs more : List Branch) (j : ℕ) (name : List ℕ) → name_in bs j ≡ Some name → name_in (bs ++ more) j ≡ Some name
@@ -327,13 +324,13 @@ slots_more [] more j name e = absurd (cc)
 slots_more (b ∷ bs) more zero name e = refl
 slots_more (b ∷ bs) more (suc j) name e = slots_more bs more j name e
 
-on_more : (bs more : List Branch) (c : Cursor) → IsOnBranch bs c → IsOnBranch (bs ++ more) c
+on_more : (bs more : List Branch) (c : Cursor) → IsWithinBranch bs c → IsWithinBranch (bs ++ more) c
 on_more bs more c s =
     let same : length (slots_in (bs ++ more) s.index) ≡ length (slots_in bs s.index) = ap length (slots_more bs more s.index c.branch s.named) in
     record { index = s.index; named = name_more bs more s.index c.branch s.named; within = omega (arith, s.within) }
 
 -- a cursor's place still exists if another branch, with index i, is removed
-on_fewer : (bs : List Branch) (i : ℕ) (c : Cursor) (j : ℕ) → (i ≡ j → ⊥) → name_in bs j ≡ Some c.branch → c.place ≤ length (slots_in bs j) → IsOnBranch (remove bs i) c
+on_fewer : (bs : List Branch) (i : ℕ) (c : Cursor) (j : ℕ) → (i ≡ j → ⊥) → name_in bs j ≡ Some c.branch → c.place ≤ length (slots_in bs j) → IsWithinBranch (remove bs i) c
 on_fewer [] i c j apart e h = absurd (cc)
 on_fewer (b ∷ bs) zero c zero apart e h = absurd (apart refl)
 on_fewer (b ∷ bs) zero c (suc j) apart e h = record { index = j; named = e; within = h }
@@ -342,26 +339,26 @@ on_fewer (b ∷ bs) (suc i) c (suc j) apart e h =
     let s = on_fewer bs i c j (λ same. apart (ap suc same)) e h in
     record { index = suc s.index; named = s.named; within = s.within }
 
-below : (a b : ℕ) → a ≤ b → (a ≡ b → ⊥) → a < b
-below a b h apart = by (nat_lt a b) refl
+lt_from_le : (a b : ℕ) → a ≤ b → (a ≡ b → ⊥) → a < b
+lt_from_le a b h apart = by (nat_lt a b) refl
   where
     by : (t : Bool) → nat_lt a b ≡ t → a < b
-    by true e = above a b e
-    by false e = let past : b ≤ a = not_above a b e in absurd (apart (omega arith))
+    by true e = lt_from_true a b e
+    by false e = let past : b ≤ a = le_from_not_lt a b e in absurd (apart (omega arith))
 
 other_name : (xs ys : List ℕ) → pointwise nat_eq xs ys ≡ false → xs ≡ ys → ⊥
 other_name xs ys e same = true≢false (sym (nat_list_eq_equiv.refl xs) ∙ ap (pointwise nat_eq xs) same ∙ e)
 
-named_one : (bs : List Branch) (i j : ℕ) (xs ys : List ℕ) → i ≡ j → name_in bs i ≡ Some xs → name_in bs j ≡ Some ys → xs ≡ ys
-named_one bs i j xs ys same a b = let e : Some xs ≡ Some ys = sym a ∙ ap (name_in bs) same ∙ b in cc
+same_index_same_name : (bs : List Branch) (i j : ℕ) (xs ys : List ℕ) → i ≡ j → name_in bs i ≡ Some xs → name_in bs j ≡ Some ys → xs ≡ ys
+same_index_same_name bs i j xs ys same a b = let e : Some xs ≡ Some ys = sym a ∙ ap (name_in bs) same ∙ b in cc
 
 cursor_within : (cursors : List (Option Cursor)) (who : ℕ) (c : Cursor) → cursor_at cursors who ≡ Some c → who < length cursors
 cursor_within [] who c e = absurd (cc)
 cursor_within (o ∷ os) zero c e = omega arith
 cursor_within (o ∷ os) (suc who) c e = let rest = cursor_within os who c e in omega arith
 
-not_there : (name : List ℕ) (cursors : List (Option Cursor)) (who : ℕ) (c : Cursor) → is_occupied name cursors ≡ false → cursor_at cursors who ≡ Some c → pointwise nat_eq name c.branch ≡ false
-not_there name cursors who c free at = by (pointwise nat_eq name c.branch) refl
+other_branch_if_free : (name : List ℕ) (cursors : List (Option Cursor)) (who : ℕ) (c : Cursor) → is_occupied name cursors ≡ false → cursor_at cursors who ≡ Some c → pointwise nat_eq name c.branch ≡ false
+other_branch_if_free name cursors who c free at = by (pointwise nat_eq name c.branch) refl
   where
     by : (b : Bool) → pointwise nat_eq name c.branch ≡ b → b ≡ false
     by true e = absurd (true≢false (sym (list_any_at (is_on_branch name) cursors who None (cursor_within cursors who c at) (ap (is_on_branch name) at ∙ e)) ∙ free))
@@ -377,31 +374,31 @@ renumbered_longer n l = let a = length_numbered n (map forests.step_of l) in let
 replaced_longer : (step : Step) (x : ℕ) (l : List Slot) → length l ≤ length (forests.replaced_by step x l)
 replaced_longer step x l = let b = length-map l (forests.with_step x step) in omega arith
 
-on_cursor : Edit → Forest → Cursor → Cursor
-on_cursor (Insert name place step) f c = shifted shift.Up f name place c
-on_cursor (Remove name place) f c = shifted shift.Down f name place c
-on_cursor edit f c = c
+cursor_after : Edit → Forest → Cursor → Cursor
+cursor_after (Insert name place step) f c = shifted shift.Up f name place c
+cursor_after (Remove name place) f c = shifted shift.Down f name place c
+cursor_after edit f c = c
 
 -- the edit doesn't drop the branch of the cursor c
-abbrev Stays : Edit → Cursor → Type 0
-Stays (Drop name) c = pointwise nat_eq name c.branch ≡ false
-Stays edit c = Unit {0}
+abbrev KeepsBranch : Edit → Cursor → Type 0
+KeepsBranch (Drop name) c = pointwise nat_eq name c.branch ≡ false
+KeepsBranch edit c = Unit {0}
 
-module _ (limits : Limits) (f : Forest) (held : IsForest f) (c : Cursor) (s : IsOnBranch f.branches c) where
-  abbrev Goes : Edit → Forest → Type 0
-  Goes edit g = IsOnBranch g.branches (on_cursor edit f c)
+module _ (limits : Limits) (f : Forest) (held : IsForest f) (c : Cursor) (s : IsWithinBranch f.branches c) where
+  abbrev IsWithinBranchAfter : Edit → Forest → Type 0
+  IsWithinBranchAfter edit g = IsWithinBranch g.branches (cursor_after edit f c)
 
-  edited_one : (edit : Edit) → Stays edit c → IfOk (edited limits f edit) (Goes edit)
-  unfolding on_cursor
+  edited_one : (edit : Edit) → KeepsBranch edit c → IfOk (edited limits f edit) (IsWithinBranchAfter edit)
+  unfolding cursor_after
   edited_one (Insert name place step) h =
-      let goes = Goes (Insert name place step) in
+      let goes = IsWithinBranchAfter (Insert name place step) in
       found_ok goes (index_of f.branches name) (forests.insert_at limits f place step)
-      (λ i found. asked_ok goes (nat_lt (length (slots_in f.branches i)) place) NoPlace _
-      (λ fits. asked_ok goes (nat_le limits.cells f.made) Full (Ok (forests.inserted f i place step))
-      (λ room. by i found (not_above (length (slots_in f.branches i)) place fits) (nat_eq place (length (slots_in f.branches i))) refl)))
+      (λ i found. tested_ok goes (nat_lt (length (slots_in f.branches i)) place) NoPlace _
+      (λ fits. tested_ok goes (nat_le limits.cells f.made) Full (Ok (forests.inserted f i place step))
+      (λ room. by i found (le_from_not_lt (length (slots_in f.branches i)) place fits) (nat_eq place (length (slots_in f.branches i))) refl)))
     where
       by : (i : ℕ) → index_of f.branches name ≡ Some i → place ≤ length (slots_in f.branches i) → (b : Bool) → nat_eq place (length (slots_in f.branches i)) ≡ b
-          → IsOnBranch
+          → IsWithinBranch
           (cond b (only_in i (put_last (forests.slot f.made step)) f.branches) (everywhere (put_before (cell_in (slots_in f.branches i) place) (forests.slot f.made step)) f.branches))
           (shifted shift.Up f name place c)
       by i found within true same =
@@ -409,44 +406,44 @@ module _ (limits : Limits) (f : Forest) (held : IsForest f) (c : Cursor) (s : Is
           insert_last f held name place i found c s (forests.slot f.made step) (omega arith)
       by i found within false other =
           let apart = other_number place (length (slots_in f.branches i)) other in
-          let t = at_place (slots_in f.branches i) place (below place (length (slots_in f.branches i)) within apart) in
-          subst (λ x. IsOnBranch (everywhere (put_before x (forests.slot f.made step)) f.branches) (shifted shift.Up f name place c)) (sym (cell_in_at (slots_in f.branches i) place t.0 t.1))
+          let t = slot_at_place (slots_in f.branches i) place (lt_from_le place (length (slots_in f.branches i)) within apart) in
+          subst (λ x. IsWithinBranch (everywhere (put_before x (forests.slot f.made step)) f.branches) (shifted shift.Up f name place c)) (sym (cell_in_at (slots_in f.branches i) place t.0 t.1))
           (insert_before f held name place i found c s (forests.slot f.made step) t.0 t.1)
   edited_one (Remove name place) h =
-      let goes = Goes (Remove name place) in
+      let goes = IsWithinBranchAfter (Remove name place) in
       found_ok goes (index_of f.branches name) (forests.at_cell f place without)
-      (λ i found. asked_ok goes (nat_le (length (slots_in f.branches i)) place) NoPlace _ (λ fits.
+      (λ i found. tested_ok goes (nat_le (length (slots_in f.branches i)) place) NoPlace _ (λ fits.
       let here = slots_in f.branches i in
-      let t = at_place here place (not_below (length here) place fits) in
-      subst (λ x. IsOnBranch (everywhere (without x) f.branches) (shifted shift.Down f name place c)) (sym (cell_in_at here place t.0 t.1)) (remove_at f held name place i found c s t.0 t.1)))
+      let t = slot_at_place here place (lt_from_not_le (length here) place fits) in
+      subst (λ x. IsWithinBranch (everywhere (without x) f.branches) (shifted shift.Down f name place c)) (sym (cell_in_at here place t.0 t.1)) (remove_at f held name place i found c s t.0 t.1)))
   edited_one (Replace name place step) h =
-      let goes = Goes (Replace name place step) in
+      let goes = IsWithinBranchAfter (Replace name place step) in
       found_ok goes (index_of f.branches name) (forests.at_cell f place (forests.replaced_by step))
-      (λ i found. asked_ok goes (nat_le (length (slots_in f.branches i)) place) NoPlace _ (λ fits.
+      (λ i found. tested_ok goes (nat_le (length (slots_in f.branches i)) place) NoPlace _ (λ fits.
       let change = forests.replaced_by step (cell_in (slots_in f.branches i) place) in
       on_longer f.branches (everywhere change f.branches) c (names_everywhere change f.branches)
       (λ j. let same : length (slots_in (everywhere change f.branches) j) ≡ length (change (slots_in f.branches j)) = ap length (slots_everywhere change f.branches j refl) in
       let more = replaced_longer step (cell_in (slots_in f.branches i) place) (slots_in f.branches j) in omega arith) s))
   edited_one (Fork name place new) h =
-      let goes = Goes (Fork name place new) in
+      let goes = IsWithinBranchAfter (Fork name place new) in
       found_ok goes (index_of f.branches name) (forests.fork_at limits f place new)
-      (λ i found. asked_ok goes (list_any (pointwise nat_eq new) (map name_of f.branches)) NameTaken _
-      (λ other. asked_ok goes (not (is_well_formed new)) BadName _
-      (λ formed. asked_ok goes (nat_lt (length (slots_in f.branches i)) place) NoPlace _
-      (λ fits. asked_ok goes (nat_le limits.branches (length f.branches)) TooManyBranches _
+      (λ i found. tested_ok goes (list_any (pointwise nat_eq new) (map name_of f.branches)) NameTaken _
+      (λ other. tested_ok goes (not (is_well_formed new)) BadName _
+      (λ formed. tested_ok goes (nat_lt (length (slots_in f.branches i)) place) NoPlace _
+      (λ fits. tested_ok goes (nat_le limits.branches (length f.branches)) TooManyBranches _
       (λ room. on_more f.branches (forests.branch new (take place (slots_in f.branches i)) ∷ []) c s)))))
   edited_one (Detach name) h =
-      let goes = Goes (Detach name) in
+      let goes = IsWithinBranchAfter (Detach name) in
       found_ok goes (index_of f.branches name) (forests.detach_at limits f)
-      (λ i found. asked_ok goes (nat_lt limits.cells (f.made + length (slots_in f.branches i))) Full _ (λ room.
+      (λ i found. tested_ok goes (nat_lt limits.cells (f.made + length (slots_in f.branches i))) Full _ (λ room.
       let change = forests.renumbered f.made in
       on_longer f.branches (only_in i change f.branches) c (names_only_in i change f.branches) (longer_only_in i change f.branches (renumbered_longer f.made)) s))
   edited_one (Drop name) h =
-      let goes = Goes (Drop name) in
+      let goes = IsWithinBranchAfter (Drop name) in
       found_ok goes (index_of f.branches name) (forests.drop_at f)
-      (λ i found. asked_ok goes (nat_le (length f.branches) 1) LastBranch _ (λ more.
+      (λ i found. tested_ok goes (nat_le (length f.branches) 1) LastBranch _ (λ more.
       let named = named_at name f.branches i found in
-      on_fewer f.branches i c s.index (λ same. other_name name c.branch h (named_one f.branches i s.index name c.branch same named s.named)) s.named s.within))
+      on_fewer f.branches i c s.index (λ same. other_name name c.branch h (same_index_same_name f.branches i s.index name c.branch same named s.named)) s.named s.within))
 
 -- the changed cursors are at places of the branches g, if `change` takes each cursor that is at a
 -- place of the branches f to a place of g
@@ -468,18 +465,18 @@ all_kept f g cursors one all who = by (cursor_at cursors who) refl (all who)
     by (Some c) e h = one who c e h
 
 module _ (limits : Limits) (f g : Forest) (held : IsForest f) (apart : AreNamedApart g.branches) (cursors : List (Option Cursor)) (all : AreAtPlaces f cursors) where
-  one_placed : (edit : Edit) → edited limits f edit ≡ Ok g → (c : Cursor) → Stays edit c → IsAtPlace f c → IsAtPlace g (on_cursor edit f c)
-  one_placed edit e c stays here = from_branch g (on_cursor edit f c) apart (from_ok (Goes limits f held c (on_branch f c here) edit) (edited limits f edit) g e (edited_one limits f held c (on_branch f c here) edit stays))
+  one_placed : (edit : Edit) → edited limits f edit ≡ Ok g → (c : Cursor) → KeepsBranch edit c → IsAtPlace f c → IsAtPlace g (cursor_after edit f c)
+  one_placed edit e c stays here = at_place_if_within g (cursor_after edit f c) apart (from_ok (IsWithinBranchAfter limits f held c (within_branch f c here) edit) (edited limits f edit) g e (edited_one limits f held c (within_branch f c here) edit stays))
 
   -- after an edit that drops no branch with a cursor on it, each cursor is at a place that exists
   pub edited_placed : (edit : Edit) → edited limits f edit ≡ Ok g → drops_occupied edit cursors ≡ false → AreAtPlaces g (moved_by edit f cursors)
-  unfolding on_cursor
+  unfolding cursor_after
   edited_placed (Insert name place step) e h = each_placed f g (shifted shift.Up f name place) cursors (λ who c at. one_placed (Insert name place step) e c tt) all
   edited_placed (Remove name place) e h = each_placed f g (shifted shift.Down f name place) cursors (λ who c at. one_placed (Remove name place) e c tt) all
   edited_placed (Replace name place step) e h = all_kept f g cursors (λ who c at. one_placed (Replace name place step) e c tt) all
   edited_placed (Fork name place new) e h = all_kept f g cursors (λ who c at. one_placed (Fork name place new) e c tt) all
   edited_placed (Detach name) e h = all_kept f g cursors (λ who c at. one_placed (Detach name) e c tt) all
-  edited_placed (Drop name) e h = all_kept f g cursors (λ who c at. one_placed (Drop name) e c (not_there name cursors who c h at)) all
+  edited_placed (Drop name) e h = all_kept f g cursors (λ who c at. one_placed (Drop name) e c (other_branch_if_free name cursors who c h at)) all
 
 -- after a session's cursor is put at a place that exists, all cursors are at such places
 pub put_placed : (f : Forest) (cursors : List (Option Cursor)) (who : ℕ) (o : Option Cursor) → who < length cursors → IfSome o (IsAtPlace f) → AreAtPlaces f cursors
@@ -498,7 +495,7 @@ first_placed f apart = by (name_in f.branches 0) refl
   where
     by : (o : Option (List ℕ)) → name_in f.branches 0 ≡ o → IfSome (option_map (λ name. cursor name 0) o) (IsAtPlace f)
     by None e = tt
-    by (Some name) e = from_branch f (cursor name 0) apart (record { index = 0; named = e; within = omega arith })
+    by (Some name) e = at_place_if_within f (cursor name 0) apart (record { index = 0; named = e; within = omega arith })
 
 -- if cells with the same number are at the same place, the cells' numbers all differ
 cells_apart : (slots : List Slot) → ((k l : ℕ) (s t : Slot) → slice_get slots k ≡ Some s → slice_get slots l ≡ Some t → s.cell ≡ t.cell → k ≡ l) → IsDistinct nat_eq (map cell_of slots)
@@ -524,8 +521,8 @@ cells_below n (y ∷ ys) h q e = by (cells_below n ys (λ k. h (suc k)) q) (nat_
     by rest false g i = rest i
 
 -- no branch has more cells than were ever made, since it has each of them at most once
-pub few_within : (f : Forest) → IsForest f → (j : ℕ) → length (slots_in f.branches j) ≤ f.made
-few_within f held j =
+pub slots_within_made : (f : Forest) → IsForest f → (j : ℕ) → length (slots_in f.branches j) ≤ f.made
+slots_within_made f held j =
     let slots = slots_in f.branches j in
     let apart : IsDistinct nat_eq (map cell_of slots) = cells_apart slots (same_place f held j) in
     let few : length (map cell_of slots) ≤ f.made = length-le_from_distinct_below (map cell_of slots) f.made apart (cells_below f.made slots (held.given j)) in
@@ -538,12 +535,12 @@ are_within f cursors held few all who = by (cursor_at cursors who) (all who)
   where
     by : (o : Option Cursor) → IfSome o (IsAtPlace f) → IfSome o (λ c. c.place ≤ MOST_CELLS_MADE)
     by None h = tt
-    by (Some c) h = let s = on_branch f c h in omega (arith, s.within, few_within f held s.index, few)
+    by (Some c) h = let s = within_branch f c h in omega (arith, s.within, slots_within_made f held s.index, few)
 
 -- a place that is at most a branch's length exists, if a cursor is on that branch
-pub goes_within : (f : Forest) (c : Cursor) (place n : ℕ) → IsAtPlace f c → len_of f c.branch ≡ Some n → place ≤ n → IsAtPlace f (cursor c.branch place)
-goes_within f c place n h len few =
-    let p = looked f c.place (index_of f.branches c.branch) h in
+pub place_exists : (f : Forest) (c : Cursor) (place n : ℕ) → IsAtPlace f c → len_of f c.branch ≡ Some n → place ≤ n → IsAtPlace f (cursor c.branch place)
+place_exists f c place n h len few =
+    let p = found_if_looked f c.place (index_of f.branches c.branch) h in
     let lengths : Some (length (slots_in f.branches p.0)) ≡ Some n = ap (option_map (λ i. length (slots_in f.branches i))) (sym p.1) ∙ len in
     let same : length (slots_in f.branches p.0) ≡ n = cc in
     ap (λ o. forests.on_found o (looked_at f place)) p.1 ∙ ap (λ b. cond b (Err NoPlace) (Ok f)) (lt_false (length (slots_in f.branches p.0)) place (omega arith))
@@ -552,8 +549,8 @@ goes_within f c place n h len few =
 pub hit_exists : (f : Forest) (c : Cursor) (place : ℕ) → IsAtPlace f c → place < length (steps_in f c.branch) + 1
     → IsAtPlace f (cursor c.branch place)
 hit_exists f c place h within =
-    let p = looked f c.place (index_of f.branches c.branch) h in
+    let p = found_if_looked f c.place (index_of f.branches c.branch) h in
     let n = length (slots_in f.branches p.0) in
     let len : len_of f c.branch ≡ Some n = ap (option_map (λ i. length (slots_in f.branches i))) p.1 in
     let long = len_is_step_count f c.branch n (sym len) in
-    goes_within f c place n h len (omega (arith, long, within))
+    place_exists f c place n h len (omega (arith, long, within))

@@ -10,9 +10,9 @@ module _ (P : Forest → Type 0) where
   found_ok None command h = tt
   found_ok (Some i) command h = h i refl
 
-  pub asked_ok : (t : Bool) (r : Refusal) (x : Result Forest Refusal) → (t ≡ false → IfOk x P) → IfOk (cond t (Err r) x) P
-  asked_ok true r x h = tt
-  asked_ok false r x h = h refl
+  pub tested_ok : (t : Bool) (r : Refusal) (x : Result Forest Refusal) → (t ≡ false → IfOk x P) → IfOk (cond t (Err r) x) P
+  tested_ok true r x h = tt
+  tested_ok false r x h = h refl
 
 pub from_ok : (P : Forest → Type 0) (x : Result Forest Refusal) (g : Forest) → x ≡ Ok g → IfOk x P → P g
 from_ok P x g e h = subst (λ y. IfOk y P) e h

@@ -3,22 +3,25 @@ use Rattle.std.proofs.Common.{◌≡◌, ℕ, zero, suc, ◌+◌, ◌<◌, ◌�
 use Rattle.std.specs.List.{range_with_len}
 use Rattle.std.proofs.lemmas.Bool.Decides.{nat_tests}
 
-pub not_above : (a b : ℕ) → nat_lt a b ≡ false → b ≤ a
-not_above a b e = grind (arith, nat_tests)
+pub le_from_not_lt : (a b : ℕ) → nat_lt a b ≡ false → b ≤ a
+le_from_not_lt a b e = grind (arith, nat_tests)
 
-pub not_below : (a b : ℕ) → nat_le a b ≡ false → b < a
-not_below a b e = grind (arith, nat_tests)
+pub lt_from_not_le : (a b : ℕ) → nat_le a b ≡ false → b < a
+lt_from_not_le a b e = grind (arith, nat_tests)
 
-pub or_apart : (x xs y ys : Bool) → ((x || xs) || (y || ys)) ≡ ((x || y) || (xs || ys))
-or_apart true xs y ys = refl
-or_apart false true true ys = refl
-or_apart false true false ys = refl
-or_apart false false true ys = refl
-or_apart false false false ys = refl
+pub lt_from_true : (a b : ℕ) → nat_lt a b ≡ true → a < b
+lt_from_true a b e = grind (arith, nat_tests)
 
-pub or_nothing : (a b : Bool) → b ≡ false → (a || b) ≡ a
-or_nothing true b e = refl
-or_nothing false b e = e
+pub or_regrouped : (x xs y ys : Bool) → ((x || xs) || (y || ys)) ≡ ((x || y) || (xs || ys))
+or_regrouped true xs y ys = refl
+or_regrouped false true true ys = refl
+or_regrouped false true false ys = refl
+or_regrouped false false true ys = refl
+or_regrouped false false false ys = refl
+
+pub or_false : (a b : Bool) → b ≡ false → (a || b) ≡ a
+or_false true b e = refl
+or_false false b e = e
 
 pub range_more : (a n : ℕ) → range_with_len a (suc n) ≡ range_with_len a n ++ (a + n) ∷ []
 range_more a zero = let e : a ≡ a + 0 = omega arith in ap (λ m. m ∷ []) e

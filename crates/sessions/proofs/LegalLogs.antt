@@ -10,6 +10,6 @@ module _ {P : Type 0} where
   legal_more w [] e h same logged = (same, logged, tt)
   legal_more w (f ∷ log) e h same logged = (h.0, h.1, legal_more (acted_by f w).world log e h.2 same logged)
 
-  pub after_more : (w : World P) (log : List Entry) (e : Entry) → world_after w (log ++ e ∷ []) ≡ (acted_by e (world_after w log)).world
-  after_more w [] e = refl
-  after_more w (f ∷ log) e = after_more (acted_by f w).world log e
+  pub world_after_more : (w : World P) (log : List Entry) (e : Entry) → world_after w (log ++ e ∷ []) ≡ (acted_by e (world_after w log)).world
+  world_after_more w [] e = refl
+  world_after_more w (f ∷ log) e = world_after_more (acted_by f w).world log e

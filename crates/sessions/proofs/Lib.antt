@@ -6,8 +6,6 @@ pub mod Searches
 pub mod Runs
 pub mod NextHits
 pub mod Looks
-pub mod Towers
-pub mod Rows
 pub mod General
 pub mod EditCases
 pub mod CellsMade
@@ -20,3 +18,4 @@ pub mod Openings
 pub mod KeptBranches
 pub mod BreakAnswers
 pub mod SeekAnswers
+mod Examples

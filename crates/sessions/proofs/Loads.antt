@@ -9,7 +9,7 @@ use Rattle.schedule_trie.specs.declared.refusal.Refusal.TheVariants.{Full, TooMa
 use Rattle.schedule_trie.specs.Forest.{Forest, opened}
 use Rattle.schedule_trie.specs.Forest as forests
 use Rattle.schedule_trie.specs.Trie.{forest}
-use Rattle.schedule_trie.specs.Limbs.{FitLimits, AreLawfulLimbs, cells_of, forest_of, limbs, loaded}
+use Rattle.schedule_trie.specs.Limbs.{FitLimits, AreLawfulLimbs, own_cell_count, forest_of, limbs, loaded}
 use Rattle.branch_terms.proofs.LimbLaws.{forest_made}
 use Rattle.cutoff.specs.Charts.{Charted, LimbsFit}
 use Rattle.sessions.specs.World.{opening}
@@ -19,15 +19,15 @@ use Rattle.sessions.specs.Saves.{IsSaved}
 
 -- limbs that are loaded give the branches that they describe, with no more cells than the limit
 pub loaded_is : (limits : Limits) (ls : List Limb) (f : Forest) → loaded limits ls ≡ Ok f → (f ≡ forest_of ls) × (f.made ≤ limits.cells)
-loaded_is limits ls f e = by (nat_lt limits.cells (cells_of ls)) refl (nat_lt limits.branches (length ls)) e
+loaded_is limits ls f e = by (nat_lt limits.cells (own_cell_count ls)) refl (nat_lt limits.branches (length ls)) e
   where
-    by : (full : Bool) → nat_lt limits.cells (cells_of ls) ≡ full → (many : Bool) → cond full (Err Full) (cond many (Err TooManyBranches) (Ok (forest_of ls))) ≡ Ok f
+    by : (full : Bool) → nat_lt limits.cells (own_cell_count ls) ≡ full → (many : Bool) → cond full (Err Full) (cond many (Err TooManyBranches) (Ok (forest_of ls))) ≡ Ok f
         → (f ≡ forest_of ls) × (f.made ≤ limits.cells)
     by true t many h = absurd (cc)
     by false t true h = absurd (cc)
     by false t false h =
         let same : forest_of ls ≡ f = cc in
-        let few : cells_of ls ≤ limits.cells = grind (arith, nat_tests) in
+        let few : own_cell_count ls ≤ limits.cells = grind (arith, nat_tests) in
         (sym same, subst (λ g. g.made ≤ limits.cells) same (subst (λ n. n ≤ limits.cells) (sym (forest_made ls)) few))
 
 pub opened_is : (limits : Limits) (steps : List Step) (f : Forest) → opened limits steps ≡ Ok f → f ≡ forests.opening_forest steps
@@ -38,16 +38,16 @@ opened_is limits steps f e = by (nat_lt limits.cells (length steps)) e
     by false h = cc
 
 -- the opening over a chart is that of its register, value and branches
-pub opening_so : {R P : Type 0} (is : R → Behaviour P) (chart : Charted R P) (register : R) (value : ℕ) (limits : Limits)
+pub opening_over_is : {R P : Type 0} (is : R → Behaviour P) (chart : Charted R P) (register : R) (value : ℕ) (limits : Limits)
     (f : Forest) → chart.start.register ≡ register → chart.value ≡ value → forest chart.trie ≡ f
     → opening_over is chart limits ≡ opening (is register) value limits f
-opening_so is chart register value limits f same_register same_value same =
+opening_over_is is chart register value limits f same_register same_value same =
     λ i. opening (is (same_register i)) (same_value i) limits (same i)
 
 -- a chart's limbs are what is saved of its world
-pub saved_so : {R P A E : Type 0} (is : R → Behaviour P) (s : Workspace R P) (n : ℕ) (items : A → List Limb) (result : Result A E)
+pub limbs_are_saved : {R P A E : Type 0} (is : R → Behaviour P) (s : Workspace R P) (n : ℕ) (items : A → List Limb) (result : Result A E)
     → IfOk result (λ r. items r ≡ limbs (forest s.chart.trie)) → IfOk result (λ r. AreLawfulLimbs (items r)) → IfOk result (λ r. 0 < length (items r))
     → IfOk result (λ r. FitLimits s.chart.trie.limits (items r)) → IfOk result (λ r. LimbsFit (is s.chart.start.register) (items r))
     → IfOk result (λ r. IsSaved (world_of is (stored s n)) (items r))
-saved_so is s n items (Ok r) same lawful some within fit = record { same = same; lawful = lawful; some = some; fit = fit; within = within }
-saved_so is s n items (Err e) same lawful some within fit = tt
+limbs_are_saved is s n items (Ok r) same lawful some within fit = record { same = same; lawful = lawful; some = some; fit = fit; within = within }
+limbs_are_saved is s n items (Err e) same lawful some within fit = tt

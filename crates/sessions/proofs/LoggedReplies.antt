@@ -17,7 +17,7 @@ use Rattle.sessions.specs.declared.reply.Reply.{Reply}
 use Rattle.sessions.specs.declared.reply.Reply.TheVariants.{No}
 use Rattle.sessions.specs.declared.way.Way.TheVariants as way
 use Rattle.sessions.specs.World.{World}
-use Rattle.sessions.specs.Acts.{command_result, answered, refusals, first_refusal, refused_if, refusal_in, refused, reply_to, hit_reply, hit_of, is_full, lacks_session, is_missed, fits_command, lacks_break, looked_by, late_by, accepted_world_by}
+use Rattle.sessions.specs.Acts.{command_result, answered, refusals, first_refusal, refusal_if, refusal_in, refused_world, reply_to, hit_reply, hit_of, is_full, lacks_session, is_missed, fits_command, lacks_break, go_result, late_refusals_by, accepted_world_by}
 use Rattle.sessions.specs.Edits.{edit_of, drops_occupied}
 use Rattle.sessions.specs.Logs.{is_logged}
 
@@ -26,54 +26,54 @@ abbrev IsOrdinary : Option Refusal → Type 0
 IsOrdinary None = Unit {0}
 IsOrdinary (Some r) = is_logged (No r) ≡ true
 
-if_so : (t : Bool) (r : Refusal) → is_logged (No r) ≡ true → IsOrdinary (refused_if t r)
-if_so true r h = h
-if_so false r h = tt
+refusal_if_ordinary : (t : Bool) (r : Refusal) → is_logged (No r) ≡ true → IsOrdinary (refusal_if t r)
+refusal_if_ordinary true r h = h
+refusal_if_ordinary false r h = tt
 
-first_of : (o : Option Refusal) (rs : List (Option Refusal)) → IsOrdinary o → IsOrdinary (first_refusal rs) → IsOrdinary (first_refusal (o ∷ rs))
-first_of None rs a b = b
-first_of (Some r) rs a b = a
+first_ordinary : (o : Option Refusal) (rs : List (Option Refusal)) → IsOrdinary o → IsOrdinary (first_refusal rs) → IsOrdinary (first_refusal (o ∷ rs))
+first_ordinary None rs a b = b
+first_ordinary (Some r) rs a b = a
 
 -- if the refusals in two results are logged, so is the refusal in the result that a test chooses
 by_test : (t : Bool) (x y : Result Forest Refusal) → IsOrdinary (refusal_in x) → IsOrdinary (refusal_in y) → IsOrdinary (refusal_in (cond t x y))
 by_test true x y a b = a
 by_test false x y a b = b
 
-on : (o : Option ℕ) (work : ℕ → Result Forest Refusal) → ((i : ℕ) → IsOrdinary (refusal_in (work i))) → IsOrdinary (refusal_in (on_found o work))
-on None work h = refl
-on (Some i) work h = h i
+found_ordinary : (o : Option ℕ) (work : ℕ → Result Forest Refusal) → ((i : ℕ) → IsOrdinary (refusal_in (work i))) → IsOrdinary (refusal_in (on_found o work))
+found_ordinary None work h = refl
+found_ordinary (Some i) work h = h i
 
 edited_ordinary : (limits : Limits) (f : Forest) (edit : Edit) → IsOrdinary (refusal_in (edited limits f edit))
 edited_ordinary limits f (Insert name place step) =
-    on (index_of f.branches name) (forests.insert_at limits f place step)
+    found_ordinary (index_of f.branches name) (forests.insert_at limits f place step)
     (λ i. by_test (nat_lt (length (slots_in f.branches i)) place) (Err NoPlace) _ refl (by_test (nat_le limits.cells f.made) (Err Full) (Ok (forests.inserted f i place step)) refl tt))
 edited_ordinary limits f (Remove name place) =
-    on (index_of f.branches name) (forests.at_cell f place forests.without) (λ i. by_test (nat_le (length (slots_in f.branches i)) place) (Err NoPlace) (Ok _) refl tt)
+    found_ordinary (index_of f.branches name) (forests.at_cell f place forests.without) (λ i. by_test (nat_le (length (slots_in f.branches i)) place) (Err NoPlace) (Ok _) refl tt)
 edited_ordinary limits f (Replace name place step) =
-    on (index_of f.branches name) (forests.at_cell f place (forests.replaced_by step)) (λ i. by_test (nat_le (length (slots_in f.branches i)) place) (Err NoPlace) (Ok _) refl tt)
+    found_ordinary (index_of f.branches name) (forests.at_cell f place (forests.replaced_by step)) (λ i. by_test (nat_le (length (slots_in f.branches i)) place) (Err NoPlace) (Ok _) refl tt)
 edited_ordinary limits f (Fork name place new) =
-    on (index_of f.branches name) (forests.fork_at limits f place new)
+    found_ordinary (index_of f.branches name) (forests.fork_at limits f place new)
     (λ i. by_test (list_any (pointwise nat_eq new) (map name_of f.branches)) (Err NameTaken) _ refl
     (by_test (not (is_well_formed new)) (Err BadName) _ refl
     (by_test (nat_lt (length (slots_in f.branches i)) place) (Err NoPlace) _ refl
     (by_test (nat_le limits.branches (length f.branches)) (Err TooManyBranches) (Ok _) refl tt))))
 edited_ordinary limits f (Detach name) =
-    on (index_of f.branches name) (forests.detach_at limits f) (λ i. by_test (nat_lt limits.cells (f.made + length (slots_in f.branches i))) (Err Full) (Ok _) refl tt)
+    found_ordinary (index_of f.branches name) (forests.detach_at limits f) (λ i. by_test (nat_lt limits.cells (f.made + length (slots_in f.branches i))) (Err Full) (Ok _) refl tt)
 edited_ordinary limits f (Drop name) =
-    on (index_of f.branches name) (forests.drop_at f) (λ i. by_test (nat_le (length f.branches) 1) (Err LastBranch) (Ok _) refl tt)
+    found_ordinary (index_of f.branches name) (forests.drop_at f) (λ i. by_test (nat_le (length f.branches) 1) (Err LastBranch) (Ok _) refl tt)
 
-looked_ordinary : (f : Forest) (c : Command) → IsOrdinary (refusal_in (looked_by f c))
-looked_ordinary f (command.Go name place) =
-    on (index_of f.branches name) (looked_at f place) (λ i. by_test (nat_lt (length (slots_in f.branches i)) place) (Err NoPlace) (Ok f) refl tt)
-looked_ordinary f c = tt
+go_ordinary : (f : Forest) (c : Command) → IsOrdinary (refusal_in (go_result f c))
+go_ordinary f (command.Go name place) =
+    found_ordinary (index_of f.branches name) (looked_at f place) (λ i. by_test (nat_lt (length (slots_in f.branches i)) place) (Err NoPlace) (Ok f) refl tt)
+go_ordinary f c = tt
 
-late_ordinary : {P : Type 0} (edit : Option Edit) (who : ℕ) (c : Command) (w : World P) → IsOrdinary (first_refusal (late_by edit who c w))
+late_ordinary : {P : Type 0} (edit : Option Edit) (who : ℕ) (c : Command) (w : World P) → IsOrdinary (first_refusal (late_refusals_by edit who c w))
 late_ordinary (Some edit) who c w =
-    first_of (refusal_in (edited w.limits w.forest edit)) _ (edited_ordinary w.limits w.forest edit)
-    (first_of (refused_if (drops_occupied edit w.cursors) Occupied) [] (if_so (drops_occupied edit w.cursors) Occupied refl) tt)
+    first_ordinary (refusal_in (edited w.limits w.forest edit)) _ (edited_ordinary w.limits w.forest edit)
+    (first_ordinary (refusal_if (drops_occupied edit w.cursors) Occupied) [] (refusal_if_ordinary (drops_occupied edit w.cursors) Occupied refl) tt)
 late_ordinary None who c w =
-    first_of (refusal_in (looked_by w.forest c)) _ (looked_ordinary w.forest c)
-    (first_of (refused_if (lacks_break who c w.breaks) NoBreak) [] (if_so (lacks_break who c w.breaks) NoBreak refl) tt)
+    first_ordinary (refusal_in (go_result w.forest c)) _ (go_ordinary w.forest c)
+    (first_ordinary (refusal_if (lacks_break who c w.breaks) NoBreak) [] (refusal_if_ordinary (lacks_break who c w.breaks) NoBreak refl) tt)
 
 hit_logged : (o : Option Cursor) → is_logged (hit_reply o) ≡ true
 hit_logged None = refl
@@ -95,11 +95,11 @@ module _ {P : Type 0} (who : ℕ) (w : World P) where
   reply_logged (command.Break break) = refl
   reply_logged (command.Clear break) = refl
 
-  refused_limits : (r : Refusal) → (refused r w).limits ≡ w.limits
+  refused_limits : (r : Refusal) → (refused_world r w).limits ≡ w.limits
   refused_limits LogFull = refl
   refused_limits r = refl
 
-  refused_counted : (r : Refusal) → is_logged (No r) ≡ true → (refused r w).logged ≡ w.logged + 1
+  refused_counted : (r : Refusal) → is_logged (No r) ≡ true → (refused_world r w).logged ≡ w.logged + 1
   refused_counted LogFull h = cc
   refused_counted r h = refl
 
@@ -113,19 +113,19 @@ module _ {P : Type 0} (who : ℕ) (w : World P) where
 
   -- if the first refusal of a command, if any, is logged, then the reply is logged, the command is
   -- counted, and the limits stay
-  by_first : (c : Command) (o : Option Refusal) → IsOrdinary o
+  answered_logged : (c : Command) (o : Option Refusal) → IsOrdinary o
       → (is_logged (answered o who c w).reply ≡ true) × ((answered o who c w).world.logged ≡ w.logged + 1) × ((answered o who c w).world.limits ≡ w.limits)
-  by_first c None h = (reply_logged c, accepted_counted (edit_of c) c, accepted_limits (edit_of c) c)
-  by_first c (Some r) h = (h, refused_counted r h, refused_limits r)
+  answered_logged c None h = (reply_logged c, accepted_counted (edit_of c) c, accepted_limits (edit_of c) c)
+  answered_logged c (Some r) h = (h, refused_counted r h, refused_limits r)
 
   pub acted_logged : (guard : Option ℕ) (c : Command) → is_full w ≡ false
       → (is_logged (command_result who guard c w).reply ≡ true) × ((command_result who guard c w).world.logged ≡ w.logged + 1) × ((command_result who guard c w).world.limits ≡ w.limits)
   acted_logged guard c room =
-      by_first c (first_refusal (refusals who guard c w))
-      (first_of (refused_if (is_full w) LogFull) _ (subst (λ t. IsOrdinary (refused_if t LogFull)) (sym room) tt)
-      (first_of (refused_if (lacks_session who c w.cursors) NoSession) _ (if_so (lacks_session who c w.cursors) NoSession refl)
-      (first_of (refused_if (is_missed guard w.edits) (Newer w.edits)) _ (if_so (is_missed guard w.edits) (Newer w.edits) refl)
-      (first_of (refused_if (not (fits_command w.tower c)) BadStep) _ (if_so (not (fits_command w.tower c)) BadStep refl)
+      answered_logged c (first_refusal (refusals who guard c w))
+      (first_ordinary (refusal_if (is_full w) LogFull) _ (subst (λ t. IsOrdinary (refusal_if t LogFull)) (sym room) tt)
+      (first_ordinary (refusal_if (lacks_session who c w.cursors) NoSession) _ (refusal_if_ordinary (lacks_session who c w.cursors) NoSession refl)
+      (first_ordinary (refusal_if (is_missed guard w.edits) (Newer w.edits)) _ (refusal_if_ordinary (is_missed guard w.edits) (Newer w.edits) refl)
+      (first_ordinary (refusal_if (not (fits_command w.tower c)) BadStep) _ (refusal_if_ordinary (not (fits_command w.tower c)) BadStep refl)
       (late_ordinary (edit_of c) who c w)))))
 
   -- if the log isn't full, `command_result` never gives the reply Memory

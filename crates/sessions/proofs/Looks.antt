@@ -11,32 +11,32 @@ use Rattle.sessions.specs.declared.cursor.Cursor as declared
 use Rattle.sessions.specs.Cursors.{cursor_at}
 use Rattle.sessions.specs.Looks.{lacks_cursor, shown_in, looked_in}
 
-alike_at : {P : Type 0} (w : World P) (query : Query) → is_at_branch query ≡ true
+both_at_branch : {P : Type 0} (w : World P) (query : Query) → is_at_branch query ≡ true
     → (views.page_of w.tower w.value w.forest query ≡ shown_in w query) × (views.looked query w.forest ≡ looked_in w query)
-alike_at w Branches h = absurd (cc)
-alike_at w (Cursor who) h = absurd (cc)
-alike_at w query h = (refl, refl)
+both_at_branch w Branches h = absurd (cc)
+both_at_branch w (Cursor who) h = absurd (cc)
+both_at_branch w query h = (refl, refl)
 
-pub shown_at : {P : Type 0} (w : World P) (query : Query) → is_at_branch query ≡ true → views.page_of w.tower w.value w.forest query ≡ shown_in w query
-shown_at w query h = (alike_at w query h).0
+pub shown_at_branch : {P : Type 0} (w : World P) (query : Query) → is_at_branch query ≡ true → views.page_of w.tower w.value w.forest query ≡ shown_in w query
+shown_at_branch w query h = (both_at_branch w query h).0
 
-pub looked_at : {P : Type 0} (w : World P) (query : Query) → is_at_branch query ≡ true → views.looked query w.forest ≡ looked_in w query
-looked_at w query h = (alike_at w query h).1
+pub looked_at_branch : {P : Type 0} (w : World P) (query : Query) → is_at_branch query ≡ true → views.looked query w.forest ≡ looked_in w query
+looked_at_branch w query h = (both_at_branch w query h).1
 
 -- a query that is neither for all branches nor for a cursor is at a branch
-pub at_branch : (query : Query) → (query ≡ Branches → ⊥) → ((who : ℕ) → query ≡ Cursor who → ⊥) → is_at_branch query ≡ true
-at_branch Branches branches cursor = absurd (branches refl)
-at_branch (Cursor who) branches cursor = absurd (cursor who refl)
-at_branch query branches cursor = refl
+pub others_at_branch : (query : Query) → (query ≡ Branches → ⊥) → ((who : ℕ) → query ≡ Cursor who → ⊥) → is_at_branch query ≡ true
+others_at_branch Branches branches cursor = absurd (branches refl)
+others_at_branch (Cursor who) branches cursor = absurd (cursor who refl)
+others_at_branch query branches cursor = refl
 
-not_past : (who : ℕ) → who < 16 → nat_lt 15 who ≡ false
-not_past who h = grind (arith, nat_tests)
+not_over_15 : (who : ℕ) → who < 16 → nat_lt 15 who ≡ false
+not_over_15 who h = grind (arith, nat_tests)
 
 -- session `who` has this cursor, or none
 module _ (cursors : List (Option declared.Cursor)) (who : ℕ) (default cursor : Option declared.Cursor)
     (sixteen : length cursors ≡ 16) (within : who < 16) (here : get_or cursors who default ≡ cursor) where
-  pub cursor_is : cursor_at cursors who ≡ cursor
-  cursor_is = get_or_default cursors who None default (omega (arith, within, sixteen)) ∙ here
+  pub cursor_at_is : cursor_at cursors who ≡ cursor
+  cursor_at_is = get_or_default cursors who None default (omega (arith, within, sixteen)) ∙ here
 
-  pub lacks_so : lacks_cursor who cursors ≡ is_none cursor
-  lacks_so = ap (λ b. b || is_none (cursor_at cursors who)) (not_past who within) ∙ ap is_none cursor_is
+  pub lacks_cursor_is : lacks_cursor who cursors ≡ is_none cursor
+  lacks_cursor_is = ap (λ b. b || is_none (cursor_at cursors who)) (not_over_15 who within) ∙ ap is_none cursor_at_is

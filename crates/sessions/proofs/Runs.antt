@@ -16,10 +16,10 @@ use Rattle.cutoff.specs.Fitting.{StoredRun, RunPart, RunFits, steps_at, reached,
 use Rattle.cutoff.specs.Settles.{Settles, IsSettled}
 use Rattle.cutoff.specs.Charts.{Charted, keys_named}
 use Rattle.cutoff.specs.Links.{without_register}
-use Rattle.cutoff.proofs.Fits.{register_kept, alone_same}
+use Rattle.cutoff.proofs.Fits.{register_kept, without_register_same}
 use Rattle.pages.specs.declared.breakpoint.Break.{Break}
 use Rattle.pages.specs.Breaks.{is_met}
-use Rattle.frames.specs.Recorded.{Alone, first_configuration, shown}
+use Rattle.frames.specs.Recorded.{Alone, first_configuration, configuration_after}
 use Rattle.views.specs.Looks.{steps_in}
 use Rattle.views.proofs.Spots.{steps_named}
 use Rattle.views.proofs.BehaviourAlone.{replayed_alone, history_alone, replayed-append, history-append}
@@ -34,23 +34,23 @@ module _ {R P : Type 0} (b : Behaviour P) where
 
 -- the steps of a branch are those before a segment, the segment's own, and those following it
 module _ {P : Type 0} (b : Behaviour P) (value : ℕ) (breaks : List Break) (before segment following steps : List Step) (all : steps ≡ before ++ (segment ++ following)) where
-  at : Alone P
-  at = shown b value before
+  config_before : Alone P
+  config_before = configuration_after b value before
 
-  events_in : (i : ℕ) → i < length segment → events_before b value steps (suc (length before + i)) ≡ slice_index_or (history b at segment) i no_events
-  unfolding at
+  events_in : (i : ℕ) → i < length segment → events_before b value steps (suc (length before + i)) ≡ slice_index_or (history b config_before segment) i no_events
+  unfolding config_before
   events_in i within =
       let first = first_configuration b value in
-      let parted : history b first steps ≡ history b first before ++ (history b at segment ++ history b (replayed b at segment) following) =
-      ap (history b first) all ∙ history-append b first before (segment ++ following) ∙ ap (λ l. history b first before ++ l) (history-append b at segment following) in
+      let parted : history b first steps ≡ history b first before ++ (history b config_before segment ++ history b (replayed b config_before segment) following) =
+      ap (history b first) all ∙ history-append b first before (segment ++ following) ∙ ap (λ l. history b first before ++ l) (history-append b config_before segment following) in
       let long : length before + i ≡ length (history b first before) + i = ap (λ n. n + i) (sym (length-history b first before)) in
-      let later : List StepEvents = history b at segment ++ history b (replayed b at segment) following in
+      let later : List StepEvents = history b config_before segment ++ history b (replayed b config_before segment) following in
       ap (λ l. get_or l (length before + i) no_events) parted ∙ ap (λ n. get_or (history b first before ++ later) n no_events) long
       ∙ get_or-append-add (history b first before) later i no_events
-      ∙ get_or_append_left (history b at segment) (history b (replayed b at segment) following) no_events i (omega (arith, within, length-history b at segment))
+      ∙ get_or_append_left (history b config_before segment) (history b (replayed b config_before segment) following) no_events i (omega (arith, within, length-history b config_before segment))
 
-  shown_in : (i : ℕ) → i < length segment → shown b value (take (suc (length before + i)) steps) ≡ replayed b at (take (i + 1) segment)
-  unfolding at
+  shown_in : (i : ℕ) → i < length segment → configuration_after b value (take (suc (length before + i)) steps) ≡ replayed b config_before (take (i + 1) segment)
+  unfolding config_before
   shown_in i within =
       let first = first_configuration b value in
       let next : suc (length before + i) ≡ length before + (i + 1) = omega arith in
@@ -60,41 +60,38 @@ module _ {P : Type 0} (b : Behaviour P) (value : ℕ) (breaks : List Break) (bef
       ap (replayed b first) taken ∙ replayed-append b first before (take (i + 1) segment)
 
   pub hit_in : (i : ℕ) → i < length segment
-      → is_hit b value steps breaks ((length before + 1) + i) ≡ is_met breaks (slice_index_or (history b (shown b value before) segment) i no_events) (replayed b (shown b value before) (take (i + 1) segment)).memory
-  unfolding at
+      → is_hit b value steps breaks ((length before + 1) + i) ≡ is_met breaks (slice_index_or (history b (configuration_after b value before) segment) i no_events) (replayed b (configuration_after b value before) (take (i + 1) segment)).memory
+  unfolding config_before
   hit_in i within =
       let place : (length before + 1) + i ≡ suc (length before + i) = omega arith in
       ap (is_hit b value steps breaks) place
-      ∙ ap (λ events. is_met breaks events (shown b value (take (suc (length before + i)) steps)).memory) (events_in i within)
-      ∙ ap (λ c. is_met breaks (slice_index_or (history b (shown b value before) segment) i no_events) c.memory) (shown_in i within)
+      ∙ ap (λ events. is_met breaks events (configuration_after b value (take (suc (length before + i)) steps)).memory) (events_in i within)
+      ∙ ap (λ c. is_met breaks (slice_index_or (history b (configuration_after b value before) segment) i no_events) c.memory) (shown_in i within)
 
 module _ {R P : Type 0} (E : R → R → Bool) (is : R → Behaviour P) (alike : (x y : R) → E x y ≡ true → is x ≡ is y)
     (b : Behaviour P) (old new : TrieOf (StoredRun R P)) (value : ℕ) (breaks : List Break) (steps : List Step) where
-  test : ℕ → Bool
-  test place = is_hit b value steps breaks place
-
-  abbrev along : List ℕ → List Step
-  along keys = map step_of (line (segment_at old.segments) keys)
+  abbrev steps_along : List ℕ → List Step
+  steps_along keys = map step_of (line (segment_at old.segments) keys)
 
   -- the steps along several keys are those of the first key's segment, then those along the rest
-  along_more : (k : ℕ) (ks : List ℕ) → along (k ∷ ks) ≡ steps_at old k ++ along ks
-  along_more k ks = map-append step_of (slots_of (segment_at old.segments k)) (line (segment_at old.segments) ks)
+  steps_along_more : (k : ℕ) (ks : List ℕ) → steps_along (k ∷ ks) ≡ steps_at old k ++ steps_along ks
+  steps_along_more k ks = map-append step_of (slots_of (segment_at old.segments k)) (line (segment_at old.segments) ks)
 
   -- a run fits the segment right after the steps `before`, and all its steps count: the test of
   -- hits is right for it (`ReportsPart`)
-  reports_run : (before : List Step) (c : Configuration R P) (k : ℕ) (ks : List ℕ) (part : RunPart R P) → is c.register ≡ b → without_register c ≡ shown b value before
-      → steps ≡ before ++ along (k ∷ ks) → RunFits E c (steps_at old k) part.run → part.count ≡ length (steps_at old k)
+  reports_run : (before : List Step) (c : Configuration R P) (k : ℕ) (ks : List ℕ) (part : RunPart R P) → is c.register ≡ b → without_register c ≡ configuration_after b value before
+      → steps ≡ before ++ steps_along (k ∷ ks) → RunFits E c (steps_at old k) part.run → part.count ≡ length (steps_at old k)
       → ReportsPart is breaks (is_hit b value steps breaks) (length before) part
   reports_run before c k ks part home comes all fits count =
       let own : is part.run.entry.register ≡ b = alike part.run.entry.register c.register fits.entry.register ∙ home in
-      let entry : without_register part.run.entry ≡ shown b value before = alone_same E part.run.entry c fits.entry ∙ comes in
-      let parted : steps ≡ before ++ (part.run.steps ++ along ks) =
-      all ∙ ap (λ l. before ++ l) (along_more k ks ∙ ap (λ l. l ++ along ks) (sym fits.steps)) in
+      let entry : without_register part.run.entry ≡ configuration_after b value before = without_register_same E part.run.entry c fits.entry ∙ comes in
+      let parted : steps ≡ before ++ (part.run.steps ++ steps_along ks) =
+      all ∙ ap (λ l. before ++ l) (steps_along_more k ks ∙ ap (λ l. l ++ steps_along ks) (sym fits.steps)) in
       let long : part.count ≡ length part.run.steps = count ∙ ap length (sym fits.steps) in
       record {
         within = omega (arith, long);
         each = λ i h.
-            hit_in b value breaks before part.run.steps (along ks) steps parted i (omega (arith, h, long))
+            hit_in b value breaks before part.run.steps (steps_along ks) steps parted i (omega (arith, h, long))
             ∙ sym (ap (λ d. is_met breaks (slice_index_or (history d part.run.entry part.run.steps) i no_events) (replayed d part.run.entry (take (i + 1) part.run.steps)).memory) own
             ∙ ap (λ events. is_met breaks (slice_index_or events i no_events) (replayed b part.run.entry (take (i + 1) part.run.steps)).memory) (history_alone b part.run.entry part.run.steps)
             ∙ ap (λ d. is_met breaks (slice_index_or (history b (without_register part.run.entry) part.run.steps) i no_events) d.memory) (replayed_alone b part.run.entry (take (i + 1) part.run.steps))
@@ -106,25 +103,25 @@ module _ {R P : Type 0} (E : R → R → Bool) (is : R → Behaviour P) (alike :
 
   -- all segments after the steps `before` are settled: the test of hits is right for their runs
   -- (`ReportsParts`)
-  reports_runs : (before : List Step) (c : Configuration R P) (keys : List ℕ) (rest : ℕ) (parts : List (RunPart R P)) (n : ℕ) → is c.register ≡ b → without_register c ≡ shown b value before
-      → steps ≡ before ++ along keys → rest ≡ length (along keys) → Settles E b old new c rest (reached old rest keys) parts n
+  reports_runs : (before : List Step) (c : Configuration R P) (keys : List ℕ) (rest : ℕ) (parts : List (RunPart R P)) (n : ℕ) → is c.register ≡ b → without_register c ≡ configuration_after b value before
+      → steps ≡ before ++ steps_along keys → rest ≡ length (steps_along keys) → Settles E b old new c rest (reached old rest keys) parts n
       → ReportsParts is breaks (is_hit b value steps breaks) (length before) parts
   reports_runs before c [] rest parts n home comes all long h = reports_none (length before) parts h.0
   reports_runs before c (k ∷ ks) rest parts n home comes all long h = by (λ before' c' rest' parts' n'. reports_runs before' c' ks rest' parts' n') (nat_eq rest 0) parts h
     where
       Later : Type 0
-      Later = (before' : List Step) (c' : Configuration R P) (rest' : ℕ) (parts' : List (RunPart R P)) (n' : ℕ) → is c'.register ≡ b → without_register c' ≡ shown b value before'
-          → steps ≡ before' ++ along ks → rest' ≡ length (along ks) → Settles E b old new c' rest' (reached old rest' ks) parts' n'
+      Later = (before' : List Step) (c' : Configuration R P) (rest' : ℕ) (parts' : List (RunPart R P)) (n' : ℕ) → is c'.register ≡ b → without_register c' ≡ configuration_after b value before'
+          → steps ≡ before' ++ steps_along ks → rest' ≡ length (steps_along ks) → Settles E b old new c' rest' (reached old rest' ks) parts' n'
           → ReportsParts is breaks (is_hit b value steps breaks) (length before') parts'
 
       some : Later → (part : RunPart R P) (parts' : List (RunPart R P)) → Settles E b old new c rest (k ∷ reached old (rest - length (steps_at old k)) ks) (part ∷ parts') n
           → ReportsParts is breaks (is_hit b value steps breaks) (length before) (part ∷ parts')
       some later part parts' s =
           let segment : List Step = steps_at old k in
-          let total : rest ≡ length segment + length (along ks) = long ∙ ap length (along_more k ks) ∙ length-append segment (along ks) in
+          let total : rest ≡ length segment + length (steps_along ks) = long ∙ ap length (steps_along_more k ks) ∙ length-append segment (steps_along ks) in
           let count : part.count ≡ length segment = s.3.count ∙ omega (arith, total) in
-          let parted : steps ≡ (before ++ segment) ++ along ks = all ∙ ap (λ l. before ++ l) (along_more k ks) ∙ sym (append_assoc before segment (along ks)) in
-          let next : without_register (replayed b c segment) ≡ shown b value (before ++ segment) =
+          let parted : steps ≡ (before ++ segment) ++ steps_along ks = all ∙ ap (λ l. before ++ l) (steps_along_more k ks) ∙ sym (append_assoc before segment (steps_along ks)) in
+          let next : without_register (replayed b c segment) ≡ configuration_after b value (before ++ segment) =
           replayed_alone b c segment ∙ ap (λ d. replayed b d segment) comes ∙ sym (replayed-append b (first_configuration b value) before segment) in
           let place : length (before ++ segment) ≡ length before + part.count = length-append before segment ∙ ap (λ m. length before + m) (sym count) in (
             reports_run before c k ks part home comes all s.3.fits count,
@@ -152,26 +149,26 @@ module _ {R P : Type 0} (E : R → R → Bool) (is : R → Behaviour P) (alike :
 
 -- step i of several: the configuration right after it, and the events that it records
 module _ {R P : Type 0} (b : Behaviour P) where
-  pub made_next : (c : Configuration R P) (steps : List Step) (i : ℕ) (s : Step) → i < length steps → s ≡ get_or steps i s
+  pub replayed_next : (c : Configuration R P) (steps : List Step) (i : ℕ) (s : Step) → i < length steps → s ≡ get_or steps i s
       → replayed b c (take (i + 1) steps) ≡ stepped b (replayed b c (take i steps)) s
-  made_next c [] i s h e = absurd (omega (arith, h))
-  made_next c (x ∷ steps) zero s h e = let same : x ≡ s = sym e in ap (stepped b c) same
-  made_next c (x ∷ steps) (suc i) s h e =
+  replayed_next c [] i s h e = absurd (omega (arith, h))
+  replayed_next c (x ∷ steps) zero s h e = let same : x ≡ s = sym e in ap (stepped b c) same
+  replayed_next c (x ∷ steps) (suc i) s h e =
       let next : suc i + 1 ≡ suc (i + 1) = omega arith in
-      ap (λ n. replayed b c (take n (x ∷ steps))) next ∙ made_next (stepped b c x) steps i s (omega (arith, h)) e
+      ap (λ n. replayed b c (take n (x ∷ steps))) next ∙ replayed_next (stepped b c x) steps i s (omega (arith, h)) e
 
-  pub recorded_next : (c : Configuration R P) (steps : List Step) (i : ℕ) (s : Step) → i < length steps → s ≡ get_or steps i s
+  pub events_next : (c : Configuration R P) (steps : List Step) (i : ℕ) (s : Step) → i < length steps → s ≡ get_or steps i s
       → slice_index_or (history b c steps) i no_events ≡ events_of_step b (replayed b c (take i steps)) s
-  recorded_next c [] i s h e = absurd (omega (arith, h))
-  recorded_next c (x ∷ steps) zero s h e = let same : x ≡ s = sym e in ap (events_of_step b c) same
-  recorded_next c (x ∷ steps) (suc i) s h e = recorded_next (stepped b c x) steps i s (omega (arith, h)) e
+  events_next c [] i s h e = absurd (omega (arith, h))
+  events_next c (x ∷ steps) zero s h e = let same : x ≡ s = sym e in ap (events_of_step b c) same
+  events_next c (x ∷ steps) (suc i) s h e = events_next (stepped b c x) steps i s (omega (arith, h)) e
 
-  pub recorded_front : (c : Configuration R P) (steps : List Step) (count i : ℕ) → i < count
+  pub events_of_front : (c : Configuration R P) (steps : List Step) (count i : ℕ) → i < count
       → slice_index_or (history b c (take count steps)) i no_events ≡ slice_index_or (history b c steps) i no_events
-  recorded_front c steps zero i h = absurd (omega (arith, h))
-  recorded_front c [] (suc count) i h = refl
-  recorded_front c (x ∷ steps) (suc count) zero h = refl
-  recorded_front c (x ∷ steps) (suc count) (suc i) h = recorded_front (stepped b c x) steps count i (omega (arith, h))
+  events_of_front c steps zero i h = absurd (omega (arith, h))
+  events_of_front c [] (suc count) i h = refl
+  events_of_front c (x ∷ steps) (suc count) zero h = refl
+  events_of_front c (x ∷ steps) (suc count) (suc i) h = events_of_front (stepped b c x) steps count i (omega (arith, h))
 
 -- if the test is right for the first `count` steps of a run, as `ReportsPart` says, then it is
 -- right for their stored events, if no break is on a bit, and for the steps when they are replayed
@@ -198,7 +195,7 @@ module _ {R P : Type 0} (is : R → Behaviour P) (breaks : List Break) (test : �
       let within : i < count = omega (arith, h, length-take count run.steps) in
       let b = is run.entry.register in
       reports.each i within
-      ∙ ap (λ events. is_met breaks events (replayed b run.entry (take (i + 1) run.steps)).memory) (sym (recorded_front b run.entry run.steps count i within))
+      ∙ ap (λ events. is_met breaks events (replayed b run.entry (take (i + 1) run.steps)).memory) (sym (events_of_front b run.entry run.steps count i within))
       ∙ ap (λ steps. is_met breaks (slice_index_or (history b run.entry (take count run.steps)) i no_events) (replayed b run.entry steps).memory)
       (sym (take-take (i + 1) count run.steps (omega (arith, within))))
 

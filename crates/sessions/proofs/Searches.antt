@@ -16,12 +16,9 @@ use Rattle.sessions.specs.declared.way.Way.{Way}
 use Rattle.sessions.specs.declared.way.Way.TheVariants.{Forth, Back}
 use Rattle.sessions.specs.Seeks.{places_with, least_above, greatest_below, next_place}
 use Rattle.sessions.specs.Walks.{is_on_bit, is_any_met_by_events, ReportsEvents}
-use Rattle.sessions.proofs.General.{or_apart, or_nothing, range_more}
+use Rattle.sessions.proofs.General.{or_regrouped, or_false, range_more}
 
 module _ (test : ℕ → Bool) where
-  alone : (place : ℕ) → filter test (place ∷ []) ≡ cond (test place) (place ∷ []) []
-  alone place = refl
-
   -- the places below `place + 1` that pass the test: those below `place`, and `place` if it passes
   pub places_more : (place : ℕ) → places_with test (place + 1) ≡ places_with test place ++ cond (test place) (place ∷ []) []
   places_more place =
@@ -61,25 +58,25 @@ module _ (test : ℕ → Bool) where
   or_none (Some x) = refl
 
   -- a place at which no break is met leaves the search as it was
-  pub none_more : (way : Way) (from place : ℕ) (hit : Bool) (found : Option ℕ) → hit ≡ false → test place ≡ hit → found ≡ next_place way from (places_with test place)
+  pub no_hit_more : (way : Way) (from place : ℕ) (hit : Bool) (found : Option ℕ) → hit ≡ false → test place ≡ hit → found ≡ next_place way from (places_with test place)
       → found ≡ next_place way from (places_with test (place + 1))
-  none_more way from place true found none tested before = cc
-  none_more Forth from place false found none tested before = forth_more from place false found found tested before (or_none found)
-  none_more Back from place false found none tested before = back_more from place false found found tested before refl
+  no_hit_more way from place true found none tested before = cc
+  no_hit_more Forth from place false found none tested before = forth_more from place false found found tested before (or_none found)
+  no_hit_more Back from place false found none tested before = back_more from place false found found tested before refl
 
 -- without an event no break is met
-pub none_in : (breaks : List Break) → false ≡ list_any (λ break. is_met_by_option break None) breaks
-none_in [] = refl
-none_in (b ∷ bs) = none_in bs
+pub none_met_without_event : (breaks : List Break) → false ≡ list_any (λ break. is_met_by_option break None) breaks
+none_met_without_event [] = refl
+none_met_without_event (b ∷ bs) = none_met_without_event bs
 
 -- one of the breaks is met by the first event, or one by the second, exactly if one of the breaks
 -- is met by either event
-pub either_in : (first second : Option Event) (breaks : List Break)
+pub met_by_either : (first second : Option Event) (breaks : List Break)
     → (list_any (λ break. is_met_by_option break first) breaks || list_any (λ break. is_met_by_option break second) breaks) ≡ list_any (λ break. is_met_by_option break first || is_met_by_option break second) breaks
-either_in first second [] = refl
-either_in first second (b ∷ bs) =
-    or_apart (is_met_by_option b first) (list_any (λ break. is_met_by_option break first) bs) (is_met_by_option b second) (list_any (λ break. is_met_by_option break second) bs)
-    ∙ ap (λ rest. (is_met_by_option b first || is_met_by_option b second) || rest) (either_in first second bs)
+met_by_either first second [] = refl
+met_by_either first second (b ∷ bs) =
+    or_regrouped (is_met_by_option b first) (list_any (λ break. is_met_by_option break first) bs) (is_met_by_option b second) (list_any (λ break. is_met_by_option break second) bs)
+    ∙ ap (λ rest. (is_met_by_option b first || is_met_by_option b second) || rest) (met_by_either first second bs)
 
 not_met_by_memory : (break : Break) (m : Memory) → is_on_bit break ≡ false → is_met_by_memory break m ≡ false
 not_met_by_memory (Returns p) m e = refl
@@ -93,7 +90,7 @@ pub met_by_events : (breaks : List Break) (events : StepEvents) (m : Memory) →
 met_by_events [] events m e = refl
 met_by_events (break ∷ breaks) events m e =
     let none = or_parts (is_on_bit break) (list_any is_on_bit breaks) e in
-    ap (λ b. b || is_met breaks events m) (or_nothing (is_met_by_events break events) (is_met_by_memory break m) (not_met_by_memory break m none.0))
+    ap (λ b. b || is_met breaks events m) (or_false (is_met_by_events break events) (is_met_by_memory break m) (not_met_by_memory break m none.0))
     ∙ ap (λ b. is_met_by_events break events || b) (met_by_events breaks events m none.1)
 
 -- a test that is right for the events of successive steps (`ReportsEvents`) is right for those of

@@ -9,15 +9,15 @@ use Rattle.sessions.specs.declared.cursor.Shift.{Shift}
 use Rattle.sessions.specs.Cursors.{acts_in, cursor, each_cursor, shifted, shifted_place, is_after_place}
 use Rattle.sessions.specs.Edits.{moved_by}
 
-as_it_was : {A : Type 0} (a b : Bool) (x y : A) → b ≡ false → (if a && b then x else y) ≡ y
-as_it_was true b x y h = ap (λ t. if t then x else y) h
-as_it_was false b x y h = refl
+else_if_second_false : {A : Type 0} (a b : Bool) (x y : A) → b ≡ false → (if a && b then x else y) ≡ y
+else_if_second_false true b x y h = ap (λ t. if t then x else y) h
+else_if_second_false false b x y h = refl
 
 module _ (way : Shift) (f : Forest) (branch : List ℕ) (place : ℕ) where
   one_stays : (o : Option Cursor) → is_after_place place o ≡ false → option_map (shifted way f branch place) o ≡ o
   one_stays None h = refl
   one_stays (Some c) h =
-      ap Some (as_it_was (acts_in (cell_on_branch f branch place) f branch c.branch) (nat_lt place c.place) (cursor c.branch (shifted_place way c.place)) c h)
+      ap Some (else_if_second_false (acts_in (cell_on_branch f branch place) f branch c.branch) (nat_lt place c.place) (cursor c.branch (shifted_place way c.place)) c h)
 
   all_stay : (cursors : List (Option Cursor)) → list_any (is_after_place place) cursors ≡ false → each_cursor (shifted way f branch place) cursors ≡ cursors
   all_stay [] h = refl

@@ -49,9 +49,9 @@ abbrev pub fits_command : {P : Type 0} → Behaviour P → Command → Bool
 fits_command b c = fits_if_any b (option_and_then step_in (edit_of c))
 
 -- why a `go` to a place that doesn't exist is refused; otherwise Ok with the branches, unchanged
-abbrev pub looked_by : Forest → Command → Result Forest Refusal
-looked_by f (command.Go branch place) = look f branch place
-looked_by f c = Ok f
+abbrev pub go_result : Forest → Command → Result Forest Refusal
+go_result f (command.Go branch place) = look f branch place
+go_result f c = Ok f
 
 -- whether a command clears a break that its session hasn't set
 abbrev pub lacks_break : ℕ → Command → List (List Break) → Bool
@@ -59,8 +59,8 @@ lacks_break who (command.Clear break) breaks = not (has_break break (breaks_at b
 lacks_break who c breaks = false
 
 -- the refusal r if the condition is true, else `None`
-abbrev pub refused_if : Bool → Refusal → Option Refusal
-refused_if condition r = if condition then Some r else None
+abbrev pub refusal_if : Bool → Refusal → Option Refusal
+refusal_if condition r = if condition then Some r else None
 
 -- the refusal of a result; `None` if the result is a forest (the branches)
 abbrev pub refusal_in : Result Forest Refusal → Option Refusal
@@ -82,9 +82,9 @@ module _ {P : Type 0} where
   -- looked up, in the order they are tested; `None` for each that doesn't apply
   abbrev pub early_refusals : ℕ → Option ℕ → Command → World P → List (Option Refusal)
   early_refusals who guard c w =
-      refused_if (lacks_session who c w.cursors) NoSession
-      ∷ refused_if (is_missed guard w.edits) (Newer w.edits)
-      ∷ refused_if (not (fits_command w.tower c)) BadStep
+      refusal_if (lacks_session who c w.cursors) NoSession
+      ∷ refusal_if (is_missed guard w.edits) (Newer w.edits)
+      ∷ refusal_if (not (fits_command w.tower c)) BadStep
       ∷ []
 
   -- the reasons to refuse an edit after those of `early_refusals`, in the order they are tested:
@@ -92,7 +92,7 @@ module _ {P : Type 0} where
   abbrev pub edit_refusals : Edit → World P → List (Option Refusal)
   edit_refusals edit w =
       refusal_in (edited w.limits w.forest edit)
-      ∷ refused_if (drops_occupied edit w.cursors) Occupied
+      ∷ refusal_if (drops_occupied edit w.cursors) Occupied
       ∷ []
 
   -- the late reasons (tested after those of `early_refusals`) to refuse a command that isn't an
@@ -100,24 +100,24 @@ module _ {P : Type 0} where
   -- of a break that its session hasn't set; `None` for each reason that doesn't apply
   abbrev pub other_refusals : ℕ → Command → World P → List (Option Refusal)
   other_refusals who c w =
-      refusal_in (looked_by w.forest c)
-      ∷ refused_if (lacks_break who c w.breaks) NoBreak
+      refusal_in (go_result w.forest c)
+      ∷ refusal_if (lacks_break who c w.breaks) NoBreak
       ∷ []
 
   -- the reasons to refuse the command c that are tested after those of `early_refusals`, in order;
   -- the first argument is c's edit, or `None` if c isn't an edit
-  abbrev pub late_by : Option Edit → ℕ → Command → World P → List (Option Refusal)
-  late_by (Some edit) who c w = edit_refusals edit w
-  late_by None who c w = other_refusals who c w
+  abbrev pub late_refusals_by : Option Edit → ℕ → Command → World P → List (Option Refusal)
+  late_refusals_by (Some edit) who c w = edit_refusals edit w
+  late_refusals_by None who c w = other_refusals who c w
 
   -- the reasons to refuse a command after those of `early_refusals`, in the order they are tested
   abbrev pub late_refusals : ℕ → Command → World P → List (Option Refusal)
-  late_refusals who c w = late_by (edit_of c) who c w
+  late_refusals who c w = late_refusals_by (edit_of c) who c w
 
   -- all reasons to refuse a command, in the order they are tested, a full log first; `None` for
   -- each that doesn't apply
   abbrev pub refusals : ℕ → Option ℕ → Command → World P → List (Option Refusal)
-  refusals who guard c w = refused_if (is_full w) LogFull ∷ (early_refusals who guard c w ++ late_refusals who c w)
+  refusals who guard c w = refusal_if (is_full w) LogFull ∷ (early_refusals who guard c w ++ late_refusals who c w)
 
   -- what a seek in this direction moves the cursor `c` to: the nearest place, other than c's, at
   -- which one of these breaks is met; `None` if there is no such place
@@ -169,9 +169,9 @@ reply_to who (command.Clear break) w = BreakCleared
 reply_to who edit w = Edited (w.edits + 1)
 
 -- the forest of a result, or `f` if the result is a refusal
-abbrev pub kept_or : Result Forest Refusal → Forest → Forest
-kept_or (Ok new) f = new
-kept_or (Err r) f = f
+abbrev pub forest_or : Result Forest Refusal → Forest → Forest
+forest_or (Ok new) f = new
+forest_or (Err r) f = f
 
 -- the world with one more command counted as logged
 abbrev pub with_one_logged : {P : Type 0} → World P → World P
@@ -181,7 +181,7 @@ with_one_logged w = record w { logged = w.logged + 1 }
 abbrev pub edited_world : {P : Type 0} → Edit → World P → World P
 edited_world edit w =
     record w {
-      forest = kept_or (edited w.limits w.forest edit) w.forest;
+      forest = forest_or (edited w.limits w.forest edit) w.forest;
       cursors = moved_by edit w.forest w.cursors;
       edits = w.edits + 1;
       logged = w.logged + 1;
@@ -208,9 +208,9 @@ accepted_world who c w = accepted_world_by (edit_of c) who c w
 
 -- the world after a refused command, which counts as logged unless the refusal is LogFull, and
 -- changes nothing else
-abbrev pub refused : {P : Type 0} → Refusal → World P → World P
-refused LogFull w = w
-refused r w = with_one_logged w
+abbrev pub refused_world : {P : Type 0} → Refusal → World P → World P
+refused_world LogFull w = w
+refused_world r w = with_one_logged w
 
 -- the world after a command, and its reply
 pub record CommandResult (P : Type 0) : Type 0 where
@@ -221,7 +221,7 @@ pub record CommandResult (P : Type 0) : Type 0 where
 -- reason to refuse c, or `None` if there is none
 abbrev pub answered : {P : Type 0} → Option Refusal → ℕ → Command → World P → CommandResult P
 answered None who c w = record { world = accepted_world who c w; reply = reply_to who c w }
-answered (Some r) who c w = record { world = refused r w; reply = No r }
+answered (Some r) who c w = record { world = refused_world r w; reply = No r }
 
 -- the world and the reply after the command c of session `who` in the world w; `guard` is `None` if
 -- no guard is given

@@ -131,19 +131,19 @@ pub record LacksMemory {R P : Type 0} (is : R → Behaviour P) (old new : BookOf
   pub log : new.log ≡ old.log
 
 -- there is no reason to refuse a command
-abbrev pub NoneDue : {P : Type 0} → ℕ → Option ℕ → Command → World P → Type 0
-NoneDue who guard c w = first_refusal (refusals who guard c w) ≡ None
+abbrev pub HasNoRefusal : {P : Type 0} → ℕ → Option ℕ → Command → World P → Type 0
+HasNoRefusal who guard c w = first_refusal (refusals who guard c w) ≡ None
 
 -- `late_refusals` gives no reason to refuse a command (`early_refusals` may give one)
-abbrev pub NoneDueLate : {P : Type 0} → ℕ → Command → World P → Type 0
-NoneDueLate who c w = first_refusal (late_refusals who c w) ≡ None
+abbrev pub HasNoLateRefusal : {P : Type 0} → ℕ → Command → World P → Type 0
+HasNoLateRefusal who c w = first_refusal (late_refusals who c w) ≡ None
 
 -- the reply to a command may be Memory, if h is the book before the command: the log of h isn't
 -- full; and either this log has no memory reserved for one more entry, or there is no other reason
 -- to refuse the command
 pub record MayLackMemory {R P : Type 0} (is : R → Behaviour P) (h : BookOf R P) (who : ℕ) (guard : Option ℕ) (c : Command) : Type 0 where
   pub first : is_full (world_of is h.now) ≡ false
-  pub last : (h.room ≡ 0) ⊎ NoneDue who guard c (world_of is h.now)
+  pub last : (h.room ≡ 0) ⊎ HasNoRefusal who guard c (world_of is h.now)
 
 -- if the reply to a command is Memory, then `MayLackMemory` holds of h, the book before the
 -- command: the log of h isn't full; and either this log has no memory reserved for one more entry,
@@ -153,35 +153,35 @@ RefusesMemoryLast is h who guard c reply = reply ≡ No Memory → MayLackMemory
 
 -- r is why a command isn't carried out, if `early_refusals` gives no reason to refuse it: the first
 -- reason that `late_refusals` gives, or Memory if `late_refusals` gives none
-abbrev pub IsLate : {P : Type 0} → ℕ → Command → World P → Refusal → Type 0
-IsLate who c w r = (first_refusal (late_refusals who c w) ≡ Some r) ⊎ ((r ≡ Memory) × NoneDueLate who c w)
+abbrev pub IsLateRefusal : {P : Type 0} → ℕ → Command → World P → Refusal → Type 0
+IsLateRefusal who c w r = (first_refusal (late_refusals who c w) ≡ Some r) ⊎ ((r ≡ Memory) × HasNoLateRefusal who c w)
 
 -- a command is carried out: `late_refusals` gives no reason to refuse it, and its reply and, once
 -- the command is counted as logged, the new world are those that `reply_to` and `accepted_world`
 -- give
 pub record IsCarriedOut {R P : Type 0} (is : R → Behaviour P) (who : ℕ) (c : Command) (old new : StoredWorld R P) (reply : Reply) : Type 0 where
-  pub fine : first_refusal (late_refusals who c (world_of is old)) ≡ None
+  pub not_refused : first_refusal (late_refusals who c (world_of is old)) ≡ None
   pub leaves : accepted_world who c (world_of is old) ≡ with_one_logged (world_of is new)
   pub replies : reply_to who c (world_of is old) ≡ reply
 
 -- a command isn't carried out: r is the first reason that `late_refusals` gives, or Memory if it
 -- gives none, and the world is unchanged
-pub record Undone {R P : Type 0} (is : R → Behaviour P) (who : ℕ) (c : Command) (old new : StoredWorld R P) (r : Refusal) : Type 0 where
-  pub why : IsLate who c (world_of is old) r
+pub record IsNotCarriedOut {R P : Type 0} (is : R → Behaviour P) (who : ℕ) (c : Command) (old new : StoredWorld R P) (r : Refusal) : Type 0 where
+  pub why : IsLateRefusal who c (world_of is old) r
   pub same : world_of is new ≡ world_of is old
 
 -- the result of a command that `early_refusals` doesn't refuse: Ok with its reply if it is carried
 -- out; otherwise the reason why not, with the world unchanged
-abbrev pub Does : {R P : Type 0} → (R → Behaviour P) → ℕ → Command → StoredWorld R P → StoredWorld R P → Result Reply Refusal → Type 0
-Does is who c old new (Ok reply) = IsCarriedOut is who c old new reply
-Does is who c old new (Err r) = Undone is who c old new r
+abbrev pub IsResult : {R P : Type 0} → (R → Behaviour P) → ℕ → Command → StoredWorld R P → StoredWorld R P → Result Reply Refusal → Type 0
+IsResult is who c old new (Ok reply) = IsCarriedOut is who c old new reply
+IsResult is who c old new (Err r) = IsNotCarriedOut is who c old new r
 
 -- the answer to a command, if the log isn't full: Ok with the reply that `command_result` gives,
 -- and the world that it gives once the command is counted as logged; or an error, if memory runs
 -- out and there is no reason to refuse the command, with the world unchanged
 abbrev pub HasAnswer : {R P : Type 0} → (R → Behaviour P) → ℕ → Option ℕ → Command → StoredWorld R P → StoredWorld R P → Result Reply AllocError → Type 0
 HasAnswer is who guard c old new (Ok reply) = command_result who guard c (world_of is old) ≡ record { world = with_one_logged (world_of is new); reply = reply }
-HasAnswer is who guard c old new (Err e) = NoneDue who guard c (world_of is old) × (world_of is new ≡ world_of is old)
+HasAnswer is who guard c old new (Err e) = HasNoRefusal who guard c (world_of is old) × (world_of is new ≡ world_of is old)
 
 -- the command that seeks in this direction
 abbrev pub seek_command : Way → Command

@@ -6,8 +6,8 @@ use Rattle.sessions.specs.declared.workspace.Workspace.{Workspace}
 use Rattle.branch_terms.specs.declared.limits.TheConstants.{MOST_CELLS_MADE}
 
 -- a place fits in 32 bits
-abbrev pub IsPlace : ℕ → Type 0
-IsPlace place = place < 2 ^ 32
+abbrev pub FitsU32 : ℕ → Type 0
+FitsU32 place = place < 2 ^ 32
 
 -- each cursor's place is at most the number of cells that can ever be made
 abbrev pub AreWithin : List (Option Cursor) → Type 0

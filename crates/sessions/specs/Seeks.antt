@@ -7,7 +7,7 @@ use Rattle.frames.specs.Behaviour.{Behaviour}
 use Rattle.frames.specs.Configuration.{history}
 use Rattle.pages.specs.declared.breakpoint.Break.{Break}
 use Rattle.pages.specs.Breaks.{is_met}
-use Rattle.frames.specs.Recorded.{first_configuration, shown}
+use Rattle.frames.specs.Recorded.{first_configuration, configuration_after}
 use Rattle.sessions.specs.declared.way.Way.{Way}
 use Rattle.sessions.specs.declared.way.Way.TheVariants.{Forth, Back}
 
@@ -28,7 +28,7 @@ module _ {P : Type 0} (b : Behaviour P) (value : ℕ) (steps : List Step) where
   -- whether a place is a hit: the step before it records an event that meets a break, or the
   -- configuration there meets a break on a bit
   abbrev pub is_hit : List Break → ℕ → Bool
-  is_hit breaks place = is_met breaks (events_before place) (shown b value (take place steps)).memory
+  is_hit breaks place = is_met breaks (events_before place) (configuration_after b value (take place steps)).memory
 
   -- the places of the branch that are hits, in order
   abbrev pub hits : List Break → List ℕ

@@ -63,7 +63,7 @@ impl Breaks {
     pub(crate) fn remove(&mut self, gone: Break)
         ensures { self.new ≡ spec.without_break gone self.old }
     {
-        self.list.retain(|other| is_other(gone, *other));
+        self.list.retain(|other| differ(gone, *other));
     }
 }
 
@@ -86,7 +86,7 @@ fn is_same(one: Break, other: Break) -> bool
 }
 
 /// Whether two breaks differ.
-fn is_other(one: Break, other: Break) -> bool
+fn differ(one: Break, other: Break) -> bool
     ensures { result ≡ not (spec.is_same one other) }
 {
     !is_same(one, other)

@@ -9,7 +9,7 @@ ghost use Rattle.cutoff.specs.Fitting.{counted, part_of};
 ghost use Rattle.cutoff.specs.Settles.{KeepsOrFills};
 ghost use Rattle.pages.specs.Breaks as breaks_spec;
 ghost use Rattle.views.specs.Looks.{IsChartKept, steps_in};
-ghost use Rattle.sessions.specs.Bounds.{IsPlace};
+ghost use Rattle.sessions.specs.Bounds.{FitsU32};
 ghost use Rattle.sessions.specs.Seeks.{hits, next_place, no_events, IsNextHit, is_hit};
 ghost use Rattle.sessions.specs.Walks.{found_below, SearchGoesOn, ReportsPart, ReportsParts, ReportsEvents, ReportsSteps};
 ghost use Rattle.sessions.specs.Walks as spec;
@@ -56,14 +56,14 @@ impl Search<'_> {
             return found;
         }
         match self.way {
-            Way::Forth => first_of(found, self.from, place),
-            Way::Back => last_of(found, self.from, place),
+            Way::Forth => first_hit(found, self.from, place),
+            Way::Back => last_hit(found, self.from, place),
         }
     }
 }
 
 /// `found`, if it isn't `None`; otherwise `hit`, if `hit` is after `from`; otherwise `None`.
-fn first_of(found: Option<u32>, from: u32, hit: u32) -> Option<u32>
+fn first_hit(found: Option<u32>, from: u32, hit: u32) -> Option<u32>
     ensures { result ≡ option_or found (if nat_lt from hit then Some hit else None) }
 {
     if found.is_none() && from < hit {
@@ -73,7 +73,7 @@ fn first_of(found: Option<u32>, from: u32, hit: u32) -> Option<u32>
 }
 
 /// `hit` if it is before `from`, or else `found`.
-fn last_of(found: Option<u32>, from: u32, hit: u32) -> Option<u32>
+fn last_hit(found: Option<u32>, from: u32, hit: u32) -> Option<u32>
     ensures { result ≡ (if nat_lt hit from then Some hit else found) }
 {
     if hit < from { Some(hit) } else { found }
@@ -143,7 +143,7 @@ fn along_events(
     place: u32,
     found: Option<u32>,
 ) -> Option<u32>
-    requires { IsPlace (place + length events) }
+    requires { FitsU32 (place + length events) }
     ensures { (test : ℕ → Bool)
         → ReportsEvents search.now.breaks.now test place events.entry
         → SearchGoesOn search.now test place (length events.entry) found result }
@@ -171,7 +171,7 @@ fn along_steps<R: Register>(
     found: Option<u32>,
 ) -> Option<u32>
     requires fits { AllFit (R.behaviour config.register) steps.now }
-    requires room { IsPlace (place + length steps.now) }
+    requires room { FitsU32 (place + length steps.now) }
     ensures { (test : ℕ → Bool)
         → ReportsSteps (R.behaviour config.register) search.now.breaks.now test place config
         steps.now
@@ -196,7 +196,7 @@ fn along_run<R: Register>(
     count: u32,
     progress: Progress,
 ) -> Result<Option<u32>, AllocError>
-    requires { IsPlace (progress.place + count) }
+    requires { FitsU32 (progress.place + count) }
     ensures { IfOk result (λ all. (test : ℕ → Bool)
         → ReportsPart R.behaviour search.now.breaks.now test progress.place
         (record { run = run.now; count = count })
@@ -219,7 +219,7 @@ fn along_runs<R: Register>(
     first: &Config<R>,
     runs: &[(Arc<Run<R>>, u32)],
 ) -> Result<Option<u32>, AllocError>
-    requires room { IsPlace (counted (map part_of runs.now)) }
+    requires room { FitsU32 (counted (map part_of runs.now)) }
     ensures { let parts = map part_of runs.now in IfOk result (λ all. (test : ℕ → Bool)
         → test 0 ≡ breaks_spec.is_met search.now.breaks.now no_events first.now.memory
         → ReportsParts R.behaviour search.now.breaks.now test 0 parts
@@ -282,7 +282,7 @@ fn settled<R: Register>(
         (λ runs. ReportsParts R.behaviour breaks (is_hit b chart.old.value steps breaks) 0 runs) }
     ensures counts { IfOk result (λ runs. counted runs
         ≡ length (steps_in (forest chart.old.trie) branch.now)) }
-    ensures room { IfOk result (λ runs. IsPlace (counted runs)) }
+    ensures room { IfOk result (λ runs. FitsU32 (counted runs)) }
     ensures kept { IsChartKept chart.old chart.new }
     ensures keeps { KeepsOrFills R.PartialEq.eq R.behaviour chart.old chart.new branch.now
         (length (steps_in (forest chart.old.trie) branch.now)) }

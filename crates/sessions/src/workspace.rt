@@ -6,7 +6,7 @@ ghost use Rattle.sessions.specs.Acts.{early_refusals, first_refusal, fits_comman
 ghost use Rattle.sessions.specs.Acts as spec;
 ghost use Rattle.schedule_trie.specs.Edits.{edit_in, step_in};
 ghost use Rattle.sessions.specs.Edits.{edit_of};
-ghost use Rattle.sessions.specs.Books.{HasAnswer, Does, stored, world_of};
+ghost use Rattle.sessions.specs.Books.{HasAnswer, IsResult, stored, world_of};
 ghost use Rattle.sessions.specs.Bounds.{CanAct};
 
 mod cursors;
@@ -50,7 +50,7 @@ impl<R: Register> Workspace<R> {
             → HasAnswer R.behaviour who if_at command.now (stored self.old n) (stored self.new n)
             result }
     {
-        let (session, step, edit) = sorted(command);
+        let (session, step, edit) = parts_of_command(command);
         if let Some(refusal) = self.early_refusal(who, if_at, session, step) {
             return Ok(Reply::No(refusal));
         }
@@ -109,7 +109,7 @@ impl<R: Register> Workspace<R> {
             ≡ true }
         requires edit { edit_of command.now ≡ option_map edit_in edit }
         ensures { (n : ℕ)
-            → Does R.behaviour who command.now (stored self.old n) (stored self.new n) result }
+            → IsResult R.behaviour who command.now (stored self.old n) (stored self.new n) result }
     {
         if let Some(edit) = edit {
             return self.edit(alloc, &edit);
@@ -129,7 +129,7 @@ impl<R: Register> Workspace<R> {
 
 /// Whether a command needs its session to have joined; the command's step, if it has one; and its
 /// edit, if it is one.
-fn sorted(command: &Command) -> (bool, Option<Step>, Option<Edit<'_>>)
+fn parts_of_command(command: &Command) -> (bool, Option<Step>, Option<Edit<'_>>)
     ensures session { needs_session command.now ≡ result.0 }
     ensures step { option_and_then step_in (edit_of command.now) ≡ result.1 }
     ensures edit { edit_of command.now ≡ option_map edit_in result.2 }

@@ -20,16 +20,16 @@ use Rattle.frames.specs.OneWriter.{one_writer}
 use Rattle.frames.specs.laws.OneWriter as writer
 use Rattle.frames.specs.Recorded.{AllFit, first_configuration}
 use Rattle.frames.specs.correctness.Regularity.{in_progress, IsRegular, NotStray}
-use Rattle.frames.proofs.Seen.{Seen, Returned, among, opening, sees, got, now_last, IsNotStray, refuses, ended, Allowed}
+use Rattle.frames.proofs.Seen.{Seen, Returned, among, opening, sees, got, now_last, IsNotStray, refuses, end_event, Allowed}
 use Rattle.frames.proofs.KnownAndSeen.{stray_alike}
 use Rattle.frames.proofs.OneWriterPromises.{always_seen}
 use Rattle.frames.specs.correctness.Regularity.{IsAtomic}
-use Rattle.frames.proofs.VerdictFacts.{not_stray_is}
+use Rattle.frames.proofs.VerdictFacts.{fresh_or_overlapping}
 use Rattle.frames.proofs.Pointwise.{put, put_same, put_other}
 use Rattle.frames.proofs.Numbering.{numbered_atomic}
 use Rattle.layers.specs.Sound.{LayerHolds, LayerReaches}
 use Rattle.layers.specs.laws.Layered.{layer_lawful}
-use Rattle.frames.proofs.Counted.{Counted, uncounted, Counts, NumberedIf, NumberedStep}
+use Rattle.frames.proofs.Counted.{Counted, uncounted, TakesCount, NumberedIf, NumberedStep}
 use Rattle.layers.specs.Nested.{Ends, Asks, Sets, Table, layered}
 use Rattle.layers.specs.Sound.{IsNotSpent, IsSoundTable, FitsBelow}
 use Rattle.layers.specs.laws.Over.{over}
@@ -44,8 +44,8 @@ abbrev pub code_of : ℕ → Counted → ℕ → ℕ
 code_of V c n = n * V + c.value n
 
 -- y is the code of a write whose value the reader's last read may return
-abbrev pub Since : ℕ → Counted → ℕ → Type 0
-Since V c y = (n : ℕ) × ((c.low ≤ n) × ((n ≤ c.begun) × (y ≡ code_of V c n)))
+abbrev pub MayBeRead : ℕ → Counted → ℕ → Type 0
+MayBeRead V c y = (n : ℕ) × ((c.low ≤ n) × ((n ≤ c.begun) × (y ≡ code_of V c n)))
 
 -- the write below that is in progress writes the code of the last write begun; without one, all
 -- writes have returned
@@ -65,7 +65,7 @@ pub record Stamps (V : ℕ) (c : Counted) (s : Seen) (stamp best : ℕ) : Type 0
   pub last : s.last ≡ code_of V c c.done
   pub writing : WriteSays V c s.writing
   pub fresh : s.fresh 1 ≡ code_of V c c.low
-  pub overlaps : (y : ℕ) → IsTrue (among y (s.overlaps 1)) → Since V c y
+  pub overlaps : (y : ℕ) → IsTrue (among y (s.overlaps 1)) → MayBeRead V c y
 
 -- the numbered writes once a write of v has begun
 abbrev pub after_write : ℕ → Counted → Counted
@@ -116,7 +116,7 @@ stamps_invoke V v p q c s stamp best h idle lv =
       overlaps = λ y m. go y ((stamp + 1) * V + v == y) refl m new;
     }
   where
-    go : (y : ℕ) (b : Bool) → ((stamp + 1) * V + v == y) ≡ b → IsTrue (b || among y (s.overlaps 1)) → (stamp + 1) * V + v ≡ code_of V (after_write v c) (c.begun + 1) → Since V (after_write v c) y
+    go : (y : ℕ) (b : Bool) → ((stamp + 1) * V + v == y) ≡ b → IsTrue (b || among y (s.overlaps 1)) → (stamp + 1) * V + v ≡ code_of V (after_write v c) (c.begun + 1) → MayBeRead V (after_write v c) y
     go y true e m new =
         let hl : c.low ≤ c.done = h.low in
         let hd : c.done ≤ c.begun = h.done in
@@ -166,9 +166,9 @@ stamps_floor V n c s stamp best most h few is = record {
     says None k = k
     says (Some y) k = k
 
-begun_since : (V : ℕ) (c : Counted) (w : Option ℕ) (y : ℕ) → WriteSays V c w → IsTrue (among y (in_progress w)) → y ≡ code_of V c c.begun
-begun_since V c None y w m = let n : ⊥ = cc in absurd n
-begun_since V c (Some x) y w m = go (x == y) refl m
+writing_is_begun : (V : ℕ) (c : Counted) (w : Option ℕ) (y : ℕ) → WriteSays V c w → IsTrue (among y (in_progress w)) → y ≡ code_of V c c.begun
+writing_is_begun V c None y w m = let n : ⊥ = cc in absurd n
+writing_is_begun V c (Some x) y w m = go (x == y) refl m
   where
     go : (b : Bool) → (x == y) ≡ b → IsTrue (b || false) → y ≡ code_of V c c.begun
     go true e k = sym (eqb-true x y e) ∙ w
@@ -185,16 +185,16 @@ stamps_read V c s stamp best h = record {
   last = h.last;
   writing = h.writing;
   fresh = h.last;
-  overlaps = λ y m. (c.begun, (h.done, (omega arith, begun_since V c s.writing y h.writing m)));
+  overlaps = λ y m. (c.begun, (h.done, (omega arith, writing_is_begun V c s.writing y h.writing m)));
 }
 
 -- if the read below isn't stray, it gives the code of a write whose value the read may return
-pub read_since : (V x : ℕ) (c : Counted) (s : Seen) (stamp best : ℕ) → Stamps V c s stamp best → IsNotStray (record { reader = 1; value = x; fresh = s.fresh 1; overlaps = s.overlaps 1 }) → Since V c x
+pub read_since : (V x : ℕ) (c : Counted) (s : Seen) (stamp best : ℕ) → Stamps V c s stamp best → IsNotStray (record { reader = 1; value = x; fresh = s.fresh 1; overlaps = s.overlaps 1 }) → MayBeRead V c x
 read_since V x c s stamp best h g =
     let y : Returned = record { reader = 1; value = x; fresh = s.fresh 1; overlaps = s.overlaps 1 } in
     let hl : c.low ≤ c.done = h.low in
     let hd : c.done ≤ c.begun = h.done in
-    elim (not_stray_is y g) [
+    elim (fresh_or_overlapping y g) [
       | inl e ↦ (c.low, (omega arith, (omega (arith, hl, hd), e ∙ h.fresh)))
       | inr m ↦ h.overlaps x m
     ]
@@ -204,9 +204,9 @@ code_less V n m a b l la = let e : suc n * V ≤ m * V = mul-le-mul_right V (ome
 
 -- the greater of `best` and a code x that the read may give is that of a write n that the read may
 -- return, no earlier than the write that the read before returned
-pub greater : (V x : ℕ) (c : Counted) (s : Seen) (stamp best : ℕ) → Stamps V c s stamp best → Since V c x
+pub greater_may_be_read : (V x : ℕ) (c : Counted) (s : Seen) (stamp best : ℕ) → Stamps V c s stamp best → MayBeRead V c x
     → (n : ℕ) × ((c.low ≤ n) × ((n ≤ c.begun) × ((c.floor ≤ n) × (max best x ≡ code_of V c n))))
-greater V x c s stamp best h y =
+greater_may_be_read V x c s stamp best h y =
     let n : ℕ = y.0 in
     let ln : c.low ≤ n = y.1.0 in
     let nb : n ≤ c.begun = y.1.1.0 in
@@ -234,9 +234,9 @@ pub record StampedInv (V : ℕ) (c : Counted) (j : View StampedTask) : Type 0 wh
 abbrev pub stamped_watch : ℕ → Watch StampedTask Counted
 stamped_watch V = record { Good = IsNotStray; Inv = StampedInv V }
 
-gone : (p : ℕ) (chosen : Option (ℕ × Bool)) (end : Option Event) (c z : Counted) → refuses end ≡ false → Counts end c z → NumberedStep c (in_order (chosen_of p chosen) end) z
-gone p None end c z f k = (f, (z, (k, refl)))
-gone p (Some x) end c z f k = (refl, subst (λ b. NumberedIf b c (record { first = Some (Chosen p x.0 x.1); second = end }) z) (sym f) (c, (refl, k)))
+go_numbered : (p : ℕ) (chosen : Option (ℕ × Bool)) (end : Option Event) (c z : Counted) → refuses end ≡ false → TakesCount end c z → NumberedStep c (in_order (chosen_of p chosen) end) z
+go_numbered p None end c z f k = (f, (z, (k, refl)))
+go_numbered p (Some x) end c z f k = (refl, subst (λ b. NumberedIf b c (record { first = Some (Chosen p x.0 x.1); second = end }) z) (sym f) (c, (refl, k)))
 
 module _ (V last : ℕ) where
   abbrev t : Table StampedTask
@@ -246,10 +246,10 @@ module _ (V last : ℕ) where
   w = stamped_watch V
 
   -- the rest of a read, once the read below has given x, keeps the invariant
-  runs_taken : (x : ℕ) (op : Op) (Out : Option Event → Counted → Type 0) (c : Counted) (j : View StampedTask) → StampedInv V c (record j { tasks = put 1 None j.tasks }) → Since V c x
-      → ((y : ℕ) (z : Counted) → Counts (Some (Got 1 y)) c z → Out (Some (Got 1 y)) z) → Runs t w 1 op Out (stamped_rest V Reading (Value x)) j
-  runs_taken x op Out c j h y og =
-      let g = greater V x c (j.parts 0) (j.words 0) (j.words 1) h.stamps y in
+  runs_read_rest : (x : ℕ) (op : Op) (Out : Option Event → Counted → Type 0) (c : Counted) (j : View StampedTask) → StampedInv V c (record j { tasks = put 1 None j.tasks }) → MayBeRead V c x
+      → ((y : ℕ) (z : Counted) → TakesCount (Some (Got 1 y)) c z → Out (Some (Got 1 y)) z) → Runs t w 1 op Out (stamped_rest V Reading (Value x)) j
+  runs_read_rest x op Out c j h y og =
+      let g = greater_may_be_read V x c (j.parts 0) (j.words 0) (j.words 1) h.stamps y in
       let n : ℕ = g.0 in
       let nb : n ≤ c.begun = g.1.1.0 in
       let is : max (j.words 1) x ≡ code_of V c n = g.1.1.1.1 in
@@ -288,7 +288,7 @@ module _ (V last : ℕ) where
         where
           ends : (o : Outcome) → Answers (stamped_code_count V last) (Write ((j.words 0 + 1) * V + v)) o → IsNotSpent o
               → Runs t w 0 (Write v) (λ e. NumberedStep c (in_order (Some (Invoke 0 (Write v))) e)) (Ends o)
-              (record { words = put 0 (j.words 0 + 1) j.words; tasks = j.tasks; parts = put 0 (sees (Some (ended 0 o)) (sees (Some (Invoke 0 (Write ((j.words 0 + 1) * V + v)))) (j.parts 0))) j.parts })
+              (record { words = put 0 (j.words 0 + 1) j.words; tasks = j.tasks; parts = put 0 (sees (Some (end_event 0 o)) (sees (Some (Invoke 0 (Write ((j.words 0 + 1) * V + v)))) (j.parts 0))) j.parts })
           ends (Value x) ans pass = absurd ans
           ends (Spent l) ans pass = absurd pass
           ends Written ans pass =
@@ -302,14 +302,14 @@ module _ (V last : ℕ) where
         λ o ans pass good. ends o ans pass good a,
       )
     where
-      ends : (o : Outcome) → Answers (stamped_code_count V last) Read o → IsNotSpent o → AllByRecursion IsNotStray (got (Some (ended 1 o)) (sees (Some (Invoke 1 Read)) (j.parts 0)))
+      ends : (o : Outcome) → Answers (stamped_code_count V last) Read o → IsNotSpent o → AllByRecursion IsNotStray (got (Some (end_event 1 o)) (sees (Some (Invoke 1 Read)) (j.parts 0)))
           → Stamps V (record c { low = c.done }) (sees (Some (Invoke 1 Read)) (j.parts 0)) (j.words 0) (j.words 1)
           → Runs t w 1 Read (λ e. NumberedStep c (in_order (Some (Invoke 1 Read)) e)) (stamped_rest V Reading o)
-          (record { words = j.words; tasks = j.tasks; parts = put 0 (sees (Some (ended 1 o)) (sees (Some (Invoke 1 Read)) (j.parts 0))) j.parts })
+          (record { words = j.words; tasks = j.tasks; parts = put 0 (sees (Some (end_event 1 o)) (sees (Some (Invoke 1 Read)) (j.parts 0))) j.parts })
       ends Written ans pass good a = absurd ans
       ends (Spent l) ans pass good a = absurd pass
       ends (Value x) ans pass good a =
-          runs_taken x Read (λ e. NumberedStep c (in_order (Some (Invoke 1 Read)) e)) (record c { low = c.done })
+          runs_read_rest x Read (λ e. NumberedStep c (in_order (Some (Invoke 1 Read)) e)) (record c { low = c.done })
           (record { words = j.words; tasks = j.tasks; parts = put 0 (sees (Some (Invoke 1 Read)) (j.parts 0)) j.parts })
           (record { stamps = a; idle = h.idle })
           (read_since V x (record c { low = c.done }) (sees (Some (Invoke 1 Read)) (j.parts 0)) (j.words 0) (j.words 1) a good.0)
@@ -323,30 +323,30 @@ module _ (V last : ℕ) where
       subst (λ q. Runs t w q (Write v) (λ e. NumberedStep c (in_order (Some (Invoke q (Write v))) e)) (stamped_program V last q (Write v)) j) (sym zp)
       (begin_write c j v h (sym (ap j.tasks zp) ∙ free) lv)
   begins c j p Read h free s =
-      subst (λ q. Runs t w q Read (λ e. NumberedStep c (in_order (Some (Invoke q Read)) e)) (stamped_program V last q Read) j) (sym (let lo = writer.reader_some V 2 p s in let hi = writer.reader_few V 2 p s in omega (arith, lo, hi)))
+      subst (λ q. Runs t w q Read (λ e. NumberedStep c (in_order (Some (Invoke q Read)) e)) (stamped_program V last q Read) j) (sym (let lo = writer.reader_is_not_zero V 2 p s in let hi = writer.reader_below_processes V 2 p s in omega (arith, lo, hi)))
       (begin_read c j h)
 
   go_ends : (c : Counted) (j : View StampedTask) (p : ℕ) (op : Op) (task : StampedTask) (chosen : Option (ℕ × Bool)) (o : Outcome) → StampedInv V c j
       → StampedMayBeAt V last p op task → Answers (stamped_code_count V last) (t.asks task).op o → IsNotSpent o
-      → AllByRecursion IsNotStray (got (Some (ended (t.asks task).who o)) (j.parts (t.asks task).part))
+      → AllByRecursion IsNotStray (got (Some (end_event (t.asks task).who o)) (j.parts (t.asks task).part))
       → Runs t w p op (λ e. NumberedStep c (in_order (chosen_of p chosen) e)) (stamped_rest V task o)
-      (record j { parts = put (t.asks task).part (sees (Some (ended (t.asks task).who o)) (j.parts (t.asks task).part)) j.parts })
+      (record j { parts = put (t.asks task).part (sees (Some (end_event (t.asks task).who o)) (j.parts (t.asks task).part)) j.parts })
   go_ends c j p (Write v) (Writing x k) chosen (Value y) h s ans pass good = absurd ans
   go_ends c j p (Write v) (Writing x k) chosen (Spent l) h s ans pass good = absurd pass
   go_ends c j p (Write v) (Writing x k) chosen Written h s ans pass good = (
     record c { done = c.begun },
     (
-      gone p chosen (Some (Wrote p)) c (record c { done = c.begun }) refl refl,
+      go_numbered p chosen (Some (Wrote p)) c (record c { done = c.begun }) refl refl,
       record { stamps = stamps_wrote V 0 c (j.parts 0) (j.words 0) (j.words 1) h.stamps; idle = λ k. refl },
     ),
   )
   go_ends c j p Read Reading chosen Written h s ans pass good = absurd ans
   go_ends c j p Read Reading chosen (Spent l) h s ans pass good = absurd pass
   go_ends c j p Read Reading chosen (Value x) h s ans pass good =
-      let y : Since V c x = read_since V x c (j.parts 0) (j.words 0) (j.words 1) h.stamps good.0 in
+      let y : MayBeRead V c x = read_since V x c (j.parts 0) (j.words 0) (j.words 1) h.stamps good.0 in
       subst (λ r. Runs t w r Read (λ e. NumberedStep c (in_order (chosen_of r chosen) e)) (stamped_rest V Reading (Value x)) (record j { parts = put 0 (j.parts 0) j.parts })) (sym s)
-      (runs_taken x Read (λ e. NumberedStep c (in_order (chosen_of 1 chosen) e)) c (record j { parts = put 0 (j.parts 0) j.parts }) (record { stamps = h.stamps; idle = h.idle }) y
-      (λ y z k. gone 1 chosen (Some (Got 1 y)) c z refl k))
+      (runs_read_rest x Read (λ e. NumberedStep c (in_order (chosen_of 1 chosen) e)) c (record j { parts = put 0 (j.parts 0) j.parts }) (record { stamps = h.stamps; idle = h.idle }) y
+      (λ y z k. go_numbered 1 chosen (Some (Got 1 y)) c z refl k))
   go_ends c j p (Write v) Reading chosen o h s ans pass good = absurd s
   go_ends c j p Read (Writing x k) chosen o h s ans pass good = absurd s
 
@@ -361,7 +361,7 @@ module _ (V last : ℕ) where
     passes = record {
       void = λ c p reason. (refl, (c, (refl, refl)));
       stop = λ c p. (refl, (c, (refl, refl)));
-      still = λ c j p chosen h. (c, (gone p chosen None c c refl refl, h));
+      still = λ c j p chosen h. (c, (go_numbered p chosen None c c refl refl, h));
     };
     begins = begins;
     goes = λ c j p n chosen o h mine s ans pass good. go_ends c j p n.op n.task chosen o h s ans pass good;

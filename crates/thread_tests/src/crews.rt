@@ -116,7 +116,7 @@ const READ: Step = Step::Read { p: 1 };
 const WRITE: Step = Step::Write { p: 0, v: 1 };
 
 /// Limits that allow two branches of one step each.
-fn few() -> Limits
+fn small_limits() -> Limits
     ensures { AreLimits result }
 {
     Limits {
@@ -129,7 +129,7 @@ fn few() -> Limits
 /// A chart on a safe bit, with a read on `main`. Unlike that of `Chart::new`, this contract
 /// promises nothing about the chart.
 fn chart_of_read(alloc: Global) -> Result<Chart<Safe>, Refusal> {
-    Chart::new(alloc, Safe, 0, few(), &[READ])
+    Chart::new(alloc, Safe, 0, small_limits(), &[READ])
 }
 
 /// Forks `a` from the beginning of `main`.

@@ -195,7 +195,7 @@ fn closed_with(desk: Desk<Safe>, mut first: Chair<Safe>, second: Chair<Safe>) ->
 }
 
 /// Gives a book a logged call, and returns whether its reply is the logged one.
-fn replies_so(alloc: Global, book: &mut Book<Safe>, entry: &Entry) -> bool {
+fn replies_as_logged(alloc: Global, book: &mut Book<Safe>, entry: &Entry) -> bool {
     book.act(alloc, entry.chair, entry.who, entry.if_at, &entry.command) == entry.reply
 }
 
@@ -211,13 +211,13 @@ fn book_of(alloc: Global, steps: &[Step]) -> Result<Book<Safe>, Refusal>
 fn replies_to(alloc: Global, book: &mut Book<Safe>, log: &Log) -> bool {
     let mut all = true;
     for entry in log.as_slice() {
-        all &= replies_so(alloc, book, entry);
+        all &= replies_as_logged(alloc, book, entry);
     }
     all
 }
 
 /// A log and a text; `None` if something went wrong, or there is no log.
-fn both(
+fn log_and_text_if(
     fine: bool,
     log: Option<Log>,
     text: Result<(u64, Vec<u8>), Refusal>,
@@ -250,5 +250,5 @@ fn log_and_text<R: Abort + Threads + Wait + Sync>(
     let (mut chair, fine) = tester.side_by_side((first, works.0), (second, works.1));
     let text = tester.text_at(&mut chair, query);
     let log = closed(desk, chair);
-    both(edited && fine, log, text)
+    log_and_text_if(edited && fine, log, text)
 }

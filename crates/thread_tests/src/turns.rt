@@ -81,7 +81,7 @@ impl Work<Notes> for Pause<'_> {
 }
 
 /// A turn without notes, and its first chair.
-fn empty(alloc: Global) -> Result<(Turn<Notes>, Chair<Notes>), AllocError>
+fn empty_turn(alloc: Global) -> Result<(Turn<Notes>, Chair<Notes>), AllocError>
     ensures { IfOk result (λ r. IsOf r.0 r.1 × ((view r.1).shares ≡ every_share)) }
 {
     Turn::new(
@@ -178,7 +178,7 @@ fn write_in_turn<R: Abort + Wait>(
 
 /// The notes of a new turn after `write_in_turn`.
 fn written_in_turn<R: Abort + Wait>(rt: &R, alloc: Global) -> Result<Option<Notes>, AllocError> {
-    let (turn, first) = empty(alloc)?;
+    let (turn, first) = empty_turn(alloc)?;
     assert_eq!(rt; first.shares(), 16);
     let (mut first, mut second) = parted(&turn, first, 8);
     assert!(rt; first.shares() == 8 && second.shares() == 8);
@@ -219,7 +219,7 @@ fn refused_and_closed(
 
 #[test]
 fn chairs_out(rt: HostRuntime) -> Result<(), Fail> {
-    let (turn, first) = empty(rt.alloc())?;
+    let (turn, first) = empty_turn(rt.alloc())?;
     let (first, second) = parted(&turn, first, 1);
     let Some(refusal) = refused_and_closed(turn, first, second) else {
         panic!(rt; "a close went wrong")
@@ -258,12 +258,12 @@ fn written_by_two<R: Threads + Wait + Sync>(
 }
 
 /// What two threads wrote down under a new turn; `None` if a share was missing, or memory ran out.
-fn written<R: Threads + Wait + Sync>(
+fn notes_of_two_threads<R: Threads + Wait + Sync>(
     rt: &R,
     alloc: Global,
     count: u32,
 ) -> Result<Option<Notes>, AllocError> {
-    let (turn, first) = empty(alloc)?;
+    let (turn, first) = empty_turn(alloc)?;
     let (first, second) = parted(&turn, first, 8);
     Ok(written_by_two(rt, turn, first, second, count))
 }
@@ -271,7 +271,7 @@ fn written<R: Threads + Wait + Sync>(
 #[test]
 fn two_threads(rt: HostRuntime) -> Result<(), Fail> {
     for _ in 0..50 {
-        let Some(notes) = written(&rt, rt.alloc(), 100)? else {
+        let Some(notes) = notes_of_two_threads(&rt, rt.alloc(), 100)? else {
             panic!(rt; "a share is missing")
         };
         assert_eq!(rt; notes.all.len(), 200);
@@ -281,7 +281,7 @@ fn two_threads(rt: HostRuntime) -> Result<(), Fail> {
 }
 
 /// Holds the turn until another thread signals the holder to go on.
-fn keep<R: Wait>(rt: &R, turn: &Turn<Notes>, mut chair: Chair<Notes>, flags: &Flags)
+fn hold_turn<R: Wait>(rt: &R, turn: &Turn<Notes>, mut chair: Chair<Notes>, flags: &Flags)
     requires { IsOf turn.now chair }
 {
     turn.with(rt, &mut chair, &mut Pause { flags });
@@ -289,7 +289,7 @@ fn keep<R: Wait>(rt: &R, turn: &Turn<Notes>, mut chair: Chair<Notes>, flags: &Fl
 
 /// Asks for news once the turn is held, and then signals. Returns whether the turn was held, and
 /// the news.
-fn ask(turn: &Turn<Notes>, mut chair: Chair<Notes>, flags: &Flags) -> (bool, u64)
+fn ask_then_signal(turn: &Turn<Notes>, mut chair: Chair<Notes>, flags: &Flags) -> (bool, u64)
     requires { IsOf turn.now chair }
 {
     let held = flags.wait_until_held();
@@ -313,10 +313,10 @@ fn ask_while_held<R: Threads + Wait + Sync>(
         rt,
         move ||
             requires { IsOf turn.now first }
-        { keep(rt, turn, first, flags) },
+        { hold_turn(rt, turn, first, flags) },
         move || -> (bool, u64)
             requires { IsOf turn.now second }
-        { ask(turn, second, flags) },
+        { ask_then_signal(turn, second, flags) },
     );
     answer
 }
@@ -324,7 +324,7 @@ fn ask_while_held<R: Threads + Wait + Sync>(
 #[test]
 fn news_while_held(rt: HostRuntime) -> Result<(), Fail> {
     let flags = Flags::new();
-    let (turn, first) = empty(rt.alloc())?;
+    let (turn, first) = empty_turn(rt.alloc())?;
     let (mut first, second) = parted(&turn, first, 8);
     assert!(rt; write_down(&rt, &turn, &mut first, 3));
     let (held, news) = ask_while_held(&rt, &turn, first, second, &flags);

@@ -25,12 +25,12 @@ abbrev pub limbs_text : List Limb → List ℕ
 limbs_text limbs = flat_map limb_text limbs
 
 -- `put_step` adds the step to l, if l is the limb with the last index
-pub put_last : (ls : List Limb) (n : ℕ) (l : Limb) (s : Step) → suc n ≡ length ls → l ≡ slice_index_or ls n l → slice_set ls n (limb_with_step l s) ≡ put_step ls s
-put_last [] n l s e same = absurd (omega arith)
-put_last (k ∷ []) zero l s e same = ap (λ z. limb_with_step z s ∷ []) same
-put_last (k ∷ []) (suc n) l s e same = absurd (omega arith)
-put_last (k ∷ m ∷ ls) zero l s e same = absurd (omega arith)
-put_last (k ∷ m ∷ ls) (suc n) l s e same = ap (λ z. k ∷ z) (put_last (m ∷ ls) n l s (omega arith) same)
+pub put_step_by_index : (ls : List Limb) (n : ℕ) (l : Limb) (s : Step) → suc n ≡ length ls → l ≡ slice_index_or ls n l → slice_set ls n (limb_with_step l s) ≡ put_step ls s
+put_step_by_index [] n l s e same = absurd (omega arith)
+put_step_by_index (k ∷ []) zero l s e same = ap (λ z. limb_with_step z s ∷ []) same
+put_step_by_index (k ∷ []) (suc n) l s e same = absurd (omega arith)
+put_step_by_index (k ∷ m ∷ ls) zero l s e same = absurd (omega arith)
+put_step_by_index (k ∷ m ∷ ls) (suc n) l s e same = ap (λ z. k ∷ z) (put_step_by_index (m ∷ ls) n l s (omega arith) same)
 
 pub put_step-last : (ls : List Limb) (l : Limb) (s : Step) → put_step (ls ++ l ∷ []) s ≡ ls ++ limb_with_step l s ∷ []
 put_step-last [] l s = refl
@@ -39,14 +39,14 @@ put_step-last (k ∷ m ∷ ls) l s = ap (λ z. k ∷ z) (put_step-last (m ∷ ls
 
 -- ---- there is a limb
 
-pub some_step : (ls : List Limb) (s : Step) → has_limbs ls ≡ true → has_limbs (put_step ls s) ≡ true
-some_step [] s h = h
-some_step (l ∷ []) s h = refl
-some_step (l ∷ k ∷ ls) s h = refl
+pub put_step_nonempty : (ls : List Limb) (s : Step) → has_limbs ls ≡ true → has_limbs (put_step ls s) ≡ true
+put_step_nonempty [] s h = h
+put_step_nonempty (l ∷ []) s h = refl
+put_step_nonempty (l ∷ k ∷ ls) s h = refl
 
-pub some_last : (ls : List Limb) (l : Limb) → has_limbs (ls ++ l ∷ []) ≡ true
-some_last [] l = refl
-some_last (k ∷ ls) l = refl
+pub put_limb_nonempty : (ls : List Limb) (l : Limb) → has_limbs (ls ++ l ∷ []) ≡ true
+put_limb_nonempty [] l = refl
+put_limb_nonempty (k ∷ ls) l = refl
 
 -- ---- their text
 
@@ -67,46 +67,47 @@ put_limb_text ls l none =
 
 -- ---- limbs stay lawful
 
-after_step : (e ls : List Limb) (s : Step) → are_lawful_after e (put_step ls s) ≡ are_lawful_after e ls
-after_step e [] s = refl
-after_step e (l ∷ []) s = refl
-after_step e (l ∷ k ∷ ls) s = ap (λ b. is_new_name e l.name && (may_share e l && b)) (after_step (e ++ l ∷ []) (k ∷ ls) s)
+put_step_lawful_after : (e ls : List Limb) (s : Step) → are_lawful_after e (put_step ls s) ≡ are_lawful_after e ls
+put_step_lawful_after e [] s = refl
+put_step_lawful_after e (l ∷ []) s = refl
+put_step_lawful_after e (l ∷ k ∷ ls) s = ap (λ b. is_new_name e l.name && (may_share e l && b)) (put_step_lawful_after (e ++ l ∷ []) (k ∷ ls) s)
 
-after_limb : (e ls : List Limb) (l : Limb) → are_lawful_after e ls ≡ true → is_new_name (e ++ ls) l.name ≡ true → may_share (e ++ ls) l ≡ true
+put_limb_lawful_after : (e ls : List Limb) (l : Limb) → are_lawful_after e ls ≡ true → is_new_name (e ++ ls) l.name ≡ true → may_share (e ++ ls) l ≡ true
     → are_lawful_after e (ls ++ l ∷ []) ≡ true
-after_limb e [] l h new may =
+put_limb_lawful_after e [] l h new may =
     and_from (is_new_name e l.name) (may_share e l && true) (subst (λ x. is_new_name x l.name ≡ true) (append-nil e) new)
     (and_from (may_share e l) true (subst (λ x. may_share x l ≡ true) (append-nil e) may) refl)
-after_limb e (k ∷ ls) l h new may =
+put_limb_lawful_after e (k ∷ ls) l h new may =
     let a = and_parts (is_new_name e k.name) (may_share e k && are_lawful_after (e ++ k ∷ []) ls) h in
     let b = and_parts (may_share e k) (are_lawful_after (e ++ k ∷ []) ls) a.1 in
     let same = sym (append_assoc e (k ∷ []) ls) in
     and_from (is_new_name e k.name) (may_share e k && are_lawful_after (e ++ k ∷ []) (ls ++ l ∷ [])) a.0
     (and_from (may_share e k) (are_lawful_after (e ++ k ∷ []) (ls ++ l ∷ [])) b.0
-    (after_limb (e ++ k ∷ []) ls l b.1 (subst (λ x. is_new_name x l.name ≡ true) same new) (subst (λ x. may_share x l ≡ true) same may)))
+    (put_limb_lawful_after (e ++ k ∷ []) ls l b.1 (subst (λ x. is_new_name x l.name ≡ true) same new) (subst (λ x. may_share x l ≡ true) same may)))
 
-abbrev short : Limb → Bool
-short l = nat_lt l.from (10 ^ 9) && nat_lt l.shared (10 ^ 9)
+-- whether the limb's `from` and `shared` have at most 9 digits
+abbrev has_short_numbers : Limb → Bool
+has_short_numbers l = nat_lt l.from (10 ^ 9) && nat_lt l.shared (10 ^ 9)
 
-fit_step : (t : TowerSpec) (ls : List Limb) (s : Step) → list_all (has_fit t) ls ≡ true → fits t s ≡ true → list_all (has_fit t) (put_step ls s) ≡ true
-fit_step t [] s h fit = refl
-fit_step t (l ∷ []) s h fit =
+put_step_fit : (t : TowerSpec) (ls : List Limb) (s : Step) → list_all (has_fit t) ls ≡ true → fits t s ≡ true → list_all (has_fit t) (put_step ls s) ≡ true
+put_step_fit t [] s h fit = refl
+put_step_fit t (l ∷ []) s h fit =
     let a = and_parts (has_fit t l) true h in
-    let b = and_parts (short l) (list_all (fits t) l.steps) a.0 in
+    let b = and_parts (has_short_numbers l) (list_all (fits t) l.steps) a.0 in
     let steps = list_all-append (fits t) l.steps (s ∷ []) ∙ and_from (list_all (fits t) l.steps) (fits t s && true) b.1 (and_from (fits t s) true fit refl) in
-    and_from (has_fit t (limb_with_step l s)) true (and_from (short l) (list_all (fits t) (l.steps ++ s ∷ [])) b.0 steps) refl
-fit_step t (l ∷ k ∷ ls) s h fit =
+    and_from (has_fit t (limb_with_step l s)) true (and_from (has_short_numbers l) (list_all (fits t) (l.steps ++ s ∷ [])) b.0 steps) refl
+put_step_fit t (l ∷ k ∷ ls) s h fit =
     let a = and_parts (has_fit t l) (list_all (has_fit t) (k ∷ ls)) h in
-    and_from (has_fit t l) (list_all (has_fit t) (put_step (k ∷ ls) s)) a.0 (fit_step t (k ∷ ls) s a.1 fit)
+    and_from (has_fit t l) (list_all (has_fit t) (put_step (k ∷ ls) s)) a.0 (put_step_fit t (k ∷ ls) s a.1 fit)
 
-pub lawful_step : (t : TowerSpec) (ls : List Limb) (s : Step) → fits t s ≡ true → are_lawful t ls ≡ true → are_lawful t (put_step ls s) ≡ true
-lawful_step t ls s fit h =
+pub put_step_lawful : (t : TowerSpec) (ls : List Limb) (s : Step) → fits t s ≡ true → are_lawful t ls ≡ true → are_lawful t (put_step ls s) ≡ true
+put_step_lawful t ls s fit h =
     let a = and_parts (are_lawful_after [] ls) (list_all (has_fit t) ls) h in
-    and_from (are_lawful_after [] (put_step ls s)) (list_all (has_fit t) (put_step ls s)) (after_step [] ls s ∙ a.0) (fit_step t ls s a.1 fit)
+    and_from (are_lawful_after [] (put_step ls s)) (list_all (has_fit t) (put_step ls s)) (put_step_lawful_after [] ls s ∙ a.0) (put_step_fit t ls s a.1 fit)
 
-pub lawful_limb : (t : TowerSpec) (ls : List Limb) (l : Limb) → is_new_name ls l.name ≡ true → may_share ls l ≡ true → has_fit t l ≡ true → are_lawful t ls ≡ true
+pub put_limb_lawful : (t : TowerSpec) (ls : List Limb) (l : Limb) → is_new_name ls l.name ≡ true → may_share ls l ≡ true → has_fit t l ≡ true → are_lawful t ls ≡ true
     → are_lawful t (ls ++ l ∷ []) ≡ true
-lawful_limb t ls l new may fit h =
+put_limb_lawful t ls l new may fit h =
     let a = and_parts (are_lawful_after [] ls) (list_all (has_fit t) ls) h in
-    and_from (are_lawful_after [] (ls ++ l ∷ [])) (list_all (has_fit t) (ls ++ l ∷ [])) (after_limb [] ls l a.0 new may)
+    and_from (are_lawful_after [] (ls ++ l ∷ [])) (list_all (has_fit t) (ls ++ l ∷ [])) (put_limb_lawful_after [] ls l a.0 new may)
     (list_all-append (has_fit t) ls (l ∷ []) ∙ and_from (list_all (has_fit t) ls) (has_fit t l && true) a.1 (and_from (has_fit t l) true fit refl))

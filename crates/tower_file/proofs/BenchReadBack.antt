@@ -30,8 +30,8 @@ use Rattle.words.proofs.Numbers.{number-decimal}
 use Rattle.words.proofs.Texts.{is_not, is_print, all_weaker, all_append, text_prints, words-text, cut_at}
 use Rattle.tower_file.proofs.Texts.{lines-line}
 use Rattle.words.proofs.Steps.{step_prints}
-use Rattle.tower_file.proofs.ReadBack.{IsFew, few, tower_prints, step_short, fitting_again, line_plain, none_foreign, tower_of_lines}
-use Rattle.tower_file.proofs.BenchLimbs.{step_line, limbs_text, put_step-last, some_last}
+use Rattle.tower_file.proofs.ReadBack.{IsWithinBounds, within_bounds, tower_prints, step_short, fitting_again, line_plain, none_foreign, tower_of_lines}
+use Rattle.tower_file.proofs.BenchLimbs.{step_line, limbs_text, put_step-last, put_limb_nonempty}
 
 -- ---- the bytes of names
 
@@ -41,8 +41,8 @@ name_byte b h = (grind (arith, nat_tests), grind (arith, nat_tests))
 name_prints : (b : ℕ) → is_letter_or_digit b ≡ true → is_print b ≡ true
 name_prints b h = let r = name_byte b h in grind (arith, nat_tests, r)
 
-name_stays : (b : ℕ) → is_letter_or_digit b ≡ true → is_not 32 b ≡ true
-name_stays b h = let r = name_byte b h in grind (arith, nat_tests, r)
+name_not_space : (b : ℕ) → is_letter_or_digit b ≡ true → is_not 32 b ≡ true
+name_not_space b h = let r = name_byte b h in grind (arith, nat_tests, r)
 
 name_bytes : (name : List ℕ) → is_well_formed name ≡ true → list_all is_letter_or_digit name ≡ true
 name_bytes [] h = absurd (true≢false (sym h))
@@ -52,20 +52,20 @@ name_bytes (b ∷ bs) h =
 
 -- limb l's name has at most 16 bytes, all lower-case letters or digits, and its numbers have at
 -- most 9 digits
-record IsWritten (l : Limb) : Type 0 where
+record IsPrintable (l : Limb) : Type 0 where
   pub short_name : nat_le (length l.name) 16 ≡ true
   pub bytes : list_all is_letter_or_digit l.name ≡ true
   pub from : l.from < 10 ^ 9
   pub shared : l.shared < 10 ^ 9
 
-written : (t : TowerSpec) (l : Limb) → is_name l.name ≡ true → has_fit t l ≡ true → IsWritten l
-written t l name fit =
+printable : (t : TowerSpec) (l : Limb) → is_name l.name ≡ true → has_fit t l ≡ true → IsPrintable l
+printable t l name fit =
     let a = and_parts (nat_le (length l.name) 16) (is_well_formed l.name) name in
     let b = and_parts (nat_lt l.from (10 ^ 9) && nat_lt l.shared (10 ^ 9)) (list_all (fits t) l.steps) fit in
     let c = and_parts (nat_lt l.from (10 ^ 9)) (nat_lt l.shared (10 ^ 9)) b.0 in
     record { short_name = a.0; bytes = name_bytes l.name a.1; from = ltb-true l.from (10 ^ 9) c.0; shared = ltb-true l.shared (10 ^ 9) c.1 }
 
-branch_prints : (l : Limb) → IsWritten l → list_all is_print (branch_text l) ≡ true
+branch_prints : (l : Limb) → IsPrintable l → list_all is_print (branch_text l) ≡ true
 branch_prints l w =
     let from = w.from in
     let shared = w.shared in
@@ -74,12 +74,12 @@ branch_prints l w =
 
 -- ---- a branch's line
 
-branch_words : (l : Limb) → IsWritten l → words (branch_text l) ≡ codes "branch" ∷ l.name ∷ map decimal (l.from ∷ l.shared ∷ [])
+branch_words : (l : Limb) → IsPrintable l → words (branch_text l) ≡ codes "branch" ∷ l.name ∷ map decimal (l.from ∷ l.shared ∷ [])
 branch_words l w =
     let from = w.from in
     let shared = w.shared in
     cut_at 32 (codes "branch") (text l.name (l.from ∷ l.shared ∷ [])) refl
-    ∙ ap (λ ws. codes "branch" ∷ ws) (words-text l.name (l.from ∷ l.shared ∷ []) (all_weaker is_letter_or_digit (is_not 32) name_stays l.name w.bytes) (from, (shared, tt)))
+    ∙ ap (λ ws. codes "branch" ∷ ws) (words-text l.name (l.from ∷ l.shared ∷ []) (all_weaker is_letter_or_digit (is_not 32) name_not_space l.name w.bytes) (from, (shared, tt)))
 
 -- a limb before its steps are read
 abbrev bare : Limb → Limb
@@ -88,17 +88,17 @@ bare l = record { name = l.name; from = l.from; shared = l.shared; steps = [] }
 numbers_again : (m n : ℕ) → m < 10 ^ 9 → n < 10 ^ 9 → two_numbers (map decimal (m ∷ n ∷ [])) ≡ Some (m, n)
 numbers_again m n a b = rw (number-decimal m a, number-decimal n b) refl
 
-branch_again : (l : Limb) → IsWritten l → branch_of (l.name ∷ map decimal (l.from ∷ l.shared ∷ [])) ≡ Some (bare l)
+branch_again : (l : Limb) → IsPrintable l → branch_of (l.name ∷ map decimal (l.from ∷ l.shared ∷ [])) ≡ Some (bare l)
 branch_again l w = rw (w.short_name, numbers_again l.from l.shared w.from w.shared) refl
 
-branch_line_again : (n : ℕ) (e : List Limb) (l : Limb) → IsWritten l → is_new_name e l.name ≡ true → may_share e l ≡ true → then_branch n e (after_next (words (branch_text l))) ≡ Ok (e ++ bare l ∷ [])
+branch_line_again : (n : ℕ) (e : List Limb) (l : Limb) → IsPrintable l → is_new_name e l.name ≡ true → may_share e l ≡ true → then_branch n e (after_next (words (branch_text l))) ≡ Ok (e ++ bare l ∷ [])
 branch_line_again n e l w new may =
     ap (λ ws. then_branch n e (after_next ws)) (branch_words l w)
     ∙ ap (λ o. ok_or o (fault BadBranch n) >>= put_limb n e) (branch_again l w)
     ∙ ap (λ b. cond (not b) (Err (fault BadBranch n)) (cond (may_share e l) (Ok (e ++ bare l ∷ [])) (Err (fault Tangled n)))) new
     ∙ ap (λ b. cond b (Ok (e ++ bare l ∷ [])) (Err (fault Tangled n))) may
 
-limb_line_again : (t : TowerSpec) (n : ℕ) (e : List Limb) (l : Limb) → IsWritten l → is_new_name e l.name ≡ true → may_share e l ≡ true
+limb_line_again : (t : TowerSpec) (n : ℕ) (e : List Limb) (l : Limb) → IsPrintable l → is_new_name e l.name ≡ true → may_share e l ≡ true
     → then_line t n e (branch_text l) ≡ Ok (e ++ bare l ∷ [])
 limb_line_again t n e l w new may =
     let first : is_branch (branch_text l) ≡ true = ap (λ ws. bytes_eq (next ws) (codes "branch")) (branch_words l w) in
@@ -106,18 +106,18 @@ limb_line_again t n e l w new may =
 
 -- ---- a step's line
 
-no_branch : (s : Step) → HasShortNumbers s → is_branch (step_text s) ≡ false
-no_branch (step.Write p v) h = ap (λ ws. bytes_eq (next ws) (codes "branch")) (words-text (codes "w") (p ∷ v ∷ []) refl (h.0, (h.1, tt)))
-no_branch (step.Read p) h = ap (λ ws. bytes_eq (next ws) (codes "branch")) (words-text (codes "r") (p ∷ []) refl (h, tt))
-no_branch (step.Go p c) h = ap (λ ws. bytes_eq (next ws) (codes "branch")) (words-text (codes "g") (p ∷ c ∷ []) refl (h.0, (h.1, tt)))
-no_branch (step.Stop p) h = ap (λ ws. bytes_eq (next ws) (codes "branch")) (words-text (codes "x") (p ∷ []) refl (h, tt))
+step_not_branch : (s : Step) → HasShortNumbers s → is_branch (step_text s) ≡ false
+step_not_branch (step.Write p v) h = ap (λ ws. bytes_eq (next ws) (codes "branch")) (words-text (codes "w") (p ∷ v ∷ []) refl (h.0, (h.1, tt)))
+step_not_branch (step.Read p) h = ap (λ ws. bytes_eq (next ws) (codes "branch")) (words-text (codes "r") (p ∷ []) refl (h, tt))
+step_not_branch (step.Go p c) h = ap (λ ws. bytes_eq (next ws) (codes "branch")) (words-text (codes "g") (p ∷ c ∷ []) refl (h.0, (h.1, tt)))
+step_not_branch (step.Stop p) h = ap (λ ws. bytes_eq (next ws) (codes "branch")) (words-text (codes "x") (p ∷ []) refl (h, tt))
 
-step_line_again : (t : TowerSpec) (n : ℕ) (e : List Limb) (l : Limb) (s : Step) → IsFew t → fits t s ≡ true
+step_line_again : (t : TowerSpec) (n : ℕ) (e : List Limb) (l : Limb) (s : Step) → IsWithinBounds t → fits t s ≡ true
     → then_line t n (e ++ l ∷ []) (step_text s) ≡ Ok (e ++ limb_with_step l s ∷ [])
 step_line_again t n e l s small fit =
     let limbs = e ++ l ∷ [] in
-    ap (λ b. cond b (then_branch n limbs (after_next (words (step_text s)))) (then_step t n limbs (step_text s))) (no_branch s (step_short t s small fit))
-    ∙ ap (λ b. cond b (ok_or (fitting_step Two t (step_text s)) (fault BadStep n) >>= λ x. Ok (put_step limbs x)) (Err (fault BadBranch n))) (some_last e l)
+    ap (λ b. cond b (then_branch n limbs (after_next (words (step_text s)))) (then_step t n limbs (step_text s))) (step_not_branch s (step_short t s small fit))
+    ∙ ap (λ b. cond b (ok_or (fitting_step Two t (step_text s)) (fault BadStep n) >>= λ x. Ok (put_step limbs x)) (Err (fault BadBranch n))) (put_limb_nonempty e l)
     ∙ ap (λ (o : Option Step). ok_or o (fault BadStep n) >>= λ x. Ok (put_step limbs x)) (fitting_again Two t s small fit)
     ∙ ap (λ (x : List Limb). Ok x) (put_step-last e l s)
 
@@ -133,13 +133,13 @@ abbrev pub limb_lines : List Limb → List (List ℕ)
 limb_lines [] = [] ∷ []
 limb_lines (l ∷ ls) = branch_text l ∷ steps_before l.steps (limb_lines ls)
 
-more_steps : (ss : List Step) (rest : List (List ℕ)) → is_end rest ≡ false → is_end (steps_before ss rest) ≡ false
-more_steps [] rest h = h
-more_steps (s ∷ ss) rest h = refl
+steps_before_nonempty : (ss : List Step) (rest : List (List ℕ)) → is_end rest ≡ false → is_end (steps_before ss rest) ≡ false
+steps_before_nonempty [] rest h = h
+steps_before_nonempty (s ∷ ss) rest h = refl
 
-more_limbs : (ls : List Limb) → is_end (limb_lines ls) ≡ false
-more_limbs [] = refl
-more_limbs (l ∷ ls) = refl
+limb_lines_nonempty : (ls : List Limb) → is_end (limb_lines ls) ≡ false
+limb_lines_nonempty [] = refl
+limb_lines_nonempty (l ∷ ls) = refl
 
 limbs_more : (t : TowerSpec) (n : ℕ) (e : List Limb) (l : List ℕ) (ls : List (List ℕ)) → is_end ls ≡ false
     → limbs_of t n e (l ∷ ls) ≡ (then_line t n e l >>= λ more. limbs_of t (n + 1) more ls)
@@ -159,7 +159,7 @@ next_again t e l ls more all followed first others =
 abbrev with_steps : Limb → List Step → Limb
 with_steps l ss = record { name = l.name; from = l.from; shared = l.shared; steps = l.steps ++ ss }
 
-steps_again : (t : TowerSpec) (e : List Limb) (l : Limb) (ss : List Step) (rest : List (List ℕ)) (all : List Limb) → IsFew t → list_all (fits t) ss ≡ true → is_end rest ≡ false
+steps_again : (t : TowerSpec) (e : List Limb) (l : Limb) (ss : List Step) (rest : List (List ℕ)) (all : List Limb) → IsWithinBounds t → list_all (fits t) ss ≡ true → is_end rest ≡ false
     → AreRead t (e ++ with_steps l ss ∷ []) rest all → AreRead t (e ++ l ∷ []) (steps_before ss rest) all
 steps_again t e l [] rest all small fit followed read =
     let same : with_steps l [] ≡ l = ap (λ ss. record { name = l.name; from = l.from; shared = l.shared; steps = ss }) (append-nil l.steps) in
@@ -168,7 +168,7 @@ steps_again t e l (s ∷ ss) rest all small fit followed read =
     let a = and_parts (fits t s) (list_all (fits t) ss) fit in
     let same : with_steps l (s ∷ ss) ≡ with_steps (limb_with_step l s) ss =
     ap (λ xs. record { name = l.name; from = l.from; shared = l.shared; steps = xs }) (sym (append_assoc l.steps (s ∷ []) ss)) in
-    next_again t (e ++ l ∷ []) (step_text s) (steps_before ss rest) (e ++ limb_with_step l s ∷ []) all (more_steps ss rest followed) (λ n. step_line_again t n e l s small a.0)
+    next_again t (e ++ l ∷ []) (step_text s) (steps_before ss rest) (e ++ limb_with_step l s ∷ []) all (steps_before_nonempty ss rest followed) (λ n. step_line_again t n e l s small a.0)
     (steps_again t e (limb_with_step l s) ss rest all small a.1 followed (subst (λ x. AreRead t (e ++ x ∷ []) rest all) same read))
 
 ended_again : (t : TowerSpec) (e : List Limb) → has_limbs e ≡ true → AreRead t e ([] ∷ []) e
@@ -177,7 +177,7 @@ ended_again t e some = λ n. ap (λ b. cond b (Ok e) (Err (fault (cut_line e [])
 
 -- a bench file on tower t can have limb l after the limbs e, and the limbs ls after l
 record IsNext (t : TowerSpec) (e : List Limb) (l : Limb) (ls : List Limb) : Type 0 where
-  pub written : IsWritten l
+  pub printable : IsPrintable l
   pub new : is_new_name e l.name ≡ true
   pub may : may_share e l ≡ true
   pub fit : list_all (fits t) l.steps ≡ true
@@ -190,12 +190,12 @@ next_limb t e l ls lawful fit =
     let b = and_parts (may_share e l) (are_lawful_after (e ++ l ∷ []) ls) a.1 in
     let c = and_parts (has_fit t l) (list_all (has_fit t) ls) fit in
     let d = and_parts (nat_lt l.from (10 ^ 9) && nat_lt l.shared (10 ^ 9)) (list_all (fits t) l.steps) c.0 in
-    record { written = written t l (name_of_new e l.name a.0) c.0; new = a.0; may = b.0; fit = d.1; later = b.1; others = c.1 }
+    record { printable = printable t l (name_of_new e l.name a.0) c.0; new = a.0; may = b.0; fit = d.1; later = b.1; others = c.1 }
   where
     name_of_new : (e : List Limb) (name : List ℕ) → is_new_name e name ≡ true → is_name name ≡ true
     name_of_new e name h = (and_parts (is_name name) _ h).0
 
-limbs_again : (t : TowerSpec) (e ls : List Limb) → IsFew t → are_lawful_after e ls ≡ true → list_all (has_fit t) ls ≡ true → has_limbs (e ++ ls) ≡ true → AreRead t e (limb_lines ls) (e ++ ls)
+limbs_again : (t : TowerSpec) (e ls : List Limb) → IsWithinBounds t → are_lawful_after e ls ≡ true → list_all (has_fit t) ls ≡ true → has_limbs (e ++ ls) ≡ true → AreRead t e (limb_lines ls) (e ++ ls)
 limbs_again t e [] small lawful fit some =
     let same : e ++ [] ≡ e = append-nil e in
     subst (λ x. AreRead t e ([] ∷ []) x) (sym same) (ended_again t e (subst (λ x. has_limbs x ≡ true) same some))
@@ -205,13 +205,13 @@ limbs_again t e (l ∷ ls) small lawful fit some =
     let others : AreRead t (e ++ l ∷ []) (limb_lines ls) (e ++ l ∷ ls) =
     subst (AreRead t (e ++ l ∷ []) (limb_lines ls)) same
     (limbs_again t (e ++ l ∷ []) ls small h.later h.others (subst (λ x. has_limbs x ≡ true) (sym same) some)) in
-    next_again t e (branch_text l) (steps_before l.steps (limb_lines ls)) (e ++ bare l ∷ []) (e ++ l ∷ ls) (more_steps l.steps (limb_lines ls) (more_limbs ls))
-    (λ n. limb_line_again t n e l h.written h.new h.may)
-    (steps_again t e (bare l) l.steps (limb_lines ls) (e ++ l ∷ ls) small h.fit (more_limbs ls) others)
+    next_again t e (branch_text l) (steps_before l.steps (limb_lines ls)) (e ++ bare l ∷ []) (e ++ l ∷ ls) (steps_before_nonempty l.steps (limb_lines ls) (limb_lines_nonempty ls))
+    (λ n. limb_line_again t n e l h.printable h.new h.may)
+    (steps_again t e (bare l) l.steps (limb_lines ls) (e ++ l ∷ ls) small h.fit (limb_lines_nonempty ls) others)
 
 -- ---- the bytes of limbs
 
-lines-steps : (t : TowerSpec) (ss : List Step) (rest : List ℕ) → IsFew t → list_all (fits t) ss ≡ true → lines (flat_map step_line ss ++ rest) ≡ steps_before ss (lines rest)
+lines-steps : (t : TowerSpec) (ss : List Step) (rest : List ℕ) → IsWithinBounds t → list_all (fits t) ss ≡ true → lines (flat_map step_line ss ++ rest) ≡ steps_before ss (lines rest)
 lines-steps t [] rest small fit = refl
 lines-steps t (s ∷ ss) rest small fit =
     let a = and_parts (fits t s) (list_all (fits t) ss) fit in
@@ -219,68 +219,68 @@ lines-steps t (s ∷ ss) rest small fit =
     ∙ lines-line (step_text s) (flat_map step_line ss ++ rest) (step_prints s (step_short t s small a.0))
     ∙ ap (λ ls. step_text s ∷ ls) (lines-steps t ss rest small a.1)
 
-lines-limbs : (t : TowerSpec) (e ls : List Limb) → IsFew t → are_lawful_after e ls ≡ true → list_all (has_fit t) ls ≡ true → lines (limbs_text ls) ≡ limb_lines ls
+lines-limbs : (t : TowerSpec) (e ls : List Limb) → IsWithinBounds t → are_lawful_after e ls ≡ true → list_all (has_fit t) ls ≡ true → lines (limbs_text ls) ≡ limb_lines ls
 lines-limbs t e [] small lawful fit = refl
 lines-limbs t e (l ∷ ls) small lawful fit =
     let h = next_limb t e l ls lawful fit in
     let regroup : limb_text l ++ limbs_text ls ≡ text_with_end (branch_text l) ++ (flat_map step_line l.steps ++ limbs_text ls) =
     append_assoc (text_with_end (branch_text l)) (flat_map step_line l.steps) (limbs_text ls) in
     ap lines regroup
-    ∙ lines-line (branch_text l) (flat_map step_line l.steps ++ limbs_text ls) (branch_prints l h.written)
+    ∙ lines-line (branch_text l) (flat_map step_line l.steps ++ limbs_text ls) (branch_prints l h.printable)
     ∙ ap (λ xs. branch_text l ∷ xs) (lines-steps t l.steps (limbs_text ls) small h.fit ∙ ap (steps_before l.steps) (lines-limbs t (e ++ l ∷ []) ls small h.later h.others))
 
-steps_plain : (t : TowerSpec) (ss : List Step) → IsFew t → list_all (fits t) ss ≡ true → list_all is_file_byte (flat_map step_line ss) ≡ true
+steps_plain : (t : TowerSpec) (ss : List Step) → IsWithinBounds t → list_all (fits t) ss ≡ true → list_all is_file_byte (flat_map step_line ss) ≡ true
 steps_plain t [] small fit = refl
 steps_plain t (s ∷ ss) small fit =
     let a = and_parts (fits t s) (list_all (fits t) ss) fit in
     all_append is_file_byte (step_line s) (flat_map step_line ss) (line_plain (step_text s) (step_prints s (step_short t s small a.0))) (steps_plain t ss small a.1)
 
-limbs_plain : (t : TowerSpec) (e ls : List Limb) → IsFew t → are_lawful_after e ls ≡ true → list_all (has_fit t) ls ≡ true → list_all is_file_byte (limbs_text ls) ≡ true
+limbs_plain : (t : TowerSpec) (e ls : List Limb) → IsWithinBounds t → are_lawful_after e ls ≡ true → list_all (has_fit t) ls ≡ true → list_all is_file_byte (limbs_text ls) ≡ true
 limbs_plain t e [] small lawful fit = refl
 limbs_plain t e (l ∷ ls) small lawful fit =
     let h = next_limb t e l ls lawful fit in
     all_append is_file_byte (limb_text l) (limbs_text ls)
-    (all_append is_file_byte (text_with_end (branch_text l)) (flat_map step_line l.steps) (line_plain (branch_text l) (branch_prints l h.written)) (steps_plain t l.steps small h.fit))
+    (all_append is_file_byte (text_with_end (branch_text l)) (flat_map step_line l.steps) (line_plain (branch_text l) (branch_prints l h.printable)) (steps_plain t l.steps small h.fit))
     (limbs_plain t (e ++ l ∷ []) ls small h.later h.others)
 
 -- ---- files
 
 -- what makes the bench b lawful, part by part
-record IsParted (b : Bench) : Type 0 where
+record HasLawfulParts (b : Bench) : Type 0 where
   pub tower : is_lawful_tower b.spec ≡ true
-  pub some : has_limbs b.limbs ≡ true
+  pub nonempty : has_limbs b.limbs ≡ true
   pub after : are_lawful_after [] b.limbs ≡ true
   pub fit : list_all (has_fit b.spec) b.limbs ≡ true
 
-parted : (b : Bench) → IsLawfulBench b → IsParted b
-parted b h =
+lawful_parts : (b : Bench) → IsLawfulBench b → HasLawfulParts b
+lawful_parts b h =
     let a = and_parts (is_lawful_tower b.spec && has_limbs b.limbs) (are_lawful b.spec b.limbs) h in
     let c = and_parts (is_lawful_tower b.spec) (has_limbs b.limbs) a.0 in
     let d = and_parts (are_lawful_after [] b.limbs) (list_all (has_fit b.spec) b.limbs) a.1 in
-    record { tower = c.0; some = c.1; after = d.0; fit = d.1 }
+    record { tower = c.0; nonempty = c.1; after = d.0; fit = d.1 }
 
-lines-bench : (b : Bench) → IsParted b → lines (bench_spelling b) ≡ bench_header ∷ tower_text b.spec ∷ limb_lines b.limbs
+lines-bench : (b : Bench) → HasLawfulParts b → lines (bench_spelling b) ≡ bench_header ∷ tower_text b.spec ∷ limb_lines b.limbs
 lines-bench b h =
     ap lines (append_assoc (text_with_end bench_header) (text_with_end (tower_text b.spec)) (limbs_text b.limbs))
     ∙ lines-line bench_header (text_with_end (tower_text b.spec) ++ limbs_text b.limbs) refl
     ∙ ap (λ ls. bench_header ∷ ls) (lines-line (tower_text b.spec) (limbs_text b.limbs) (tower_prints b.spec h.tower))
-    ∙ ap (λ ls. bench_header ∷ tower_text b.spec ∷ ls) (lines-limbs b.spec [] b.limbs (few b.spec h.tower) h.after h.fit)
+    ∙ ap (λ ls. bench_header ∷ tower_text b.spec ∷ ls) (lines-limbs b.spec [] b.limbs (within_bounds b.spec h.tower) h.after h.fit)
 
-bench_plain : (b : Bench) → IsParted b → list_all is_file_byte (bench_spelling b) ≡ true
+bench_plain : (b : Bench) → HasLawfulParts b → list_all is_file_byte (bench_spelling b) ≡ true
 bench_plain b h =
     all_append is_file_byte (text_with_end bench_header ++ text_with_end (tower_text b.spec)) (limbs_text b.limbs)
     (all_append is_file_byte (text_with_end bench_header) (text_with_end (tower_text b.spec)) refl (line_plain (tower_text b.spec) (tower_prints b.spec h.tower)))
-    (limbs_plain b.spec [] b.limbs (few b.spec h.tower) h.after h.fit)
+    (limbs_plain b.spec [] b.limbs (within_bounds b.spec h.tower) h.after h.fit)
 
-bench_again : (b : Bench) → IsParted b → bench_of_lines (bench_header ∷ tower_text b.spec ∷ limb_lines b.limbs) ≡ Ok b
+bench_again : (b : Bench) → HasLawfulParts b → bench_of_lines (bench_header ∷ tower_text b.spec ∷ limb_lines b.limbs) ≡ Ok b
 bench_again b h =
     let rest : List (List ℕ) = limb_lines b.limbs in
-    ap (λ (r : Result TowerSpec FileFault). r >>= λ t. limbs_of t 3 [] rest >>= λ limbs. Ok (bench_of t limbs)) (tower_of_lines b.spec rest (more_limbs b.limbs) h.tower)
-    ∙ ap (λ (r : Result (List Limb) FileFault). r >>= λ limbs. Ok (bench_of b.spec limbs)) (limbs_again b.spec [] b.limbs (few b.spec h.tower) h.after h.fit h.some 3)
+    ap (λ (r : Result TowerSpec FileFault). r >>= λ t. limbs_of t 3 [] rest >>= λ limbs. Ok (bench_of t limbs)) (tower_of_lines b.spec rest (limb_lines_nonempty b.limbs) h.tower)
+    ∙ ap (λ (r : Result (List Limb) FileFault). r >>= λ limbs. Ok (bench_of b.spec limbs)) (limbs_again b.spec [] b.limbs (within_bounds b.spec h.tower) h.after h.fit h.nonempty 3)
 
 reading-bench_spelling : (b : Bench) → IsLawfulBench b → bench_reading (bench_spelling b) ≡ Ok b
 reading-bench_spelling b lawful =
-    let h = parted b lawful in
+    let h = lawful_parts b lawful in
     ap (λ o. reading_from bench_of_lines o (bench_spelling b)) (none_foreign (bench_spelling b) (bench_plain b h))
     ∙ ap bench_of_lines (lines-bench b h)
     ∙ bench_again b h

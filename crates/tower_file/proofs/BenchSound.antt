@@ -25,16 +25,16 @@ use Rattle.words.specs.Words.{words, next, after_next, is_end, two_numbers}
 use Rattle.words.specs.Steps.{text}
 use Rattle.words.proofs.Steps.{some_then, two_are, two_short, joined, is_word}
 use Rattle.tower_file.proofs.Sound.{bind_ok, ok_or_ok, when_ok, unless_ok, ok_is, fitting_is, IsTowerLine, tower_line, header_is, three_lines}
-use Rattle.tower_file.proofs.BenchLimbs.{limbs_text, put_step_text, put_limb_text, some_step, some_last, lawful_step, lawful_limb}
+use Rattle.tower_file.proofs.BenchLimbs.{limbs_text, put_step_text, put_limb_text, put_step_nonempty, put_limb_nonempty, put_step_lawful, put_limb_lawful}
 
 -- ---- a line
 
 -- these are the words after `branch` in the line of limb l's branch, and l has no steps yet
 record IsBranch (ws : List (List ℕ)) (l : Limb) : Type 0 where
   pub spelled : join_with_byte 32 ws ≡ text l.name (l.from ∷ l.shared ∷ [])
-  pub some : 0 < length ws
+  pub nonempty : 0 < length ws
   pub fit : (t : TowerSpec) → has_fit t l ≡ true
-  pub none : l.steps ≡ []
+  pub no_steps : l.steps ≡ []
 
 branch_is : (ws : List (List ℕ)) (l : Limb) → branch_of ws ≡ Some l → IsBranch ws l
 branch_is [] l h = absurd cc
@@ -48,69 +48,69 @@ branch_is (w ∷ ws) l h =
     subst (IsBranch (w ∷ ws)) (same_Some (record { name = a.0; from = b.0.0; shared = b.0.1; steps = [] }) l b.2)
     (record {
       spelled = joined w a.0 ws (b.0.0 ∷ b.0.1 ∷ []) name.1 (two_are ws b.0 b.1);
-      some = omega arith;
+      nonempty = omega arith;
       fit = λ t. and_from (nat_lt b.0.0 (10 ^ 9) && nat_lt b.0.1 (10 ^ 9)) true (and_from (nat_lt b.0.0 (10 ^ 9)) (nat_lt b.0.1 (10 ^ 9)) from shared) refl;
-      none = refl;
+      no_steps = refl;
     })
 
 branch_line : (ws : List (List ℕ)) (l : Limb) → next ws ≡ codes "branch" → IsBranch (after_next ws) l → join_with_byte 32 ws ≡ branch_text l
 branch_line [] l first h = absurd cc
-branch_line (w ∷ []) l first h = absurd (omega (arith, h.some))
+branch_line (w ∷ []) l first h = absurd (omega (arith, h.nonempty))
 branch_line (w ∷ v ∷ vs) l first h = ap (λ x. x ++ 32 ∷ join_with_byte 32 (v ∷ vs)) first ∙ ap (λ x. codes "branch" ++ 32 ∷ x) h.spelled
 
 -- a line adds a branch or a step to these limbs, which gives `more`
-pub record AddsLine (t : TowerSpec) (limbs : List Limb) (said : List ℕ) (more : List Limb) : Type 0 where
-  pub spelled : limbs_text more ≡ limbs_text limbs ++ text_with_end said
-  pub some : has_limbs more ≡ true
+pub record AddsLine (t : TowerSpec) (limbs : List Limb) (line : List ℕ) (more : List Limb) : Type 0 where
+  pub spelled : limbs_text more ≡ limbs_text limbs ++ text_with_end line
+  pub nonempty : has_limbs more ≡ true
   pub lawful : are_lawful t limbs ≡ true → are_lawful t more ≡ true
 
-branch_adds : (t : TowerSpec) (n : ℕ) (limbs : List Limb) (said : List ℕ) (more : List Limb) → is_branch said ≡ true
-    → then_branch n limbs (after_next (words said)) ≡ Ok more → AddsLine t limbs said more
-branch_adds t n limbs said more first h =
-    let ws = words said in
+branch_adds : (t : TowerSpec) (n : ℕ) (limbs : List Limb) (line : List ℕ) (more : List Limb) → is_branch line ≡ true
+    → then_branch n limbs (after_next (words line)) ≡ Ok more → AddsLine t limbs line more
+branch_adds t n limbs line more first h =
+    let ws = words line in
     let a = bind_ok (ok_or (branch_of (after_next ws)) (fault BadBranch n)) (put_limb n limbs) more h in
     let l = a.0 in
     let is = branch_is (after_next ws) l (ok_or_ok (branch_of (after_next ws)) (fault BadBranch n) l a.1) in
     let b = unless_ok (not (is_new_name limbs l.name)) (cond (may_share limbs l) (Ok (limbs ++ l ∷ [])) (Err (fault Tangled n))) (fault BadBranch n) more a.2 in
     let c = when_ok (may_share limbs l) (Ok (limbs ++ l ∷ [])) (fault Tangled n) more b.1 in
-    let spelled : said ≡ branch_text l = sym (join_with_byte-slice_split 32 said) ∙ branch_line ws l (is_word (next ws) (codes "branch") first) is in
-    subst (AddsLine t limbs said) (ok_is (limbs ++ l ∷ []) more c.1)
+    let spelled : line ≡ branch_text l = sym (join_with_byte-slice_split 32 line) ∙ branch_line ws l (is_word (next ws) (codes "branch") first) is in
+    subst (AddsLine t limbs line) (ok_is (limbs ++ l ∷ []) more c.1)
     (record {
-      spelled = put_limb_text limbs l is.none ∙ ap (λ x. limbs_text limbs ++ text_with_end x) (sym spelled);
-      some = some_last limbs l;
-      lawful = lawful_limb t limbs l (is_true (is_new_name limbs l.name) b.0) c.0 (is.fit t);
+      spelled = put_limb_text limbs l is.no_steps ∙ ap (λ x. limbs_text limbs ++ text_with_end x) (sym spelled);
+      nonempty = put_limb_nonempty limbs l;
+      lawful = put_limb_lawful t limbs l (is_true (is_new_name limbs l.name) b.0) c.0 (is.fit t);
     })
   where
     is_true : (b : Bool) → not b ≡ false → b ≡ true
     is_true true e = refl
     is_true false e = absurd (true≢false e)
 
-step_adds : (t : TowerSpec) (n : ℕ) (limbs : List Limb) (said : List ℕ) (more : List Limb) → then_step t n limbs said ≡ Ok more → AddsLine t limbs said more
-step_adds t n limbs said more h =
-    let a = when_ok (has_limbs limbs) (ok_or (fitting_step Two t said) (fault BadStep n) >>= λ s. Ok (put_step limbs s)) (fault BadBranch n) more h in
-    let b = bind_ok (ok_or (fitting_step Two t said) (fault BadStep n)) (λ s. Ok (put_step limbs s)) more a.1 in
+step_adds : (t : TowerSpec) (n : ℕ) (limbs : List Limb) (line : List ℕ) (more : List Limb) → then_step t n limbs line ≡ Ok more → AddsLine t limbs line more
+step_adds t n limbs line more h =
+    let a = when_ok (has_limbs limbs) (ok_or (fitting_step Two t line) (fault BadStep n) >>= λ s. Ok (put_step limbs s)) (fault BadBranch n) more h in
+    let b = bind_ok (ok_or (fitting_step Two t line) (fault BadStep n)) (λ s. Ok (put_step limbs s)) more a.1 in
     let s = b.0 in
-    let is = fitting_is Two t said s (ok_or_ok (fitting_step Two t said) (fault BadStep n) s b.1) in
-    subst (AddsLine t limbs said) (ok_is (put_step limbs s) more b.2)
+    let is = fitting_is Two t line s (ok_or_ok (fitting_step Two t line) (fault BadStep n) s b.1) in
+    subst (AddsLine t limbs line) (ok_is (put_step limbs s) more b.2)
     (record {
       spelled = put_step_text limbs s a.0 ∙ ap (λ x. limbs_text limbs ++ text_with_end x) (sym is.0);
-      some = some_step limbs s a.0;
-      lawful = lawful_step t limbs s is.1;
+      nonempty = put_step_nonempty limbs s a.0;
+      lawful = put_step_lawful t limbs s is.1;
     })
 
-pub line_adds : (t : TowerSpec) (n : ℕ) (limbs : List Limb) (said : List ℕ) (more : List Limb) → then_line t n limbs said ≡ Ok more → AddsLine t limbs said more
-line_adds t n limbs said more h = by (is_branch said) refl h
+pub line_adds : (t : TowerSpec) (n : ℕ) (limbs : List Limb) (line : List ℕ) (more : List Limb) → then_line t n limbs line ≡ Ok more → AddsLine t limbs line more
+line_adds t n limbs line more h = by (is_branch line) refl h
   where
-    by : (b : Bool) → is_branch said ≡ b → cond b (then_branch n limbs (after_next (words said))) (then_step t n limbs said) ≡ Ok more → AddsLine t limbs said more
-    by true first g = branch_adds t n limbs said more first g
-    by false first g = step_adds t n limbs said more g
+    by : (b : Bool) → is_branch line ≡ b → cond b (then_branch n limbs (after_next (words line))) (then_step t n limbs line) ≡ Ok more → AddsLine t limbs line more
+    by true first g = branch_adds t n limbs line more first g
+    by false first g = step_adds t n limbs line more g
 
 -- ---- all lines
 
 -- these lines add branches and steps to these limbs, which gives `all`
 pub record AreLimbs (t : TowerSpec) (limbs : List Limb) (said : List ℕ) (all : List Limb) : Type 0 where
   pub spelled : limbs_text limbs ++ said ≡ limbs_text all
-  pub some : has_limbs all ≡ true
+  pub nonempty : has_limbs all ≡ true
   pub lawful : are_lawful t limbs ≡ true → are_lawful t all ≡ true
 
 ended_is : (t : TowerSpec) (n : ℕ) (limbs : List Limb) (rest : List ℕ) (all : List Limb) → limbs_at_end n limbs rest ≡ Ok all → AreLimbs t limbs rest all
@@ -120,7 +120,7 @@ ended_is t n limbs rest all h =
     subst (AreLimbs t limbs rest) (ok_is limbs all a.1)
     (record {
       spelled = ap (λ x. limbs_text limbs ++ x) (nil_from_length rest (eqb-true (length rest) 0 b.0)) ∙ append-nil (limbs_text limbs);
-      some = b.1;
+      nonempty = b.1;
       lawful = λ l. l;
     })
 
@@ -137,7 +137,7 @@ limbs_are t n limbs (l ∷ k ∷ ls) all h =
     let regroup : limbs_text limbs ++ (l ++ 10 ∷ rest) ≡ (limbs_text limbs ++ text_with_end l) ++ rest = simp append_assoc in
     record {
       spelled = regroup ∙ ap (λ x. x ++ rest) (sym first.spelled) ∙ others.spelled;
-      some = others.some;
+      nonempty = others.nonempty;
       lawful = λ g. others.lawful (first.lawful g);
     }
 
@@ -156,12 +156,12 @@ whole_bench (l ∷ k ∷ r ∷ rs) t following e more tower same =
     ∙ three_lines bench_header (tower_text t) following
 
 -- the first two lines of a bench file: its header, and the line of a lawful tower
-pub record IsBegun (ls : List (List ℕ)) (t : TowerSpec) : Type 0 where
+pub record HasFirstTwoLines (ls : List (List ℕ)) (t : TowerSpec) : Type 0 where
   pub lawful : is_lawful_tower t ≡ true
   pub spelled : (following : List ℕ) → join_with_byte 10 (after_next (after_next ls)) ≡ following → join_with_byte 10 ls ≡ text_with_end bench_header ++ text_with_end (tower_text t) ++ following
 
-pub begun : (ls : List (List ℕ)) (t : TowerSpec) → has_header bench_header ls ≡ true → tower_of (after_next ls) ≡ Ok t → IsBegun ls t
-begun ls t header tower =
+pub first_two_lines : (ls : List (List ℕ)) (t : TowerSpec) → has_header bench_header ls ≡ true → tower_of (after_next ls) ≡ Ok t → HasFirstTwoLines ls t
+first_two_lines ls t header tower =
     let first = header_is bench_header ls header in
     let second = tower_line (after_next ls) t tower in
     record { lawful = second.lawful; spelled = λ following same. whole_bench ls t following first.0 first.1 second same }
@@ -173,10 +173,10 @@ bench_is ls b h =
     let t = c.0 in
     let d = bind_ok (limbs_of t 3 [] (after_next (after_next ls))) (λ limbs. Ok (bench_of t limbs)) b c.2 in
     let limbs = d.0 in
-    let front = begun ls t a.0 c.1 in
+    let front = first_two_lines ls t a.0 c.1 in
     let following = limbs_are t 3 [] (after_next (after_next ls)) limbs d.1 in
     subst (SpellsBench (join_with_byte 10 ls)) (ok_is (bench_of t limbs) b d.2)
     (record {
-      lawful = and_from (is_lawful_tower t && has_limbs limbs) (are_lawful t limbs) (and_from (is_lawful_tower t) (has_limbs limbs) front.lawful following.some) (following.lawful refl);
+      lawful = and_from (is_lawful_tower t && has_limbs limbs) (are_lawful t limbs) (and_from (is_lawful_tower t) (has_limbs limbs) front.lawful following.nonempty) (following.lawful refl);
       spelled = front.spelled (limbs_text limbs) following.spelled;
     })

@@ -16,7 +16,7 @@ use Rattle.tower_file.proofs.Sound.{file_is}
 use Rattle.tower_file.proofs.ReadBack.{reading_again}
 
 pub tower_format : IsFormat Spells file_of_lines
-tower_format = record { is = file_is; again = reading_again }
+tower_format = record { sound = file_is; reads_back = reading_again }
 
 -- bytes without a foreign byte, of which at least one step is read, spell a tower file with steps
 pub spells_steps : (bytes : List ℕ) (v : Version) (t : TowerSpec) (left : List (List ℕ)) → first_foreign bytes ≡ None → version_of (lines bytes) ≡ Some v → tower_of (after_next (lines bytes)) ≡ Ok t
@@ -31,5 +31,5 @@ spells_steps bytes v t left plain version tower same h =
           ∙ ap (λ (o : Option Version). ok_or o (fault BadHeader 1) >>= λ w. tower_of (after_next ls) >>= λ u. steps_of w u 3 following >>= λ ss. Ok (file_of w u ss)) version
           ∙ ap (λ (r : Result TowerSpec FileFault). r >>= λ u. steps_of v u 3 following >>= λ ss. Ok (file_of v u ss)) tower
           ∙ ap (λ (r : Result (List Step) FileFault). r >>= λ ss. Ok (file_of v t ss)) (ap (steps_of v t 3) (sym same) ∙ h.2));
-      some = omega arith;
+      has_steps = omega arith;
     }

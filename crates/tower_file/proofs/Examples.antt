@@ -30,14 +30,14 @@ not_none x e = cc
 
 -- a safe bit and the line `r 1`
 SpellsSteps-holds : SpellsSteps (spelling (file (Read 1 ∷ [])))
-SpellsSteps-holds = record { file = file (Read 1 ∷ []); spells = record { lawful = refl; spelled = refl }; some = omega arith }
+SpellsSteps-holds = record { file = file (Read 1 ∷ []); spells = record { lawful = refl; spelled = refl }; has_steps = omega arith }
 
 -- a safe bit and no line after it
 SpellsSteps-fails : SpellsSteps (spelling (file [])) → ⊥
 unfolding digits steps_of
 SpellsSteps-fails h =
     let read : 0 ≡ length h.file.steps = ap steps_in (reading_again (spelling (file [])) h.file h.spells) in
-    omega (arith, read, h.some)
+    omega (arith, read, h.has_steps)
 
 -- a safe bit and its branch, and the beginning of another line
 SpellsFront-holds : SpellsFront (bench_spelling bench ++ codes "r")

@@ -13,8 +13,8 @@ use Rattle.words.specs.Words.{lines}
 
 -- If lines are read as a file, they spell it; and bytes that spell a file are read as that file.
 pub record IsFormat {F : Type 0} (Spells : List ℕ → F → Type 0) (of_lines : List (List ℕ) → Result F FileFault) : Type 0 where
-  pub is : (ls : List (List ℕ)) (f : F) → of_lines ls ≡ Ok f → Spells (join_with_byte 10 ls) f
-  pub again : (bytes : List ℕ) (f : F) → Spells bytes f → reading_from of_lines (first_foreign bytes) bytes ≡ Ok f
+  pub sound : (ls : List (List ℕ)) (f : F) → of_lines ls ≡ Ok f → Spells (join_with_byte 10 ls) f
+  pub reads_back : (bytes : List ℕ) (f : F) → Spells bytes f → reading_from of_lines (first_foreign bytes) bytes ≡ Ok f
 
 no_fault : {F : Type 0} (k : FaultKind) (e : FileFault) (f : F) → Fails k e (let r : Result F FileFault = Ok f in r) → k ≢ Memory → ⊥
 no_fault NotAscii e f given other = cc
@@ -28,24 +28,24 @@ no_fault Tangled e f given other = cc
 no_fault Memory e f given other = other refl
 
 module _ {F : Type 0} {Spells : List ℕ → F → Type 0} {of_lines : List (List ℕ) → Result F FileFault} (format : IsFormat Spells of_lines) where
-  from_is : (o : Option ℕ) (bytes : List ℕ) (f : F) → reading_from of_lines o bytes ≡ Ok f → Spells bytes f
-  from_is (Some k) bytes f h = absurd cc
-  from_is None bytes f h = subst (λ (x : List ℕ). Spells x f) (join_with_byte-slice_split 10 bytes) (format.is (lines bytes) f h)
+  reading_from_is : (o : Option ℕ) (bytes : List ℕ) (f : F) → reading_from of_lines o bytes ≡ Ok f → Spells bytes f
+  reading_from_is (Some k) bytes f h = absurd cc
+  reading_from_is None bytes f h = subst (λ (x : List ℕ). Spells x f) (join_with_byte-slice_split 10 bytes) (format.sound (lines bytes) f h)
 
   -- if bytes are read as a file, they spell it
   pub reading_is : (bytes : List ℕ) (f : F) → reading_from of_lines (first_foreign bytes) bytes ≡ Ok f → Spells bytes f
-  reading_is bytes f h = from_is (first_foreign bytes) bytes f h
+  reading_is bytes f h = reading_from_is (first_foreign bytes) bytes f h
 
   -- no bytes spell two files
   pub one_file : (bytes : List ℕ) (f g : F) → Spells bytes f → Spells bytes g → f ≡ g
-  one_file bytes f g s u = let both = sym (format.again bytes f s) ∙ format.again bytes g u in cc
+  one_file bytes f g s u = let both = sym (format.reads_back bytes f s) ∙ format.reads_back bytes g u in cc
 
   module _ {X : Type 0} (view : X → F) where
     -- if r is what the definitions give for the bytes' lines, then `foreign_first bytes r` is what
     -- they give for the bytes
     reading_of : (bytes : List ℕ) (r : Result X FileFault) → Gives view r (of_lines (lines bytes))
         → Gives view (foreign_first bytes r) (reading_from of_lines (first_foreign bytes) bytes)
-    reading_of bytes (Ok x) h = format.again bytes (view x) (from_is None bytes (view x) h)
+    reading_of bytes (Ok x) h = format.reads_back bytes (view x) (reading_from_is None bytes (view x) h)
     reading_of bytes (Err e) h = by (first_foreign bytes)
       where
         by : (o : Option ℕ) → Fails (fault_in_order o bytes e).kind (fault_in_order o bytes e) (reading_from of_lines o bytes)
@@ -57,7 +57,7 @@ module _ {F : Type 0} {Spells : List ℕ → F → Type 0} {of_lines : List (Lis
     found bytes (Err e) given = tt
 
     only : (bytes : List ℕ) (r : Result X FileFault) → Gives view r (reading_from of_lines (first_foreign bytes) bytes) → (f : F) → Spells bytes f → Gives view r (Ok f)
-    only bytes r given f s = subst (λ (read : Result F FileFault). Gives view r read) (format.again bytes f s) given
+    only bytes r given f s = subst (λ (read : Result F FileFault). Gives view r read) (format.reads_back bytes f s) given
 
     spells_none : (bytes : List ℕ) (r : Result X FileFault) → Gives view r (reading_from of_lines (first_foreign bytes) bytes)
         → IfErr r (λ e. e.kind ≢ Memory → (f : F) → Spells bytes f → ⊥)

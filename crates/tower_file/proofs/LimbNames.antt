@@ -1,13 +1,14 @@
 -- Limbs and their names.
-use Rattle.std.proofs.Common.{◌≡◌, ℕ, zero, suc, ◌≤◌, Bool, true, false, cond, not, ◌&&◌, ◌||◌, nat_eq, List, [], ◌∷◌, ◌++◌, length, map, slice_index_or, slice_set, refl, sym, ap, ◌∙◌, arith}
+use Rattle.std.proofs.Common.{◌≡◌, ℕ, zero, suc, ◌≤◌, Bool, true, false, cond, not, ◌||◌, nat_eq, List, [], ◌∷◌, ◌++◌, length, map, slice_index_or, slice_set, refl, sym, ap, ◌∙◌, arith}
 use Rattle.std.specs.List.{list_any}
 use Rattle.std.specs.Cmp.Lexicographic.{pointwise}
-use Rattle.std.proofs.lemmas.Bool.{and_parts, not-true, le-leb}
+use Rattle.std.proofs.lemmas.Bool.{and_parts, not-true}
 use Rattle.std.proofs.lemmas.List.{map-append}
 use Rattle.frames.specs.declared.types.Step.{Step}
 use Rattle.branch_terms.specs.declared.limb.Limb.{Limb}
 use Rattle.branch_terms.specs.Names.{is_well_formed}
 use Rattle.branch_terms.specs.Limbs.{is_name, has_name, is_new_name}
+use Rattle.branch_terms.proofs.JudgedLimbs.{new_if_free}
 use Rattle.tower_file.specs.BenchReading.{limb_name}
 
 any_name : (name : List ℕ) (ls : List Limb) → list_any (pointwise nat_eq name) (map limb_name ls) ≡ list_any (has_name name) ls
@@ -18,14 +19,12 @@ any_name name (l ∷ ls) = ap (λ b. has_name name l || b) (any_name name ls)
 pub new_name_is : (ls : List Limb) (keys : List (List ℕ)) (name : List ℕ) (found : Bool) → keys ≡ map limb_name ls → length name ≤ 16 → is_well_formed name ≡ true
     → found ≡ list_any (pointwise nat_eq name) keys → not found ≡ is_new_name ls name
 new_name_is ls keys name found named short formed looked =
-    let any : found ≡ list_any (has_name name) ls = looked ∙ ap (list_any (pointwise nat_eq name)) named ∙ any_name name ls in
-    let form : is_name name ≡ true = ap (λ b. b && is_well_formed name) (le-leb (length name) 16 short) ∙ formed in
-    ap not any ∙ sym (ap (λ b. b && not (list_any (has_name name) ls)) form)
+    new_if_free ls name found short formed (looked ∙ ap (list_any (pointwise nat_eq name)) named ∙ any_name name ls)
 
 -- after a limb with a new name is added, the set has the names of all limbs
-pub named_more : (ls : List Limb) (keys more : List (List ℕ)) (l : Limb) (items : List Limb) → keys ≡ map limb_name ls → is_new_name ls l.name ≡ true
+pub names_after_push : (ls : List Limb) (keys more : List (List ℕ)) (l : Limb) (items : List Limb) → keys ≡ map limb_name ls → is_new_name ls l.name ≡ true
     → more ≡ cond (list_any (pointwise nat_eq l.name) keys) keys (keys ++ l.name ∷ []) → items ≡ ls ++ l ∷ [] → more ≡ map limb_name items
-named_more ls keys more l items named new put grown =
+names_after_push ls keys more l items named new put grown =
     let none : list_any (pointwise nat_eq l.name) keys ≡ false =
     ap (list_any (pointwise nat_eq l.name)) named ∙ any_name l.name ls ∙ not-true (list_any (has_name l.name) ls) (and_parts (is_name l.name) (not (list_any (has_name l.name) ls)) new).1 in
     put ∙ ap (λ b. cond b keys (keys ++ l.name ∷ [])) none ∙ ap (λ ks. ks ++ l.name ∷ []) named

@@ -2,7 +2,7 @@
 use Rattle.std.proofs.Common.{◌≡◌, ℕ, ◌+◌, ◌^◌, ◌<◌, ◌≤◌, true, false, cond, not, nat_lt, List, [], ◌∷◌, ◌++◌, length, Option, Some, None, Result, Ok, refl, ap, ◌∙◌, append_assoc, arith}
 use Rattle.std.specs.Prelude.{codes}
 use Rattle.std.specs.Option.{ok_or, option_and_then}
-use Rattle.std.specs.List.{list_all, flat_map, prefix_len}
+use Rattle.std.specs.List.{list_all, prefix_len}
 use Rattle.std.proofs.lemmas.Bool.{and_parts, and_from, ltb-true, le-ltb}
 use Rattle.std.proofs.lemmas.Bool.Decides.{nat_tests}
 use Rattle.frames.specs.declared.types.Op.{Op}
@@ -24,27 +24,27 @@ use Rattle.tower_file.specs.Files.{File, IsLawfulFile, file_of}
 use Rattle.words.specs.Words.{words, lines, is_end}
 use Rattle.words.specs.Steps.{step_text, HasShortNumbers}
 use Rattle.tower_file.specs.Lines.{fitting_step}
-use Rattle.tower_file.specs.Spelling.{text_with_end, tower_text, spelling, Spells}
+use Rattle.tower_file.specs.Spelling.{text_with_end, tower_text, schedule_text, spelling, Spells}
 use Rattle.tower_file.specs.Reading.{◌>>=◌, is_file_byte, first_foreign, version_of, second_line, tower_of, steps_of, file_of_lines, reading_from, file_reading}
 use Rattle.words.proofs.Numbers.{number-decimal}
 use Rattle.words.proofs.Texts.{all_weaker, all_append, is_print, text_prints, words-text}
 use Rattle.words.proofs.Steps.{step_again, step_prints}
-use Rattle.tower_file.proofs.Texts.{print_is_plain, lines-line}
+use Rattle.tower_file.proofs.Texts.{print_is_file_byte, lines-line}
 
 -- ---- the numbers of lawful files have at most 9 digits
 
 -- tower t has at most MOST_VALUES values and MOST_PROCESSES processes
-pub record IsFew (t : TowerSpec) : Type 0 where
+pub record IsWithinBounds (t : TowerSpec) : Type 0 where
   pub values : values_of t ≤ MOST_VALUES
   pub processes : processes_of t ≤ MOST_PROCESSES
 
-pub few : (t : TowerSpec) → is_lawful_tower t ≡ true → IsFew t
-few (Safe init) h = record { values = omega arith; processes = omega arith }
-few (Copies readers init) h = record { values = omega arith; processes = grind (arith, nat_tests) }
-few (Regular readers init) h = record { values = omega arith; processes = grind (arith, nat_tests) }
-few (Unary values readers init) h = record { values = grind (arith, nat_tests); processes = grind (arith, nat_tests) }
-few (Stamped values last) h = record { values = grind (arith, nat_tests); processes = omega arith }
-few (Matrix processes values last_tag last_stamp) h = record { values = grind (arith, nat_tests); processes = grind (arith, nat_tests) }
+pub within_bounds : (t : TowerSpec) → is_lawful_tower t ≡ true → IsWithinBounds t
+within_bounds (Safe init) h = record { values = omega arith; processes = omega arith }
+within_bounds (Copies readers init) h = record { values = omega arith; processes = grind (arith, nat_tests) }
+within_bounds (Regular readers init) h = record { values = omega arith; processes = grind (arith, nat_tests) }
+within_bounds (Unary values readers init) h = record { values = grind (arith, nat_tests); processes = grind (arith, nat_tests) }
+within_bounds (Stamped values last) h = record { values = grind (arith, nat_tests); processes = omega arith }
+within_bounds (Matrix processes values last_tag last_stamp) h = record { values = grind (arith, nat_tests); processes = grind (arith, nat_tests) }
 
 process_below : (t : TowerSpec) (who : ℕ) (o : Op) → suits t who o ≡ true → who < processes_of t
 process_below (Safe init) who o h = nobody_else 2 2 who o h
@@ -130,7 +130,7 @@ tower_again (Matrix processes values last_tag last_stamp) h =
 -- ---- the steps
 
 -- the numbers of a fitting step have at most 9 digits
-pub step_short : (t : TowerSpec) (s : Step) → IsFew t → fits t s ≡ true → HasShortNumbers s
+pub step_short : (t : TowerSpec) (s : Step) → IsWithinBounds t → fits t s ≡ true → HasShortNumbers s
 step_short t (step.Write p v) small h = (omega (arith, small.processes, process_below t p (op.Write v) h), omega (arith, small.values, value_below t p v h))
 step_short t (step.Read p) small h = omega (arith, small.processes, process_below t p op.Read h)
 step_short t (step.Go p c) small h =
@@ -148,7 +148,7 @@ all_fit v t (s ∷ ss) h =
     let a = and_parts (may_have v t s) (list_all (may_have v t) ss) h in
     and_from (fits t s) (list_all (fits t) ss) (fits_tower v t s a.0) (all_fit v t ss a.1)
 
-pub fitting_again : (v : Version) (t : TowerSpec) (s : Step) → IsFew t → may_have v t s ≡ true → fitting_step v t (step_text s) ≡ Some s
+pub fitting_again : (v : Version) (t : TowerSpec) (s : Step) → IsWithinBounds t → may_have v t s ≡ true → fitting_step v t (step_text s) ≡ Some s
 fitting_again v t s small h =
     ap (λ (o : Option Step). option_and_then (λ x. cond (may_have v t x) (Some x) None) o) (step_again s (step_short t s small (fits_tower v t s h))) ∙ ap (λ b. cond b (Some s) None) h
 
@@ -157,9 +157,9 @@ abbrev step_lines : List Step → List (List ℕ)
 step_lines [] = [] ∷ []
 step_lines (s ∷ ss) = step_text s ∷ step_lines ss
 
-some_line : (ss : List Step) → is_end (step_lines ss) ≡ false
-some_line [] = refl
-some_line (s ∷ ss) = refl
+step_lines_nonempty : (ss : List Step) → is_end (step_lines ss) ≡ false
+step_lines_nonempty [] = refl
+step_lines_nonempty (s ∷ ss) = refl
 
 steps_more : (v : Version) (t : TowerSpec) (n : ℕ) (l : List ℕ) (ls : List (List ℕ)) → is_end ls ≡ false
     → steps_of v t n (l ∷ ls) ≡ (ok_or (fitting_step v t l) (fault BadStep n) >>= λ s. steps_of v t (n + 1) ls >>= λ ss. Ok (s ∷ ss))
@@ -167,46 +167,43 @@ unfolding steps_of
 steps_more v t n l [] h = absurd cc
 steps_more v t n l (k ∷ ls) h = refl
 
-steps_again : (v : Version) (t : TowerSpec) (n : ℕ) (ss : List Step) → IsFew t → list_all (may_have v t) ss ≡ true → steps_of v t n (step_lines ss) ≡ Ok ss
+steps_again : (v : Version) (t : TowerSpec) (n : ℕ) (ss : List Step) → IsWithinBounds t → list_all (may_have v t) ss ≡ true → steps_of v t n (step_lines ss) ≡ Ok ss
 unfolding steps_of
 steps_again v t n [] small h = refl
 steps_again v t n (s ∷ ss) small h =
     let a = and_parts (may_have v t s) (list_all (may_have v t) ss) h in
-    steps_more v t n (step_text s) (step_lines ss) (some_line ss)
+    steps_more v t n (step_text s) (step_lines ss) (step_lines_nonempty ss)
     ∙ ap (λ (o : Option Step). ok_or o (fault BadStep n) >>= λ x. steps_of v t (n + 1) (step_lines ss) >>= λ xs. Ok (x ∷ xs)) (fitting_again v t s small a.0)
     ∙ ap (λ (r : Result (List Step) FileFault). r >>= λ xs. Ok (s ∷ xs)) (steps_again v t (n + 1) ss small a.1)
 
-abbrev steps_text : List Step → List ℕ
-steps_text ss = flat_map (λ s. text_with_end (step_text s)) ss
-
-lines-steps : (v : Version) (t : TowerSpec) (ss : List Step) → IsFew t → list_all (may_have v t) ss ≡ true → lines (steps_text ss) ≡ step_lines ss
+lines-steps : (v : Version) (t : TowerSpec) (ss : List Step) → IsWithinBounds t → list_all (may_have v t) ss ≡ true → lines (schedule_text ss) ≡ step_lines ss
 lines-steps v t [] small h = refl
 lines-steps v t (s ∷ ss) small h =
     let a = and_parts (may_have v t s) (list_all (may_have v t) ss) h in
-    lines-line (step_text s) (steps_text ss) (step_prints s (step_short t s small (fits_tower v t s a.0))) ∙ ap (λ ls. step_text s ∷ ls) (lines-steps v t ss small a.1)
+    lines-line (step_text s) (schedule_text ss) (step_prints s (step_short t s small (fits_tower v t s a.0))) ∙ ap (λ ls. step_text s ∷ ls) (lines-steps v t ss small a.1)
 
 -- ---- plain bytes
 
 pub line_plain : (xs : List ℕ) → list_all is_print xs ≡ true → list_all is_file_byte (text_with_end xs) ≡ true
-line_plain xs h = all_append is_file_byte xs (10 ∷ []) (all_weaker is_print is_file_byte print_is_plain xs h) refl
+line_plain xs h = all_append is_file_byte xs (10 ∷ []) (all_weaker is_print is_file_byte print_is_file_byte xs h) refl
 
-steps_plain : (v : Version) (t : TowerSpec) (ss : List Step) → IsFew t → list_all (may_have v t) ss ≡ true → list_all is_file_byte (steps_text ss) ≡ true
+steps_plain : (v : Version) (t : TowerSpec) (ss : List Step) → IsWithinBounds t → list_all (may_have v t) ss ≡ true → list_all is_file_byte (schedule_text ss) ≡ true
 steps_plain v t [] small h = refl
 steps_plain v t (s ∷ ss) small h =
     let a = and_parts (may_have v t s) (list_all (may_have v t) ss) h in
-    all_append is_file_byte (text_with_end (step_text s)) (steps_text ss) (line_plain (step_text s) (step_prints s (step_short t s small (fits_tower v t s a.0)))) (steps_plain v t ss small a.1)
+    all_append is_file_byte (text_with_end (step_text s)) (schedule_text ss) (line_plain (step_text s) (step_prints s (step_short t s small (fits_tower v t s a.0)))) (steps_plain v t ss small a.1)
 
-all_before : (xs : List ℕ) → list_all is_file_byte xs ≡ true → prefix_len (λ x. not (not (is_file_byte x))) xs ≡ length xs
-all_before [] h = refl
-all_before (x ∷ xs) h =
+prefix_is_all : (xs : List ℕ) → list_all is_file_byte xs ≡ true → prefix_len (λ x. not (not (is_file_byte x))) xs ≡ length xs
+prefix_is_all [] h = refl
+prefix_is_all (x ∷ xs) h =
     let a = and_parts (is_file_byte x) (list_all is_file_byte xs) h in
-    let rest = all_before xs a.1 in
+    let rest = prefix_is_all xs a.1 in
     ap (λ b. cond (not (not b)) (1 + prefix_len (λ y. not (not (is_file_byte y))) xs) 0) a.0 ∙ omega (arith, rest)
 
 pub none_foreign : (xs : List ℕ) → list_all is_file_byte xs ≡ true → first_foreign xs ≡ None
 none_foreign xs h =
     let n : ℕ = prefix_len (λ x. not (not (is_file_byte x))) xs in
-    ap (λ b. cond b (Some n) None) (le-ltb n (length xs) (omega (arith, all_before xs h)))
+    ap (λ b. cond b (Some n) None) (le-ltb n (length xs) (omega (arith, prefix_is_all xs h)))
 
 -- ---- files
 
@@ -224,26 +221,26 @@ version_again Two l ls = refl
 lines-spelling : (f : File) → IsLawfulFile f → lines (spelling f) ≡ header f.version ∷ tower_text f.spec ∷ step_lines f.steps
 lines-spelling f lawful =
     let a = and_parts (is_lawful_tower f.spec) (list_all (may_have f.version f.spec) f.steps) lawful in
-    let small = few f.spec a.0 in
-    ap lines (append_assoc (text_with_end (header f.version)) (text_with_end (tower_text f.spec)) (steps_text f.steps))
-    ∙ lines-line (header f.version) (text_with_end (tower_text f.spec) ++ steps_text f.steps) (header_prints f.version)
-    ∙ ap (λ ls. header f.version ∷ ls) (lines-line (tower_text f.spec) (steps_text f.steps) (tower_prints f.spec a.0))
+    let small = within_bounds f.spec a.0 in
+    ap lines (append_assoc (text_with_end (header f.version)) (text_with_end (tower_text f.spec)) (schedule_text f.steps))
+    ∙ lines-line (header f.version) (text_with_end (tower_text f.spec) ++ schedule_text f.steps) (header_prints f.version)
+    ∙ ap (λ ls. header f.version ∷ ls) (lines-line (tower_text f.spec) (schedule_text f.steps) (tower_prints f.spec a.0))
     ∙ ap (λ ls. header f.version ∷ tower_text f.spec ∷ ls) (lines-steps f.version f.spec f.steps small a.1)
 
 spelling_plain : (f : File) → IsLawfulFile f → list_all is_file_byte (spelling f) ≡ true
 spelling_plain f lawful =
     let a = and_parts (is_lawful_tower f.spec) (list_all (may_have f.version f.spec) f.steps) lawful in
-    all_append is_file_byte (text_with_end (header f.version) ++ text_with_end (tower_text f.spec)) (steps_text f.steps)
+    all_append is_file_byte (text_with_end (header f.version) ++ text_with_end (tower_text f.spec)) (schedule_text f.steps)
     (all_append is_file_byte (text_with_end (header f.version)) (text_with_end (tower_text f.spec)) (line_plain (header f.version) (header_prints f.version)) (line_plain (tower_text f.spec) (tower_prints f.spec a.0)))
-    (steps_plain f.version f.spec f.steps (few f.spec a.0) a.1)
+    (steps_plain f.version f.spec f.steps (within_bounds f.spec a.0) a.1)
 
 file_again : (f : File) → IsLawfulFile f → file_of_lines (header f.version ∷ tower_text f.spec ∷ step_lines f.steps) ≡ Ok f
 file_again f lawful =
     let a = and_parts (is_lawful_tower f.spec) (list_all (may_have f.version f.spec) f.steps) lawful in
     let rest : List (List ℕ) = step_lines f.steps in
     ap (λ (o : Option Version). ok_or o (fault BadHeader 1) >>= λ v. tower_of (tower_text f.spec ∷ rest) >>= λ t. steps_of v t 3 rest >>= λ ss. Ok (file_of v t ss)) (version_again f.version (tower_text f.spec) rest)
-    ∙ ap (λ (r : Result TowerSpec FileFault). r >>= λ t. steps_of f.version t 3 rest >>= λ ss. Ok (file_of f.version t ss)) (tower_of_lines f.spec (step_lines f.steps) (some_line f.steps) a.0)
-    ∙ ap (λ (r : Result (List Step) FileFault). r >>= λ ss. Ok (file_of f.version f.spec ss)) (steps_again f.version f.spec 3 f.steps (few f.spec a.0) a.1)
+    ∙ ap (λ (r : Result TowerSpec FileFault). r >>= λ t. steps_of f.version t 3 rest >>= λ ss. Ok (file_of f.version t ss)) (tower_of_lines f.spec (step_lines f.steps) (step_lines_nonempty f.steps) a.0)
+    ∙ ap (λ (r : Result (List Step) FileFault). r >>= λ ss. Ok (file_of f.version f.spec ss)) (steps_again f.version f.spec 3 f.steps (within_bounds f.spec a.0) a.1)
 
 reading-spelling : (f : File) → IsLawfulFile f → file_reading (spelling f) ≡ Ok f
 reading-spelling f lawful =

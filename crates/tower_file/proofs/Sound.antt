@@ -23,9 +23,9 @@ use Rattle.tower_file.specs.Versions.{header, may_have}
 use Rattle.tower_file.specs.Files.{File, file_of}
 use Rattle.words.specs.Words.{words, next, after_next, is_end, one_number, two_numbers, three_numbers, four_numbers}
 use Rattle.words.specs.Steps.{step_of_words, step_text}
-use Rattle.tower_file.specs.Lines.{tower_name, fields_of, fitting_step}
+use Rattle.tower_file.specs.Lines.{tower_name, tower_of_numbers, fitting_step}
 use Rattle.tower_file.specs.Spelling.{text_with_end, tower_text, spelling, Spells}
-use Rattle.tower_file.specs.Reading.{◌>>=◌, has_header, version_of, sized, fields, second_line, tower_of, steps_of, file_of_lines}
+use Rattle.tower_file.specs.Reading.{◌>>=◌, has_header, version_of, checked_tower, tower_of_fields, second_line, tower_of, steps_of, file_of_lines}
 use Rattle.words.proofs.Steps.{some_then, mapped, one_is, two_are, three_are, four_are, joined, is_word, step_is}
 
 -- ---- steps that did not fail
@@ -56,9 +56,9 @@ choose P true x k o f g h = subst P (same_Some x k h) (f refl)
 choose P false x k o f g h = g h
 
 -- a tower's name and its numbers, separated by spaces, are the tower's line
-fields_are : (w : List ℕ) (ws : List (List ℕ)) (k : TowerName) (t : TowerSpec) → tower_name w ≡ Some k → fields_of k ws ≡ Some t → join_with_byte 32 (w ∷ ws) ≡ tower_text t
+fields_are : (w : List ℕ) (ws : List (List ℕ)) (k : TowerName) (t : TowerSpec) → tower_name w ≡ Some k → tower_of_numbers k ws ≡ Some t → join_with_byte 32 (w ∷ ws) ≡ tower_text t
 fields_are w ws k t h =
-    let P : TowerName → Type 0 = λ n. fields_of n ws ≡ Some t → join_with_byte 32 (w ∷ ws) ≡ tower_text t in
+    let P : TowerName → Type 0 = λ n. tower_of_numbers n ws ≡ Some t → join_with_byte 32 (w ∷ ws) ≡ tower_text t in
     choose P (bytes_eq w (codes "safe")) Safe k _
     (λ e f. let a = mapped (λ n. tower.Safe n) (one_number ws) t f in
     joined w (codes "safe") ws (a.0 ∷ []) (is_word w (codes "safe") e) (one_is ws a.0 a.1) ∙ ap tower_text a.2)
@@ -80,23 +80,23 @@ fields_are w ws k t h =
     (λ e. absurd cc)))))) h
 
 -- the second line has its line end, and is the line of a lawful tower
-pub record IsTowerLine (is_cut : Bool) (text_with_end : List ℕ) (t : TowerSpec) : Type 0 where
+pub record IsTowerLine (is_cut : Bool) (line : List ℕ) (t : TowerSpec) : Type 0 where
   pub whole : is_cut ≡ false
-  pub spelled : text_with_end ≡ tower_text t
+  pub spelled : line ≡ tower_text t
   pub lawful : is_lawful_tower t ≡ true
 
 second_is : (is_cut : Bool) (ws : List (List ℕ)) (t : TowerSpec) → second_line is_cut ws ≡ Ok t → IsTowerLine is_cut (join_with_byte 32 ws) t
 second_is is_cut [] t h = absurd cc
 second_is is_cut (w ∷ ws) t h =
-    let a = bind_ok (ok_or (tower_name w) (fault UnknownTower 2)) (fields is_cut ws) t h in
-    let b = unless_ok is_cut (ok_or (fields_of a.0 ws) (fault BadField 2) >>= sized) (fault BadField 2) t a.2 in
-    let c = bind_ok (ok_or (fields_of a.0 ws) (fault BadField 2)) sized t b.1 in
+    let a = bind_ok (ok_or (tower_name w) (fault UnknownTower 2)) (tower_of_fields is_cut ws) t h in
+    let b = unless_ok is_cut (ok_or (tower_of_numbers a.0 ws) (fault BadField 2) >>= checked_tower) (fault BadField 2) t a.2 in
+    let c = bind_ok (ok_or (tower_of_numbers a.0 ws) (fault BadField 2)) checked_tower t b.1 in
     let d = when_ok (is_lawful_tower c.0) (Ok c.0) (fault BadSize 2) t c.2 in
     let same = ok_is c.0 t d.1 in
     let name = ok_or_ok (tower_name w) (fault UnknownTower 2) a.0 a.1 in
     record {
       whole = b.0;
-      spelled = fields_are w ws a.0 c.0 name (ok_or_ok (fields_of a.0 ws) (fault BadField 2) c.0 c.1) ∙ ap tower_text same;
+      spelled = fields_are w ws a.0 c.0 name (ok_or_ok (tower_of_numbers a.0 ws) (fault BadField 2) c.0 c.1) ∙ ap tower_text same;
       lawful = ap is_lawful_tower (sym same) ∙ d.0;
     }
 

@@ -29,36 +29,36 @@ with_next v t n others (Err e) = Err e
 with_next v t n others (Ok None) = Ok []
 with_next v t n others (Ok (Some s)) = steps_of v t (n + 1) others >>= λ ss. Ok (s ∷ ss)
 
-by_next : (v : Version) (t : TowerSpec) (n : ℕ) (ls : List (List ℕ)) → steps_of v t n ls ≡ with_next v t n (after_next ls) (next_step v t n ls)
+steps_by_next : (v : Version) (t : TowerSpec) (n : ℕ) (ls : List (List ℕ)) → steps_of v t n ls ≡ with_next v t n (after_next ls) (next_step v t n ls)
 unfolding steps_of
-by_next v t n [] = refl
-by_next v t n (l ∷ []) = elim (length l == 0) as (λ b. cond b (Ok []) (Err (fault BadStep n)) ≡ with_next v t n [] (cond b (Ok None) (Err (fault BadStep n)))) [
+steps_by_next v t n [] = refl
+steps_by_next v t n (l ∷ []) = elim (length l == 0) as (λ b. cond b (Ok []) (Err (fault BadStep n)) ≡ with_next v t n [] (cond b (Ok None) (Err (fault BadStep n)))) [
   | true ↦ refl
   | false ↦ refl
 ]
-by_next v t n (l ∷ k ∷ ls) = by_step (fitting_step v t l)
+steps_by_next v t n (l ∷ k ∷ ls) = by_step (fitting_step v t l)
   where
     by_step : (o : Option Step) → (ok_or o (fault BadStep n) >>= λ s. steps_of v t (n + 1) (k ∷ ls) >>= λ ss. Ok (s ∷ ss)) ≡ with_next v t n (k ∷ ls) (ok_or o (fault BadStep n) >>= λ s. Ok (Some s))
     by_step None = refl
     by_step (Some s) = refl
 
 -- if the next line has a step, fewer lines are left after it
-pub more_lines : (v : Version) (t : TowerSpec) (n : ℕ) (ls : List (List ℕ)) (s : Step) → next_step v t n ls ≡ Ok (Some s) → length (after_next ls) < length ls
-more_lines v t n [] s e = absurd cc
-more_lines v t n (l ∷ ls) s e = omega arith
+pub fewer_after_step : (v : Version) (t : TowerSpec) (n : ℕ) (ls : List (List ℕ)) (s : Step) → next_step v t n ls ≡ Ok (Some s) → length (after_next ls) < length ls
+fewer_after_step v t n [] s e = absurd cc
+fewer_after_step v t n (l ∷ ls) s e = omega arith
 
 module _ (v : Version) (t : TowerSpec) (n : ℕ) (front : List Step) (ls : List (List ℕ)) (total : Result (List Step) FileFault) (so_far : with_front front (steps_of v t n ls) ≡ total) where
   pub ends : next_step v t n ls ≡ Ok None → total ≡ Ok front
-  ends e = sym so_far ∙ ap (with_front front) (by_next v t n ls) ∙ ap (λ (r : Result (Option Step) FileFault). with_front front (with_next v t n (after_next ls) r)) e ∙ ap (λ (xs : List Step). Ok xs) (append-nil front)
+  ends e = sym so_far ∙ ap (with_front front) (steps_by_next v t n ls) ∙ ap (λ (r : Result (Option Step) FileFault). with_front front (with_next v t n (after_next ls) r)) e ∙ ap (λ (xs : List Step). Ok xs) (append-nil front)
 
   pub fails : (e : FileFault) → next_step v t n ls ≡ Err e → total ≡ Err e
-  fails e h = sym so_far ∙ ap (with_front front) (by_next v t n ls) ∙ ap (λ (r : Result (Option Step) FileFault). with_front front (with_next v t n (after_next ls) r)) h
+  fails e h = sym so_far ∙ ap (with_front front) (steps_by_next v t n ls) ∙ ap (λ (r : Result (Option Step) FileFault). with_front front (with_next v t n (after_next ls) r)) h
 
-  pub goes_on : (s : Step) → next_step v t n ls ≡ Ok (Some s) → with_front (front ++ s ∷ []) (steps_of v t (n + 1) (after_next ls)) ≡ total
-  goes_on s e =
+  pub so_far_after_step : (s : Step) → next_step v t n ls ≡ Ok (Some s) → with_front (front ++ s ∷ []) (steps_of v t (n + 1) (after_next ls)) ≡ total
+  so_far_after_step s e =
       sym (regroup front s (steps_of v t (n + 1) (after_next ls)))
       ∙ ap (λ (r : Result (Option Step) FileFault). with_front front (with_next v t n (after_next ls) r)) (sym e)
-      ∙ ap (with_front front) (sym (by_next v t n ls)) ∙ so_far
+      ∙ ap (with_front front) (sym (steps_by_next v t n ls)) ∙ so_far
 
 -- fewer than 2^63 bytes have at most 2^63 lines
 pub few_lines : (bytes : List ℕ) (ls : List (List ℕ)) → ls ≡ lines bytes → length bytes < 2 ^ 63 → length ls ≤ 2 ^ 63
@@ -72,9 +72,9 @@ fewer_left (x ∷ xs) = omega arith
 -- ---- results that are passed on
 
 -- if `front`, the steps so far, are all steps, and there is at least one, `HasSomeStep` holds
-pub some_step : (total : Result (List Step) FileFault) (front : List Step) → total ≡ Ok front → 0 < length front → HasSomeStep total
-some_step total [] e l = absurd (omega arith)
-some_step total (s ∷ ss) e l = (s, ss, e)
+pub has_some_step : (total : Result (List Step) FileFault) (front : List Step) → total ≡ Ok front → 0 < length front → HasSomeStep total
+has_some_step total [] e l = absurd (omega arith)
+has_some_step total (s ∷ ss) e l = (s, ss, e)
 
 module _ {X : Type 0} (r : Result X FileFault) (e : FileFault) (Is : FileFault → Type 0) (failed : IsErr r) (is : IsErrAnd r Is) (same : (x : FileFault) → Is x → x ≡ e) where
   -- if e is a BadStep, and the definitions give e, the call has the result that they give

@@ -19,14 +19,14 @@ bench =
     }
 
 -- the first seven of the nine lines of the file that spells `bench`
-abbrev front : List ℕ
-front =
+abbrev first_seven_lines : List ℕ
+first_seven_lines =
     text_with_end (codes "bench 1") ++ text_with_end (codes "safe 0") ++ text_with_end (codes "branch main 0 0") ++ text_with_end (codes "r 1") ++ text_with_end (codes "w 0 1")
     ++ text_with_end (codes "branch a 0 1") ++ text_with_end (codes "g 1 0")
 
 -- the nine lines of the file that spells `bench`, with this text in place of line 8
 abbrev with_line_8 : List ℕ → List ℕ
-with_line_8 text = front ++ text_with_end text ++ text_with_end (codes "g 1 1")
+with_line_8 text = first_seven_lines ++ text_with_end text ++ text_with_end (codes "g 1 1")
 
 -- the first two lines of the file that spells `bench`, and then this text
 abbrev with_line_3 : List ℕ → List ℕ
@@ -39,13 +39,13 @@ is_read : bench_reading (with_line_8 (codes "branch b 1 2")) ≡ Ok bench
 unfolding limbs_of
 is_read = refl
 
-not_its_own : bench_reading (with_line_8 (codes "branch b 1 1")) ≡ Err (fault Tangled 8)
+last_shared_not_own : bench_reading (with_line_8 (codes "branch b 1 1")) ≡ Err (fault Tangled 8)
 unfolding limbs_of
-not_its_own = refl
+last_shared_not_own = refl
 
-too_long : bench_reading (with_line_8 (codes "branch b 0 3")) ≡ Err (fault Tangled 8)
+shares_too_many : bench_reading (with_line_8 (codes "branch b 0 3")) ≡ Err (fault Tangled 8)
 unfolding limbs_of
-too_long = refl
+shares_too_many = refl
 
 same_name : bench_reading (with_line_8 (codes "branch a 1 2")) ≡ Err (fault BadBranch 8)
 unfolding limbs_of
@@ -63,14 +63,14 @@ step_first : bench_reading (with_line_3 (text_with_end (codes "r 1"))) ≡ Err (
 unfolding limbs_of
 step_first = refl
 
-no_line_end : bench_reading (front ++ codes "branch b 1 1") ≡ Err (fault BadBranch 8)
+no_line_end : bench_reading (first_seven_lines ++ codes "branch b 1 1") ≡ Err (fault BadBranch 8)
 unfolding limbs_of
 no_line_end = refl
 
-no_step : bench_reading (front ++ text_with_end (codes "r 0")) ≡ Err (fault BadStep 8)
+unfitting_step : bench_reading (first_seven_lines ++ text_with_end (codes "r 0")) ≡ Err (fault BadStep 8)
 unfolding limbs_of
-no_step = refl
+unfitting_step = refl
 
-of_a_tower : bench_reading (text_with_end (codes "tower 2") ++ text_with_end (codes "safe 0")) ≡ Err (fault BadHeader 1)
+tower_header : bench_reading (text_with_end (codes "tower 2") ++ text_with_end (codes "safe 0")) ≡ Err (fault BadHeader 1)
 unfolding limbs_of
-of_a_tower = refl
+tower_header = refl

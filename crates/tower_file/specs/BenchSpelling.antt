@@ -36,7 +36,7 @@ pub record SpellsBench (bytes : List ℕ) (b : Bench) : Type 0 where
 pub record SpellsLimbs (t : TowerSpec) (ls : List (List ℕ)) : Type 0 where
   pub limbs : List Limb
   pub rest : List ℕ
-  pub some : has_limbs limbs ≡ true
+  pub nonempty : has_limbs limbs ≡ true
   pub lawful : are_lawful t limbs ≡ true
   pub parts : join_with_byte 10 ls ≡ flat_map limb_text limbs ++ rest
 

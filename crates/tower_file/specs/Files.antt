@@ -18,14 +18,14 @@ abbrev pub file_of : Version → TowerSpec → List Step → File
 file_of v t steps = record { version = v; spec = t; steps = steps }
 
 -- whether the tower is lawful, the version can express each step, and each step fits the tower
-abbrev pub is_lawful : File → Bool
-is_lawful f = is_lawful_tower f.spec && list_all (may_have f.version f.spec) f.steps
+abbrev pub is_lawful_file : File → Bool
+is_lawful_file f = is_lawful_tower f.spec && list_all (may_have f.version f.spec) f.steps
 
 -- the file with this version, tower and steps; `None` if that file isn't lawful
 abbrev pub checked_file : Version → TowerSpec → List Step → Option File
-checked_file v t steps = if is_lawful (file_of v t steps) then Some (file_of v t steps) else None
+checked_file v t steps = if is_lawful_file (file_of v t steps) then Some (file_of v t steps) else None
 
 -- The file is lawful: its tower is lawful, its version can express each step, and each step fits
 -- the tower.
 abbrev pub IsLawfulFile : File → Type 0
-IsLawfulFile f = is_lawful f ≡ true
+IsLawfulFile f = is_lawful_file f ≡ true

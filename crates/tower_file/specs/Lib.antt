@@ -9,4 +9,4 @@ pub mod Benches
 pub mod BenchSpelling
 pub mod BenchReading
 pub mod BenchRows
-pub mod Said
+pub mod Parsed

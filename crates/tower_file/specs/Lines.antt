@@ -31,13 +31,13 @@ tower_name word =
 
 -- the tower of this kind with the numbers that the words spell; `None` if there are too few or too
 -- many words, or if one isn't a number
-abbrev pub fields_of : TowerName → List (List ℕ) → Option TowerSpec
-fields_of Safe ws = option_map (λ init. tower.Safe init) (one_number ws)
-fields_of Copies ws = option_map (λ n. tower.Copies n.0 n.1) (two_numbers ws)
-fields_of Regular ws = option_map (λ n. tower.Regular n.0 n.1) (two_numbers ws)
-fields_of Unary ws = option_map (λ n. tower.Unary n.0 n.1 n.2) (three_numbers ws)
-fields_of Stamped ws = option_map (λ n. tower.Stamped n.0 n.1) (two_numbers ws)
-fields_of Matrix ws = option_map (λ n. tower.Matrix n.0 n.1 n.2 n.3) (four_numbers ws)
+abbrev pub tower_of_numbers : TowerName → List (List ℕ) → Option TowerSpec
+tower_of_numbers Safe ws = option_map (λ init. tower.Safe init) (one_number ws)
+tower_of_numbers Copies ws = option_map (λ n. tower.Copies n.0 n.1) (two_numbers ws)
+tower_of_numbers Regular ws = option_map (λ n. tower.Regular n.0 n.1) (two_numbers ws)
+tower_of_numbers Unary ws = option_map (λ n. tower.Unary n.0 n.1 n.2) (three_numbers ws)
+tower_of_numbers Stamped ws = option_map (λ n. tower.Stamped n.0 n.1) (two_numbers ws)
+tower_of_numbers Matrix ws = option_map (λ n. tower.Matrix n.0 n.1 n.2 n.3) (four_numbers ws)
 
 -- the step that a line spells; `None` if the line spells none, if the version can't express the
 -- step, or if the step doesn't fit the tower

@@ -14,7 +14,7 @@ use Rattle.tower_file.specs.Towers.{is_lawful_tower}
 use Rattle.tower_file.specs.Versions.{header}
 use Rattle.tower_file.specs.Files.{File, file_of}
 use Rattle.words.specs.Words.{lines, words, next, after_next, is_end}
-use Rattle.tower_file.specs.Lines.{tower_name, fields_of, fitting_step}
+use Rattle.tower_file.specs.Lines.{tower_name, tower_of_numbers, fitting_step}
 
 -- the result of f on the value of a reading; or, if the reading is a fault, that fault
 infixl 10 ◌>>=◌
@@ -48,19 +48,19 @@ version_of ls =
     else None)
 
 -- the tower; or, if it isn't lawful, BadSize on line 2
-abbrev pub sized : TowerSpec → Result TowerSpec FileFault
-sized t = if is_lawful_tower t then Ok t else Err (fault BadSize 2)
+abbrev pub checked_tower : TowerSpec → Result TowerSpec FileFault
+checked_tower t = if is_lawful_tower t then Ok t else Err (fault BadSize 2)
 
 -- the tower of this kind with these words of line 2 as its numbers. The fault is BadField if the
 -- line is cut (has no line end) or the words aren't exactly the tower's numbers, or else BadSize if
 -- the tower isn't lawful.
-abbrev pub fields : Bool → List (List ℕ) → TowerName → Result TowerSpec FileFault
-fields is_cut ws name = if is_cut then Err (fault BadField 2) else (ok_or (fields_of name ws) (fault BadField 2) >>= sized)
+abbrev pub tower_of_fields : Bool → List (List ℕ) → TowerName → Result TowerSpec FileFault
+tower_of_fields is_cut ws name = if is_cut then Err (fault BadField 2) else (ok_or (tower_of_numbers name ws) (fault BadField 2) >>= checked_tower)
 
 -- the tower of the second line, given that line's words and whether it has no line end (`is_cut`);
 -- or the line's fault: UnknownTower, BadField or BadSize
 abbrev pub second_line : Bool → List (List ℕ) → Result TowerSpec FileFault
-second_line is_cut ws = ok_or (tower_name (next ws)) (fault UnknownTower 2) >>= fields is_cut (after_next ws)
+second_line is_cut ws = ok_or (tower_name (next ws)) (fault UnknownTower 2) >>= tower_of_fields is_cut (after_next ws)
 
 -- the tower of a file, given the lines from the second on; or the fault of the second line
 abbrev pub tower_of : List (List ℕ) → Result TowerSpec FileFault

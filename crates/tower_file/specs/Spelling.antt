@@ -1,6 +1,7 @@
 -- The one spelling of each tower file.
 use Rattle.std.specs.Prelude.{◌≡◌, ◌<◌, ℕ, List, [], ◌∷◌, ◌++◌, codes, length}
 use Rattle.std.specs.List.{flat_map}
+use Rattle.frames.specs.declared.types.Step.{Step}
 use Rattle.tower_file.specs.declared.tower.TowerSpec.{TowerSpec}
 use Rattle.tower_file.specs.declared.tower.TowerSpec.TheVariants.{Safe, Copies, Regular, Unary, Stamped, Matrix}
 use Rattle.words.specs.Steps.{text, step_text}
@@ -10,6 +11,10 @@ use Rattle.tower_file.specs.Files.{File, IsLawfulFile}
 -- a text and then a line end
 abbrev pub text_with_end : List ℕ → List ℕ
 text_with_end text = text ++ 10 ∷ []
+
+-- the lines of these steps, each with its line end
+abbrev pub schedule_text : List Step → List ℕ
+schedule_text ss = flat_map (λ s. text_with_end (step_text s)) ss
 
 -- the line of a tower, without a line end: its name and its numbers
 abbrev pub tower_text : TowerSpec → List ℕ
@@ -22,7 +27,7 @@ tower_text (Matrix processes values last_tag last_stamp) = text (codes "matrix")
 
 -- the bytes of a tower file: the header, the tower and the steps, each on a line
 abbrev pub spelling : File → List ℕ
-spelling f = text_with_end (header f.version) ++ text_with_end (tower_text f.spec) ++ flat_map (λ s. text_with_end (step_text s)) f.steps
+spelling f = text_with_end (header f.version) ++ text_with_end (tower_text f.spec) ++ schedule_text f.steps
 
 -- These bytes spell this tower file: the file is lawful, and the bytes are its spelling.
 pub record Spells (bytes : List ℕ) (f : File) : Type 0 where
@@ -33,4 +38,4 @@ pub record Spells (bytes : List ℕ) (f : File) : Type 0 where
 pub record SpellsSteps (bytes : List ℕ) : Type 0 where
   pub file : File
   pub spells : Spells bytes file
-  pub some : 0 < length file.steps
+  pub has_steps : 0 < length file.steps

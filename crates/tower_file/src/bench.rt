@@ -28,7 +28,7 @@ impl BenchFile {
     ghost use Rattle.std.specs.Prelude.{◌≡◌};
     ghost use Rattle.std.specs.Option.{option_map};
     ghost use Rattle.tower_file.specs.Benches.{IsLawfulBench, bench_of, checked_bench};
-    ghost use Rattle.tower_file.specs.Said.{as_bench};
+    ghost use Rattle.tower_file.specs.Parsed.{as_bench};
 
     /// Returns the file with this tower and these limbs. Returns `None` if the tower isn't lawful,
     /// there is no limb, the limbs aren't lawful (`branch_terms::limb::are_lawful`), or some limb

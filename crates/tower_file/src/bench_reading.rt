@@ -5,7 +5,7 @@ ghost use Rattle.tower_file.specs.declared.fault.FaultKind.TheVariants.{Memory};
 ghost use Rattle.tower_file.specs.Faults as faults;
 ghost use Rattle.tower_file.specs.Faults.{Gives, MemoryOnlyIf};
 ghost use Rattle.tower_file.specs.Benches.{Bench};
-ghost use Rattle.tower_file.specs.Said.{as_bench};
+ghost use Rattle.tower_file.specs.Parsed.{as_bench};
 ghost use Rattle.tower_file.specs.BenchSpelling.{SpellsBench, SpellsFront, SpellsLimbs, bench_header};
 ghost use Rattle.tower_file.specs.BenchReading as spec;
 ghost use Rattle.tower_file.specs.Reading as reading;
@@ -25,7 +25,7 @@ use frames::types::Step;
 use std::alloc::Global;
 use words::lines::Lines;
 use words::parts::Parts;
-use words::step::{is, step_of};
+use words::step::{is_word, step_of};
 
 /// Reads the first line. Returns whether it is a bench file's header and has a line end.
 fn has_header(lines: &mut Lines<'_>) -> bool
@@ -33,7 +33,7 @@ fn has_header(lines: &mut Lines<'_>) -> bool
     ensures left { lines.new ≡ after_next lines.old }
 {
     let header = lines.next();
-    !lines.is_end() && is(header, "bench 1")
+    !lines.is_end() && is_word(header, "bench 1")
 }
 
 /// Adds the branch of line `number`, given that line's words after `branch`.
@@ -101,7 +101,7 @@ fn add_line(
         result (IsOk (spec.then_line tower.now number limbs.old line.now)) }
 {
     let mut words = Parts::new(line, b' ');
-    if is(words.next(), "branch") {
+    if is_word(words.next(), "branch") {
         return add_branch(alloc, limbs, number, &mut words);
     }
     let spelled = step_of(&mut Parts::new(line, b' '));

@@ -3,7 +3,7 @@
 ghost use Rattle.std.specs.Prelude.{◌≡◌, ◌++◌, OnOk, IfOk};
 ghost use Rattle.tower_file.specs.BenchSpelling.{SpellsBench, limb_text, branch_text};
 ghost use Rattle.tower_file.specs.Spelling.{text_with_end};
-ghost use Rattle.tower_file.specs.Said.{as_bench};
+ghost use Rattle.tower_file.specs.Parsed.{as_bench};
 
 use crate::bench::BenchFile;
 use crate::writing::{push_line, push_step_line, push_tower};

@@ -24,7 +24,7 @@ impl TowerFile {
     ghost use Rattle.std.specs.Prelude.{◌≡◌};
     ghost use Rattle.std.specs.Option.{option_map};
     ghost use Rattle.tower_file.specs.Files.{IsLawfulFile, checked_file, file_of};
-    ghost use Rattle.tower_file.specs.Said.{as_file};
+    ghost use Rattle.tower_file.specs.Parsed.{as_file};
 
     /// Returns the file with this version, tower and steps. Returns `None` if the tower isn't
     /// lawful, or if some step doesn't fit the tower or can't be expressed in this version, such as

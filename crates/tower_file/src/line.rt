@@ -9,7 +9,7 @@ use branch_terms::name::Name;
 use std::alloc::Global;
 use words::number::{four_numbers, one_number, three_numbers, two_numbers};
 use words::parts::Parts;
-use words::step::is;
+use words::step::is_word;
 
 /// The kind of a tower, which is named by the first word of the tower's line.
 #[derive(Clone, Copy, Debug, PartialEq, Eq)]
@@ -26,7 +26,11 @@ pub enum TowerName {
 fn named(word: &[u8], text: &str, name: TowerName) -> Option<TowerName>
     ensures { result ≡ spec.named word.now text.now name }
 {
-    if is(word, text) { Some(name) } else { None }
+    if is_word(word, text) {
+        Some(name)
+    } else {
+        None
+    }
 }
 
 /// The kind of tower that `word` names; `None` if `word` isn't the name of a tower.
@@ -45,8 +49,8 @@ pub fn tower_name(word: &[u8]) -> Option<TowerName>
 /// Reads all words of a tower's line after the first. They must be the numbers of a tower of this
 /// kind. Returns the tower; `None` if there are too few or too many words, or if one isn't a
 /// number. The numbers' ranges aren't checked.
-pub fn fields_of(name: TowerName, words: &mut Parts<'_>) -> Option<TowerSpec>
-    ensures { result ≡ spec.fields_of name words.old }
+pub fn tower_of_numbers(name: TowerName, words: &mut Parts<'_>) -> Option<TowerSpec>
+    ensures { result ≡ spec.tower_of_numbers name words.old }
 {
     match name {
         TowerName::Safe => {
@@ -90,7 +94,7 @@ pub fn is_branch(line: &[u8]) -> bool
     ensures { result ≡ spec.is_branch line.now }
 {
     let mut words = Parts::new(line, b' ');
-    is(words.next(), "branch")
+    is_word(words.next(), "branch")
 }
 
 /// Reads the words after `branch` as a limb without steps. There must be exactly three: the name of

@@ -6,31 +6,31 @@ ghost use Rattle.tower_file.specs.Faults as faults;
 ghost use Rattle.tower_file.specs.Faults.{Gives, MemoryOnlyIf, out_of_memory};
 ghost use Rattle.tower_file.specs.Towers.{is_lawful_tower};
 ghost use Rattle.tower_file.specs.Files.{File, IsLawfulFile, file_of};
-ghost use Rattle.tower_file.specs.Said.{as_file};
+ghost use Rattle.tower_file.specs.Parsed.{as_file};
 ghost use Rattle.words.specs.Words.{lines, after_next, is_end};
 ghost use Rattle.tower_file.specs.Spelling.{Spells, SpellsSteps};
 ghost use Rattle.tower_file.specs.Reading as spec;
 
 use crate::fault::{FaultKind, FileFault, OUT_OF_MEMORY};
 use crate::file::TowerFile;
-use crate::line::{fields_of, tower_name};
+use crate::line::{tower_name, tower_of_numbers};
 use crate::tower::TowerSpec;
 use crate::version::Version;
 use frames::types::Step;
 use std::alloc::Global;
 use words::lines::Lines;
 use words::parts::Parts;
-use words::step::is;
+use words::step::is_word;
 
 /// The index of the first foreign byte: one that is neither a line end nor one of 0x20 to 0x7E.
 fn first_foreign(bytes: &[u8]) -> Option<usize>
     ensures { result ≡ spec.first_foreign bytes.now }
 {
-    bytes.iter().position(|b| !is_plain(*b))
+    bytes.iter().position(|b| !is_file_byte(*b))
 }
 
 /// Whether a file may have this byte.
-fn is_plain(b: u8) -> bool
+fn is_file_byte(b: u8) -> bool
     ensures { result ≡ spec.is_file_byte b }
 {
     b == b'\n' || (0x20 <= b && b <= 0x7e)
@@ -70,10 +70,10 @@ fn version_of(lines: &mut Lines<'_>) -> Option<Version>
     if lines.is_end() {
         return None;
     }
-    if is(header, Version::One.header()) {
+    if is_word(header, Version::One.header()) {
         return Some(Version::One);
     }
-    if is(header, Version::Two.header()) {
+    if is_word(header, Version::Two.header()) {
         return Some(Version::Two);
     }
     None
@@ -96,7 +96,7 @@ pub(crate) fn tower_of(lines: &mut Lines<'_>) -> Result<TowerSpec, FileFault>
     if is_cut {
         return Err(fault(FaultKind::BadField, 2));
     }
-    let Some(tower) = fields_of(name, &mut words) else {
+    let Some(tower) = tower_of_numbers(name, &mut words) else {
         return Err(fault(FaultKind::BadField, 2));
     };
     if !tower.is_lawful() {

@@ -3,13 +3,13 @@
 ghost use Rattle.std.specs.Prelude.{◌≡◌, ◌++◌, OnOk, IfOk};
 ghost use Rattle.words.specs.Steps.{text, step_text};
 ghost use Rattle.tower_file.specs.Spelling.{Spells, text_with_end, tower_text};
-ghost use Rattle.tower_file.specs.Said.{as_file};
+ghost use Rattle.tower_file.specs.Parsed.{as_file};
 
 use crate::file::TowerFile;
 use crate::tower::TowerSpec;
 use frames::types::Step;
 use std::alloc::{AllocError, Global};
-use words::step::{append_step, push_words};
+use words::step::{push_step, push_words};
 
 /// Returns the bytes that spell `file`. The only error is that memory ran out.
 pub fn print(alloc: Global, file: &TowerFile) -> Result<Vec<u8>, AllocError>
@@ -51,7 +51,7 @@ pub(crate) fn push_tower(out: &mut Vec<u8>, tower: &TowerSpec) -> Result<(), All
 pub(crate) fn push_step_line(out: &mut Vec<u8>, step: Step) -> Result<(), AllocError>
     ensures { OnOk result (out.new.items ≡ out.old.items ++ text_with_end (step_text step)) }
 {
-    append_step(out, step)?;
+    push_step(out, step)?;
     out.push(b'\n')?;
     Ok(())
 }

@@ -19,7 +19,7 @@ use Rattle.tower_file.specs.Benches.{Bench}
 use Rattle.towerbench.specs.declared.fault.Fault.{Fault}
 use Rattle.towerbench.specs.declared.fault.Fault.TheVariants as fault
 use Rattle.towerbench.specs.Opening.{opened_bench, EndsOver, IsDone, RanLeaving, SavesInto}
-use Rattle.towerbench.specs.Endings.{ending_of, FailsBy, IsLacking, WorksOut, RunsBy, IsPrinted, ProgramEndsBy}
+use Rattle.towerbench.specs.Endings.{ending_of, FailsBy, IsFaultBeforeBench, WorksOut, RunsBy, IsPrinted, ProgramEndsBy}
 
 is_named : (o : Option (Bor Text)) → is_some (option_map (λ p. p.now) o) ≡ is_some o
 is_named None = refl
@@ -29,26 +29,26 @@ module _ (before after : Streams) where
   module _ (saves : Bool) (bytes : Option (List ℕ)) (limits : Limits) (b : Bench) (is : opened_bench bytes ≡ Ok b) where
     module _ (named : Bool) (read : is_some bytes ≡ named) where
       -- how the program ends, given the result of its run
-      pub worked : (r : Result ⊤ Fault) (ending : Ending) → ending ≡ ending_of r → OnOk r (IsDone limits b before after)
+      pub ends_after_run : (r : Result ⊤ Fault) (ending : Ending) → ending ≡ ending_of r → OnOk r (IsDone limits b before after)
           → IfErr r (FailsBy saves bytes limits before after) → WorksOut named limits saves before after ending
-      worked (Ok done) ending e h f = subst (WorksOut named limits saves before after) (sym e) (bytes, read, (b, (is, h)))
-      worked (Err x) ending e h f = subst (WorksOut named limits saves before after) (sym e) (bytes, read, f)
+      ends_after_run (Ok done) ending e h f = subst (WorksOut named limits saves before after) (sym e) (bytes, read, (b, (is, h)))
+      ends_after_run (Err x) ending e h f = subst (WorksOut named limits saves before after) (sym e) (bytes, read, f)
 
       -- how the program ends after a run that ended well, given the result of saving
-      pub saved : (r : Result ⊤ Fault) (ending : Ending) → ending ≡ ending_of r → saves ≡ true → IsDone limits b before after
+      pub ends_after_save : (r : Result ⊤ Fault) (ending : Ending) → ending ≡ ending_of r → saves ≡ true → IsDone limits b before after
           → IfErr r (λ x. (x ≡ fault.Save) ⊎ (x ≡ fault.Memory)) → WorksOut named limits saves before after ending
-      saved (Ok done) ending e s h f = subst (WorksOut named limits saves before after) (sym e) (bytes, read, (b, (is, h)))
-      saved (Err x) ending e s h (inl f) =
+      ends_after_save (Ok done) ending e s h f = subst (WorksOut named limits saves before after) (sym e) (bytes, read, (b, (is, h)))
+      ends_after_save (Err x) ending e s h (inl f) =
           subst (WorksOut named limits saves before after) (sym e)
           (bytes, read, inr (f, s, (b, (is, h))))
-      saved (Err x) ending e s h (inr f) =
+      ends_after_save (Err x) ending e s h (inr f) =
           subst (WorksOut named limits saves before after) (sym e)
           (bytes, read, inl (inr (b, (is, inr (inr (f, s, h))))))
 
   module _ (words : List Text) where
-    runs : (ending : Ending) (file : Option (Bor Text)) (options : Options) (save : Option (Bor Text)) → Says words (option_map (λ p. p.now) file) options (option_map (λ p. p.now) save)
+    runs_by_words : (ending : Ending) (file : Option (Bor Text)) (options : Options) (save : Option (Bor Text)) → Says words (option_map (λ p. p.now) file) options (option_map (λ p. p.now) save)
         → WorksOut (is_some file) (limits_of options) (is_some save) before after ending → RunsBy words before after ending
-    runs ending file options save says h = (
+    runs_by_words ending file options save says h = (
       option_map (λ p. p.now) file,
       (
         options,
@@ -63,30 +63,30 @@ module _ (before after : Streams) where
       ),
     )
 
-    pub ended : (ending : Ending) (file : Option (Bor Text)) (options : Options) (save : Option (Bor Text)) → Says words (option_map (λ p. p.now) file) options (option_map (λ p. p.now) save)
+    pub ends_by_words : (ending : Ending) (file : Option (Bor Text)) (options : Options) (save : Option (Bor Text)) → Says words (option_map (λ p. p.now) file) options (option_map (λ p. p.now) save)
         → WorksOut (is_some file) (limits_of options) (is_some save) before after ending → ProgramEndsBy words before after ending
-    ended Done file options save says h = inr (runs Done file options save says h)
-    ended (Refused text) file options save says h = absurd h
-    ended (Faulted (Source x)) file options save says h = runs (Faulted (Source x)) file options save says h
-    ended (Faulted (Run x)) file options save says h = runs (Faulted (Run x)) file options save says h
-    ended (Faulted Help) file options save says h = absurd h
-    ended (Faulted Memory) file options save says h = absurd h
+    ends_by_words Done file options save says h = inr (runs_by_words Done file options save says h)
+    ends_by_words (Refused text) file options save says h = absurd h
+    ends_by_words (Faulted (Source x)) file options save says h = runs_by_words (Faulted (Source x)) file options save says h
+    ends_by_words (Faulted (Run x)) file options save says h = runs_by_words (Faulted (Run x)) file options save says h
+    ends_by_words (Faulted Help) file options save says h = absurd h
+    ends_by_words (Faulted Memory) file options save says h = absurd h
 
-    pub helped : (ending : Ending) → AsksHelp words → after.unread ≡ before.unread → IsPrinted before.written after.written ending → ProgramEndsBy words before after ending
-    helped Done asks e h = inl (asks, e, h)
-    helped (Refused text) asks e h = absurd h
-    helped (Faulted (Source x)) asks e h = absurd h
-    helped (Faulted (Run x)) asks e h = absurd h
-    helped (Faulted Help) asks e h = (asks, e, h)
-    helped (Faulted Memory) asks e h = absurd h
+    pub ends_after_help : (ending : Ending) → AsksHelp words → after.unread ≡ before.unread → IsPrinted before.written after.written ending → ProgramEndsBy words before after ending
+    ends_after_help Done asks e h = inl (asks, e, h)
+    ends_after_help (Refused text) asks e h = absurd h
+    ends_after_help (Faulted (Source x)) asks e h = absurd h
+    ends_after_help (Faulted (Run x)) asks e h = absurd h
+    ends_after_help (Faulted Help) asks e h = (asks, e, h)
+    ends_after_help (Faulted Memory) asks e h = absurd h
 
 -- how the program ends if there are no branches to work on
-pub lacking : (named saves : Bool) (limits : Limits) (before : Streams) (x : ProgramFault) → IsLacking named x
+pub ends_before_bench : (named saves : Bool) (limits : Limits) (before : Streams) (x : ProgramFault) → IsFaultBeforeBench named x
     → WorksOut named limits saves before before (Faulted x)
-lacking named saves limits before (Source e) h = (h, refl)
-lacking named saves limits before (Run e) h = (h.0, h.1, inl (inl (h.2, refl)))
-lacking named saves limits before Help h = absurd h
-lacking named saves limits before Memory h = absurd h
+ends_before_bench named saves limits before (Source e) h = (h, refl)
+ends_before_bench named saves limits before (Run e) h = (h.0, h.1, inl (inl (h.2, refl)))
+ends_before_bench named saves limits before Help h = absurd h
+ends_before_bench named saves limits before Memory h = absurd h
 
 -- a run that ended well, and reported these bytes, left the branches that the bytes spell
 pub leaving_by : (file : Option (List ℕ)) (limits : Limits) (b : Bench) (bytes : Vec ℕ Global) (before after : Streams) → opened_bench file ≡ Ok b → EndsOver true limits b before after (Ok bytes)

@@ -21,7 +21,7 @@ use Rattle.towerbench.specs.declared.fault.ProgramFault.TheVariants.{Memory}
 use Rattle.towerbench.specs.declared.ending.Ending.{Ending}
 use Rattle.towerbench.specs.declared.ending.Ending.TheVariants.{Done, Refused, Faulted}
 use Rattle.towerbench.specs.Streams.{IsOfStreams, EndsWithStreamFault}
-use Rattle.towerbench.specs.Opening.{one_branch, IsDone, Ran, AreSound, FailsOver, FailsOpen, RanLeaving, RanSaving, SavesInto}
+use Rattle.towerbench.specs.Opening.{one_branch, IsDone, Ran, MayNeedMemory, FailsOver, FailsOnceOpen, RanLeaving, RanSaving, SavesInto}
 use Rattle.towerbench.specs.Endings.{WorksOut, RunsBy, IsPrinted, ProgramEndsBy, exit_status}
 
 -- a safe bit at 0 with one branch without steps, as without a file
@@ -70,13 +70,13 @@ Ran-fails : Ran None limits one_byte one_byte → ⊥
 Ran-fails h = some_left h.1.1.answered.ended
 
 -- a tower file without steps
-AreSound-holds : AreSound false (spelling (file_of One (Safe 0) []))
-AreSound-holds = (file_of One (Safe 0) [], record { lawful = refl; spelled = refl })
+MayNeedMemory-holds : MayNeedMemory false (spelling (file_of One (Safe 0) []))
+MayNeedMemory-holds = (file_of One (Safe 0) [], record { lawful = refl; spelled = refl })
 
 -- a tower file of a safe bit at 2
-AreSound-fails : AreSound false (spelling (file_of One (Safe 2) [])) → ⊥
+MayNeedMemory-fails : MayNeedMemory false (spelling (file_of One (Safe 2) [])) → ⊥
 unfolding digits
-AreSound-fails h = no_file _ h.0 (reading_again _ h.0 h.1)
+MayNeedMemory-fails h = no_file _ h.0 (reading_again _ h.0 h.1)
   where
     no_file : (e : FileFault) (f : File) → Err e ≡ Ok f → ⊥
     no_file e f is = cc
@@ -111,12 +111,12 @@ FailsOver-fails b before after (inr (inl (e, is, h))) = IsOfStreams-fails (e, is
 FailsOver-fails b before after (inr (inr h)) = cc
 
 -- there was no memory to report the branches that a run left
-FailsOpen-holds : FailsOpen true None limits nothing nothing fault.Memory
-FailsOpen-holds = (bench, (refl, FailsOver-holds))
+FailsOnceOpen-holds : FailsOnceOpen true None limits nothing nothing fault.Memory
+FailsOnceOpen-holds = (bench, (refl, FailsOver-holds))
 
 -- a run on an opened bench doesn't end with a failed save
-FailsOpen-fails : FailsOpen true None limits nothing nothing fault.Save → ⊥
-FailsOpen-fails h = FailsOver-fails h.0 nothing nothing h.1.1
+FailsOnceOpen-fails : FailsOnceOpen true None limits nothing nothing fault.Save → ⊥
+FailsOnceOpen-fails h = FailsOver-fails h.0 nothing nothing h.1.1
 
 -- an empty script leaves the branches as they were opened
 RanLeaving-holds : RanLeaving None limits (bench_spelling bench) nothing nothing

@@ -1,5 +1,5 @@
 pub mod RunEndings
-pub mod Refusals
+pub mod LookAnswers
 pub mod Endings
 pub mod Replies
 pub mod UnchangedTower

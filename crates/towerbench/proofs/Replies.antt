@@ -35,9 +35,9 @@ module _ {P : Type 0} (w : World P) (query : Query) where
   shown (Err r) a = tt
 
   -- if a look is answered by a page, the look isn't refused in world w
-  pub found : (r : Result Page Refusal) → IsAnswer w query r → OnOk r (looked_in w query ≡ Ok w.forest)
-  found (Ok page) a = a.0
-  found (Err r) a = tt
+  pub page_found : (r : Result Page Refusal) → IsAnswer w query r → OnOk r (looked_in w query ≡ Ok w.forest)
+  page_found (Ok page) a = a.0
+  page_found (Err r) a = tt
 
   -- if a look is refused, the refusal is the one that is due in world w; or Memory, if none is due
   pub refused : (r : Result Page Refusal) → IsAnswer w query r → IfErr r (IsRefused (looked_in w query))

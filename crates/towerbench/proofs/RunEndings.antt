@@ -14,17 +14,17 @@ use Rattle.branch_terms.specs.declared.limits.TheConstants.{MOST_CELLS_MADE}
 use Rattle.sessions.specs.World.{World, opening_of_limbs}
 use Rattle.script.specs.Answers.{answer_line}
 use Rattle.conversation.specs.declared.fault.StreamFault.{StreamFault}
-use Rattle.tower_file.specs.Said.{as_bench}
+use Rattle.tower_file.specs.Parsed.{as_bench}
 use Rattle.conversation.specs.Moments.{Streams}
 use Rattle.conversation.specs.Scripts.{answers_to, lines_of}
 use Rattle.conversation.specs.Conversations.{EndsWithFault, Leaves}
 use Rattle.command_line.specs.Ranges.{limits_of}
 use Rattle.towerbench.specs.declared.opening.Opening.{Opening}
 use Rattle.towerbench.specs.Opening.{Course, course_on, IsEndedByFault, IsLeftBench}
-use Rattle.towerbench.proofs.UnchangedTower.{IsOn, ground_kept}
+use Rattle.towerbench.proofs.UnchangedTower.{HasTowerOf, tower_unchanged}
 use Rattle.towerbench.specs.Opening.{course_from, course_of, IsDone}
-use Rattle.towerbench.specs.Openings.{Builds, CanOpen, IsOnTower, opening_world}
-use Rattle.towerbench.proofs.Benches.{tower_is}
+use Rattle.towerbench.specs.DeskOpenings.{Builds, CanOpen, IsOnTower, opening_world}
+use Rattle.towerbench.proofs.Benches.{tower_lawful}
 
 -- a register builds a tower if the same steps fit its behaviour, and the course of scripts on it is
 -- the tower's
@@ -76,17 +76,17 @@ module _ {R P : Type 0} (is : R → Behaviour P) (o : Opening R) (can : CanOpen 
             branches = ap (λ (b : Bench). b.limbs) is_left ∙ ap limbs (ap (λ (x : World P). x.forest) leaves.left ∙ ap (λ (c : Course). c.leaving (lines_of a.script) a.marks) (sym course_is));
           }
 
-      ground : IsOn w v
-      ground =
+      same_tower : HasTowerOf w v
+      same_tower =
           let a = leaves.answered in
-          subst (IsOn w) (sym leaves.left) (ground_kept w (lines_of a.script) a.marks)
+          subst (HasTowerOf w) (sym leaves.left) (tower_unchanged w (lines_of a.script) a.marks)
 
-      pub ground_at : IsOnTower o.setup.bench.spec v
-      ground_at =
-          let limits = sym (ground.limits ∙ ap (λ (x : World P). x.limits) at) in
+      pub on_tower_at : IsOnTower o.setup.bench.spec v
+      on_tower_at =
+          let limits = sym (same_tower.limits ∙ ap (λ (x : World P). x.limits) at) in
           record {
-            lawful = tower_is o.setup.bench.spec o.setup.bench.limbs o.setup.bench.lawful;
-            alike = λ s. can.builds.alike s ∙ ap (λ (b : Behaviour P). fits_step b s) (sym (ground.tower ∙ ap (λ (x : World P). x.tower) at));
+            lawful = tower_lawful o.setup.bench.spec o.setup.bench.limbs o.setup.bench.lawful;
+            alike = λ s. can.builds.alike s ∙ ap (λ (b : Behaviour P). fits_step b s) (sym (same_tower.tower ∙ ap (λ (x : World P). x.tower) at));
             cells = subst (λ (l : Limits). l.cells ≤ MOST_CELLS_MADE) limits can.limits.few_cells;
             branches = subst (λ (l : Limits). l.branches ≤ 1024) limits can.limits.few_branches;
           }

@@ -6,7 +6,7 @@ use Rattle.schedule_trie.specs.declared.refusal.Refusal.{Refusal}
 use Rattle.schedule_trie.specs.declared.refusal.Refusal.TheVariants as refusal
 use Rattle.sessions.specs.declared.command.Command.{Command}
 use Rattle.sessions.specs.World.{World}
-use Rattle.sessions.specs.Acts.{CommandResult, accepted_world_by, answered, command_result, first_refusal, is_full, refusals, refused}
+use Rattle.sessions.specs.Acts.{CommandResult, accepted_world_by, answered, command_result, first_refusal, is_full, refusals, refused_world}
 use Rattle.sessions.specs.Edits.{edit_of}
 use Rattle.script.specs.declared.call.Request.{Request}
 use Rattle.script.specs.declared.call.Request.TheVariants.{Act, Look, Fill}
@@ -17,66 +17,66 @@ use Rattle.script.specs.Answers.{carried_out, answer_line, answer_to, performed,
 use Rattle.conversation.specs.Scripts.{Marks, ScriptProgress, after_lines, beginning, next_line}
 
 -- world v has the tower and the limits of world w
-pub record IsOn {P : Type 0} (w v : World P) : Type 0 where
+pub record HasTowerOf {P : Type 0} (w v : World P) : Type 0 where
   pub tower : v.tower ≡ w.tower
   pub limits : v.limits ≡ w.limits
 
 module _ {P : Type 0} where
-  same : (w : World P) → IsOn w w
-  same w = record { tower = refl; limits = refl }
+  unchanged : (w : World P) → HasTowerOf w w
+  unchanged w = record { tower = refl; limits = refl }
 
-  then : (u v w : World P) → IsOn u v → IsOn v w → IsOn u w
-  then u v w a b = record { tower = b.tower ∙ a.tower; limits = b.limits ∙ a.limits }
+  unchanged_then : (u v w : World P) → HasTowerOf u v → HasTowerOf v w → HasTowerOf u w
+  unchanged_then u v w a b = record { tower = b.tower ∙ a.tower; limits = b.limits ∙ a.limits }
 
-  by_edit : (o : Option Edit) (who : ℕ) (c : Command) (w : World P) → IsOn w (accepted_world_by o who c w)
-  by_edit (Some edit) who c w = record { tower = refl; limits = refl }
-  by_edit None who c w = record { tower = refl; limits = refl }
+  after_edit : (o : Option Edit) (who : ℕ) (c : Command) (w : World P) → HasTowerOf w (accepted_world_by o who c w)
+  after_edit (Some edit) who c w = record { tower = refl; limits = refl }
+  after_edit None who c w = record { tower = refl; limits = refl }
 
-  by_refusal : (r : Refusal) (w : World P) → IsOn w (refused r w)
-  by_refusal refusal.NoBranch w = record { tower = refl; limits = refl }
-  by_refusal refusal.NameTaken w = record { tower = refl; limits = refl }
-  by_refusal refusal.BadName w = record { tower = refl; limits = refl }
-  by_refusal refusal.NoPlace w = record { tower = refl; limits = refl }
-  by_refusal refusal.Full w = record { tower = refl; limits = refl }
-  by_refusal refusal.LastBranch w = record { tower = refl; limits = refl }
-  by_refusal refusal.TooManyBranches w = record { tower = refl; limits = refl }
-  by_refusal refusal.BadStep w = record { tower = refl; limits = refl }
-  by_refusal refusal.Occupied w = record { tower = refl; limits = refl }
-  by_refusal refusal.NoBreak w = record { tower = refl; limits = refl }
-  by_refusal refusal.NoSession w = record { tower = refl; limits = refl }
-  by_refusal (refusal.Newer edits) w = record { tower = refl; limits = refl }
-  by_refusal refusal.LogFull w = record { tower = refl; limits = refl }
-  by_refusal refusal.BadLine w = record { tower = refl; limits = refl }
-  by_refusal refusal.Memory w = record { tower = refl; limits = refl }
+  after_refusal : (r : Refusal) (w : World P) → HasTowerOf w (refused_world r w)
+  after_refusal refusal.NoBranch w = record { tower = refl; limits = refl }
+  after_refusal refusal.NameTaken w = record { tower = refl; limits = refl }
+  after_refusal refusal.BadName w = record { tower = refl; limits = refl }
+  after_refusal refusal.NoPlace w = record { tower = refl; limits = refl }
+  after_refusal refusal.Full w = record { tower = refl; limits = refl }
+  after_refusal refusal.LastBranch w = record { tower = refl; limits = refl }
+  after_refusal refusal.TooManyBranches w = record { tower = refl; limits = refl }
+  after_refusal refusal.BadStep w = record { tower = refl; limits = refl }
+  after_refusal refusal.Occupied w = record { tower = refl; limits = refl }
+  after_refusal refusal.NoBreak w = record { tower = refl; limits = refl }
+  after_refusal refusal.NoSession w = record { tower = refl; limits = refl }
+  after_refusal (refusal.Newer edits) w = record { tower = refl; limits = refl }
+  after_refusal refusal.LogFull w = record { tower = refl; limits = refl }
+  after_refusal refusal.BadLine w = record { tower = refl; limits = refl }
+  after_refusal refusal.Memory w = record { tower = refl; limits = refl }
 
-  by_answer : (o : Option Refusal) (who : ℕ) (c : Command) (w : World P) → IsOn w (answered o who c w).world
-  by_answer None who c w = by_edit (edit_of c) who c w
-  by_answer (Some r) who c w = by_refusal r w
+  after_answer : (o : Option Refusal) (who : ℕ) (c : Command) (w : World P) → HasTowerOf w (answered o who c w).world
+  after_answer None who c w = after_edit (edit_of c) who c w
+  after_answer (Some r) who c w = after_refusal r w
 
-  by_room : (full : Bool) (own : CommandResult P) (w : World P) → IsOn w own.world → IsOn w (without_memory full own w).world
-  by_room true own w h = h
-  by_room false own w h = same w
+  after_refused_memory : (full : Bool) (own : CommandResult P) (w : World P) → HasTowerOf w own.world → HasTowerOf w (without_memory full own w).world
+  after_refused_memory true own w h = h
+  after_refused_memory false own w h = unchanged w
 
-  by_act : (memory : Bool) (session : ℕ) (guard : Option ℕ) (c : Command) (w : World P) → IsOn w (carried_out memory session guard c w).world
-  by_act false session guard c w = by_answer (first_refusal (refusals session guard c w)) session c w
-  by_act true session guard c w = by_room (is_full w) (command_result session guard c w) w (by_answer (first_refusal (refusals session guard c w)) session c w)
+  after_act : (memory : Bool) (session : ℕ) (guard : Option ℕ) (c : Command) (w : World P) → HasTowerOf w (carried_out memory session guard c w).world
+  after_act false session guard c w = after_answer (first_refusal (refusals session guard c w)) session c w
+  after_act true session guard c w = after_refused_memory (is_full w) (command_result session guard c w) w (after_answer (first_refusal (refusals session guard c w)) session c w)
 
-  by_request : (memory : Bool) (session : ℕ) (r : Request) (w : World P) → IsOn w (performed memory session r w).world
-  by_request memory session (Act guard c) w = by_act memory session guard c w
-  by_request memory session (Look query) w = same w
-  by_request memory session (Fill branch) w = same w
+  after_request : (memory : Bool) (session : ℕ) (r : Request) (w : World P) → HasTowerOf w (performed memory session r w).world
+  after_request memory session (Act guard c) w = after_act memory session guard c w
+  after_request memory session (Look query) w = unchanged w
+  after_request memory session (Fill branch) w = unchanged w
 
-  by_line : (memory : Bool) (n : ℕ) (l : Line) (w : World P) → IsOn w (answer_to memory n l w).world
-  by_line memory n line.Blank w = same w
-  by_line memory n line.Bad w = same w
-  by_line memory n (line.Call c) w = by_request memory c.session c.request w
+  after_line : (memory : Bool) (n : ℕ) (l : Line) (w : World P) → HasTowerOf w (answer_to memory n l w).world
+  after_line memory n line.Blank w = unchanged w
+  after_line memory n line.Bad w = unchanged w
+  after_line memory n (line.Call c) w = after_request memory c.session c.request w
 
-  by_lines : (marks : Marks) (lines : List (List ℕ)) (p : ScriptProgress (World P)) → IsOn p.world (fold (next_line answer_line marks) p lines).world
-  by_lines marks [] p = same p.world
-  by_lines marks (text ∷ lines) p =
+  after_each_line : (marks : Marks) (lines : List (List ℕ)) (p : ScriptProgress (World P)) → HasTowerOf p.world (fold (next_line answer_line marks) p lines).world
+  after_each_line marks [] p = unchanged p.world
+  after_each_line marks (text ∷ lines) p =
       let q = next_line answer_line marks p text in
-      then p.world q.world _ (by_line (marks (p.lines + 1)) (p.lines + 1) (read_line text) p.world) (by_lines marks lines q)
+      unchanged_then p.world q.world _ (after_line (marks (p.lines + 1)) (p.lines + 1) (read_line text) p.world) (after_each_line marks lines q)
 
   -- the world after a script's lines has the tower and the limits of the world before them
-  pub ground_kept : (w : World P) (lines : List (List ℕ)) (marks : Marks) → IsOn w (after_lines answer_line w lines marks).world
-  ground_kept w lines marks = by_lines marks lines (beginning w)
+  pub tower_unchanged : (w : World P) (lines : List (List ℕ)) (marks : Marks) → HasTowerOf w (after_lines answer_line w lines marks).world
+  tower_unchanged w lines marks = after_each_line marks lines (beginning w)

@@ -34,11 +34,11 @@ FailsBy saves bytes limits before after e =
 
 -- The program has this fault before there are branches to work on: the named file can't be read, or
 -- its bytes have a fault, or, without a file, there is no memory for the branches.
-abbrev pub IsLacking : Bool → ProgramFault → Type 0
-IsLacking named (Source e) = named ≡ true
-IsLacking named (Run e) = (bytes : Option (List ℕ)) × IsRead named bytes × IsUnopened bytes e
-IsLacking named Help = ⊥
-IsLacking named Memory = ⊥
+abbrev pub IsFaultBeforeBench : Bool → ProgramFault → Type 0
+IsFaultBeforeBench named (Source e) = named ≡ true
+IsFaultBeforeBench named (Run e) = (bytes : Option (List ℕ)) × IsRead named bytes × IsUnopened bytes e
+IsFaultBeforeBench named Help = ⊥
+IsFaultBeforeBench named Memory = ⊥
 
 -- A run of the program over the named file, or without a file, ends in this way. It ends well; or
 -- the file can't be read, and then nothing was read from the script or written; or the run or the

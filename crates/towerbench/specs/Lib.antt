@@ -3,4 +3,4 @@ pub mod Streams
 pub mod Opening
 pub mod Endings
 pub mod Seats
-pub mod Openings
+pub mod DeskOpenings

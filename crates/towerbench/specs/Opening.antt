@@ -48,15 +48,15 @@ bench_in f = one_branch f.spec f.steps
 
 -- what bytes are read as, or their first fault: given `true`, a bench file; given `false`, a tower
 -- file, whose steps become those of a branch `main`
-abbrev pub said_by : Bool → List ℕ → Result Bench FileFault
-said_by true bytes = bench_reading bytes
-said_by false bytes = file_reading bytes >>= λ f. Ok (bench_in f)
+abbrev pub bench_read_from : Bool → List ℕ → Result Bench FileFault
+bench_read_from true bytes = bench_reading bytes
+bench_read_from false bytes = file_reading bytes >>= λ f. Ok (bench_in f)
 
 -- what is opened: the bench of the file's bytes, or the first fault in them; without a file, a safe
 -- bit at 0 and a branch `main` without steps
 abbrev pub opened_bench : Option (List ℕ) → Result Bench FileFault
 opened_bench None = Ok (one_branch (Safe 0) [])
-opened_bench (Some bytes) = said_by (is_bench bytes) bytes
+opened_bench (Some bytes) = bench_read_from (is_bench bytes) bytes
 
 -- What scripts do. From a script's lines, and from marks that say which lines were refused memory,
 -- `answering` gives the answers, and `leaving` gives the branches that the lines leave.
@@ -138,14 +138,14 @@ Ran file limits before after = (b : Bench) × ((opened_bench file ≡ Ok b) × I
 
 -- What is known of bytes if memory ran out while they were read. If they were read as a bench file,
 -- a prefix spells a bench file, and no byte is foreign; otherwise the bytes spell a tower file.
-abbrev pub AreSound : Bool → List ℕ → Type 0
-AreSound true bytes = SpellsFront bytes
-AreSound false bytes = (f : File) × Spells bytes f
+abbrev pub MayNeedMemory : Bool → List ℕ → Type 0
+MayNeedMemory true bytes = SpellsFront bytes
+MayNeedMemory false bytes = (f : File) × Spells bytes f
 
 -- reading a file's bytes ends with the fault e: the first fault of the bytes; or Memory, and then
--- the bytes are as `AreSound` says
+-- the bytes are as `MayNeedMemory` says
 abbrev pub IsFileFault : FileFault → List ℕ → Type 0
-IsFileFault e bytes = Fails e.kind e (opened_bench (Some bytes)) × (e.kind ≡ kind.Memory → AreSound (is_bench bytes) bytes)
+IsFileFault e bytes = Fails e.kind e (opened_bench (Some bytes)) × (e.kind ≡ kind.Memory → MayNeedMemory (is_bench bytes) bytes)
 
 -- no bench is opened, for this reason: the file has a fault; or, without a file, memory ran out
 abbrev pub IsUnopened : Option (List ℕ) → Fault → Type 0
@@ -159,15 +159,15 @@ IsUnopened file fault.Save = ⊥
 
 -- a bench was opened, as `opened_bench` says, and the run of the program on it ended with this
 -- fault
-abbrev pub FailsOpen : Bool → Option (List ℕ) → Limits → Streams → Streams → Fault → Type 0
-FailsOpen reports file limits before after e = (b : Bench) × ((opened_bench file ≡ Ok b) × FailsOver reports limits b before after e)
+abbrev pub FailsOnceOpen : Bool → Option (List ℕ) → Limits → Streams → Streams → Fault → Type 0
+FailsOnceOpen reports file limits before after e = (b : Bench) × ((opened_bench file ≡ Ok b) × FailsOver reports limits b before after e)
 
 -- A run of the program ended with this fault. Either no bench was opened, and nothing was read or
 -- written; or a bench was opened, and the run on that bench ended with this fault, as `FailsOver`
 -- says.
 abbrev pub RanInto : Bool → Option (List ℕ) → Limits → Streams → Streams → Fault → Type 0
 RanInto reports file limits before after e =
-    (IsUnopened file e × IsUntouched before after) ⊎ FailsOpen reports file limits before after e
+    (IsUnopened file e × IsUntouched before after) ⊎ FailsOnceOpen reports file limits before after e
 
 -- A run of the program over a file, or without one, ended well and left the branches that these
 -- bytes spell.

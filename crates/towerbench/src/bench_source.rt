@@ -4,7 +4,7 @@
 ghost use Rattle.std.specs.Prelude.{◌≡◌, Some, Ok, IfOk, IfErr, true};
 ghost use Rattle.std.specs.Option.{option_map};
 ghost use Rattle.std.specs.List.{list_all};
-ghost use Rattle.tower_file.specs.Said.{as_bench};
+ghost use Rattle.tower_file.specs.Parsed.{as_bench};
 ghost use Rattle.tower_file.specs.Towers as towers;
 ghost use Rattle.towerbench.specs.Opening.{opened_bench, IsFileFault, IsUnopened};
 ghost use Rattle.towerbench.specs.Opening as spec;

@@ -4,12 +4,12 @@ ghost use Rattle.std.specs.Prelude.{◌≡◌, ◌≢◌, ◌≤◌, ℕ, List, 
 ghost use Rattle.std.specs.IoError.{error_kind};
 ghost use Rattle.std.specs.Option.{is_some};
 ghost use Rattle.std.specs.String.{string_bytes};
-ghost use Rattle.tower_file.specs.Said.{as_bench};
+ghost use Rattle.tower_file.specs.Parsed.{as_bench};
 ghost use Rattle.conversation.specs.Moments.{streams};
 ghost use Rattle.command_line.specs.Ranges.{AreOptionsInRange, limits_of};
 ghost use Rattle.towerbench.specs.declared.ending.Ending.{Ending};
 ghost use Rattle.towerbench.specs.Opening.{IsUntouched, opened_bench};
-ghost use Rattle.towerbench.specs.Endings.{IsLacking, IsPrinted, IsRead, ProgramEndsBy, WorksOut, ending_of, exit_status};
+ghost use Rattle.towerbench.specs.Endings.{IsFaultBeforeBench, IsPrinted, IsRead, ProgramEndsBy, WorksOut, ending_of, exit_status};
 
 use crate::bench_source::{MOST_FILE_BYTES, open_file};
 use crate::ending::Ending;
@@ -154,7 +154,7 @@ fn bench_at<F: Files + AllocGlobal>(
 ) -> Result<BenchFile, ProgramFault>
     ensures ok { IfOk result (λ bench. (bytes : Option (List ℕ))
         × IsRead (is_some file.entry) bytes × (opened_bench bytes ≡ Ok (as_bench bench))) }
-    ensures err { IfErr result (IsLacking (is_some file.entry)) }
+    ensures err { IfErr result (IsFaultBeforeBench (is_some file.entry)) }
 {
     let Some(path) = file else {
         return match open_file(files.alloc(), None) {

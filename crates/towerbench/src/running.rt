@@ -7,7 +7,7 @@ ghost use Rattle.tower_file.specs.Benches.{bench_of};
 ghost use Rattle.command_line.specs.Ranges.{AreOptionsInRange, limits_of};
 ghost use Rattle.conversation.specs.Moments.{streams};
 ghost use Rattle.towerbench.specs.Opening.{IsReported, Ran, RanInto};
-ghost use Rattle.towerbench.specs.Openings.{Builds, EndsFrom, IsOnTower, is_reported};
+ghost use Rattle.towerbench.specs.DeskOpenings.{Builds, EndsFrom, IsOnTower, reports_branches};
 ghost use Rattle.towerbench.specs.Seats.{IsAlone, world_at};
 
 use crate::bench_source::{open_file, tower_of};
@@ -171,9 +171,9 @@ fn reported_bytes<B: Register, H: Wait>(
 ) -> Result<Vec<u8>, AllocError>
     requires alone { IsAlone seat.old }
     requires ground { IsOnTower tower (world_at B.behaviour seat.old) }
-    ensures reported { IfOk result (λ bytes. IsReported (is_reported reporting)
+    ensures reported { IfOk result (λ bytes. IsReported (reports_branches reporting)
         (bench_of tower (limbs (world_at B.behaviour seat.old).forest)) bytes.items) }
-    ensures fault { OnErr result (is_reported reporting ≡ true) }
+    ensures fault { OnErr result (reports_branches reporting ≡ true) }
 {
     match reporting {
         Reporting::Nothing => Ok(Vec::new(alloc)),

@@ -10,7 +10,7 @@ ghost use Rattle.sessions.specs.Saves.{IsSaved};
 ghost use Rattle.desk.specs.Chairs.{IsChairOf};
 ghost use Rattle.desk.specs.Works.{IsPaged, NeedsBranch, answer_by};
 ghost use Rattle.script.specs.Answers.{carried_out};
-ghost use Rattle.towerbench.specs.Openings.{CanOpen, opening_world};
+ghost use Rattle.towerbench.specs.DeskOpenings.{CanOpen, opening_world};
 ghost use Rattle.towerbench.specs.Seats.{IsAlone, seated, world_at};
 
 use crate::opening::Opening;
@@ -176,8 +176,8 @@ where
     R::Pending: Send + Sync,
 {
     /// Stores runs for `branch` and for the other branches, as far as there is memory, and reports
-    /// how the jobs (segments to be replayed) ended. If the chair holds every share, the
-    /// seat's world is unchanged.
+    /// how the jobs (segments to be replayed) ended. If the chair holds every share, the seat's
+    /// world is unchanged.
     ///
     /// # Errors
     ///

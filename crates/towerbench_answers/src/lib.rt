@@ -1,5 +1,6 @@
 //! What the program `towerbench-answers` does: it reads a question file, and writes which answers
-//! are possible. The program passes its streams and the words of its command line to `answers_tool`.
+//! are possible. The program passes its streams and the words of its command line to
+//! `answers_tool`.
 #![tactic(auto)]
 
 mod asked;

@@ -16,7 +16,7 @@ use Rattle.matrix.specs.Rows.{RefusesNoRow}
 use Rattle.matrix.proofs.Kept.{matrix_over_counted, rows_are_whole}
 use Rattle.stamped.specs.declared.task.StampedTask.{StampedTask}
 use Rattle.stamped.specs.Program.{stamped_table, StampedMayBeAt}
-use Rattle.stamped.proofs.ByCount.{under, stamped_admits}
+use Rattle.stamped.proofs.ByCount.{has_stamp_left, stamped_admits}
 
 pub over_stamped : {P : Type 0} {b : Behaviour P} {Keeps : Memory → Type 0} {Reaches : ℕ → Op → P → Type 0} {left : MatrixTask → ℕ} {stamped_left : StampedTask → ℕ} (n V tags codes last : ℕ)
     → IsLawful b Keeps Reaches
@@ -29,4 +29,4 @@ over_stamped {b = b} {Keeps = Keeps} {Reaches = Reaches} {left = left} {stamped_
     let Reached = LayerReaches (stamped_table codes last) (StampedMayBeAt codes last) Reaches in
     let is_lawful = layer_lawful (over lawful sound_below fit_below) in
     let admits = stamped_admits b Keeps Reaches codes last stamped_left lawful sound_below fit_below regular in
-    (matrix_over_counted below Holds Reached (under last) n V tags left is_lawful sound fit admits, rows_are_whole below Holds Reached (under last) n V tags left is_lawful sound fit admits)
+    (matrix_over_counted below Holds Reached (has_stamp_left last) n V tags left is_lawful sound fit admits, rows_are_whole below Holds Reached (has_stamp_left last) n V tags left is_lawful sound fit admits)

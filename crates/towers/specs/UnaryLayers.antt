@@ -46,26 +46,26 @@ on_regular r =
     over (layer_lawful (on_copies r)) (unary.unary_sound u.layer.values u.layer.processes u.layer.two u.layer.some) u.fit
 
 -- the behaviour of a unary number: each layer's rules over the behaviour of the layer below
-abbrev pub does : UnaryTower → Behaviour UnaryPoint
-does r = let u = r.layers in let b = u.below in let c = b.below in
+abbrev pub unary_behaviour : UnaryTower → Behaviour UnaryPoint
+unary_behaviour r = let u = r.layers in let b = u.below in let c = b.below in
     layered (unary_table u.layer.values u.layer.processes) (layered (regular_table b.layer.processes) (layered (copies_table c.layer.readers c.layer.values) safe_behaviour))
 
 -- the point of a process's operation on a unary number, as a list of frames describes it; `None` if
 -- the frames describe no point
-abbrev pub finds : UnaryTower → ℕ → List Frame → Option UnaryPoint
-finds r = let u = r.layers in let b = u.below in let c = b.below in
+abbrev pub unary_point : UnaryTower → ℕ → List Frame → Option UnaryPoint
+unary_point r = let u = r.layers in let b = u.below in let c = b.below in
     layered_point (unary_table u.layer.values u.layer.processes)
     (layered_point (regular_table b.layer.processes) (layered_point (copies_table c.layer.readers c.layer.values) safe_point))
 
 -- whether two unary numbers are equal, layer by layer; `safe` says whether their safe bits are
 -- equal
-abbrev pub tower_eq : Bool → UnaryTower → UnaryTower → Bool
-tower_eq safe r s = let u = r.layers in let v = s.layers in let b = u.below in let d = v.below in
+abbrev pub unary_tower_eq : Bool → UnaryTower → UnaryTower → Bool
+unary_tower_eq safe r s = let u = r.layers in let v = s.layers in let b = u.below in let d = v.below in
     ((safe && copies.copies_layer_eq b.below.layer.readers d.below.layer.readers b.below.layer.values d.below.layer.values) && nat_eq b.layer.processes d.layer.processes)
     && (nat_eq u.layer.values v.layer.values && nat_eq u.layer.processes v.layer.processes)
 
 -- equal unary numbers have the same behaviour, and in both the same frames describe the same point
-pub same_layers : (safe : Bool) (r s : UnaryTower) → tower_eq safe r s ≡ true → (does r ≡ does s) × (finds r ≡ finds s)
+pub same_layers : (safe : Bool) (r s : UnaryTower) → unary_tower_eq safe r s ≡ true → (unary_behaviour r ≡ unary_behaviour s) × (unary_point r ≡ unary_point s)
 same_layers safe r s h =
     let u = r.layers in
     let v = s.layers in
@@ -76,7 +76,7 @@ same_layers safe r s h =
     let over_bits = and_parts safe (copies.copies_layer_eq b.below.layer.readers d.below.layer.readers b.below.layer.values d.below.layer.values) over_copies.0 in
     let same_unary = unary.unary_table_alike u.layer.values v.layer.values u.layer.processes v.layer.processes over_regular.1 in
     let same_regular = regular.regular_table_alike b.layer.processes d.layer.processes over_copies.1 in
-    let same_copies = copies.layers_alike b.below.layer.readers d.below.layer.readers b.below.layer.values d.below.layer.values over_bits.1 in (
+    let same_copies = copies.copies_table_alike b.below.layer.readers d.below.layer.readers b.below.layer.values d.below.layer.values over_bits.1 in (
       layered_alike _ _ _ _ same_unary (layered_alike _ _ _ _ same_regular (layered_alike _ _ safe_behaviour safe_behaviour same_copies refl)),
       points_alike _ _ _ _ same_unary (points_alike _ _ _ _ same_regular (points_alike _ _ safe_point safe_point same_copies refl)),
     )

@@ -8,7 +8,7 @@ ghost use Rattle.frames.specs.correctness.Regularity.{NeverStray};
 ghost use Rattle.frames.specs.correctness.Regularity.{IsAtomic, IsRegular, IsSafe};
 ghost use Rattle.frames.specs.correctness.ReportedActions.{ReportsActions};
 ghost use Rattle.matrix.specs.Rows.{RefusesNoRow};
-ghost use Rattle.unary_number.specs.Scans.{AlwaysFinds};
+ghost use Rattle.unary_number.specs.Scans.{AlwaysFindsOne};
 
 use crate::{CopiesTower, MatrixTower, RegularTower, StampedTower, UnaryTower};
 use frames::laws::{never_stray, safe};
@@ -42,7 +42,7 @@ pub fn unary_is_regular(register: &UnaryTower)
     ensures regular { IsRegular (⟦<UnaryTower as Behaves>⟧.behaviour register.now) }
     ensures never_stray { NeverStray (⟦<UnaryTower as Behaves>⟧.behaviour register.now) }
     ensures found { let layers = register.now.layers in
-        AlwaysFinds layers.layer.values layers.layer.processes
+        AlwaysFindsOne layers.layer.values layers.layer.processes
         (⟦<RegularTower as Behaves>⟧.behaviour layers.below) }
 {
     regular_is_regular(&register.layers.below);

@@ -10,7 +10,7 @@ use Rattle.turn.specs.declared.view.View.{View}
 use Rattle.turn.specs.Shares.{has_share, HasAll, shares_without, together, count, chair_number, next_least}
 use Rattle.turn.specs.laws.Shares.{below_every, has_without, given_inside, given_some, kept_some, count_some, number_held, together_some}
 use Rattle.turn.specs.Histories.{StartsWith, first_view, with_news, longer, joined, IsJoined, HoldsSome, under, OwnsItsCalls, kept, handed}
-use Rattle.turn.specs.Rule.{Kept, NewsReports}
+use Rattle.turn.specs.Rule.{TurnInvariant, NewsReports}
 use Rattle.turn.proofs.Prefixes.{nothing_new, under_kept}
 use Rattle.turn.proofs.RuleSteps.{starts, none_under, longer_cases}
 
@@ -21,9 +21,9 @@ module _ {T E : Type 0} (by : E → ℕ) (entries : T → List E) where
   abbrev M : Type 0
   M = Me (Option T) V
 
-  pub starts_as : (value about : T) (xs : List (Option T)) (n : ℕ) → All (λ e. 16 ≤ by e) (entries value) → n ≡ length (entries value) → xs ≡ Some value ∷ [] → about ≡ value
-      → Kept by entries (opening (0 ∷ n ∷ []) xs (first_view (entries about)))
-  starts_as value about xs n outside long items same = subst (λ (z : List (Option T) × T). Kept by entries (opening (0 ∷ n ∷ []) z.0 (first_view (entries z.1))))
+  pub invariant_at_start : (value about : T) (xs : List (Option T)) (n : ℕ) → All (λ e. 16 ≤ by e) (entries value) → n ≡ length (entries value) → xs ≡ Some value ∷ [] → about ≡ value
+      → TurnInvariant by entries (opening (0 ∷ n ∷ []) xs (first_view (entries about)))
+  invariant_at_start value about xs n outside long items same = subst (λ (z : List (Option T) × T). TurnInvariant by entries (opening (0 ∷ n ∷ []) z.0 (first_view (entries z.1))))
       (λ i. (sym items i, sym same i)) (starts by entries value outside n long)
 
   pub owns_first : (value about : T) → All (λ e. 16 ≤ by e) (entries value) → about ≡ value → OwnsItsCalls by (first_view (entries about))
@@ -81,9 +81,9 @@ module _ {T E : Type 0} (by : E → ℕ) (entries : T → List E) where
 
   -- a chair with the view v that takes over one with the view w, and then reads the list's length,
   -- has joined them, as `IsJoined` says
-  pub meets : (v w : V) (m1 m2 : M) (n : ℕ) → m1.0 ≡ joined v w → NewsReports by entries m1 n m2
+  pub joined_with_news : (v w : V) (m1 m2 : M) (n : ℕ) → m1.0 ≡ joined v w → NewsReports by entries m1 n m2
       → IsJoined v w m2.0
-  meets v w m1 m2 n is t =
+  joined_with_news v w m1 m2 n is t =
       let after : m2.0 ≡ with_news (joined v w) n = ap (λ (m : M). m.0) t.0 ∙ ap (λ (x : V). with_news x n) is in
       let seen : m2.0.seen ≡ longer v.seen w.seen = ap (λ (x : V). x.seen) after in
       let J : V → Type 0 = λ (x : V). (length x.met.0 ≤ length x.seen → StartsWith x.seen x.met.0) × (length x.met.1 ≤ length x.seen → StartsWith x.seen x.met.1) in
@@ -101,12 +101,12 @@ module _ {T E : Type 0} (by : E → ℕ) (entries : T → List E) where
 
   -- when a chair with every share closes the turn, the value is in its slot, and the chair has seen
   -- the value's whole list
-  pub closes : (id : ℕ) (v : V) (words : List ℕ) (xs : List (Option T)) → Final (Seen (Kept by entries) id v) words xs → v.holds ≡ false → HasAll v.shares
+  pub closes : (id : ℕ) (v : V) (words : List ℕ) (xs : List (Option T)) → Final (Seen (TurnInvariant by entries) id v) words xs → v.holds ≡ false → HasAll v.shares
       → (y : T) × (get_elem? xs 0 ≡ some (Some y)) × (entries y ≡ v.seen)
   closes id v words xs final idle all =
-      let s : State (Option T) V = final.0 in let r : Kept by entries s = final.1.0 in let at : get_elem? s.views id ≡ some v = final.1.1 in let k = r.each id v at in
+      let s : State (Option T) V = final.0 in let r : TurnInvariant by entries s = final.1.0 in let at : get_elem? s.views id ≡ some v = final.1.1 in let k = r.each id v at in
       let some_share : HoldsSome v = (0, all 0 (omega arith)) in
-      let nil = nothing_new by r.list v.seen k.seen.0 k.seen.1 (k.seen.2 some_share) (λ share inside. k.saw share (all share inside)) in
+      let nil = nothing_new by r.list v.seen k.seen.0 k.seen.1 (k.seen.2 some_share) (λ share inside. k.seen_under share (all share inside)) in
       let whole : r.list ≡ v.seen = sym k.seen.1 ∙ (ap (λ l. v.seen ++ l) nil ∙ append-nil v.seen) in
       dite (ℕ_discrete r.flag 0)
       (λ free. let h = r.home free in (h.0, final.4 0 (Some h.0) (ap (λ hs. get_elem? hs 0) h.1), h.2 ∙ whole))

@@ -11,12 +11,12 @@ use Rattle.turn.specs.Rule.{ByChairs}
 
 module _ {E : Type 0} where
   -- of two prefixes of one list, the shorter is a prefix of the other
-  pub shorter : (list front back : List E) → StartsWith list front → StartsWith list back → length front ≤ length back → StartsWith back front
-  shorter list [] back f b le = (back, refl)
-  shorter list (x ∷ xs) [] f b le = absurd (omega arith)
-  shorter [] (x ∷ xs) (y ∷ ys) f b le = absurd (omega (arith, ap length f.1))
-  shorter (z ∷ list) (x ∷ xs) (y ∷ ys) f b le =
-      let g = shorter list xs ys (f.0, tail_same f.1) (b.0, tail_same b.1) (omega arith) in
+  pub shorter_is_prefix : (list front back : List E) → StartsWith list front → StartsWith list back → length front ≤ length back → StartsWith back front
+  shorter_is_prefix list [] back f b le = (back, refl)
+  shorter_is_prefix list (x ∷ xs) [] f b le = absurd (omega arith)
+  shorter_is_prefix [] (x ∷ xs) (y ∷ ys) f b le = absurd (omega (arith, ap length f.1))
+  shorter_is_prefix (z ∷ list) (x ∷ xs) (y ∷ ys) f b le =
+      let g = shorter_is_prefix list xs ys (f.0, tail_same f.1) (b.0, tail_same b.1) (omega arith) in
       (g.0, λ k. head_same (f.1 ∙ sym b.1) k ∷ g.1 k)
     where
       tail_same : {p q : E} {ps qs : List E} → p ∷ ps ≡ q ∷ qs → ps ≡ qs
@@ -47,7 +47,7 @@ module _ {E : Type 0} (by : E → ℕ) where
   pub still_all : (share : ℕ) (list front back : List E) → StartsWith list front → StartsWith list back → length front ≤ length back → under by share front ≡ under by share list
       → under by share back ≡ under by share list
   still_all share list front back f b le same =
-      let m = shorter list front back f b le in
+      let m = shorter_is_prefix list front back f b le in
       let u = under by share in
       let whole : front ++ (m.0 ++ b.0) ≡ list = sym (append_assoc front m.0 b.0) ∙ (ap (λ l. l ++ b.0) m.1 ∙ b.1) in
       let none_left : u (m.0 ++ b.0) ≡ [] = append_cancel_left (u front) (u (m.0 ++ b.0)) [] (sym (under_append share front (m.0 ++ b.0)) ∙ (ap u whole ∙ (sym same ∙ sym (append-nil (u front))))) in

@@ -1,4 +1,4 @@
--- Each step on a turn's table keeps the table's invariant, `Kept`, which is called Rule here.
+-- Each step on a turn's table keeps its invariant, `TurnInvariant`, which is called Rule here.
 use Rattle.std.proofs.Common.{◌≡◌, ◌≢◌, ◌⊎◌, ℕ, ◌<◌, ◌≤◌, zero, suc, eqb, Bool, true, false, cond, not, List, [], ◌∷◌, ◌++◌, length, get_or, set, refl, sym, ap, ◌∙◌, subst, ne_eqb, ltb-true, ltb-false, lt-ltb, lt_of_not-le, ⊎_elim, inl, inr, arith, append_assoc, append-nil, length-append, Option, Some}
 use Rattle.std.proofs.lemmas.List.{set-get_or}
 use Rattle.std.proofs.lemmas.List.Elements.{All-nil, All-append, All-cons, All-head, All-tail}
@@ -16,15 +16,15 @@ use Rattle.turn.specs.Shares.{has_share}
 use Rattle.turn.specs.laws.Shares.{below_every, none_held, has_without, not_without, has_together, not_together}
 use Rattle.turn.specs.Entries.{AtMostOne}
 use Rattle.turn.specs.Histories.{StartsWith, first_view, spent_view, grabbed, published, released, with_news, longer, joined, HoldsSome, under, OwnsItsCalls, kept, handed}
-use Rattle.turn.specs.Rule.{ByChairs, Knows, Kept, grab_reports, publish_reports, release_reports, news_reports}
-use Rattle.turn.proofs.Prefixes.{shorter, starts_more, under_append, nothing_new, still_all, under_kept, under_dropped, added_elsewhere}
+use Rattle.turn.specs.Rule.{ByChairs, Knows, TurnInvariant, grab_reports, publish_reports, release_reports, news_reports}
+use Rattle.turn.proofs.Prefixes.{shorter_is_prefix, starts_more, under_append, nothing_new, still_all, under_kept, under_dropped, added_elsewhere}
 
 module _ {A : Type 0} where
   -- an element that is set at an index of the list is then at that index
-  there : (l : List A) (i : ℕ) (a b : A) → get_elem? l i ≡ some a → get_elem? (set l i b) i ≡ some b
-  there [] i a b e = absurd (some-ne-none a (sym e))
-  there (x ∷ xs) zero a b e = refl
-  there (x ∷ xs) (suc i) a b e = there xs i a b e
+  get_after_set : (l : List A) (i : ℕ) (a b : A) → get_elem? l i ≡ some a → get_elem? (set l i b) i ≡ some b
+  get_after_set [] i a b e = absurd (some-ne-none a (sym e))
+  get_after_set (x ∷ xs) zero a b e = refl
+  get_after_set (x ∷ xs) (suc i) a b e = get_after_set xs i a b e
 
 module _ {T E : Type 0} (by : E → ℕ) (entries : T → List E) where
   abbrev V : Type 0
@@ -37,7 +37,7 @@ module _ {T E : Type 0} (by : E → ℕ) (entries : T → List E) where
   M = Me (Option T) V
 
   abbrev Rule : St → Type 0
-  Rule = Kept by entries
+  Rule = TurnInvariant by entries
 
   views_stay : (K : ℕ → V → Type 0) (vs : List V) (me : ℕ) (w : V) → K me w → ((j : ℕ) (d : V) → j ≢ me → get_elem? vs j ≡ some d → K j d)
       → (j : ℕ) (d : V) → get_elem? (set vs me w) j ≡ some d → K j d
@@ -61,7 +61,7 @@ module _ {T E : Type 0} (by : E → ℕ) (entries : T → List E) where
       → ((share : ℕ) → has_share v.shares share ≡ true → owner' share ≡ chair) → reported_length ≤ length list → (holds ≡ true → (f' ≡ 1) × (chair ≡ h') × (v.seen ≡ list) × HoldsSome v)
       → Knows by list f' h' owner' chair (record v { reported = reported_length; holds = holds })
   same_list list f f' h h' owner owner' chair v reported_length holds k owns within turn =
-      record { below = k.below; seen = k.seen; owns = owns; calls = k.calls; saw = k.saw; others = k.others; reported = within; holding = turn; met = k.met }
+      record { below = k.below; seen = k.seen; owns = owns; calls = k.calls; seen_under = k.seen_under; others = k.others; reported = within; holding = turn; met = k.met }
 
   -- what a view without the turn says stays true when another chair takes or frees the turn
   others_know : (list : List E) (f f' h h' : ℕ) (owner : ℕ → ℕ) (chair : ℕ) (v : V) → (v.holds ≡ true → ⊥) → Knows by list f h owner chair v → Knows by list f' h' owner chair v
@@ -73,7 +73,7 @@ module _ {T E : Type 0} (by : E → ℕ) (entries : T → List E) where
   new_owners list f h owner owner' chair v k owns = same_list list f f h h owner owner' chair v v.reported v.holds k owns k.reported k.holding
 
   owns_calls : (list : List E) (f h : ℕ) (owner : ℕ → ℕ) (chair : ℕ) (v : V) → Knows by list f h owner chair v → OwnsItsCalls by v
-  owns_calls list f h owner chair v k share held = k.saw share held ∙ sym (k.calls share held)
+  owns_calls list f h owner chair v k share held = k.seen_under share held ∙ sym (k.calls share held)
 
   -- a chair still has the turn after the view v, its own or another's, is replaced by a view that
   -- has the turn exactly if v had it
@@ -81,16 +81,16 @@ module _ {T E : Type 0} (by : E → ℕ) (entries : T → List E) where
       → (x : V) × (s.homes ≡ none ∷ []) × (get_elem? (set s.views id w) r.holder ≡ some x) × (x.holds ≡ true)
   away_stays s r id v w at same busy = let a = r.away busy in dite (ℕ_discrete r.holder id)
       (λ is. let me : a.0 ≡ v = some-injective a.0 v (sym a.2 ∙ (ap (get_elem? s.views) is ∙ at)) in
-      (w, a.1, ap (get_elem? (set s.views id w)) is ∙ there s.views id v w at, same ∙ (ap (λ z. z.holds) (sym me) ∙ a.3)))
+      (w, a.1, ap (get_elem? (set s.views id w)) is ∙ get_after_set s.views id v w at, same ∙ (ap (λ z. z.holds) (sym me) ∙ a.3)))
       (λ other. (a.0, a.1, set_else s.views id r.holder w other ∙ a.2, a.3))
 
   -- the invariant holds of other views and other owners of shares, if what it says of them is true,
   -- and the list, the turn and the words stay
-  other_views : (s : St) (r : Rule s) (views : List V) (owner : ℕ → ℕ)
+  rule_of_other_views : (s : St) (r : Rule s) (views : List V) (owner : ℕ → ℕ)
       → (r.flag ≢ 0 → (x : V) × (s.homes ≡ none ∷ []) × (get_elem? views r.holder ≡ some x) × (x.holds ≡ true))
       → ((chair : ℕ) (v : V) → get_elem? views chair ≡ some v → Knows by r.list r.flag r.holder owner chair v)
       → Rule record { words = s.words; homes = s.homes; views = views }
-  other_views s r views owner away each = record {
+  rule_of_other_views s r views owner away each = record {
     list = r.list;
     flag = r.flag;
     holder = r.holder;
@@ -121,7 +121,7 @@ module _ {T E : Type 0} (by : E → ℕ) (entries : T → List E) where
       seen = ([], append-nil (entries value), λ _. All-nil (λ e. by e < 16));
       owns = λ _ _. refl;
       calls = λ share held. sym (none_under share (entries value) (below_every share held) outside);
-      saw = λ _ _. refl;
+      seen_under = λ _ _. refl;
       others = λ _ _. refl;
       reported = omega arith;
       holding = λ t. absurd (cc);
@@ -147,13 +147,13 @@ module _ {T E : Type 0} (by : E → ℕ) (entries : T → List E) where
           owner = r.owner;
           words = ap (λ ws. set ws 0 1) r.words;
           home = λ z. absurd (omega arith);
-          away = λ _. (w, ap (λ hs. set hs 0 none) h.1, there s.views id v w at, refl);
+          away = λ _. (w, ap (λ hs. set hs 0 none) h.1, get_after_set s.views id v w at, refl);
           each = views_stay (Knows by r.list 1 id r.owner) s.views id w record {
             below = k.below;
             seen = ([], append-nil (entries x) ∙ h.2, λ _. All-nil (λ e. by e < 16));
             owns = k.owns;
             calls = k.calls;
-            saw = λ share held. ap (under by share) h.2;
+            seen_under = λ share held. ap (under by share) h.2;
             others = k.others;
             reported = k.reported;
             holding = λ _. (refl, refl, h.2, some_share);
@@ -167,7 +167,7 @@ module _ {T E : Type 0} (by : E → ℕ) (entries : T → List E) where
             (k.seen.0, k.seen.1 ∙ sym h.2),
             subst (λ l. v.reported ≤ length l) (sym h.2) k.reported,
             (λ share held. ap (under by share) h.2 ∙ sym (k.calls share held)),
-            λ all. let nil = nothing_new by r.list v.seen k.seen.0 k.seen.1 (k.seen.2 some_share) (λ share inside. k.saw share (all share inside)) in
+            λ all. let nil = nothing_new by r.list v.seen k.seen.0 k.seen.1 (k.seen.2 some_share) (λ share inside. k.seen_under share (all share inside)) in
                 h.2 ∙ (sym k.seen.1 ∙ (ap (λ l. v.seen ++ l) nil ∙ append-nil v.seen)),
           ),
           λ taken. absurd (taken free),
@@ -175,21 +175,21 @@ module _ {T E : Type 0} (by : E → ℕ) (entries : T → List E) where
       ))
       (λ taken. (me.0, keeps, tt, unmoved s 0 id me.0 r at, ((λ free. absurd (taken free)), λ _. refl)))
 
-  all_by_chairs : (n : ℕ) (added : List E) → n < 16 → AtMostOne by n added → ByChairs by added
-  all_by_chairs n added inside one = ⊎_elim (λ (e : added ≡ []). subst (ByChairs by) (sym e) (All-nil (λ x. by x < 16)))
+  added_by_chairs : (n : ℕ) (added : List E) → n < 16 → AtMostOne by n added → ByChairs by added
+  added_by_chairs n added inside one = ⊎_elim (λ (e : added ≡ []). subst (ByChairs by) (sym e) (All-nil (λ x. by x < 16)))
       (λ (t : (x : E) × (added ≡ x ∷ []) × (by x ≡ n)). subst (ByChairs by) (sym t.1) (All-cons (λ x. by x < 16) t.0 [] (let e = t.2 in omega arith) (All-nil (λ x. by x < 16)))) one
 
-  more_under : (share : ℕ) (xs ys added : List E) → under by share xs ≡ under by share ys → under by share (xs ++ added) ≡ under by share (ys ++ added)
-  more_under share xs ys added e = under_append by share xs added ∙ (ap (λ l. l ++ under by share added) e ∙ sym (under_append by share ys added))
+  under_more : (share : ℕ) (xs ys added : List E) → under by share xs ≡ under by share ys → under by share (xs ++ added) ≡ under by share (ys ++ added)
+  under_more share xs ys added e = under_append by share xs added ∙ (ap (λ l. l ++ under by share added) e ∙ sym (under_append by share ys added))
 
-  same_under : (n share : ℕ) (list added : List E) → AtMostOne by n added → n ≢ share → under by share list ≡ under by share (list ++ added)
-  same_under n share list added one other = sym (append-nil (under by share list)) ∙ (ap (λ l. under by share list ++ l) (sym (added_elsewhere by n share added one other)) ∙ sym (under_append by share list added))
+  under_unchanged : (n share : ℕ) (list added : List E) → AtMostOne by n added → n ≢ share → under by share list ≡ under by share (list ++ added)
+  under_unchanged n share list added one other = sym (append-nil (under by share list)) ∙ (ap (λ l. under by share list ++ l) (sym (added_elsewhere by n share added one other)) ∙ sym (under_append by share list added))
 
   pub publishes : (slots id new : ℕ) (me : M) (added : List E) (n : ℕ) → me.0.holds ≡ true → has_share me.0.shares n ≡ true → AtMostOne by n added → new ≡ length (me.0.seen ++ added)
       → Allows Rule slots id me 1 (λ _. new) (λ _. publish_reports by entries added (step slots 1 new 0 none) me new)
   publishes slots id new me added n holds mine one long s r _ at _ =
       let v : V = me.0 in let w : V = published v added in let k = r.each id v at in let hold = k.holding holds in let list' : List E = r.list ++ added in
-      let chairs : ByChairs by added = all_by_chairs n added (k.below n mine) one in (
+      let chairs : ByChairs by added = added_by_chairs n added (k.below n mine) one in (
         w,
         keeps,
         tt,
@@ -205,8 +205,8 @@ module _ {T E : Type 0} (by : E → ℕ) (entries : T → List E) where
             below = k.below;
             seen = ([], append-nil (v.seen ++ added) ∙ ap (λ (l : List E). l ++ added) hold.2, λ _. All-nil (λ e. by e < 16));
             owns = k.owns;
-            calls = λ share held. more_under share v.calls r.list added (k.calls share held);
-            saw = λ share held. ap (λ (l : List E). under by share (l ++ added)) hold.2;
+            calls = λ share held. under_more share v.calls r.list added (k.calls share held);
+            seen_under = λ share held. ap (λ (l : List E). under by share (l ++ added)) hold.2;
             others = λ share gone. under_append by share v.calls added ∙ (ap (λ l. l ++ under by share added) (k.others share gone) ∙ added_elsewhere by n share added one (λ e. let here : has_share v.shares share ≡ true = ap (has_share v.shares) (sym e) ∙ mine in cc));
             reported = let more = length-append r.list added in let t = k.reported in omega arith;
             holding = λ _. (hold.0, hold.1, ap (λ (l : List E). l ++ added) hold.2, hold.3);
@@ -215,8 +215,8 @@ module _ {T E : Type 0} (by : E → ℕ) (entries : T → List E) where
             below = kj.below;
             seen = (kj.seen.0 ++ added, sym (append_assoc d.seen kj.seen.0 added) ∙ ap (λ (l : List E). l ++ added) kj.seen.1, λ some_share. All-append (λ e. by e < 16) kj.seen.0 added (kj.seen.2 some_share) chairs);
             owns = kj.owns;
-            calls = λ share held. kj.calls share held ∙ same_under n share r.list added one (apart share held);
-            saw = λ share held. kj.saw share held ∙ same_under n share r.list added one (apart share held);
+            calls = λ share held. kj.calls share held ∙ under_unchanged n share r.list added one (apart share held);
+            seen_under = λ share held. kj.seen_under share held ∙ under_unchanged n share r.list added one (apart share held);
             others = kj.others;
             reported = let more = length-append r.list added in let t = kj.reported in omega arith;
             holding = λ t. absurd (other ((kj.holding t).1 ∙ sym hold.1));
@@ -247,8 +247,8 @@ module _ {T E : Type 0} (by : E → ℕ) (entries : T → List E) where
         λ i. (w, rest (carried i)),
       )
 
-  pub news_allowed : (slots id : ℕ) (me : M) → Allows Rule slots id me 1 (λ n. n) (news_reports by entries (step slots 1 0 0 none) me)
-  news_allowed slots id me s r _ at _ =
+  pub reads_news : (slots id : ℕ) (me : M) → Allows Rule slots id me 1 (λ n. n) (news_reports by entries (step slots 1 0 0 none) me)
+  reads_news slots id me s r _ at _ =
       let v : V = me.0 in let n : ℕ = get_or s.words 1 0 in let w : V = with_news v n in let k = r.each id v at in let now : n ≡ length r.list = word_1 s r in
       let seen : StartsWith r.list v.seen = (k.seen.0, k.seen.1) in (
         w,
@@ -269,17 +269,17 @@ module _ {T E : Type 0} (by : E → ℕ) (entries : T → List E) where
           (let t = k.reported in omega arith),
           (let t = ap length k.seen.1 in let more = length-append v.seen k.seen.0 in omega arith),
           owns_calls r.list r.flag r.holder r.owner id v k,
-          (λ le. shorter r.list v.met.0 v.seen k.met.0 seen le),
-          (λ le. shorter r.list v.met.1 v.seen k.met.1 seen le),
+          (λ le. shorter_is_prefix r.list v.met.0 v.seen k.met.0 seen le),
+          (λ le. shorter_is_prefix r.list v.met.1 v.seen k.met.1 seen le),
         ),
       )
 
   -- an element of `l ++ a ∷ []` is an element of l at the same index, or is a, at the last index
-  at_end : (l : List V) (a b : V) (j : ℕ) → get_elem? (l ++ a ∷ []) j ≡ some b → (get_elem? l j ≡ some b) ⊎ ((j ≡ length l) × (a ≡ b))
-  at_end [] a b zero e = inr (refl, some-injective a b e)
-  at_end [] a b (suc j) e = absurd (some-ne-none b (sym e))
-  at_end (x ∷ xs) a b zero e = inl e
-  at_end (x ∷ xs) a b (suc j) e = ⊎_elim inl (λ (t : (j ≡ length xs) × (a ≡ b)). inr (ap suc t.0, t.1)) (at_end xs a b j e)
+  at_or_last : (l : List V) (a b : V) (j : ℕ) → get_elem? (l ++ a ∷ []) j ≡ some b → (get_elem? l j ≡ some b) ⊎ ((j ≡ length l) × (a ≡ b))
+  at_or_last [] a b zero e = inr (refl, some-injective a b e)
+  at_or_last [] a b (suc j) e = absurd (some-ne-none b (sym e))
+  at_or_last (x ∷ xs) a b zero e = inl e
+  at_or_last (x ∷ xs) a b (suc j) e = ⊎_elim inl (λ (t : (j ≡ length xs) × (a ≡ b)). inr (ap suc t.0, t.1)) (at_or_last xs a b j e)
 
   both_cases : {P : Type 0} (b : Bool) → (b ≡ true → P) → (b ≡ false → P) → P
   both_cases true t f = t refl
@@ -296,7 +296,7 @@ module _ {T E : Type 0} (by : E → ℕ) (entries : T → List E) where
         seen = (k.seen.0, k.seen.1, λ some_share. k.seen.2 (some_share.0, (has_without v.shares given some_share.0 some_share.1).0));
         owns = λ share held. let h = has_without v.shares given share held in kept_owner share id h.1 (k.owns share h.0);
         calls = λ share held. let h = has_without v.shares given share held in under_kept by (λ i. not (has_share given i)) share v.calls (ap not h.1) ∙ k.calls share h.0;
-        saw = λ share held. k.saw share (has_without v.shares given share held).0;
+        seen_under = λ share held. k.seen_under share (has_without v.shares given share held).0;
         others = λ share gone. both_cases (has_share given share) (λ t. under_dropped by (λ i. not (has_share given i)) share v.calls (ap not t))
             (λ f. under_kept by (λ i. not (has_share given i)) share v.calls (ap not f) ∙ k.others share (both_cases (has_share v.shares share)
             (λ held. not_without v.shares given share (k.below share held) gone f) (λ none_there. none_there)));
@@ -309,16 +309,16 @@ module _ {T E : Type 0} (by : E → ℕ) (entries : T → List E) where
         seen = (k.seen.0, k.seen.1, λ some_share. k.seen.2 (some_share.0, inside some_share.0 some_share.1));
         owns = λ share held. ap (λ b. cond b end (r.owner share)) held;
         calls = λ share held. under_kept by (has_share given) share v.calls held ∙ k.calls share (inside share held);
-        saw = λ share held. k.saw share (inside share held);
+        seen_under = λ share held. k.seen_under share (inside share held);
         others = λ share gone. under_dropped by (has_share given) share v.calls gone;
         reported = k.reported;
         holding = λ t. absurd (cc);
         met = k.met;
       } in
-      let third : (j : ℕ) (d : V) → j ≢ id → get_elem? s.views j ≡ some d → K j d = λ j d other at'. let kj = r.each j d at' in new_owners r.list r.flag r.holder r.owner owner' j d kj (λ share held. kept_owner share j (both_cases (has_share given share) (λ t. absurd (other (sym (kj.owns share held) ∙ k.owns share (inside share t)))) (λ f. f)) (kj.owns share held)) in other_views s r (set s.views id l ++ g ∷ []) owner'
+      let third : (j : ℕ) (d : V) → j ≢ id → get_elem? s.views j ≡ some d → K j d = λ j d other at'. let kj = r.each j d at' in new_owners r.list r.flag r.holder r.owner owner' j d kj (λ share held. kept_owner share j (both_cases (has_share given share) (λ t. absurd (other (sym (kj.owns share held) ∙ k.owns share (inside share t)))) (λ f. f)) (kj.owns share held)) in rule_of_other_views s r (set s.views id l ++ g ∷ []) owner'
       (λ busy. let a = away_stays s r id v l at refl busy in (a.0, a.1, at_longer (set s.views id l) (g ∷ []) r.holder a.0 a.2, a.3))
       (λ j d e. ⊎_elim (views_stay K s.views id l left third j d) (λ (t : (j ≡ end) × (g ≡ d)). subst (λ (x : ℕ × V). K x.0 x.1) (λ i. (sym t.0 i, t.1 i)) right)
-      (at_end (set s.views id l) g d j e))
+      (at_or_last (set s.views id l) g d j e))
 
   pub longer_cases : (xs ys : List E) → ((longer xs ys ≡ ys) × (length xs ≤ length ys)) ⊎ ((longer xs ys ≡ xs) × (length ys ≤ length xs))
   longer_cases xs ys = dite (dec_le (suc (length xs)) (length ys)) (λ l. inl (ap (λ b. cond b ys xs) (lt-ltb (length xs) (length ys) l), omega arith))
@@ -341,11 +341,11 @@ module _ {T E : Type 0} (by : E → ℕ) (entries : T → List E) where
         owns = λ share held. ⊎_elim (λ t. kept_owner share id (not_both share t) (k.owns share t)) (λ t. ap (λ z. cond z id (r.owner share)) t) (has_together v.shares w.shares share held);
         calls = λ share held. under_both share ∙ ⊎_elim (λ t. ap (λ l. under by share v.calls ++ l) (k'.others share (not_both share t)) ∙ (append-nil (under by share v.calls) ∙ k.calls share t))
             (λ t. ap (λ l. l ++ under by share w.calls) (k.others share (not_both' share t)) ∙ k'.calls share t) (has_together v.shares w.shares share held);
-        saw = λ share held. ⊎_elim
-            (λ t. ⊎_elim (λ (c : (longer v.seen w.seen ≡ w.seen) × (length v.seen ≤ length w.seen)). ap (under by share) c.0 ∙ still_all by share r.list v.seen w.seen front back c.1 (k.saw share t))
-            (λ (c : (longer v.seen w.seen ≡ v.seen) × (length w.seen ≤ length v.seen)). ap (under by share) c.0 ∙ k.saw share t) (longer_cases v.seen w.seen))
-            (λ t. ⊎_elim (λ (c : (longer v.seen w.seen ≡ w.seen) × (length v.seen ≤ length w.seen)). ap (under by share) c.0 ∙ k'.saw share t)
-            (λ (c : (longer v.seen w.seen ≡ v.seen) × (length w.seen ≤ length v.seen)). ap (under by share) c.0 ∙ still_all by share r.list w.seen v.seen back front c.1 (k'.saw share t)) (longer_cases v.seen w.seen))
+        seen_under = λ share held. ⊎_elim
+            (λ t. ⊎_elim (λ (c : (longer v.seen w.seen ≡ w.seen) × (length v.seen ≤ length w.seen)). ap (under by share) c.0 ∙ still_all by share r.list v.seen w.seen front back c.1 (k.seen_under share t))
+            (λ (c : (longer v.seen w.seen ≡ v.seen) × (length w.seen ≤ length v.seen)). ap (under by share) c.0 ∙ k.seen_under share t) (longer_cases v.seen w.seen))
+            (λ t. ⊎_elim (λ (c : (longer v.seen w.seen ≡ w.seen) × (length v.seen ≤ length w.seen)). ap (under by share) c.0 ∙ k'.seen_under share t)
+            (λ (c : (longer v.seen w.seen ≡ v.seen) × (length w.seen ≤ length v.seen)). ap (under by share) c.0 ∙ still_all by share r.list w.seen v.seen back front c.1 (k'.seen_under share t)) (longer_cases v.seen w.seen))
             (has_together v.shares w.shares share held);
         others = λ share gone. under_both share ∙ both_cases (nat_lt share 16)
             (λ t. let n = not_together v.shares w.shares share (ltb-true share 16 t) gone in ap (λ l. l ++ under by share w.calls) (k.others share n.0) ∙ k'.others share n.1)
@@ -361,7 +361,7 @@ module _ {T E : Type 0} (by : E → ℕ) (entries : T → List E) where
         seen = (r.list, refl, λ some_one. absurd (none_held some_one.0 some_one.1));
         owns = λ share held. absurd (none_held share held);
         calls = λ share held. absurd (none_held share held);
-        saw = λ share held. absurd (none_held share held);
+        seen_under = λ share held. absurd (none_held share held);
         others = λ share gone. refl;
         reported = omega arith;
         holding = λ t. absurd (cc);
@@ -369,7 +369,7 @@ module _ {T E : Type 0} (by : E → ℕ) (entries : T → List E) where
       } in
       let third : (j : ℕ) (d : V) → j ≢ id → j ≢ other → get_elem? s.views j ≡ some d → K j d = λ j d not_id not_other at_j. let kj = r.each j d at_j in new_owners r.list r.flag r.holder r.owner owner' j d kj (λ share held. kept_owner share j (both_cases (has_share w.shares share) (λ t. absurd (not_other (sym (kj.owns share held) ∙ k'.owns share t))) (λ f. f)) (kj.owns share held)) in
       let not_idle : (v' : V) (x : V) (id' : ℕ) → v'.holds ≡ false → get_elem? s.views id' ≡ some v' → get_elem? s.views r.holder ≡ some x → x.holds ≡ true → r.holder ≢ id'
-      = λ v' x id' still at_p at_h holds e. let same : x ≡ v' = some-injective x v' (sym at_h ∙ (ap (get_elem? s.views) e ∙ at_p)) in let t = ap (λ z. z.holds) same in absurd (cc) in other_views s r (set (set s.views id b) other spent_view) owner'
+      = λ v' x id' still at_p at_h holds e. let same : x ≡ v' = some-injective x v' (sym at_h ∙ (ap (get_elem? s.views) e ∙ at_p)) in let t = ap (λ z. z.holds) same in absurd (cc) in rule_of_other_views s r (set (set s.views id b) other spent_view) owner'
       (λ busy. let a = r.away busy in
       (a.0, a.1, set_else (set s.views id b) other r.holder spent_view (not_idle w a.0 other idle' other_at a.2 a.3) ∙ (set_else s.views id r.holder b (not_idle v a.0 id idle at a.2 a.3) ∙ a.2), a.3))
       (views_stay K (set s.views id b) other spent_view spent

@@ -27,7 +27,7 @@ module _ {E : Type 0} (by : E → ℕ) where
     pub seen : (rest : List E) × (v.seen ++ rest ≡ list) × (HoldsSome v → ByChairs rest)
     pub owns : (share : ℕ) → has_share v.shares share ≡ true → owner share ≡ chair
     pub calls : (share : ℕ) → has_share v.shares share ≡ true → under by share v.calls ≡ under by share list
-    pub saw : (share : ℕ) → has_share v.shares share ≡ true → under by share v.seen ≡ under by share list
+    pub seen_under : (share : ℕ) → has_share v.shares share ≡ true → under by share v.seen ≡ under by share list
     pub others : (share : ℕ) → has_share v.shares share ≡ false → under by share v.calls ≡ []
     pub reported : v.reported ≤ length list
     pub holding : v.holds ≡ true → (flag ≡ 1) × (chair ≡ holder) × (v.seen ≡ list) × HoldsSome v
@@ -36,7 +36,7 @@ module _ {E : Type 0} (by : E → ℕ) where
   -- There is one list, and word 1 is its length. While the turn is free, the slot has the value,
   -- and the list is the value's. Otherwise one chair has the turn, and the slot with it. What the
   -- view of each chair says of the list is true (`Knows`).
-  pub record Kept {T : Type 0} (entries : T → List E) (s : State (Option T) (View E)) : Type 0 where
+  pub record TurnInvariant {T : Type 0} (entries : T → List E) (s : State (Option T) (View E)) : Type 0 where
     pub list : List E
     pub flag : ℕ
     pub holder : ℕ
@@ -48,8 +48,8 @@ module _ {E : Type 0} (by : E → ℕ) where
 
   module _ {T : Type 0} (entries : T → List E) where
     -- a step on the table
-    abbrev At : Type 0
-    At = Step (Option T)
+    abbrev TableStep : Type 0
+    TableStep = Step (Option T)
 
     -- what a chair has at the table: its view, and the slot that it holds, if any, with its content
     abbrev Mine : Type 0
@@ -64,16 +64,16 @@ module _ {E : Type 0} (by : E → ℕ) where
 
     -- what a step that tries to take the turn guarantees: if word 0 was 0, the chair now has
     -- the turn; otherwise nothing has changed
-    abbrev pub grab_reports : At → Mine → ℕ → Mine → Type 0
+    abbrev pub grab_reports : TableStep → Mine → ℕ → Mine → Type 0
     grab_reports step m found m' = (found ≡ 0 → Grabs m m') × (found ≢ 0 → m' ≡ m)
 
     -- what a step that writes the list's new length guarantees: in the chair's view, the entries
     -- `added` are added to the list, as calls of its own
-    abbrev pub publish_reports : List E → At → Mine → ℕ → Mine → Type 0
+    abbrev pub publish_reports : List E → TableStep → Mine → ℕ → Mine → Type 0
     publish_reports added step m found m' = m' ≡ (published m.0 added, m.1)
 
     -- what a step that frees the turn guarantees: the chair has neither the turn nor the slot now
-    abbrev pub release_reports : At → Mine → ℕ → Mine → Type 0
+    abbrev pub release_reports : TableStep → Mine → ℕ → Mine → Type 0
     release_reports step m found m' = m' ≡ (released m.0, [])
 
     -- A chair reads the list's length, which is at least the length of what the chair has seen, and
@@ -85,7 +85,7 @@ module _ {E : Type 0} (by : E → ℕ) where
         × (length m.0.met.0 ≤ length m.0.seen → StartsWith m.0.seen m.0.met.0) × (length m.0.met.1 ≤ length m.0.seen → StartsWith m.0.seen m.0.met.1)
 
     -- what a step that reads the list's length guarantees: `NewsReports`
-    abbrev pub news_reports : At → Mine → ℕ → Mine → Type 0
+    abbrev pub news_reports : TableStep → Mine → ℕ → Mine → Type 0
     news_reports step m found m' = NewsReports m found m'
 
 module _ {T E : Type 0} where

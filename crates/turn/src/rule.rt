@@ -15,9 +15,9 @@ pub struct Rule<T>(PhantomData<T>);
 
 impl<T: Counted> TableRule<Option<T>, View<T::Entry>, Snapshot<T>> for Rule<T> {
     ghost use Rattle.turn.specs.Histories.{first_view};
-    ghost use Rattle.turn.specs.Rule.{Kept};
+    ghost use Rattle.turn.specs.Rule.{TurnInvariant};
 
-    ghost holds = { λ _. Kept T.by T.entries };
+    ghost holds = { λ _. TurnInvariant T.by T.entries };
 
     ghost first = { λ about. first_view (T.entries about.value) };
 }

@@ -7,7 +7,7 @@ use Rattle.frames.specs.declared.types.Op.TheVariants.{Read, Write}
 use Rattle.frames.specs.declared.types.Event.TheVariants.{Invoke, Wrote}
 use Rattle.frames.specs.correctness.Regularity.{in_progress}
 use Rattle.frames.proofs.Seen.{Seen, Returned, among, sees, now_last, IsNotStray, among_more, among_here}
-use Rattle.frames.proofs.VerdictFacts.{not_stray_is}
+use Rattle.frames.proofs.VerdictFacts.{fresh_or_overlapping}
 use Rattle.frames.proofs.Pointwise.{put, put_same, put_other, put_all}
 
 -- the bit is 1, and no write of 0 to it is in progress
@@ -16,8 +16,8 @@ pub record IsLit (s : Seen) : Type 0 where
   pub writing : (s.writing ≡ None) ⊎ (s.writing ≡ Some 1)
 
 -- a read of the bit may give 1
-abbrev pub MayShow : Seen → Type 0
-MayShow s = (s.last ≡ 1) ⊎ (s.writing ≡ Some 1)
+abbrev pub MayGiveOne : Seen → Type 0
+MayGiveOne s = (s.last ≡ 1) ⊎ (s.writing ≡ Some 1)
 
 -- Bit k is at or above bit p and at or below `top`, it is lit, and its index is allowed. The index
 -- of each bit from p up to k of which a read may give 1 is allowed too.
@@ -26,7 +26,7 @@ pub record Beacon (top p k : ℕ) (A : ℕ → Type 0) (parts : ℕ → Seen) : 
   pub high : k ≤ top
   pub allowed : A k
   pub lit : IsLit (parts k)
-  pub below : (i : ℕ) → p ≤ i → i < k → MayShow (parts i) → A i
+  pub below : (i : ℕ) → p ≤ i → i < k → MayGiveOne (parts i) → A i
 
 -- what a bit shows after a write of 1 to it has begun
 abbrev pub raised : Seen → Seen
@@ -49,7 +49,7 @@ beacon_raise top p k x A parts b ax = record {
   lit = put_all (λ i s. i ≡ k → IsLit s) x (raised (parts x)) parts
       (λ e. record { last = subst (λ i. (parts i).last ≡ 1) (sym e) b.lit.last; writing = inr refl })
       (λ i ne e. subst (λ y. IsLit (parts y)) (sym e) b.lit) k refl;
-  below = put_all (λ i s. p ≤ i → i < k → MayShow s → A i) x (raised (parts x)) parts (λ l h m. ax) (λ i ne. b.below i);
+  below = put_all (λ i s. p ≤ i → i < k → MayGiveOne s → A i) x (raised (parts x)) parts (λ l h m. ax) (λ i ne. b.below i);
 }
 
 -- bit k stays the beacon when a write of 1 ends to a bit whose index is allowed
@@ -61,14 +61,14 @@ beacon_raised top p k x A parts b w ax = record {
   lit = put_all (λ i s. i ≡ k → IsLit s) x (written (parts x)) parts
       (λ e. record { last = ap (λ o. now_last o (parts x).last) w; writing = inl refl })
       (λ i ne e. subst (λ y. IsLit (parts y)) (sym e) b.lit) k refl;
-  below = put_all (λ i s. p ≤ i → i < k → MayShow s → A i) x (written (parts x)) parts (λ l h m. ax) (λ i ne. b.below i);
+  below = put_all (λ i s. p ≤ i → i < k → MayGiveOne s → A i) x (written (parts x)) parts (λ l h m. ax) (λ i ne. b.below i);
 }
 
-pub no_one : (A : Type 0) → (let z : Option ℕ = Some 0 in z) ≡ Some 1 → A
-no_one A e = let n : ⊥ = cc in absurd n
+pub zero_is_not_one : (A : Type 0) → (let z : Option ℕ = Some 0 in z) ≡ Some 1 → A
+zero_is_not_one A e = let n : ⊥ = cc in absurd n
 
-may_lower : (s : Seen) → MayShow (lowered s) → MayShow s
-may_lower s m = elim m [ inl e ↦ inl e | inr e ↦ no_one (MayShow s) e ]
+may_give_one_before : (s : Seen) → MayGiveOne (lowered s) → MayGiveOne s
+may_give_one_before s m = elim m [ inl e ↦ inl e | inr e ↦ zero_is_not_one (MayGiveOne s) e ]
 
 -- bit k stays the beacon when a write of 0 to another bit begins
 pub beacon_lower : (top p k i : ℕ) (A : ℕ → Type 0) (parts : ℕ → Seen) → Beacon top p k A parts → (k ≡ i → ⊥) → Beacon top p k A (put i (lowered (parts i)) parts)
@@ -79,13 +79,13 @@ beacon_lower top p k i A parts b ne = record {
   lit = put_all (λ y s. y ≡ k → IsLit s) i (lowered (parts i)) parts
       (λ e. absurd (ne (sym e)))
       (λ y n e. subst (λ y. IsLit (parts y)) (sym e) b.lit) k refl;
-  below = put_all (λ y s. p ≤ y → y < k → MayShow s → A y) i (lowered (parts i)) parts (λ l h m. b.below i l h (may_lower (parts i) m)) (λ y n. b.below y);
+  below = put_all (λ y s. p ≤ y → y < k → MayGiveOne s → A y) i (lowered (parts i)) parts (λ l h m. b.below i l h (may_give_one_before (parts i) m)) (λ y n. b.below y);
 }
 
 -- A write of 0 to the beacon, bit i, begins. The new beacon is bit x above it, which is lit, and no
 -- read gives 1 of a bit between them.
 pub beacon_jump : (top p i x : ℕ) (A : ℕ → Type 0) (parts : ℕ → Seen) → Beacon top p i A parts → i < x → x ≤ top → A x → (parts x).last ≡ 1 → (parts x).writing ≡ None
-    → ((y : ℕ) → i < y → y < x → MayShow (parts y) → ⊥) → Beacon top p x A (put i (lowered (parts i)) parts)
+    → ((y : ℕ) → i < y → y < x → MayGiveOne (parts y) → ⊥) → Beacon top p x A (put i (lowered (parts i)) parts)
 beacon_jump top p i x A parts b l high ax one quiet none = record {
   low = let q : p ≤ i = b.low in omega (arith, l, q);
   high = high;
@@ -93,12 +93,12 @@ beacon_jump top p i x A parts b l high ax one quiet none = record {
   lit = put_all (λ y s. y ≡ x → IsLit s) i (lowered (parts i)) parts
       (λ e. let n : ⊥ = omega (arith, e, l) in absurd n)
       (λ y n e. subst (λ y. IsLit (parts y)) (sym e) (record { last = one; writing = inl quiet })) x refl;
-  below = put_all (λ y s. p ≤ y → y < x → MayShow s → A y) i (lowered (parts i)) parts
+  below = put_all (λ y s. p ≤ y → y < x → MayGiveOne s → A y) i (lowered (parts i)) parts
       (λ lo hi m. b.allowed)
       (λ y n lo hi m. between y n lo hi m);
 }
   where
-    between : (y : ℕ) → (y ≡ i → ⊥) → p ≤ y → y < x → MayShow (parts y) → A y
+    between : (y : ℕ) → (y ≡ i → ⊥) → p ≤ y → y < x → MayGiveOne (parts y) → A y
     between y n lo hi m =
         elim (cases_lt y i) [
           | inl lt ↦ b.below y lo lt m
@@ -114,10 +114,10 @@ beacon_lowered top p k i A parts b w = record {
   lit = put_all (λ y s. y ≡ k → IsLit s) i (written (parts i)) parts
       (λ e. elim b.lit.writing [
         | inl n ↦ (let q : (parts i).writing ≡ None = subst (λ y. (parts y).writing ≡ None) (sym e) n in let z : ⊥ = cc in absurd z)
-        | inr n ↦ (let q : (parts i).writing ≡ Some 1 = subst (λ y. (parts y).writing ≡ Some 1) (sym e) n in no_one (IsLit (written (parts i))) (sym w ∙ q))
+        | inr n ↦ (let q : (parts i).writing ≡ Some 1 = subst (λ y. (parts y).writing ≡ Some 1) (sym e) n in zero_is_not_one (IsLit (written (parts i))) (sym w ∙ q))
       ])
       (λ y n e. subst (λ y. IsLit (parts y)) (sym e) b.lit) k refl;
-  below = put_all (λ y s. p ≤ y → y < k → MayShow s → A y) i (written (parts i)) parts
+  below = put_all (λ y s. p ≤ y → y < k → MayGiveOne s → A y) i (written (parts i)) parts
       (λ lo hi m. elim m [
         | inl e ↦ (let z : ⊥ = zero_one _ (ap (λ o. now_last o (parts i).last) w) e in absurd z)
         | inr e ↦ (let z : ⊥ = cc in absurd z)
@@ -128,8 +128,8 @@ beacon_lowered top p k i A parts b w = record {
     zero_one : (n : ℕ) → n ≡ 0 → n ≡ 1 → ⊥
     zero_one n e f = omega (arith, e, f)
 
-pub beacon_more : (top p k : ℕ) (A B : ℕ → Type 0) (parts : ℕ → Seen) → ((i : ℕ) → A i → B i) → Beacon top p k A parts → Beacon top p k B parts
-beacon_more top p k A B parts f b = record { low = b.low; high = b.high; allowed = f k b.allowed; lit = b.lit; below = λ i l h m. f i (b.below i l h m) }
+pub beacon_allows_more : (top p k : ℕ) (A B : ℕ → Type 0) (parts : ℕ → Seen) → ((i : ℕ) → A i → B i) → Beacon top p k A parts → Beacon top p k B parts
+beacon_allows_more top p k A B parts f b = record { low = b.low; high = b.high; allowed = f k b.allowed; lit = b.lit; below = λ i l h m. f i (b.below i l h m) }
 
 -- bit k stays the beacon when a read of a bit begins
 pub beacon_read : (top p k i q : ℕ) (A : ℕ → Type 0) (parts : ℕ → Seen) → Beacon top p k A parts → Beacon top p k A (put i (sees (Some (Invoke q Read)) (parts i)) parts)
@@ -140,7 +140,7 @@ beacon_read top p k i q A parts b = record {
   lit = put_all (λ y s. y ≡ k → IsLit s) i (sees (Some (Invoke q Read)) (parts i)) parts
       (λ e. let h : IsLit (parts i) = subst (λ y. IsLit (parts y)) (sym e) b.lit in record { last = h.last; writing = h.writing })
       (λ y n e. subst (λ y. IsLit (parts y)) (sym e) b.lit) k refl;
-  below = put_all (λ y s. p ≤ y → y < k → MayShow s → A y) i (sees (Some (Invoke q Read)) (parts i)) parts (b.below i) (λ y n. b.below y);
+  below = put_all (λ y s. p ≤ y → y < k → MayGiveOne s → A y) i (sees (Some (Invoke q Read)) (parts i)) parts (b.below i) (λ y n. b.below y);
 }
 
 -- y is a value that process r's last read of the number may give: its fresh value, or the value of
@@ -153,11 +153,11 @@ abbrev pub MayGiveNow : Seen → ℕ → Type 0
 MayGiveNow u y = (y ≡ u.last) ⊎ (u.writing ≡ Some y)
 
 -- a property of bit i stays the same if bit d changes but keeps this property
-same_at : {X : Type 0} (of : Seen → X) (i d : ℕ) (s : Seen) (parts : ℕ → Seen) → of s ≡ of (parts d) → of (put d s parts i) ≡ of (parts i)
-same_at of i d s parts same = put_all (λ y z. of z ≡ of (parts y)) d s parts same (λ y ne. refl) i
+same_property : {X : Type 0} (of : Seen → X) (i d : ℕ) (s : Seen) (parts : ℕ → Seen) → of s ≡ of (parts d) → of (put d s parts i) ≡ of (parts i)
+same_property of i d s parts same = put_all (λ y z. of z ≡ of (parts y)) d s parts same (λ y ne. refl) i
 
 -- process r reads bit i, with `left` bits above it, and bit k is its beacon
-pub record Looks (top r i left k : ℕ) (u : Seen) (parts : ℕ → Seen) : Type 0 where
+pub record ReadHasBeacon (top r i left k : ℕ) (u : Seen) (parts : ℕ → Seen) : Type 0 where
   pub room : i + left ≡ top
   pub beacon : Beacon top i k (MayGive r u) parts
   pub here : k ≡ i → ((parts i).fresh r ≡ 1) × (IsTrue (among 0 ((parts i).overlaps r)) → ⊥)
@@ -166,87 +166,87 @@ pub record Looks (top r i left k : ℕ) (u : Seen) (parts : ℕ → Seen) : Type
 
 -- process r's read of bit i keeps its beacon when a write of x begins, and with it the write of 1
 -- to bit x
-pub looking_begin : (top r i left k p x : ℕ) (u : Seen) (parts : ℕ → Seen) → Looks top r i left k u parts
-    → Looks top r i left k (sees (Some (Invoke p (Write x))) u) (put x (raised (parts x)) parts)
-looking_begin top r i left k p x u parts l =
+pub looking_raise : (top r i left k p x : ℕ) (u : Seen) (parts : ℕ → Seen) → ReadHasBeacon top r i left k u parts
+    → ReadHasBeacon top r i left k (sees (Some (Invoke p (Write x))) u) (put x (raised (parts x)) parts)
+looking_raise top r i left k p x u parts l =
     let more : (y : ℕ) → MayGive r u y → MayGive r (sees (Some (Invoke p (Write x))) u) y = λ y m. elim m [ inl e ↦ inl e | inr e ↦ inr (among_more y x (u.overlaps r) e) ] in
     let ax : MayGive r (sees (Some (Invoke p (Write x))) u) x = inr (among_here x (u.overlaps r)) in
     record {
       room = l.room;
-      beacon = beacon_raise top i k x (MayGive r (sees (Some (Invoke p (Write x))) u)) parts (beacon_more top i k (MayGive r u) (MayGive r (sees (Some (Invoke p (Write x))) u)) parts more l.beacon) ax;
+      beacon = beacon_raise top i k x (MayGive r (sees (Some (Invoke p (Write x))) u)) parts (beacon_allows_more top i k (MayGive r u) (MayGive r (sees (Some (Invoke p (Write x))) u)) parts more l.beacon) ax;
       here = λ ke. let h = l.here ke in
-          (same_at (λ z. z.fresh r) i x (raised (parts x)) parts refl ∙ h.0, λ m. h.1 (subst IsTrue (same_at (λ z. among 0 (z.overlaps r)) i x (raised (parts x)) parts refl) m));
-      fresh_one = λ f. more i (l.fresh_one (sym (same_at (λ z. z.fresh r) i x (raised (parts x)) parts refl) ∙ f));
+          (same_property (λ z. z.fresh r) i x (raised (parts x)) parts refl ∙ h.0, λ m. h.1 (subst IsTrue (same_property (λ z. among 0 (z.overlaps r)) i x (raised (parts x)) parts refl) m));
+      fresh_one = λ f. more i (l.fresh_one (sym (same_property (λ z. z.fresh r) i x (raised (parts x)) parts refl) ∙ f));
       over_one = put_all (λ y s. y ≡ i → IsTrue (among 1 (s.overlaps r)) → MayGive r (sees (Some (Invoke p (Write x))) u) i) x (raised (parts x)) parts
           (λ e f. subst (MayGive r (sees (Some (Invoke p (Write x))) u)) e ax)
           (λ y ne e f. more i (l.over_one (subst (λ y. IsTrue (among 1 ((parts y).overlaps r))) e f))) i refl;
     }
 
 -- process r's read of bit i keeps its beacon when a write of bit d ends, if bit k stays a beacon
-pub looking_written : (top r i left k d : ℕ) (u : Seen) (parts : ℕ → Seen) → Looks top r i left k u parts → Beacon top i k (MayGive r u) (put d (written (parts d)) parts)
-    → Looks top r i left k u (put d (written (parts d)) parts)
+pub looking_written : (top r i left k d : ℕ) (u : Seen) (parts : ℕ → Seen) → ReadHasBeacon top r i left k u parts → Beacon top i k (MayGive r u) (put d (written (parts d)) parts)
+    → ReadHasBeacon top r i left k u (put d (written (parts d)) parts)
 looking_written top r i left k d u parts l b = record {
   room = l.room;
   beacon = b;
   here = λ ke. let h = l.here ke in
-      (same_at (λ z. z.fresh r) i d (written (parts d)) parts refl ∙ h.0, λ m. h.1 (subst IsTrue (same_at (λ z. among 0 (z.overlaps r)) i d (written (parts d)) parts refl) m));
-  fresh_one = λ f. l.fresh_one (sym (same_at (λ z. z.fresh r) i d (written (parts d)) parts refl) ∙ f);
-  over_one = λ m. l.over_one (subst IsTrue (same_at (λ z. among 1 (z.overlaps r)) i d (written (parts d)) parts refl) m);
+      (same_property (λ z. z.fresh r) i d (written (parts d)) parts refl ∙ h.0, λ m. h.1 (subst IsTrue (same_property (λ z. among 0 (z.overlaps r)) i d (written (parts d)) parts refl) m));
+  fresh_one = λ f. l.fresh_one (sym (same_property (λ z. z.fresh r) i d (written (parts d)) parts refl) ∙ f);
+  over_one = λ m. l.over_one (subst IsTrue (same_property (λ z. among 1 (z.overlaps r)) i d (written (parts d)) parts refl) m);
 }
 
 -- process r's read of bit i has beacon z after a write of 0 to bit d begins, if z is then a beacon,
 -- and is i only if i was the beacon before
-pub looking_lower : (top r i left k z d : ℕ) (u : Seen) (parts : ℕ → Seen) → Looks top r i left k u parts → Beacon top i z (MayGive r u) (put d (lowered (parts d)) parts)
-    → (z ≡ i → (k ≡ i) × (i ≡ d → ⊥)) → Looks top r i left z u (put d (lowered (parts d)) parts)
+pub looking_lower : (top r i left k z d : ℕ) (u : Seen) (parts : ℕ → Seen) → ReadHasBeacon top r i left k u parts → Beacon top i z (MayGive r u) (put d (lowered (parts d)) parts)
+    → (z ≡ i → (k ≡ i) × (i ≡ d → ⊥)) → ReadHasBeacon top r i left z u (put d (lowered (parts d)) parts)
 looking_lower top r i left k z d u parts l b which = record {
   room = l.room;
   beacon = b;
   here = put_all (λ y s. y ≡ i → z ≡ i → (s.fresh r ≡ 1) × (IsTrue (among 0 (s.overlaps r)) → ⊥)) d (lowered (parts d)) parts
       (λ e ze. absurd ((which ze).1 (sym e)))
       (λ y ne e ze. subst (λ y. ((parts y).fresh r ≡ 1) × (IsTrue (among 0 ((parts y).overlaps r)) → ⊥)) (sym e) (l.here (which ze).0)) i refl;
-  fresh_one = λ f. l.fresh_one (sym (same_at (λ z. z.fresh r) i d (lowered (parts d)) parts refl) ∙ f);
-  over_one = λ m. l.over_one (subst IsTrue (same_at (λ z. among 1 (z.overlaps r)) i d (lowered (parts d)) parts refl) m);
+  fresh_one = λ f. l.fresh_one (sym (same_property (λ z. z.fresh r) i d (lowered (parts d)) parts refl) ∙ f);
+  over_one = λ m. l.over_one (subst IsTrue (same_property (λ z. among 1 (z.overlaps r)) i d (lowered (parts d)) parts refl) m);
 }
 
 -- process r's read of bit i keeps its beacon when another process begins to read bit d
-pub looking_other : (top r i left k d q : ℕ) (u v : Seen) (parts : ℕ → Seen) → (r ≡ q → ⊥) → u.fresh r ≡ v.fresh r → u.overlaps r ≡ v.overlaps r → Looks top r i left k u parts
-    → Looks top r i left k v (put d (sees (Some (Invoke q Read)) (parts d)) parts)
+pub looking_other : (top r i left k d q : ℕ) (u v : Seen) (parts : ℕ → Seen) → (r ≡ q → ⊥) → u.fresh r ≡ v.fresh r → u.overlaps r ≡ v.overlaps r → ReadHasBeacon top r i left k u parts
+    → ReadHasBeacon top r i left k v (put d (sees (Some (Invoke q Read)) (parts d)) parts)
 looking_other top r i left k d q u v parts ne ef eo l =
     let give : (y : ℕ) → MayGive r u y → MayGive r v y = λ y m. elim m [ inl e ↦ inl (e ∙ ef) | inr e ↦ inr (subst (λ o. IsTrue (among y o)) eo e) ] in
     let s : Seen = sees (Some (Invoke q Read)) (parts d) in
     let sf : s.fresh r ≡ (parts d).fresh r = put_other q r (parts d).last (parts d).fresh ne in
     let so : s.overlaps r ≡ (parts d).overlaps r = put_other q r (in_progress (parts d).writing) (parts d).overlaps ne in
-    let fresh_at = same_at (λ z. z.fresh r) i d s parts sf in
-    let over_at = same_at (λ z. z.overlaps r) i d s parts so in
+    let fresh_at = same_property (λ z. z.fresh r) i d s parts sf in
+    let over_at = same_property (λ z. z.overlaps r) i d s parts so in
     record {
       room = l.room;
-      beacon = beacon_read top i k d q (MayGive r v) parts (beacon_more top i k (MayGive r u) (MayGive r v) parts give l.beacon);
+      beacon = beacon_read top i k d q (MayGive r v) parts (beacon_allows_more top i k (MayGive r u) (MayGive r v) parts give l.beacon);
       here = λ ke. let h = l.here ke in (fresh_at ∙ h.0, λ m. h.1 (subst (λ o. IsTrue (among 0 o)) over_at m));
       fresh_one = λ f. give i (l.fresh_one (sym fresh_at ∙ f));
       over_one = λ m. give i (l.over_one (subst (λ o. IsTrue (among 1 o)) over_at m));
     }
 
-one_of : (w : Option ℕ) → IsTrue (among 1 (in_progress w)) → w ≡ Some 1
-one_of None h = let n : ⊥ = cc in absurd n
-one_of (Some v) h = go (v == 1) refl h
+one_is_written : (w : Option ℕ) → IsTrue (among 1 (in_progress w)) → w ≡ Some 1
+one_is_written None h = let n : ⊥ = cc in absurd n
+one_is_written (Some v) h = go (v == 1) refl h
   where
     go : (c : Bool) → (v == 1) ≡ c → IsTrue (c || false) → (let s : Option ℕ = Some v in s) ≡ Some 1
     go true e k = ap (λ x. let s : Option ℕ = Some x in s) (eqb-true v 1 e)
     go false e k = let n : ⊥ = cc in absurd n
 
-no_zero : (w : Option ℕ) → (w ≡ None) ⊎ (w ≡ Some 1) → IsTrue (among 0 (in_progress w)) → ⊥
-no_zero w (inl e) h = let k = subst (λ w. IsTrue (among 0 (in_progress w))) e h in cc
-no_zero w (inr e) h = let k = subst (λ w. IsTrue (among 0 (in_progress w))) e h in cc
+zero_isnt_written : (w : Option ℕ) → (w ≡ None) ⊎ (w ≡ Some 1) → IsTrue (among 0 (in_progress w)) → ⊥
+zero_isnt_written w (inl e) h = let k = subst (λ w. IsTrue (among 0 (in_progress w))) e h in cc
+zero_isnt_written w (inr e) h = let k = subst (λ w. IsTrue (among 0 (in_progress w))) e h in cc
 
 -- process r's read of bit i has beacon k when it begins, if k is the beacon of the scan from bit i
 -- on
-pub looking_mine : (top r i left k : ℕ) (u : Seen) (parts : ℕ → Seen) → i + left ≡ top → Beacon top i k (MayGive r u) parts
-    → Looks top r i left k u (put i (sees (Some (Invoke r Read)) (parts i)) parts)
-looking_mine top r i left k u parts room b =
+pub looking_starts : (top r i left k : ℕ) (u : Seen) (parts : ℕ → Seen) → i + left ≡ top → Beacon top i k (MayGive r u) parts
+    → ReadHasBeacon top r i left k u (put i (sees (Some (Invoke r Read)) (parts i)) parts)
+looking_starts top r i left k u parts room b =
     let s : Seen = sees (Some (Invoke r Read)) (parts i) in
     let sf : s.fresh r ≡ (parts i).last = put_same r (parts i).last (parts i).fresh in
     let so : s.overlaps r ≡ in_progress (parts i).writing = put_same r (in_progress (parts i).writing) (parts i).overlaps in
-    let shows : MayShow (parts i) → MayGive r u i = λ m. elim (cases_eq k i) [
+    let shows : MayGiveOne (parts i) → MayGive r u i = λ m. elim (cases_eq k i) [
       | inl e ↦ subst (MayGive r u) e b.allowed
       | inr ne ↦ (let low : i ≤ k = b.low in let lt : i < k = omega (arith, low, ne) in b.below i (omega arith) lt m)
     ] in
@@ -256,25 +256,25 @@ looking_mine top r i left k u parts room b =
       beacon = beacon_read top i k i r (MayGive r u) parts b;
       here = λ ke. subst (λ z. (z.fresh r ≡ 1) × (IsTrue (among 0 (z.overlaps r)) → ⊥)) (sym me)
           (let lit : IsLit (parts i) = subst (λ y. IsLit (parts y)) ke b.lit in
-          (sf ∙ lit.last, λ m. no_zero (parts i).writing lit.writing (subst (λ o. IsTrue (among 0 o)) so m)));
+          (sf ∙ lit.last, λ m. zero_isnt_written (parts i).writing lit.writing (subst (λ o. IsTrue (among 0 o)) so m)));
       fresh_one = λ f. shows (inl (sym sf ∙ subst (λ z. z.fresh r ≡ 1) me f));
-      over_one = λ f. shows (inr (one_of (parts i).writing (subst (λ o. IsTrue (among 1 o)) so (subst (λ z. IsTrue (among 1 (z.overlaps r))) me f))));
+      over_one = λ f. shows (inr (one_is_written (parts i).writing (subst (λ o. IsTrue (among 1 o)) so (subst (λ z. IsTrue (among 1 (z.overlaps r))) me f))));
     }
 
 -- if the read of bit i gives 1 and isn't stray, i is a value that the read of the number may give
-pub looked_one : (top r i left k : ℕ) (u : Seen) (parts : ℕ → Seen) → Looks top r i left k u parts
+pub looked_one : (top r i left k : ℕ) (u : Seen) (parts : ℕ → Seen) → ReadHasBeacon top r i left k u parts
     → IsNotStray (record { reader = r; value = 1; fresh = (parts i).fresh r; overlaps = (parts i).overlaps r }) → MayGive r u i
 looked_one top r i left k u parts l g =
     let x : Returned = record { reader = r; value = 1; fresh = (parts i).fresh r; overlaps = (parts i).overlaps r } in
-    elim (not_stray_is x g) [ inl e ↦ l.fresh_one (sym e) | inr m ↦ l.over_one m ]
+    elim (fresh_or_overlapping x g) [ inl e ↦ l.fresh_one (sym e) | inr m ↦ l.over_one m ]
 
 -- if the read of bit i gives 0 and isn't stray, bit k is the beacon of the scan from the next bit
 -- on
-pub looked_zero : (top r i left k : ℕ) (u : Seen) (parts : ℕ → Seen) → Looks top r i left k u parts
+pub looked_zero : (top r i left k : ℕ) (u : Seen) (parts : ℕ → Seen) → ReadHasBeacon top r i left k u parts
     → IsNotStray (record { reader = r; value = 0; fresh = (parts i).fresh r; overlaps = (parts i).overlaps r }) → Beacon top (suc i) k (MayGive r u) parts
 looked_zero top r i left k u parts l g =
     let x : Returned = record { reader = r; value = 0; fresh = (parts i).fresh r; overlaps = (parts i).overlaps r } in
-    let ne : k ≡ i → ⊥ = λ e. let h = l.here e in elim (not_stray_is x g) [ inl z ↦ (let f : (parts i).fresh r ≡ 1 = h.0 in omega (arith, z, f)) | inr m ↦ h.1 m ] in
+    let ne : k ≡ i → ⊥ = λ e. let h = l.here e in elim (fresh_or_overlapping x g) [ inl z ↦ (let f : (parts i).fresh r ≡ 1 = h.0 in omega (arith, z, f)) | inr m ↦ h.1 m ] in
     let low : i ≤ k = l.beacon.low in
     record {
       low = omega (arith, low, ne);

@@ -9,7 +9,7 @@ use Rattle.frames.specs.declared.types.Event.{Event}
 use Rattle.frames.specs.declared.types.Event.TheVariants.{Invoke, Got, Wrote}
 use Rattle.frames.specs.declared.verdict.Verdict.TheVariants.{Fresh, Overlap, Stray}
 use Rattle.frames.specs.correctness.Regularity.{in_progress}
-use Rattle.frames.proofs.Seen.{Seen, among, opening, sees, got, IsNotStray, ended, among_here}
+use Rattle.frames.proofs.Seen.{Seen, among, opening, sees, got, IsNotStray, end_event, among_here}
 use Rattle.layers.proofs.Law.{TaskInProgress, View, Watch, Runs, IsKept, IsUser}
 use Rattle.unary_number.specs.declared.task.UnaryTask.{UnaryTask}
 use Rattle.unary_number.specs.declared.task.UnaryTask.TheVariants.{Setting, Clearing, Looking}
@@ -22,18 +22,18 @@ use Rattle.frames.specs.OneWriter.{one_writer}
 use Rattle.frames.specs.laws.OneWriter as writer
 use Rattle.frames.specs.correctness.Regularity.{IsRegular}
 use Rattle.frames.proofs.KnownAndSeen.{stray_alike}
-use Rattle.frames.proofs.Pointwise.{put, put_same, put_other, put_zero, put_back, put_over, put_all}
+use Rattle.frames.proofs.Pointwise.{put, put_same, put_other, put_zero, put_back, put_twice, put_all}
 use Rattle.layers.specs.Nested.{Program, Ends, Asks, Table, layered}
 use Rattle.layers.specs.Sound.{IsNotSpent, IsSoundTable, FitsBelow}
 use Rattle.layers.specs.laws.Over.{over}
 use Rattle.layers.proofs.LayerLaw.{IsGoodStep, good_begun, good_gone, good_passes, layer_promises}
 use Rattle.unary_number.specs.Program.{unary_table_with, unary_program, unary_rest, clears_below, looks_above, after_look, UnaryMayBeAt}
-use Rattle.unary_number.proofs.Beacons.{Beacon, raised, lowered, written, MayGive, MayGiveNow, Looks, beacon_more, beacon_read, looking_other, looking_mine, looked_one, looked_zero}
-use Rattle.unary_number.proofs.Phases.{lights_for, lights_put, Idle, Rising, Cleared, Falling, WriterAt, WriterSays, ReaderAt, ReaderSays, Lights, reader_map, lights_begin, lights_raised, lights_lower, lights_lowered, lights_end, idle_end, rising_begin, rising_end, falling_begin, falling_end}
+use Rattle.unary_number.proofs.Beacons.{Beacon, raised, lowered, written, MayGive, MayGiveNow, ReadHasBeacon, beacon_allows_more, beacon_read, looking_other, looking_starts, looked_one, looked_zero}
+use Rattle.unary_number.proofs.Phases.{has_beacons_for, has_beacons_put, Idle, Rising, Cleared, Falling, WriterAt, WriterSays, ReaderAt, ReaderSays, HasBeacons, reader_map, has_beacons_raise, has_beacons_raised, has_beacons_lower, has_beacons_lowered, has_beacons_end, idle_end, rising_begin, rising_end, falling_begin, falling_end}
 
 -- the invariant: each read in progress has a beacon, and what the writer's task says holds
 pub record UnaryInv (top : ℕ) (u : Seen) (j : View UnaryTask) : Type 0 where
-  pub lights : Lights top 0 u j.tasks j.parts
+  pub beacons : HasBeacons top 0 u j.tasks j.parts
   pub writer : WriterSays top (j.tasks 0) u j.parts
 
 -- the scan from bit i on, upward; the last number is how many bits are above bit i
@@ -61,37 +61,37 @@ writer_same top u v parts to ul uw l w (Some n) h = at n.task h
         record { writing = sym uw ∙ f.writing; small = f.small; low = f.low; one = sym (l x) ∙ f.one; zeros = λ k lo hi e. f.zeros k lo hi (l k ∙ e); here = sym (w i) ∙ f.here; quiet = λ k lk ne. sym (w k) ∙ f.quiet k lk ne }
     at (Looking q i left) h = h
 
-looking_known : (top r i left k : ℕ) (u v : Seen) (parts : ℕ → Seen) → u.fresh r ≡ v.fresh r → u.overlaps r ≡ v.overlaps r → Looks top r i left k u parts → Looks top r i left k v parts
-looking_known top r i left k u v parts ef eo l =
+looking_same : (top r i left k : ℕ) (u v : Seen) (parts : ℕ → Seen) → u.fresh r ≡ v.fresh r → u.overlaps r ≡ v.overlaps r → ReadHasBeacon top r i left k u parts → ReadHasBeacon top r i left k v parts
+looking_same top r i left k u v parts ef eo l =
     let give : (y : ℕ) → MayGive r u y → MayGive r v y = λ y m. elim m [ inl e ↦ inl (e ∙ ef) | inr e ↦ inr (subst (λ o. IsTrue (among y o)) eo e) ] in
-    record { room = l.room; beacon = beacon_more top i k (MayGive r u) (MayGive r v) parts give l.beacon; here = l.here; fresh_one = λ e. give i (l.fresh_one e); over_one = λ e. give i (l.over_one e) }
+    record { room = l.room; beacon = beacon_allows_more top i k (MayGive r u) (MayGive r v) parts give l.beacon; here = l.here; fresh_one = λ e. give i (l.fresh_one e); over_one = λ e. give i (l.over_one e) }
 
-in_it : (w : Option ℕ) (x : ℕ) → w ≡ Some x → IsTrue (among x (in_progress w))
-in_it w x e = subst (λ z. IsTrue (among x (in_progress z))) (sym e) (among_here x [])
+is_in_progress : (w : Option ℕ) (x : ℕ) → w ≡ Some x → IsTrue (among x (in_progress w))
+is_in_progress w x e = subst (λ z. IsTrue (among x (in_progress z))) (sym e) (among_here x [])
 
--- `Lights` holds after p invokes a read of the number
-lights_invoke : (top p : ℕ) (u : Seen) (tasks : ℕ → Option (TaskInProgress UnaryTask)) (parts : ℕ → Seen) → Lights top p u tasks parts → Lights top p (sees (Some (Invoke p Read)) u) tasks parts
-lights_invoke top p u tasks parts l =
+-- `HasBeacons` holds after p invokes a read of the number
+has_beacons_invoke : (top p : ℕ) (u : Seen) (tasks : ℕ → Option (TaskInProgress UnaryTask)) (parts : ℕ → Seen) → HasBeacons top p u tasks parts → HasBeacons top p (sees (Some (Invoke p Read)) u) tasks parts
+has_beacons_invoke top p u tasks parts l =
     let v : Seen = sees (Some (Invoke p Read)) u in
     record {
-      overlap = λ r x e. elim (r == p) as (λ c. IsTrue (among x (if c then in_progress u.writing else u.overlaps r))) [ true ↦ in_it u.writing x e | false ↦ l.overlap r x e ];
-      ready = (l.ready.0, beacon_more top 0 l.ready.0 (MayGiveNow u) (MayGiveNow v) parts (λ y m. m) l.ready.1);
+      overlap = λ r x e. elim (r == p) as (λ c. IsTrue (among x (if c then in_progress u.writing else u.overlaps r))) [ true ↦ is_in_progress u.writing x e | false ↦ l.overlap r x e ];
+      ready = (l.ready.0, beacon_allows_more top 0 l.ready.0 (MayGiveNow u) (MayGiveNow v) parts (λ y m. m) l.ready.1);
       readers = λ r z ne. reader_map top r u v parts parts
-          (λ i left k h. (k, looking_known top r i left k u v parts (sym (put_other p r u.last u.fresh ne)) (sym (put_other p r (in_progress u.writing) u.overlaps ne)) h)) (tasks r) (l.readers r z ne);
+          (λ i left k h. (k, looking_same top r i left k u v parts (sym (put_other p r u.last u.fresh ne)) (sym (put_other p r (in_progress u.writing) u.overlaps ne)) h)) (tasks r) (l.readers r z ne);
     }
 
 beacon_invoke : (top p k : ℕ) (u : Seen) (parts : ℕ → Seen) → Beacon top 0 k (MayGiveNow u) parts → Beacon top 0 k (MayGive p (sees (Some (Invoke p Read)) u)) parts
 beacon_invoke top p k u parts b =
     let v : Seen = sees (Some (Invoke p Read)) u in
-    beacon_more top 0 k (MayGiveNow u) (MayGive p v) parts
+    beacon_allows_more top 0 k (MayGiveNow u) (MayGive p v) parts
     (λ y m. elim m [
       | inl e ↦ inl (e ∙ sym (put_same p u.last u.fresh))
-      | inr e ↦ inr (subst (λ o. IsTrue (among y o)) (sym (put_same p (in_progress u.writing) u.overlaps)) (in_it u.writing y e))
+      | inr e ↦ inr (subst (λ o. IsTrue (among y o)) (sym (put_same p (in_progress u.writing) u.overlaps)) (is_in_progress u.writing y e))
     ]) b
 
--- `Lights` holds after p begins to read a bit
-lights_look : (top p i : ℕ) (u : Seen) (tasks : ℕ → Option (TaskInProgress UnaryTask)) (parts : ℕ → Seen) → Lights top p u tasks parts → Lights top p u tasks (put i (sees (Some (Invoke p Read)) (parts i)) parts)
-lights_look top p i u tasks parts l = record {
+-- `HasBeacons` holds after p begins to read a bit
+has_beacons_look : (top p i : ℕ) (u : Seen) (tasks : ℕ → Option (TaskInProgress UnaryTask)) (parts : ℕ → Seen) → HasBeacons top p u tasks parts → HasBeacons top p u tasks (put i (sees (Some (Invoke p Read)) (parts i)) parts)
+has_beacons_look top p i u tasks parts l = record {
   overlap = l.overlap;
   ready = (l.ready.0, beacon_read top 0 l.ready.0 i p (MayGiveNow u) parts l.ready.1);
   readers = λ r z ne. reader_map top r u u parts (put i (sees (Some (Invoke p Read)) (parts i)) parts)
@@ -104,8 +104,8 @@ writer_look top p i u parts task h =
     (put_all (λ k s. (parts k).last ≡ s.last) i (sees (Some (Invoke p Read)) (parts i)) parts refl (λ k ne. refl))
     (put_all (λ k s. (parts k).writing ≡ s.writing) i (sees (Some (Invoke p Read)) (parts i)) parts refl (λ k ne. refl)) task h
 
-not_stray_give : (r : ℕ) (u : Seen) (x : ℕ) → MayGive r u x → IsNotStray (record { reader = r; value = x; fresh = u.fresh r; overlaps = u.overlaps r })
-not_stray_give r u x m h = go (x == u.fresh r) refl h
+may_give_not_stray : (r : ℕ) (u : Seen) (x : ℕ) → MayGive r u x → IsNotStray (record { reader = r; value = x; fresh = u.fresh r; overlaps = u.overlaps r })
+may_give_not_stray r u x m h = go (x == u.fresh r) refl h
   where
     go : (c : Bool) → (x == u.fresh r) ≡ c → (if c then Fresh else if among x (u.overlaps r) then Overlap else Stray) ≡ Stray → ⊥
     go true e k = cc
@@ -125,14 +125,14 @@ module _ (not_found : Outcome) (values processes : ℕ) (two : 2 ≤ values) whe
   abbrev w : Watch UnaryTask Seen
   w = unary_watch top
 
-  runs_clears : (i x p : ℕ) (op : Op) (Out : Option Event → Seen → Type 0) (u : Seen) (j : View UnaryTask) → p ≡ 0 → Cleared top i x u j.parts → Lights top p u j.tasks j.parts
+  runs_clears : (i x p : ℕ) (op : Op) (Out : Option Event → Seen → Type 0) (u : Seen) (j : View UnaryTask) → p ≡ 0 → Cleared top i x u j.parts → HasBeacons top p u j.tasks j.parts
       → Out None u → Out (Some (Wrote p)) (sees (Some (Wrote p)) u) → Runs t w p op Out (clears_below x i) j
   runs_clears zero x p op Out u j zp c l on oe = (
     sees (Some (Wrote p)) u,
     (
       oe,
       record {
-        lights = lights_put top p (sees (Some (Wrote p)) u) None j.tasks j.parts (lights_end top p p x u j.tasks j.parts l c) (λ ne. tt);
+        beacons = has_beacons_put top p (sees (Some (Wrote p)) u) None j.tasks j.parts (has_beacons_end top p p x u j.tasks j.parts l c) (λ ne. tt);
         writer = subst (λ y. WriterSays top y (sees (Some (Wrote p)) u) j.parts) (sym (put_zero p None j.tasks zp)) (idle_end top p x u j.parts c);
       },
     ),
@@ -141,22 +141,22 @@ module _ (not_found : Outcome) (values processes : ℕ) (two : 2 ≤ values) whe
       let n : Option (TaskInProgress UnaryTask) = Some (record { op = op; task = Clearing x i }) in
       let mid : ℕ → Seen = put i (lowered (j.parts i)) j.parts in
       let fall : Falling top i x u mid = falling_begin top i x u j.parts c in
-      let lm : Lights top p u j.tasks mid = lights_lower top p i x u j.tasks j.parts l c in
+      let lm : HasBeacons top p u j.tasks mid = has_beacons_lower top p i x u j.tasks j.parts l c in
       let after : ℕ → Seen = put i (written (lowered (j.parts i))) j.parts in
-      let same : put i (written (mid i)) mid ≡ after = ap (λ s. put i (written s) mid) (put_same i (lowered (j.parts i)) j.parts) ∙ put_over i (lowered (j.parts i)) (written (lowered (j.parts i))) j.parts in
+      let same : put i (written (mid i)) mid ≡ after = ap (λ s. put i (written s) mid) (put_same i (lowered (j.parts i)) j.parts) ∙ put_twice i (lowered (j.parts i)) (written (lowered (j.parts i))) j.parts in
       let ca : Cleared top i x u after = subst (Cleared top i x u) same (falling_end top i x u mid fall) in
-      let la : Lights top p u j.tasks after = subst (Lights top p u j.tasks) same (lights_lowered top p i u j.tasks mid lm fall.here) in (
+      let la : HasBeacons top p u j.tasks after = subst (HasBeacons top p u j.tasks) same (has_beacons_lowered top p i u j.tasks mid lm fall.here) in (
         (
           u,
           (
             on,
             record {
-              lights = lights_put top p u n j.tasks mid lm (λ ne. absurd (ne zp));
+              beacons = has_beacons_put top p u n j.tasks mid lm (λ ne. absurd (ne zp));
               writer = subst (λ y. WriterSays top y u mid) (sym (put_zero p n j.tasks zp)) fall;
             },
           ),
         ),
-        λ o ans pass good. elim o as (λ o. Answers 2 (Write 0) o → IsNotSpent o → Runs t w p op Out (clears_below x i) (record j { parts = put i (sees (Some (ended 0 o)) (lowered (j.parts i))) j.parts })) [
+        λ o ans pass good. elim o as (λ o. Answers 2 (Write 0) o → IsNotSpent o → Runs t w p op Out (clears_below x i) (record j { parts = put i (sees (Some (end_event 0 o)) (lowered (j.parts i))) j.parts })) [
           | Value v ↦ λ ans pass. absurd ans
           | Written ↦ λ ans pass. runs_clears i x p op Out u (record j { parts = after }) zp ca la on oe
           | Spent s ↦ λ ans pass. absurd pass
@@ -173,22 +173,22 @@ module _ (not_found : Outcome) (values processes : ℕ) (two : 2 ≤ values) whe
       let n : Option (TaskInProgress UnaryTask) = Some (record { op = op; task = Setting x }) in
       let mid : ℕ → Seen = put x (raised (j.parts x)) j.parts in
       let rise : Rising top x v mid = rising_begin top p x u j.parts idle lx in
-      let lm : Lights top p v j.tasks mid = lights_begin top p x u j.tasks j.parts (lights_for top p u j.tasks j.parts h.lights) idle.writing in
+      let lm : HasBeacons top p v j.tasks mid = has_beacons_raise top p x u j.tasks j.parts (has_beacons_for top p u j.tasks j.parts h.beacons) idle.writing in
       let after : ℕ → Seen = put x (written (raised (j.parts x))) j.parts in
-      let same : put x (written (mid x)) mid ≡ after = ap (λ s. put x (written s) mid) (put_same x (raised (j.parts x)) j.parts) ∙ put_over x (raised (j.parts x)) (written (raised (j.parts x))) j.parts in
+      let same : put x (written (mid x)) mid ≡ after = ap (λ s. put x (written s) mid) (put_same x (raised (j.parts x)) j.parts) ∙ put_twice x (raised (j.parts x)) (written (raised (j.parts x))) j.parts in
       let ca : Cleared top x x v after = subst (Cleared top x x v) same (rising_end top x v mid rise) in
-      let la : Lights top p v j.tasks after = subst (Lights top p v j.tasks) same (lights_raised top p x v j.tasks mid lm rise.writing rise.here) in (
+      let la : HasBeacons top p v j.tasks after = subst (HasBeacons top p v j.tasks) same (has_beacons_raised top p x v j.tasks mid lm rise.writing rise.here) in (
         (
           v,
           (
             good_begun IsNotStray p op None u refl tt,
             record {
-              lights = lights_put top p v n j.tasks mid lm (λ ne. absurd (ne zp));
+              beacons = has_beacons_put top p v n j.tasks mid lm (λ ne. absurd (ne zp));
               writer = subst (λ y. WriterSays top y v mid) (sym (put_zero p n j.tasks zp)) rise;
             },
           ),
         ),
-        λ o ans pass good. elim o as (λ o. Answers 2 (Write 1) o → IsNotSpent o → Runs t w p op (λ e. IsGoodStep IsNotStray u (in_order (Some (Invoke p op)) e)) (clears_below x x) (record j { parts = put x (sees (Some (ended 0 o)) (raised (j.parts x))) j.parts })) [
+        λ o ans pass good. elim o as (λ o. Answers 2 (Write 1) o → IsNotSpent o → Runs t w p op (λ e. IsGoodStep IsNotStray u (in_order (Some (Invoke p op)) e)) (clears_below x x) (record j { parts = put x (sees (Some (end_event 0 o)) (raised (j.parts x))) j.parts })) [
           | Value v ↦ λ ans pass. absurd ans
           | Written ↦ λ ans pass. runs_clears x x p op (λ e. IsGoodStep IsNotStray u (in_order (Some (Invoke p op)) e)) v (record j { parts = after }) zp ca la (good_begun IsNotStray p op None u refl tt) (good_begun IsNotStray p op (Some (Wrote p)) u refl tt)
           | Spent s ↦ λ ans pass. absurd pass
@@ -196,10 +196,10 @@ module _ (not_found : Outcome) (values processes : ℕ) (two : 2 ≤ values) whe
       )
 
   -- the rest of a scan, once bit i was read as v, keeps the invariant
-  runs_found : (i left k p v : ℕ) (op : Op) (Out : Option Event → Seen → Type 0) (u : Seen) (j : View UnaryTask) (on : Program UnaryTask) → (p ≡ 0 → ⊥) → v < 2 → Looks top p i left k u j.parts
-      → Lights top p u j.tasks j.parts → WriterSays top (j.tasks 0) u j.parts → IsNotStray (record { reader = p; value = v; fresh = (j.parts i).fresh p; overlaps = (j.parts i).overlaps p })
+  runs_after_look : (i left k p v : ℕ) (op : Op) (Out : Option Event → Seen → Type 0) (u : Seen) (j : View UnaryTask) (on : Program UnaryTask) → (p ≡ 0 → ⊥) → v < 2 → ReadHasBeacon top p i left k u j.parts
+      → HasBeacons top p u j.tasks j.parts → WriterSays top (j.tasks 0) u j.parts → IsNotStray (record { reader = p; value = v; fresh = (j.parts i).fresh p; overlaps = (j.parts i).overlaps p })
       → ((x : ℕ) → MayGive p u x → Out (Some (Got p x)) u) → (Beacon top (suc i) k (MayGive p u) j.parts → Runs t w p op Out on j) → Runs t w p op Out (after_look i on (Value v)) j
-  runs_found i left k p v op Out u j on np lv look l wr good og more = go (v == 1) refl
+  runs_after_look i left k p v op Out u j on np lv look l wr good og more = go (v == 1) refl
     where
       go : (c : Bool) → (v == 1) ≡ c → Runs t w p op Out (if c then Ends (Value i) else on) j
       go true e =
@@ -208,7 +208,7 @@ module _ (not_found : Outcome) (values processes : ℕ) (two : 2 ≤ values) whe
             (
               og i (looked_one top p i left k u j.parts look (subst (λ x. IsNotStray (record { reader = p; value = x; fresh = (j.parts i).fresh p; overlaps = (j.parts i).overlaps p })) is good)),
               record {
-                lights = lights_put top p u None j.tasks j.parts l (λ ne. tt);
+                beacons = has_beacons_put top p u None j.tasks j.parts l (λ ne. tt);
                 writer = subst (λ y. WriterSays top y u j.parts) (sym (put_other p 0 None j.tasks (λ z. np (sym z)))) wr;
               },
             ),
@@ -221,15 +221,15 @@ module _ (not_found : Outcome) (values processes : ℕ) (two : 2 ≤ values) whe
   -- a scan from its read of bit i on keeps the invariant: the read is invoked, and ends at once or
   -- later
   runs_look : (i left k p : ℕ) (op : Op) (Out : Option Event → Seen → Type 0) (u : Seen) (j : View UnaryTask) (on : Program UnaryTask) → (p ≡ 0 → ⊥) → i + left ≡ top → Beacon top i k (MayGive p u) j.parts
-      → Lights top p u j.tasks j.parts → WriterSays top (j.tasks 0) u j.parts → Out None u → ((x : ℕ) → MayGive p u x → Out (Some (Got p x)) u)
-      → ((z : View UnaryTask) → Beacon top (suc i) k (MayGive p u) z.parts → Lights top p u z.tasks z.parts → WriterSays top (z.tasks 0) u z.parts → Runs t w p op Out on z)
+      → HasBeacons top p u j.tasks j.parts → WriterSays top (j.tasks 0) u j.parts → Out None u → ((x : ℕ) → MayGive p u x → Out (Some (Got p x)) u)
+      → ((z : View UnaryTask) → Beacon top (suc i) k (MayGive p u) z.parts → HasBeacons top p u z.tasks z.parts → WriterSays top (z.tasks 0) u z.parts → Runs t w p op Out on z)
       → Runs t w p op Out (Asks (Looking p i left) (λ o. after_look i on o)) j
   runs_look i left k p op Out u j on np room bk l wr out og more =
       let n : Option (TaskInProgress UnaryTask) = Some (record { op = op; task = Looking p i left }) in
       let mid : ℕ → Seen = put i (sees (Some (Invoke p Read)) (j.parts i)) j.parts in
       let z : View UnaryTask = record j { parts = mid } in
-      let look : Looks top p i left k u mid = looking_mine top p i left k u j.parts room bk in
-      let lm : Lights top p u j.tasks mid = lights_look top p i u j.tasks j.parts l in
+      let look : ReadHasBeacon top p i left k u mid = looking_starts top p i left k u j.parts room bk in
+      let lm : HasBeacons top p u j.tasks mid = has_beacons_look top p i u j.tasks j.parts l in
       let wm : WriterSays top (j.tasks 0) u mid = writer_look top p i u j.parts (j.tasks 0) wr in
       let me : mid i ≡ sees (Some (Invoke p Read)) (j.parts i) = put_same i (sees (Some (Invoke p Read)) (j.parts i)) j.parts in (
         (
@@ -237,29 +237,29 @@ module _ (not_found : Outcome) (values processes : ℕ) (two : 2 ≤ values) whe
           (
             out,
             record {
-              lights = lights_put top p u n j.tasks mid lm (λ ne. (refl, (k, look)));
+              beacons = has_beacons_put top p u n j.tasks mid lm (λ ne. (refl, (k, look)));
               writer = subst (λ y. WriterSays top y u mid) (sym (put_other p 0 n j.tasks (λ e. np (sym e)))) wm;
             },
           ),
         ),
-        λ o ans pass good. elim o as (λ o. Answers 2 Read o → IsNotSpent o → AllByRecursion IsNotStray (got (Some (ended p o)) (sees (Some (Invoke p Read)) (j.parts i)))
-            → Runs t w p op Out (after_look i on o) (record j { parts = put i (sees (Some (ended p o)) (sees (Some (Invoke p Read)) (j.parts i))) j.parts })) [
-              | Value v ↦ λ ans pass good. runs_found i left k p v op Out u z on np ans look lm wm
+        λ o ans pass good. elim o as (λ o. Answers 2 Read o → IsNotSpent o → AllByRecursion IsNotStray (got (Some (end_event p o)) (sees (Some (Invoke p Read)) (j.parts i)))
+            → Runs t w p op Out (after_look i on o) (record j { parts = put i (sees (Some (end_event p o)) (sees (Some (Invoke p Read)) (j.parts i))) j.parts })) [
+              | Value v ↦ λ ans pass good. runs_after_look i left k p v op Out u z on np ans look lm wm
                   (subst (λ s. IsNotStray (record { reader = p; value = v; fresh = s.fresh p; overlaps = s.overlaps p })) (sym me) good.0) og (λ bk2. more z bk2 lm wm)
               | Written ↦ λ ans pass good. absurd ans
               | Spent s ↦ λ ans pass good. absurd pass
             ] ans pass good,
       )
 
-  runs_looks : (left i k p : ℕ) (op : Op) (Out : Option Event → Seen → Type 0) (u : Seen) (j : View UnaryTask) → (p ≡ 0 → ⊥) → i + left ≡ top → Beacon top i k (MayGive p u) j.parts
-      → Lights top p u j.tasks j.parts → WriterSays top (j.tasks 0) u j.parts → Out None u → ((x : ℕ) → MayGive p u x → Out (Some (Got p x)) u)
+  runs_scan : (left i k p : ℕ) (op : Op) (Out : Option Event → Seen → Type 0) (u : Seen) (j : View UnaryTask) → (p ≡ 0 → ⊥) → i + left ≡ top → Beacon top i k (MayGive p u) j.parts
+      → HasBeacons top p u j.tasks j.parts → WriterSays top (j.tasks 0) u j.parts → Out None u → ((x : ℕ) → MayGive p u x → Out (Some (Got p x)) u)
       → Runs t w p op Out (looks_from not_found p i left) j
-  runs_looks zero i k p op Out u j np room bk l wr out og =
+  runs_scan zero i k p op Out u j np room bk l wr out og =
       runs_look i zero k p op Out u j (Ends not_found) np room bk l wr out og
       (λ z bk2 lz wz. let lo : suc i ≤ k = bk2.low in let hi : k ≤ top = bk2.high in let n : ⊥ = omega (arith, lo, hi, room) in absurd n)
-  runs_looks (suc left) i k p op Out u j np room bk l wr out og =
+  runs_scan (suc left) i k p op Out u j np room bk l wr out og =
       runs_look i (suc left) k p op Out u j (looks_above not_found p i (suc left)) np room bk l wr out og
-      (λ z bk2 lz wz. runs_looks left (suc i) k p op Out u z np (omega (arith, room)) bk2 lz wz out og)
+      (λ z bk2 lz wz. runs_scan left (suc i) k p op Out u z np (omega (arith, room)) bk2 lz wz out og)
 
   begins : (u : Seen) (j : View UnaryTask) (p : ℕ) (op : Op) → UnaryInv top u j → j.tasks p ≡ None → one_writer values processes p op ≡ true
       → Runs t w p op (λ e. IsGoodStep IsNotStray u (in_order (Some (Invoke p op)) e)) (unary_program not_found values p op) j
@@ -267,27 +267,27 @@ module _ (not_found : Outcome) (values processes : ℕ) (two : 2 ≤ values) whe
       let lx = writer.no_other_value values processes p x s in
       begin_write u j p x h free (writer.writer_zero values processes p x s) (omega (arith, lx, two))
   begins u j p Read h free s =
-      let lp = writer.reader_some values processes p s in
+      let lp = writer.reader_is_not_zero values processes p s in
       let v : Seen = sees (Some (Invoke p Read)) u in
-      let l : Lights top p v j.tasks j.parts = lights_invoke top p u j.tasks j.parts (lights_for top p u j.tasks j.parts h.lights) in
-      runs_looks top 0 h.lights.ready.0 p Read (λ e. IsGoodStep IsNotStray u (in_order (Some (Invoke p Read)) e)) v j (λ e. omega (arith, e, lp)) (omega arith)
-      (beacon_invoke top p h.lights.ready.0 u j.parts h.lights.ready.1) l
+      let l : HasBeacons top p v j.tasks j.parts = has_beacons_invoke top p u j.tasks j.parts (has_beacons_for top p u j.tasks j.parts h.beacons) in
+      runs_scan top 0 h.beacons.ready.0 p Read (λ e. IsGoodStep IsNotStray u (in_order (Some (Invoke p Read)) e)) v j (λ e. omega (arith, e, lp)) (omega arith)
+      (beacon_invoke top p h.beacons.ready.0 u j.parts h.beacons.ready.1) l
       (writer_same top u v j.parts j.parts refl refl (λ k. refl) (λ k. refl) (j.tasks 0) h.writer)
       (good_begun IsNotStray p Read None u refl tt)
-      (λ x m. good_begun IsNotStray p Read (Some (Got p x)) u refl (not_stray_give p v x m, tt))
+      (λ x m. good_begun IsNotStray p Read (Some (Got p x)) u refl (may_give_not_stray p v x m, tt))
 
   -- the rest of a write, once the writer's operation on a bit has ended, keeps the invariant
   writer_ends : (u : Seen) (j : View UnaryTask) (p : ℕ) (op : Op) (task : UnaryTask) (chosen : Option (ℕ × Bool)) (o : Outcome) → UnaryInv top u j → p ≡ 0 → WriterAt top task u j.parts
       → Answers 2 (t.asks task).op o → IsNotSpent o
       → Runs t w p op (λ e. IsGoodStep IsNotStray u (in_order (chosen_of p chosen) e)) (unary_rest not_found task o)
-      (record j { parts = put (t.asks task).part (sees (Some (ended (t.asks task).who o)) (j.parts (t.asks task).part)) j.parts })
+      (record j { parts = put (t.asks task).part (sees (Some (end_event (t.asks task).who o)) (j.parts (t.asks task).part)) j.parts })
   writer_ends u j p op (Setting x) chosen (Value v) h zp wr ans pass = absurd ans
   writer_ends u j p op (Setting x) chosen (Spent s) h zp wr ans pass = absurd pass
   writer_ends u j p op (Setting x) chosen Written h zp wr ans pass =
       let Out : Option Event → Seen → Type 0 = λ e. IsGoodStep IsNotStray u (in_order (chosen_of p chosen) e) in
       let after : ℕ → Seen = put x (written (j.parts x)) j.parts in
       runs_clears x x p op (λ e. IsGoodStep IsNotStray u (in_order (chosen_of p chosen) e)) u (record j { parts = after }) zp (rising_end top x u j.parts wr)
-      (lights_raised top p x u j.tasks j.parts (lights_for top p u j.tasks j.parts h.lights) wr.writing wr.here)
+      (has_beacons_raised top p x u j.tasks j.parts (has_beacons_for top p u j.tasks j.parts h.beacons) wr.writing wr.here)
       (good_gone IsNotStray p chosen None u refl tt) (good_gone IsNotStray p chosen (Some (Wrote p)) u refl tt)
   writer_ends u j p op (Clearing x i) chosen (Value v) h zp wr ans pass = absurd ans
   writer_ends u j p op (Clearing x i) chosen (Spent s) h zp wr ans pass = absurd pass
@@ -295,31 +295,31 @@ module _ (not_found : Outcome) (values processes : ℕ) (two : 2 ≤ values) whe
       let f : Falling top i x u j.parts = wr in
       let after : ℕ → Seen = put i (written (j.parts i)) j.parts in
       runs_clears i x p op (λ e. IsGoodStep IsNotStray u (in_order (chosen_of p chosen) e)) u (record j { parts = after }) zp (falling_end top i x u j.parts f)
-      (lights_lowered top p i u j.tasks j.parts (lights_for top p u j.tasks j.parts h.lights) f.here)
+      (has_beacons_lowered top p i u j.tasks j.parts (has_beacons_for top p u j.tasks j.parts h.beacons) f.here)
       (good_gone IsNotStray p chosen None u refl tt) (good_gone IsNotStray p chosen (Some (Wrote p)) u refl tt)
   writer_ends u j p op (Looking q i left) chosen o h zp wr ans pass = absurd wr
 
   -- the rest of a read, once the reader's pending read of bit i has ended, keeps the invariant
-  look_ends : (u : Seen) (j : View UnaryTask) (p i left k v : ℕ) (op : Op) (chosen : Option (ℕ × Bool)) → UnaryInv top u j → (p ≡ 0 → ⊥) → Looks top p i left k u j.parts → v < 2
+  look_ends : (u : Seen) (j : View UnaryTask) (p i left k v : ℕ) (op : Op) (chosen : Option (ℕ × Bool)) → UnaryInv top u j → (p ≡ 0 → ⊥) → ReadHasBeacon top p i left k u j.parts → v < 2
       → IsNotStray (record { reader = p; value = v; fresh = (j.parts i).fresh p; overlaps = (j.parts i).overlaps p })
       → Runs t w p op (λ e. IsGoodStep IsNotStray u (in_order (chosen_of p chosen) e)) (unary_rest not_found (Looking p i left) (Value v)) j
   look_ends u j p i zero k v op chosen h np look lv good =
-      runs_found i zero k p v op (λ e. IsGoodStep IsNotStray u (in_order (chosen_of p chosen) e)) u j (Ends not_found) np lv look (lights_for top p u j.tasks j.parts h.lights) h.writer good
-      (λ x m. good_gone IsNotStray p chosen (Some (Got p x)) u refl (not_stray_give p u x m, tt))
+      runs_after_look i zero k p v op (λ e. IsGoodStep IsNotStray u (in_order (chosen_of p chosen) e)) u j (Ends not_found) np lv look (has_beacons_for top p u j.tasks j.parts h.beacons) h.writer good
+      (λ x m. good_gone IsNotStray p chosen (Some (Got p x)) u refl (may_give_not_stray p u x m, tt))
       (λ bk. let lo : suc i ≤ k = bk.low in let hi : k ≤ top = bk.high in let room : i + 0 ≡ top = look.room in let n : ⊥ = omega (arith, lo, hi, room) in absurd n)
   look_ends u j p i (suc left) k v op chosen h np look lv good =
       let room : i + suc left ≡ top = look.room in
-      let l : Lights top p u j.tasks j.parts = lights_for top p u j.tasks j.parts h.lights in
-      runs_found i (suc left) k p v op (λ e. IsGoodStep IsNotStray u (in_order (chosen_of p chosen) e)) u j (looks_above not_found p i (suc left)) np lv look l h.writer good
-      (λ x m. good_gone IsNotStray p chosen (Some (Got p x)) u refl (not_stray_give p u x m, tt))
-      (λ bk. runs_looks left (suc i) k p op (λ e. IsGoodStep IsNotStray u (in_order (chosen_of p chosen) e)) u j np (omega (arith, room)) bk l h.writer
+      let l : HasBeacons top p u j.tasks j.parts = has_beacons_for top p u j.tasks j.parts h.beacons in
+      runs_after_look i (suc left) k p v op (λ e. IsGoodStep IsNotStray u (in_order (chosen_of p chosen) e)) u j (looks_above not_found p i (suc left)) np lv look l h.writer good
+      (λ x m. good_gone IsNotStray p chosen (Some (Got p x)) u refl (may_give_not_stray p u x m, tt))
+      (λ bk. runs_scan left (suc i) k p op (λ e. IsGoodStep IsNotStray u (in_order (chosen_of p chosen) e)) u j np (omega (arith, room)) bk l h.writer
       (good_gone IsNotStray p chosen None u refl tt)
-      (λ x m. good_gone IsNotStray p chosen (Some (Got p x)) u refl (not_stray_give p u x m, tt)))
+      (λ x m. good_gone IsNotStray p chosen (Some (Got p x)) u refl (may_give_not_stray p u x m, tt)))
 
   reader_ends : (u : Seen) (j : View UnaryTask) (p : ℕ) (op : Op) (task : UnaryTask) (chosen : Option (ℕ × Bool)) (o : Outcome) → UnaryInv top u j → (p ≡ 0 → ⊥) → ReaderAt top p task u j.parts
-      → Answers 2 (t.asks task).op o → IsNotSpent o → AllByRecursion IsNotStray (got (Some (ended (t.asks task).who o)) (j.parts (t.asks task).part))
+      → Answers 2 (t.asks task).op o → IsNotSpent o → AllByRecursion IsNotStray (got (Some (end_event (t.asks task).who o)) (j.parts (t.asks task).part))
       → Runs t w p op (λ e. IsGoodStep IsNotStray u (in_order (chosen_of p chosen) e)) (unary_rest not_found task o)
-      (record j { parts = put (t.asks task).part (sees (Some (ended (t.asks task).who o)) (j.parts (t.asks task).part)) j.parts })
+      (record j { parts = put (t.asks task).part (sees (Some (end_event (t.asks task).who o)) (j.parts (t.asks task).part)) j.parts })
   reader_ends u j p op (Setting x) chosen o h np rd ans pass good = absurd rd
   reader_ends u j p op (Clearing x i) chosen o h np rd ans pass good = absurd rd
   reader_ends u j p op (Looking q i left) chosen Written h np rd ans pass good = absurd ans
@@ -332,17 +332,17 @@ module _ (not_found : Outcome) (values processes : ℕ) (two : 2 ≤ values) whe
       (look_ends u j p i left rd.1.0 v op chosen h np rd.1.1 ans g))
 
   goes : (u : Seen) (j : View UnaryTask) (p : ℕ) (n : TaskInProgress UnaryTask) (chosen : Option (ℕ × Bool)) (o : Outcome) → UnaryInv top u j → j.tasks p ≡ Some n
-      → Answers 2 (t.asks n.task).op o → IsNotSpent o → AllByRecursion IsNotStray (got (Some (ended (t.asks n.task).who o)) (j.parts (t.asks n.task).part))
+      → Answers 2 (t.asks n.task).op o → IsNotSpent o → AllByRecursion IsNotStray (got (Some (end_event (t.asks n.task).who o)) (j.parts (t.asks n.task).part))
       → Runs t w p n.op (λ e. IsGoodStep IsNotStray u (in_order (chosen_of p chosen) e)) (unary_rest not_found n.task o)
-      (record j { parts = put (t.asks n.task).part (sees (Some (ended (t.asks n.task).who o)) (j.parts (t.asks n.task).part)) j.parts })
+      (record j { parts = put (t.asks n.task).part (sees (Some (end_event (t.asks n.task).who o)) (j.parts (t.asks n.task).part)) j.parts })
   goes u j p n chosen o h mine ans pass good =
       elim (cases_eq p 0) [
         | inl zp ↦ writer_ends u j p n.op n.task chosen o h zp (subst (λ y. WriterSays top y u j.parts) (sym (ap j.tasks zp) ∙ mine) h.writer) ans pass
-        | inr np ↦ reader_ends u j p n.op n.task chosen o h np (subst (λ y. ReaderSays top p y u j.parts) mine (h.lights.readers p np np)) ans pass good
+        | inr np ↦ reader_ends u j p n.op n.task chosen o h np (subst (λ y. ReaderSays top p y u j.parts) mine (h.beacons.readers p np np)) ans pass good
       ]
 
-  at_first : (v : ℕ) → v < values → (j : View UnaryTask) → ((p : ℕ) → j.tasks p ≡ None) → ((k : ℕ) → k < values → j.parts k ≡ opening (if k == v then 1 else 0)) → UnaryInv top (opening v) j
-  at_first v l j et ep =
+  holds_at_first : (v : ℕ) → v < values → (j : View UnaryTask) → ((p : ℕ) → j.tasks p ≡ None) → ((k : ℕ) → k < values → j.parts k ≡ opening (if k == v then 1 else 0)) → UnaryInv top (opening v) j
+  holds_at_first v l j et ep =
       let is : (k : ℕ) → k < values → (j.parts k).last ≡ (if k == v then 1 else 0) = λ k lk. ap (λ s. s.last) (ep k lk) in
       let quiet : (k : ℕ) → k < values → (j.parts k).writing ≡ None = λ k lk. ap (λ s. s.writing) (ep k lk) in
       let one : (j.parts v).last ≡ 1 = is v l ∙ ap (λ c. if c then 1 else 0) (eq-eqb v v refl) in
@@ -351,7 +351,7 @@ module _ (not_found : Outcome) (values processes : ℕ) (two : 2 ≤ values) whe
       let z : (j.parts k).last ≡ 0 = is k lt ∙ ap (λ c. if c then 1 else 0) (ne_eqb k v (λ f. omega (arith, f, lk))) in
       omega (arith, z, e)) in
       record {
-        lights = record {
+        beacons = record {
           overlap = λ r x e. (let n : ⊥ = cc in absurd n);
           ready = (
             v,
@@ -377,7 +377,7 @@ module _ (not_found : Outcome) (values processes : ℕ) (two : 2 ≤ values) whe
   -- the invariant holds at first, every step keeps it, and no returned read is stray
   pub unary_kept : IsKept t (UnaryMayBeAt values processes) w opening (IsGoodStep IsNotStray)
   unary_kept = record {
-    initial = λ v l j ew et ep. at_first v l j et ep;
+    initial = λ v l j ew et ep. holds_at_first v l j et ep;
     passes = good_passes w IsNotStray;
     begins = begins;
     goes = λ u j p n chosen o h mine s ans pass good. goes u j p n chosen o h mine ans pass good;

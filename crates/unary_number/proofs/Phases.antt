@@ -9,7 +9,7 @@ use Rattle.frames.proofs.Pointwise.{put, put_same, put_other, put_all}
 use Rattle.layers.proofs.Law.{TaskInProgress}
 use Rattle.unary_number.specs.declared.task.UnaryTask.{UnaryTask}
 use Rattle.unary_number.specs.declared.task.UnaryTask.TheVariants.{Setting, Clearing, Looking}
-use Rattle.unary_number.proofs.Beacons.{MayShow, Beacon, raised, lowered, written, MayGive, MayGiveNow, Looks, beacon_raise, beacon_raised, beacon_lower, beacon_jump, beacon_lowered, beacon_more, looking_begin, looking_written, looking_lower}
+use Rattle.unary_number.proofs.Beacons.{MayGiveOne, Beacon, raised, lowered, written, MayGive, MayGiveNow, ReadHasBeacon, beacon_raise, beacon_raised, beacon_lower, beacon_jump, beacon_lowered, beacon_allows_more, looking_raise, looking_written, looking_lower}
 
 -- no write is in progress, and the bits are as the last write left them
 
@@ -61,7 +61,7 @@ WriterSays top (Some n) u parts = WriterAt top n.task u parts
 abbrev pub ReaderAt : ℕ → ℕ → UnaryTask → Seen → (ℕ → Seen) → Type 0
 ReaderAt top r (Setting x) u parts = ⊥
 ReaderAt top r (Clearing x i) u parts = ⊥
-ReaderAt top r (Looking q i left) u parts = (q ≡ r) × ((k : ℕ) × Looks top r i left k u parts)
+ReaderAt top r (Looking q i left) u parts = (q ≡ r) × ((k : ℕ) × ReadHasBeacon top r i left k u parts)
 
 abbrev pub ReaderSays : ℕ → ℕ → Option (TaskInProgress UnaryTask) → Seen → (ℕ → Seen) → Type 0
 ReaderSays top r None u parts = Unit {0}
@@ -69,14 +69,14 @@ ReaderSays top r (Some n) u parts = ReaderAt top r n.task u parts
 
 -- In a step of process p, every read overlaps the write in progress, if there is one. A read that
 -- is invoked now has a beacon, and so does each read in progress except that of p.
-pub record Lights (top p : ℕ) (u : Seen) (tasks : ℕ → Option (TaskInProgress UnaryTask)) (parts : ℕ → Seen) : Type 0 where
+pub record HasBeacons (top p : ℕ) (u : Seen) (tasks : ℕ → Option (TaskInProgress UnaryTask)) (parts : ℕ → Seen) : Type 0 where
   pub overlap : (r x : ℕ) → u.writing ≡ Some x → IsTrue (among x (u.overlaps r))
   pub ready : (k : ℕ) × Beacon top 0 k (MayGiveNow u) parts
   pub readers : (r : ℕ) → (r ≡ 0 → ⊥) → (r ≡ p → ⊥) → ReaderSays top r (tasks r) u parts
 
 -- what a reader's task says still holds, if its read of a bit still has a beacon, the same or
 -- another
-pub reader_map : (top r : ℕ) (u v : Seen) (parts to : ℕ → Seen) → ((i left k : ℕ) → Looks top r i left k u parts → (z : ℕ) × Looks top r i left z v to)
+pub reader_map : (top r : ℕ) (u v : Seen) (parts to : ℕ → Seen) → ((i left k : ℕ) → ReadHasBeacon top r i left k u parts → (z : ℕ) × ReadHasBeacon top r i left z v to)
     → (task : Option (TaskInProgress UnaryTask)) → ReaderSays top r task u parts → ReaderSays top r task v to
 reader_map top r u v parts to f None h = tt
 reader_map top r u v parts to f (Some n) h = at n.task h
@@ -86,36 +86,36 @@ reader_map top r u v parts to f (Some n) h = at n.task h
     at (Clearing x i) h = h
     at (Looking q i left) h = (h.0, f i left h.1.0 h.1.1)
 
-same_some : (x y : ℕ) → (let s : Option ℕ = Some x in s) ≡ Some y → x ≡ y
-same_some x y e = cc
+some_same : (x y : ℕ) → (let s : Option ℕ = Some x in s) ≡ Some y → x ≡ y
+some_same x y e = cc
 
--- `Lights` holds after a write of x begins, and with it the write of 1 to bit x
-pub lights_begin : (top p x : ℕ) (u : Seen) (tasks : ℕ → Option (TaskInProgress UnaryTask)) (parts : ℕ → Seen) → Lights top p u tasks parts → u.writing ≡ None
-    → Lights top p (sees (Some (Invoke p (Write x))) u) tasks (put x (raised (parts x)) parts)
-lights_begin top p x u tasks parts l idle =
+-- `HasBeacons` holds after a write of x begins, and with it the write of 1 to bit x
+pub has_beacons_raise : (top p x : ℕ) (u : Seen) (tasks : ℕ → Option (TaskInProgress UnaryTask)) (parts : ℕ → Seen) → HasBeacons top p u tasks parts → u.writing ≡ None
+    → HasBeacons top p (sees (Some (Invoke p (Write x))) u) tasks (put x (raised (parts x)) parts)
+has_beacons_raise top p x u tasks parts l idle =
     let v : Seen = sees (Some (Invoke p (Write x))) u in
     record {
-      overlap = λ r y e. subst (λ z. IsTrue (among z (x ∷ u.overlaps r))) (same_some x y e) (among_here x (u.overlaps r));
+      overlap = λ r y e. subst (λ z. IsTrue (among z (x ∷ u.overlaps r))) (some_same x y e) (among_here x (u.overlaps r));
       ready = (
         l.ready.0,
         beacon_raise top 0 l.ready.0 x (MayGiveNow v) parts
-            (beacon_more top 0 l.ready.0 (MayGiveNow u) (MayGiveNow v) parts (λ y m. elim m [ inl e ↦ inl e | inr e ↦ (let n : ⊥ = cc in absurd n) ]) l.ready.1) (inr refl),
+            (beacon_allows_more top 0 l.ready.0 (MayGiveNow u) (MayGiveNow v) parts (λ y m. elim m [ inl e ↦ inl e | inr e ↦ (let n : ⊥ = cc in absurd n) ]) l.ready.1) (inr refl),
       );
-      readers = λ r z ne. reader_map top r u v parts (put x (raised (parts x)) parts) (λ i left k h. (k, looking_begin top r i left k p x u parts h)) (tasks r) (l.readers r z ne);
+      readers = λ r z ne. reader_map top r u v parts (put x (raised (parts x)) parts) (λ i left k h. (k, looking_raise top r i left k p x u parts h)) (tasks r) (l.readers r z ne);
     }
 
--- `Lights` holds after the write of 1 to bit x ends
-pub lights_raised : (top p x : ℕ) (u : Seen) (tasks : ℕ → Option (TaskInProgress UnaryTask)) (parts : ℕ → Seen) → Lights top p u tasks parts → u.writing ≡ Some x → (parts x).writing ≡ Some 1
-    → Lights top p u tasks (put x (written (parts x)) parts)
-lights_raised top p x u tasks parts l e w = record {
+-- `HasBeacons` holds after the write of 1 to bit x ends
+pub has_beacons_raised : (top p x : ℕ) (u : Seen) (tasks : ℕ → Option (TaskInProgress UnaryTask)) (parts : ℕ → Seen) → HasBeacons top p u tasks parts → u.writing ≡ Some x → (parts x).writing ≡ Some 1
+    → HasBeacons top p u tasks (put x (written (parts x)) parts)
+has_beacons_raised top p x u tasks parts l e w = record {
   overlap = l.overlap;
   ready = (l.ready.0, beacon_raised top 0 l.ready.0 x (MayGiveNow u) parts l.ready.1 w (inr e));
   readers = λ r z ne. reader_map top r u u parts (put x (written (parts x)) parts)
       (λ i left k h. (k, looking_written top r i left k x u parts h (beacon_raised top i k x (MayGive r u) parts h.beacon w (inr (l.overlap r x e))))) (tasks r) (l.readers r z ne);
 }
 
-quiet_dark : (s : Seen) → s.writing ≡ None → (s.last ≡ 1 → ⊥) → MayShow s → ⊥
-quiet_dark s q d m = elim m [ inl e ↦ d e | inr e ↦ (let n : ⊥ = cc in n) ]
+never_gives_one : (s : Seen) → s.writing ≡ None → (s.last ≡ 1 → ⊥) → MayGiveOne s → ⊥
+never_gives_one s q d m = elim m [ inl e ↦ d e | inr e ↦ (let n : ⊥ = cc in n) ]
 
 beacon_fall : (top p k i x : ℕ) (A : ℕ → Type 0) (u : Seen) (parts : ℕ → Seen) → Cleared top (suc i) x u parts → A x → Beacon top p k A parts
     → (z : ℕ) × (Beacon top p z A (put i (lowered (parts i)) parts) × (((k ≡ i → ⊥) × (z ≡ k)) ⊎ ((k ≡ i) × (z ≡ x))))
@@ -128,16 +128,16 @@ beacon_fall top p k i x A u parts c ax b =
         x,
         (
           beacon_jump top p i x A parts (subst (λ y. Beacon top p y A parts) e b) (omega (arith, low)) small ax c.one (c.quiet x small)
-              (λ y lo hi m. quiet_dark (parts y) (c.quiet y (omega (arith, hi, small))) (c.zeros y (omega (arith, lo)) hi) m),
+              (λ y lo hi m. never_gives_one (parts y) (c.quiet y (omega (arith, hi, small))) (c.zeros y (omega (arith, lo)) hi) m),
           inr (e, refl),
         ),
       )
     ]
 
--- `Lights` holds after a write of 0 to bit i begins
-pub lights_lower : (top p i x : ℕ) (u : Seen) (tasks : ℕ → Option (TaskInProgress UnaryTask)) (parts : ℕ → Seen) → Lights top p u tasks parts → Cleared top (suc i) x u parts
-    → Lights top p u tasks (put i (lowered (parts i)) parts)
-lights_lower top p i x u tasks parts l c =
+-- `HasBeacons` holds after a write of 0 to bit i begins
+pub has_beacons_lower : (top p i x : ℕ) (u : Seen) (tasks : ℕ → Option (TaskInProgress UnaryTask)) (parts : ℕ → Seen) → HasBeacons top p u tasks parts → Cleared top (suc i) x u parts
+    → HasBeacons top p u tasks (put i (lowered (parts i)) parts)
+has_beacons_lower top p i x u tasks parts l c =
     let ready = beacon_fall top 0 l.ready.0 i x (MayGiveNow u) u parts c (inr c.writing) l.ready.1 in
     record {
       overlap = l.overlap;
@@ -145,7 +145,7 @@ lights_lower top p i x u tasks parts l c =
       readers = λ r z ne. reader_map top r u u parts (put i (lowered (parts i)) parts) (λ y left k h. turned r y left k h (l.overlap r x c.writing)) (tasks r) (l.readers r z ne);
     }
   where
-    turned : (r y left k : ℕ) → Looks top r y left k u parts → IsTrue (among x (u.overlaps r)) → (z : ℕ) × Looks top r y left z u (put i (lowered (parts i)) parts)
+    turned : (r y left k : ℕ) → ReadHasBeacon top r y left k u parts → IsTrue (among x (u.overlaps r)) → (z : ℕ) × ReadHasBeacon top r y left z u (put i (lowered (parts i)) parts)
     turned r y left k h o =
         let f = beacon_fall top y k i x (MayGive r u) u parts c (inr o) h.beacon in
         let low : suc i ≤ x = c.low in
@@ -157,20 +157,20 @@ lights_lower top p i x u tasks parts l c =
           ]),
         )
 
--- `Lights` holds after a write of 0 to bit i ends
-pub lights_lowered : (top p i : ℕ) (u : Seen) (tasks : ℕ → Option (TaskInProgress UnaryTask)) (parts : ℕ → Seen) → Lights top p u tasks parts → (parts i).writing ≡ Some 0
-    → Lights top p u tasks (put i (written (parts i)) parts)
-lights_lowered top p i u tasks parts l w = record {
+-- `HasBeacons` holds after a write of 0 to bit i ends
+pub has_beacons_lowered : (top p i : ℕ) (u : Seen) (tasks : ℕ → Option (TaskInProgress UnaryTask)) (parts : ℕ → Seen) → HasBeacons top p u tasks parts → (parts i).writing ≡ Some 0
+    → HasBeacons top p u tasks (put i (written (parts i)) parts)
+has_beacons_lowered top p i u tasks parts l w = record {
   overlap = l.overlap;
   ready = (l.ready.0, beacon_lowered top 0 l.ready.0 i (MayGiveNow u) parts l.ready.1 w);
   readers = λ r z ne. reader_map top r u u parts (put i (written (parts i)) parts)
       (λ y left k h. (k, looking_written top r y left k i u parts h (beacon_lowered top y k i (MayGive r u) parts h.beacon w))) (tasks r) (l.readers r z ne);
 }
 
--- `Lights` holds after the write of x returns
-pub lights_end : (top p q x : ℕ) (u : Seen) (tasks : ℕ → Option (TaskInProgress UnaryTask)) (parts : ℕ → Seen) → Lights top p u tasks parts → Cleared top 0 x u parts
-    → Lights top p (sees (Some (Wrote q)) u) tasks parts
-lights_end top p q x u tasks parts l c =
+-- `HasBeacons` holds after the write of x returns
+pub has_beacons_end : (top p q x : ℕ) (u : Seen) (tasks : ℕ → Option (TaskInProgress UnaryTask)) (parts : ℕ → Seen) → HasBeacons top p u tasks parts → Cleared top 0 x u parts
+    → HasBeacons top p (sees (Some (Wrote q)) u) tasks parts
+has_beacons_end top p q x u tasks parts l c =
     let v : Seen = sees (Some (Wrote q)) u in
     let last : now_last u.writing u.last ≡ x = ap (λ w. now_last w u.last) c.writing in
     record {
@@ -182,7 +182,7 @@ lights_end top p q x u tasks parts l c =
           high = c.small;
           allowed = inl (sym last);
           lit = record { last = c.one; writing = inl (c.quiet x c.small) };
-          below = λ i lo hi m. absurd (let small : x ≤ top = c.small in quiet_dark (parts i) (c.quiet i (omega (arith, hi, small))) (c.zeros i lo hi) m);
+          below = λ i lo hi m. absurd (let small : x ≤ top = c.small in never_gives_one (parts i) (c.quiet i (omega (arith, hi, small))) (c.zeros i lo hi) m);
         },
       );
       readers = λ r z ne. reader_map top r u v parts parts (λ i left k h. (k, record { room = h.room; beacon = h.beacon; here = h.here; fresh_one = h.fresh_one; over_one = h.over_one })) (tasks r) (l.readers r z ne);
@@ -247,13 +247,13 @@ falling_end top i x u parts f =
     zero_one : (n : ℕ) → n ≡ 0 → n ≡ 1 → ⊥
     zero_one n e f = omega (arith, e, f)
 
-pub lights_for : (top p : ℕ) (u : Seen) (tasks : ℕ → Option (TaskInProgress UnaryTask)) (parts : ℕ → Seen) → Lights top 0 u tasks parts → Lights top p u tasks parts
-lights_for top p u tasks parts l = record { overlap = l.overlap; ready = l.ready; readers = λ r z ne. l.readers r z z }
+pub has_beacons_for : (top p : ℕ) (u : Seen) (tasks : ℕ → Option (TaskInProgress UnaryTask)) (parts : ℕ → Seen) → HasBeacons top 0 u tasks parts → HasBeacons top p u tasks parts
+has_beacons_for top p u tasks parts l = record { overlap = l.overlap; ready = l.ready; readers = λ r z ne. l.readers r z z }
 
--- `Lights` holds after p's step ends with task x, or with none, if what this task says holds
-pub lights_put : (top p : ℕ) (u : Seen) (x : Option (TaskInProgress UnaryTask)) (tasks : ℕ → Option (TaskInProgress UnaryTask)) (parts : ℕ → Seen) → Lights top p u tasks parts
-    → ((p ≡ 0 → ⊥) → ReaderSays top p x u parts) → Lights top 0 u (put p x tasks) parts
-lights_put top p u x tasks parts l mine = record {
+-- `HasBeacons` holds after p's step ends with task x, or with none, if what this task says holds
+pub has_beacons_put : (top p : ℕ) (u : Seen) (x : Option (TaskInProgress UnaryTask)) (tasks : ℕ → Option (TaskInProgress UnaryTask)) (parts : ℕ → Seen) → HasBeacons top p u tasks parts
+    → ((p ≡ 0 → ⊥) → ReaderSays top p x u parts) → HasBeacons top 0 u (put p x tasks) parts
+has_beacons_put top p u x tasks parts l mine = record {
   overlap = l.overlap;
   ready = l.ready;
   readers = λ r z none. elim (cases_eq r p) [

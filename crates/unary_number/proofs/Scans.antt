@@ -28,7 +28,7 @@ use Rattle.frames.specs.Parked.{IsConfiguration}
 use Rattle.frames.specs.Recorded.{Alone, AllFit, at_index, indexed, first_configuration}
 use Rattle.frames.specs.correctness.Regularity.{is_refusal, IsRegular}
 use Rattle.frames.specs.laws.Steps.{step_keeps}
-use Rattle.frames.proofs.Pending.{first_well}
+use Rattle.frames.proofs.Pending.{first_is_configuration}
 use Rattle.layers.specs.declared.nested.Nested.{Nested}
 use Rattle.layers.specs.Ended.{Ended, ended_after, ended_by, ended_unless, ended_in}
 use Rattle.layers.specs.Nested.{Program, Ends, Table, asked, pushed, after_part, advance, resume, layered}
@@ -38,43 +38,43 @@ use Rattle.layers.specs.laws.Over.{over}
 use Rattle.unary_number.specs.declared.task.UnaryTask.{UnaryTask}
 use Rattle.unary_number.specs.declared.task.UnaryTask.TheVariants.{Setting, Clearing, Looking}
 use Rattle.unary_number.specs.Program.{unary_table_with, unary_table, unary_program, unary_rest, unary_asks, clears_below, looks_above, after_look, UnaryMayBeAt}
-use Rattle.unary_number.specs.Scans.{FindsOne, AlwaysFinds}
+use Rattle.unary_number.specs.Scans.{FindsOne, AlwaysFindsOne}
 use Rattle.unary_number.proofs.Kept.{unary_over_regular}
 
 -- an operation isn't refused
-abbrev Goes : {N : Type 0} → Next N → Type 0
-Goes (Done (Spent layer)) = ⊥
-Goes _ = ⊤
+abbrev IsNotRefused : {N : Type 0} → Next N → Type 0
+IsNotRefused (Done (Spent layer)) = ⊥
+IsNotRefused _ = ⊤
 
 -- an event, if there is one, isn't a refusal
-abbrev IsQuiet : Option Event → Type 0
-IsQuiet e = MatchOption e ⊤ (λ e. is_refusal e ≡ false)
+abbrev IsNoRefusal : Option Event → Type 0
+IsNoRefusal e = MatchOption e ⊤ (λ e. is_refusal e ≡ false)
 
 -- neither of a step's two events is a refusal
-abbrev AreQuiet : StepEvents → Type 0
-AreQuiet e = IsQuiet e.first × IsQuiet e.second
+abbrev AreNoRefusals : StepEvents → Type 0
+AreNoRefusals e = IsNoRefusal e.first × IsNoRefusal e.second
 
-end_goes : {N : Type 0} (who : ℕ) (next : Next N) → IsQuiet (return_of who next) → Goes next
-end_goes who (Done (Spent layer)) h = absurd (true≢false h)
-end_goes who _ h = tt
+end_not_refused : {N : Type 0} (who : ℕ) (next : Next N) → IsNoRefusal (return_of who next) → IsNotRefused next
+end_not_refused who (Done (Spent layer)) h = absurd (true≢false h)
+end_not_refused who _ h = tt
 
-step_goes : {N : Type 0} (who : ℕ) (event : Option Event) (next : Next N) → AreQuiet (in_order event (return_of who next)) → Goes next
-step_goes who None next h = end_goes who next h.0
-step_goes who (Some e) next h = end_goes who next h.1
+step_not_refused : {N : Type 0} (who : ℕ) (event : Option Event) (next : Next N) → AreNoRefusals (in_order event (return_of who next)) → IsNotRefused next
+step_not_refused who None next h = end_not_refused who next h.0
+step_not_refused who (Some e) next h = end_not_refused who next h.1
 
 -- if there is no refusal among an event and the later events, the event isn't a refusal, and there
 -- is none later
-quiet_first : (index : ℕ) (e : Option Event) (later : List (ℕ × Event)) → list_any (λ e. is_refusal e.1) (at_index index e ++ later) ≡ false
-    → IsQuiet e × (list_any (λ e. is_refusal e.1) later ≡ false)
-quiet_first index None later h = (tt, h)
-quiet_first index (Some e) later h = or_parts (is_refusal e) (list_any (λ e. is_refusal e.1) later) h
+first_is_no_refusal : (index : ℕ) (e : Option Event) (later : List (ℕ × Event)) → list_any (λ e. is_refusal e.1) (at_index index e ++ later) ≡ false
+    → IsNoRefusal e × (list_any (λ e. is_refusal e.1) later ≡ false)
+first_is_no_refusal index None later h = (tt, h)
+first_is_no_refusal index (Some e) later h = or_parts (is_refusal e) (list_any (λ e. is_refusal e.1) later) h
 
-quiet_step : (index : ℕ) (e : StepEvents) (later : List StepEvents) → list_any (λ e. is_refusal e.1) (indexed index (e ∷ later)) ≡ false
-    → AreQuiet e × (list_any (λ e. is_refusal e.1) (indexed (index + 1) later) ≡ false)
-quiet_step index e later h =
+step_has_no_refusal : (index : ℕ) (e : StepEvents) (later : List StepEvents) → list_any (λ e. is_refusal e.1) (indexed index (e ∷ later)) ≡ false
+    → AreNoRefusals e × (list_any (λ e. is_refusal e.1) (indexed (index + 1) later) ≡ false)
+step_has_no_refusal index e later h =
     let events = subst (λ l. list_any (λ e. is_refusal e.1) l ≡ false) (append_assoc (at_index index e.first) (at_index index e.second) (indexed (index + 1) later)) h in
-    let one = quiet_first index e.first (at_index index e.second ++ indexed (index + 1) later) events in
-    let two = quiet_first index e.second (indexed (index + 1) later) one.1 in
+    let one = first_is_no_refusal index e.first (at_index index e.second ++ indexed (index + 1) later) events in
+    let two = first_is_no_refusal index e.second (indexed (index + 1) later) one.1 in
     ((one.0, two.0), two.1)
 
 module _ {P : Type 0} (b : Behaviour P) (values processes : ℕ) (layer : Layer) (some : 1 ≤ values) where
@@ -85,8 +85,8 @@ module _ {P : Type 0} (b : Behaviour P) (values processes : ℕ) (layer : Layer)
   abbrev r : Table UnaryTask
   r = unary_table_with (Spent layer) values processes
 
-  abbrev top : Outcome
-  top = Value (values - 1)
+  abbrev last_value : Outcome
+  last_value = Value (values - 1)
 
   abbrev AllFind : List (Ended UnaryTask) → Type 0
   AllFind ends = AllByRecursion (λ e. FindsOne values e.task e.outcome) ends
@@ -102,64 +102,64 @@ module _ {P : Type 0} (b : Behaviour P) (values processes : ℕ) (layer : Layer)
       × AllFind (ended_after (λ o n. ended_by t b (k o) n) task next m)
 
   -- the number and the variant do the same after a write of a bit
-  after_write : (task : UnaryTask) (k : Program UnaryTask) (next : Next P) (m : Memory) → ((o : Outcome) → FindsOne values task o) → ((n : Memory) → Alike k k n) → AlikeAfter task (λ o. k) (λ o. k) next m
-  after_write task k (Pending p) m says same = (refl, tt)
-  after_write task k (Done (Spent l)) m says same = (refl, (says (Spent l), tt))
-  after_write task k (Done Written) m says same = ((same m).0, (says Written, (same m).1))
-  after_write task k (Done (Value v)) m says same = ((same m).0, (says (Value v), (same m).1))
+  after_write_alike : (task : UnaryTask) (k : Program UnaryTask) (next : Next P) (m : Memory) → ((o : Outcome) → FindsOne values task o) → ((n : Memory) → Alike k k n) → AlikeAfter task (λ o. k) (λ o. k) next m
+  after_write_alike task k (Pending p) m says same = (refl, tt)
+  after_write_alike task k (Done (Spent l)) m says same = (refl, (says (Spent l), tt))
+  after_write_alike task k (Done Written) m says same = ((same m).0, (says Written, (same m).1))
+  after_write_alike task k (Done (Value v)) m says same = ((same m).0, (says (Value v), (same m).1))
 
-  clears : (x i : ℕ) (m : Memory) → Alike (clears_below x i) (clears_below x i) m
-  clears x zero m = (refl, tt)
-  clears x (suc i) m =
-      after_write (Clearing x i) (clears_below x i) (asked b (unary_asks (Clearing x i)) m).next (asked b (unary_asks (Clearing x i)) m).memory (λ o. tt) (λ n. clears x i n)
+  clears_alike : (x i : ℕ) (m : Memory) → Alike (clears_below x i) (clears_below x i) m
+  clears_alike x zero m = (refl, tt)
+  clears_alike x (suc i) m =
+      after_write_alike (Clearing x i) (clears_below x i) (asked b (unary_asks (Clearing x i)) m).next (asked b (unary_asks (Clearing x i)) m).memory (λ o. tt) (λ n. clears_alike x i n)
 
-  one_isnt : {A : Type 0} (v : ℕ) → (v == 1) ≡ true → Value v ≡ Value 0 → A
-  one_isnt v one e = absurd (let is : v ≡ 1 = eqb-true v 1 one in let no : v ≡ 0 = cc in omega (arith, is, no))
+  one_is_not_zero : {A : Type 0} (v : ℕ) → (v == 1) ≡ true → Value v ≡ Value 0 → A
+  one_is_not_zero v one e = absurd (let is : v ≡ 1 = eqb-true v 1 one in let no : v ≡ 0 = cc in omega (arith, is, no))
 
   -- the number and the variant do the same after a read of a bit, if they do so after a 0, and if
   -- the variant doesn't refuse the scan, as it does after a 0 in the last bit
-  after_look_at : (who i left : ℕ) (next : Next P) (m : Memory) → i + left + 1 ≡ values
-      → ((n : Memory) → Goes (advance r b (looks_above (Spent layer) who i left) n).next → Alike (looks_above top who i left) (looks_above (Spent layer) who i left) n)
-      → Goes (after_part (λ o n. advance r b (after_look i (looks_above (Spent layer) who i left) o) n) (Looking who i left) next m).next
-      → AlikeAfter (Looking who i left) (after_look i (looks_above top who i left)) (after_look i (looks_above (Spent layer) who i left)) next m
-  after_look_at who i left (Pending p) m all same goes = (refl, tt)
-  after_look_at who i left (Done (Spent l)) m all same goes = absurd goes
-  after_look_at who i left (Done Written) m all same goes = (refl, ((λ last e. (let n : ⊥ = cc in n)), tt))
-  after_look_at who i left (Done (Value v)) m all same goes = by (v == 1) refl goes
+  after_look_alike : (who i left : ℕ) (next : Next P) (m : Memory) → i + left + 1 ≡ values
+      → ((n : Memory) → IsNotRefused (advance r b (looks_above (Spent layer) who i left) n).next → Alike (looks_above last_value who i left) (looks_above (Spent layer) who i left) n)
+      → IsNotRefused (after_part (λ o n. advance r b (after_look i (looks_above (Spent layer) who i left) o) n) (Looking who i left) next m).next
+      → AlikeAfter (Looking who i left) (after_look i (looks_above last_value who i left)) (after_look i (looks_above (Spent layer) who i left)) next m
+  after_look_alike who i left (Pending p) m all same goes = (refl, tt)
+  after_look_alike who i left (Done (Spent l)) m all same goes = absurd goes
+  after_look_alike who i left (Done Written) m all same goes = (refl, ((λ last e. (let n : ⊥ = cc in n)), tt))
+  after_look_alike who i left (Done (Value v)) m all same goes = by (v == 1) refl goes
     where
-      by : (found : Bool) → (v == 1) ≡ found → Goes (advance r b (if found then Ends (Value i) else looks_above (Spent layer) who i left) m).next
-          → (advance t b (if found then Ends (Value i) else looks_above top who i left) m ≡ advance r b (if found then Ends (Value i) else looks_above (Spent layer) who i left) m)
-          × ((i + 1 ≡ values → Value v ≢ Value 0) × AllFind (ended_by t b (if found then Ends (Value i) else looks_above top who i left) m))
-      by true one goes = (refl, ((λ last e. one_isnt v one e), tt))
+      by : (found : Bool) → (v == 1) ≡ found → IsNotRefused (advance r b (if found then Ends (Value i) else looks_above (Spent layer) who i left) m).next
+          → (advance t b (if found then Ends (Value i) else looks_above last_value who i left) m ≡ advance r b (if found then Ends (Value i) else looks_above (Spent layer) who i left) m)
+          × ((i + 1 ≡ values → Value v ≢ Value 0) × AllFind (ended_by t b (if found then Ends (Value i) else looks_above last_value who i left) m))
+      by true one goes = (refl, ((λ last e. one_is_not_zero v one e), tt))
       by false other goes =
           let on = same m goes in
           (on.0, ((λ last e. none_left left all last goes), on.1))
         where
-          none_left : (left : ℕ) → i + left + 1 ≡ values → i + 1 ≡ values → Goes (advance r b (looks_above (Spent layer) who i left) m).next → ⊥
+          none_left : (left : ℕ) → i + left + 1 ≡ values → i + 1 ≡ values → IsNotRefused (advance r b (looks_above (Spent layer) who i left) m).next → ⊥
           none_left zero all last goes = goes
           none_left (suc n) all last goes = omega (arith, all, last)
 
-  looks : (left who i : ℕ) (m : Memory) → i + left + 1 ≡ values → Goes (advance r b (looks_above (Spent layer) who i left) m).next
-      → Alike (looks_above top who i left) (looks_above (Spent layer) who i left) m
-  looks zero who i m all goes = absurd goes
-  looks (suc left) who i m all goes =
-      after_look_at who (suc i) left (asked b (unary_asks (Looking who (suc i) left)) m).next (asked b (unary_asks (Looking who (suc i) left)) m).memory (omega (arith, all)) (λ n. looks left who (suc i) n (omega (arith, all))) goes
+  looks_alike : (left who i : ℕ) (m : Memory) → i + left + 1 ≡ values → IsNotRefused (advance r b (looks_above (Spent layer) who i left) m).next
+      → Alike (looks_above last_value who i left) (looks_above (Spent layer) who i left) m
+  looks_alike zero who i m all goes = absurd goes
+  looks_alike (suc left) who i m all goes =
+      after_look_alike who (suc i) left (asked b (unary_asks (Looking who (suc i) left)) m).next (asked b (unary_asks (Looking who (suc i) left)) m).memory (omega (arith, all)) (λ n. looks_alike left who (suc i) n (omega (arith, all))) goes
 
   -- the number and the variant do the same as an operation begins, if the variant refuses nothing
-  begins : (who : ℕ) (o : Op) (m : Memory) → Goes (advance r b (unary_program (Spent layer) values who o) m).next
-      → Alike (unary_program top values who o) (unary_program (Spent layer) values who o) m
-  begins who (op.Write x) m goes = after_write (Setting x) (clears_below x x) (asked b (unary_asks (Setting x)) m).next (asked b (unary_asks (Setting x)) m).memory (λ o. tt) (λ n. clears x x n)
-  begins who op.Read m goes =
-      after_look_at who 0 (values - 1) (asked b (unary_asks (Looking who 0 (values - 1))) m).next (asked b (unary_asks (Looking who 0 (values - 1))) m).memory (omega (arith, some))
-      (λ n. looks (values - 1) who 0 n (omega (arith, some))) goes
+  begins_alike : (who : ℕ) (o : Op) (m : Memory) → IsNotRefused (advance r b (unary_program (Spent layer) values who o) m).next
+      → Alike (unary_program last_value values who o) (unary_program (Spent layer) values who o) m
+  begins_alike who (op.Write x) m goes = after_write_alike (Setting x) (clears_below x x) (asked b (unary_asks (Setting x)) m).next (asked b (unary_asks (Setting x)) m).memory (λ o. tt) (λ n. clears_alike x x n)
+  begins_alike who op.Read m goes =
+      after_look_alike who 0 (values - 1) (asked b (unary_asks (Looking who 0 (values - 1))) m).next (asked b (unary_asks (Looking who 0 (values - 1))) m).memory (omega (arith, some))
+      (λ n. looks_alike (values - 1) who 0 n (omega (arith, some))) goes
 
   -- the number and the variant do the same as an operation goes on, if the variant refuses nothing
-  goes_on : (who : ℕ) (o : Op) (task : UnaryTask) (next : Next P) (m : Memory) → UnaryMayBeAt values processes who o task → Goes (after_part (λ o n. advance r b (unary_rest (Spent layer) task o) n) task next m).next
-      → AlikeAfter task (unary_rest top task) (unary_rest (Spent layer) task) next m
-  goes_on who (op.Write w) (Setting x) next m at_task goes = after_write (Setting x) (clears_below x x) next m (λ o. tt) (λ n. clears x x n)
-  goes_on who (op.Write w) (Clearing x i) next m at_task goes = after_write (Clearing x i) (clears_below x i) next m (λ o. tt) (λ n. clears x i n)
-  goes_on who op.Read (Looking q i left) next m at_task goes = after_look_at q i left next m at_task.3 (λ n. looks left q i n at_task.3) goes
-  goes_on who _ _ next m at_task goes = absurd at_task
+  goes_on_alike : (who : ℕ) (o : Op) (task : UnaryTask) (next : Next P) (m : Memory) → UnaryMayBeAt values processes who o task → IsNotRefused (after_part (λ o n. advance r b (unary_rest (Spent layer) task o) n) task next m).next
+      → AlikeAfter task (unary_rest last_value task) (unary_rest (Spent layer) task) next m
+  goes_on_alike who (op.Write w) (Setting x) next m at_task goes = after_write_alike (Setting x) (clears_below x x) next m (λ o. tt) (λ n. clears_alike x x n)
+  goes_on_alike who (op.Write w) (Clearing x i) next m at_task goes = after_write_alike (Clearing x i) (clears_below x i) next m (λ o. tt) (λ n. clears_alike x i n)
+  goes_on_alike who op.Read (Looking q i left) next m at_task goes = after_look_alike q i left next m at_task.3 (λ n. looks_alike left q i n at_task.3) goes
+  goes_on_alike who _ _ next m at_task goes = absurd at_task
 
   abbrev N : Type 0
   N = Nested UnaryTask P
@@ -178,37 +178,37 @@ module _ {P : Type 0} (b : Behaviour P) (values processes : ℕ) (layer : Layer)
     abbrev AlikeIn : Bool → Step → Option (Running N) → Memory → Type 0
     AlikeIn has_stopped s running m = (acting_unless has_stopped L s running m ≡ acting_unless has_stopped R s running m) × AllFind (ended_unless t b has_stopped s running m)
 
-    acts : (s : Step) (has_stopped : Bool) (running : Option (Running N)) (m : Memory) → IsReachedBy (process_of s) running → AreQuiet (acting_unless has_stopped R s running m).events → AlikeIn has_stopped s running m
-    acts s true running m at_task quiet = (refl, tt)
-    acts (step.Write p v) false None m at_task quiet =
+    acts_alike : (s : Step) (has_stopped : Bool) (running : Option (Running N)) (m : Memory) → IsReachedBy (process_of s) running → AreNoRefusals (acting_unless has_stopped R s running m).events → AlikeIn has_stopped s running m
+    acts_alike s true running m at_task quiet = (refl, tt)
+    acts_alike (step.Write p v) false None m at_task quiet =
         let o : Op = op.Write v in
-        let same = begins p o m (step_goes p (Some (Invoke p o)) (advance r b (unary_program (Spent layer) values p o) m).next quiet) in
+        let same = begins_alike p o m (step_not_refused p (Some (Invoke p o)) (advance r b (unary_program (Spent layer) values p o) m).next quiet) in
         (ap (λ (x : Begun N). acted p o (Some (Invoke p o)) x.next x.memory) same.0, same.1)
-    acts (step.Read p) false None m at_task quiet =
-        let same = begins p op.Read m (step_goes p (Some (Invoke p op.Read)) (advance r b (unary_program (Spent layer) values p op.Read) m).next quiet) in
+    acts_alike (step.Read p) false None m at_task quiet =
+        let same = begins_alike p op.Read m (step_not_refused p (Some (Invoke p op.Read)) (advance r b (unary_program (Spent layer) values p op.Read) m).next quiet) in
         (ap (λ (x : Begun N). acted p op.Read (Some (Invoke p op.Read)) x.next x.memory) same.0, same.1)
-    acts (step.Go p c) false (Some x) m at_task quiet =
+    acts_alike (step.Go p c) false (Some x) m at_task quiet =
         let moved : Moved P = pushed b (unary_asks x.point.task).part x.point.below (c == 1) m in
-        let same = goes_on p x.op x.point.task moved.next moved.memory at_task.may_be_at (step_goes p (chosen_of p moved.chosen) (resume r b x.point (c == 1) m).next quiet) in
+        let same = goes_on_alike p x.op x.point.task moved.next moved.memory at_task.may_be_at (step_not_refused p (chosen_of p moved.chosen) (resume r b x.point (c == 1) m).next quiet) in
         (ap (λ (y : Begun N). acted p x.op (chosen_of p moved.chosen) y.next y.memory) same.0, same.1)
-    acts _ false _ m at_task quiet = (refl, tt)
+    acts_alike _ false _ m at_task quiet = (refl, tt)
 
     module _ (Holds : Memory → Type 0) (left : UnaryTask → ℕ) (lawful : IsLawful b Holds Reaches) (sound : IsSoundTable r (UnaryMayBeAt values processes) left) (fit : FitsBelow r b) where
       abbrev Well : Alone N → Type 0
       Well c = IsConfiguration R (LayerHolds r b Holds) (LayerReaches r (UnaryMayBeAt values processes) Reaches) c
 
-      steps_alike : (c : Alone N) (s : Step) → Well c → AreQuiet (events_of R c s) → (stepped L c s ≡ stepped R c s) × AllFind (ended_in t b c s)
+      steps_alike : (c : Alone N) (s : Step) → Well c → AreNoRefusals (events_of R c s) → (stepped L c s ≡ stepped R c s) × AllFind (ended_in t b c s)
       steps_alike c s well quiet =
-          let same = acts s (is_stopped (process_of s) c) (running_at (process_of s) c) c.memory (well.reached (process_of s)) quiet in
+          let same = acts_alike s (is_stopped (process_of s) c) (running_at (process_of s) c) c.memory (well.reached (process_of s)) quiet in
           (ap (λ (a : Acted N). put_acted (process_of s) a (with_stop_mark s c)) same.0, same.1)
 
       -- if the variant refuses nothing in some steps and then in s, no read of the last bit gives 0
       -- in the number's step s
       runs_alike : (steps : List Step) (s : Step) (index : ℕ) (c : Alone N) → Well c → AllFit R steps → list_any (λ e. is_refusal e.1) (indexed index (history R c (steps ++ s ∷ []))) ≡ false
           → AllFind (ended_in t b (replayed L c steps) s)
-      runs_alike [] s index c well fits none = (steps_alike c s well (quiet_step index (events_of R c s) [] none).0).1
+      runs_alike [] s index c well fits none = (steps_alike c s well (step_has_no_refusal index (events_of R c s) [] none).0).1
       runs_alike (x ∷ steps) s index c well fits none =
-          let quiet = quiet_step index (events_of R c x) (history R (stepped R c x) (steps ++ s ∷ [])) none in
+          let quiet = step_has_no_refusal index (events_of R c x) (history R (stepped R c x) (steps ++ s ∷ [])) none in
           let here : fits_step R x ≡ true = All-head (λ s. fits_step R s ≡ true) x steps fits in
           let on = runs_alike steps s (index + 1) (stepped R c x)
           (step_keeps R (LayerHolds r b Holds) (LayerReaches r (UnaryMayBeAt values processes) Reaches) (layer_lawful (over lawful sound fit)) c x well here)
@@ -216,14 +216,14 @@ module _ {P : Type 0} (b : Behaviour P) (values processes : ℕ) (layer : Layer)
           subst (λ (d : Alone N). AllFind (ended_in t b (replayed L d steps) s)) (sym (steps_alike c x well quiet.0).0) on
 
 -- over a regular bit, no scan of the number reads 0 from the last bit
-pub always_finds : {P : Type 0} (b : Behaviour P) (Holds : Memory → Type 0) (Reaches : ℕ → Op → P → Type 0) (layer : Layer) (values processes : ℕ) (left : UnaryTask → ℕ) → 2 ≤ values → IsLawful b Holds Reaches
+pub always_finds_one : {P : Type 0} (b : Behaviour P) (Holds : Memory → Type 0) (Reaches : ℕ → Op → P → Type 0) (layer : Layer) (values processes : ℕ) (left : UnaryTask → ℕ) → 2 ≤ values → IsLawful b Holds Reaches
     → IsSoundTable (unary_table_with (Spent layer) values processes) (UnaryMayBeAt values processes) left → FitsBelow (unary_table_with (Spent layer) values processes) b → IsRegular b
-    → AlwaysFinds values processes b
-always_finds b Holds Reaches layer values processes left two lawful sound fit below value steps s within fits here =
+    → AlwaysFindsOne values processes b
+always_finds_one b Holds Reaches layer values processes left two lawful sound fit below value steps s within fits here =
     let refusing = layered (unary_table_with (Spent layer) values processes) b in
     let regular : IsRegular refusing = unary_over_regular b Holds Reaches (Spent layer) values processes left two lawful sound fit below in
     let all : AllFit refusing (steps ++ s ∷ []) = All-append (λ x. fits_step refusing x ≡ true) steps (s ∷ []) fits (All-cons (λ x. fits_step refusing x ≡ true) s [] here (All-nil (λ x. fits_step refusing x ≡ true))) in
     All-from_recursion (λ e. FindsOne values e.task e.outcome) (ended_in (unary_table values processes) b (replayed (layered (unary_table values processes) b) (first_configuration refusing value) steps) s)
     (runs_alike b values processes layer (omega (arith, two)) Reaches Holds left lawful sound fit steps s 0 (first_configuration refusing value)
-    (first_well refusing (LayerHolds (unary_table_with (Spent layer) values processes) b Holds) (LayerReaches (unary_table_with (Spent layer) values processes) (UnaryMayBeAt values processes) Reaches)
+    (first_is_configuration refusing (LayerHolds (unary_table_with (Spent layer) values processes) b Holds) (LayerReaches (unary_table_with (Spent layer) values processes) (UnaryMayBeAt values processes) Reaches)
     (layer_lawful (over lawful sound fit)) value within) fits (regular.refuses_none value (steps ++ s ∷ []) within all))

@@ -6,7 +6,7 @@ use Rattle.frames.specs.declared.types.Outcome.{Outcome}
 use Rattle.frames.specs.declared.types.Outcome.TheVariants.{Value}
 use Rattle.frames.specs.Behaviour.{Behaviour}
 use Rattle.frames.specs.Configuration.{fits_step}
-use Rattle.frames.specs.Recorded.{AllFit, shown}
+use Rattle.frames.specs.Recorded.{AllFit, configuration_after}
 use Rattle.layers.specs.Ended.{ended_in}
 use Rattle.layers.specs.Nested.{layered}
 use Rattle.unary_number.specs.declared.task.UnaryTask.{UnaryTask}
@@ -22,8 +22,8 @@ FindsOne values (Clearing x i) outcome = ⊤
 
 -- from any initial value, and after any list of steps that fit the unary number: in one more
 -- fitting step, no read of the last bit ends with the value 0
-abbrev pub AlwaysFinds : {P : Type 0} → ℕ → ℕ → Behaviour P → Type 0
-AlwaysFinds values processes b =
+abbrev pub AlwaysFindsOne : {P : Type 0} → ℕ → ℕ → Behaviour P → Type 0
+AlwaysFindsOne values processes b =
     let t = unary_table values processes in
     (value : ℕ) (steps : List Step) (s : Step) → value < values → AllFit (layered t b) steps → fits_step (layered t b) s ≡ true
-    → All (λ e. FindsOne values e.task e.outcome) (ended_in t b (shown (layered t b) value steps) s)
+    → All (λ e. FindsOne values e.task e.outcome) (ended_in t b (configuration_after (layered t b) value steps) s)

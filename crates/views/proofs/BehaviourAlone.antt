@@ -6,7 +6,7 @@ use Rattle.frames.specs.Behaviour.{Behaviour}
 use Rattle.frames.specs.Configuration.{Configuration, events_of, stepped, replayed, history}
 use Rattle.frames.specs.Equality.{SameConfiguration}
 use Rattle.cutoff.specs.Links.{without_register}
-use Rattle.cutoff.proofs.Fits.{alone_same}
+use Rattle.cutoff.proofs.Fits.{without_register_same}
 use Rattle.pages.specs.declared.query.ConfigKind.{ConfigKind}
 use Rattle.pages.specs.declared.query.ConfigKind.TheVariants.{State, Process, Bits, Pending}
 use Rattle.pages.specs.declared.page.head.Head.{Head}
@@ -31,7 +31,7 @@ module _ {R P : Type 0} (b : Behaviour P) where
   history-append c (s ∷ first) later = ap (λ events. events_of b c s ∷ events) (history-append (stepped b c s) first later)
 
   pub history_same : (E : R → R → Bool) (a c : Configuration R P) (steps : List Step) → SameConfiguration E a c → history b a steps ≡ history b c steps
-  history_same E a c steps same = history_alone a steps ∙ ap (λ d. history b d steps) (alone_same E a c same) ∙ sym (history_alone c steps)
+  history_same E a c steps same = history_alone a steps ∙ ap (λ d. history b d steps) (without_register_same E a c same) ∙ sym (history_alone c steps)
 
 -- a page of a configuration doesn't depend on the value of its register
 pub page_alone : {R P : Type 0} (b d : Behaviour P) (kind : ConfigKind) (head : Head) (c : Configuration R P) (m : Configuration ⊤ P) → b ≡ d → without_register c ≡ m

@@ -10,7 +10,7 @@ use Rattle.frames.specs.Behaviour.{Behaviour}
 use Rattle.frames.specs.Configuration.{Configuration, replayed}
 use Rattle.cutoff.specs.Fitting.{RunPart}
 use Rattle.cutoff.specs.Links.{without_register}
-use Rattle.cutoff.proofs.Fits.{register_kept, alone_same}
+use Rattle.cutoff.proofs.Fits.{register_kept, without_register_same}
 use Rattle.checkpoints.specs.Segment.{SegmentRun}
 use Rattle.lru.specs.LruCache.{LruCache, lru_cache, promoted, put_entries}
 use Rattle.lru.proofs.CallerLemmas.{Contains-lookup, Contains-promoted, Contains-put_entries}
@@ -45,28 +45,28 @@ module _ {R P : Type 0} (is : R → Behaviour P) where
   end_alone : (part : RunPart R P) → without_register (part_end is part) ≡ replayed (behaviour_of part) (without_register part.run.entry) (take part.count part.run.steps)
   end_alone part = replayed_alone (behaviour_of part) part.run.entry (take part.count part.run.steps)
 
-  pub end_home : (part : RunPart R P) → is (part_end is part).register ≡ behaviour_of part
-  end_home part = ap is (register_kept (behaviour_of part) part.run.entry (take part.count part.run.steps))
+  pub end_behaviour : (part : RunPart R P) → is (part_end is part).register ≡ behaviour_of part
+  end_behaviour part = ap is (register_kept (behaviour_of part) part.run.entry (take part.count part.run.steps))
 
   like_symm : (c d : Configuration R P) → IsAlike is c d → IsAlike is d c
-  like_symm c d e = record { home = sym e.home; arrives = sym e.arrives }
+  like_symm c d e = record { behaves_alike = sym e.behaves_alike; all_else = sym e.all_else }
 
   like_trans : (c d e : Configuration R P) → IsAlike is c d → IsAlike is d e → IsAlike is c e
-  like_trans c d e f g = record { home = f.home ∙ g.home; arrives = f.arrives ∙ g.arrives }
+  like_trans c d e f g = record { behaves_alike = f.behaves_alike ∙ g.behaves_alike; all_else = f.all_else ∙ g.all_else }
 
   -- from a configuration like the one at place `made` of a run, replay of the run's next steps
   -- reaches one like that at place `count`
-  pub goes_on : (run : SegmentRun R P) (made count : ℕ) (c d : Configuration R P) → made ≤ count → IsAlike is c (part_end is (record { run = run; count = made }))
+  pub advanced_alike : (run : SegmentRun R P) (made count : ℕ) (c d : Configuration R P) → made ≤ count → IsAlike is c (part_end is (record { run = run; count = made }))
       → d ≡ replayed (is c.register) c (drop made (take count run.steps)) → IsAlike is d (part_end is (record { run = run; count = count }))
-  goes_on run made count c d less like went =
+  advanced_alike run made count c d less like went =
       let b = is run.entry.register in
       let rest = drop made (take count run.steps) in
-      let home : is c.register ≡ b = like.home ∙ end_home (record { run = run; count = made }) in
+      let home : is c.register ≡ b = like.behaves_alike ∙ end_behaviour (record { run = run; count = made }) in
       let before : take made run.steps ++ rest ≡ take count run.steps =
       ap (λ first. first ++ rest) (sym (take-take made count run.steps less)) ∙ take-append-drop made (take count run.steps) in
       record {
-        home = ap (λ x. is x.register) went ∙ ap is (register_kept (is c.register) c rest) ∙ home ∙ sym (end_home (record { run = run; count = count }));
-        arrives = ap without_register went ∙ replayed_alone (is c.register) c rest ∙ ap (λ x. replayed x (without_register c) rest) home ∙ ap (λ x. replayed b x rest) like.arrives
+        behaves_alike = ap (λ x. is x.register) went ∙ ap is (register_kept (is c.register) c rest) ∙ home ∙ sym (end_behaviour (record { run = run; count = count }));
+        all_else = ap without_register went ∙ replayed_alone (is c.register) c rest ∙ ap (λ x. replayed x (without_register c) rest) home ∙ ap (λ x. replayed b x rest) like.all_else
             ∙ sym (replayed_alone b (part_end is (record { run = run; count = made })) rest)
             ∙ ap without_register (sym (replayed-append b run.entry (take made run.steps) rest)) ∙ ap (λ steps. without_register (replayed b run.entry steps)) before;
       }
@@ -77,28 +77,28 @@ module _ {R P : Type 0} (is : R → Behaviour P) where
     ends_alike a b same =
         let behave : behaviour_of a ≡ behaviour_of b = alike a.run.entry.register b.run.entry.register same.entry.register in
         record {
-          home = end_home a ∙ behave ∙ sym (end_home b);
-          arrives = end_alone a ∙ ap (λ x. replayed x (without_register a.run.entry) (take a.count a.run.steps)) behave
-              ∙ ap (λ x. replayed (behaviour_of b) x (take a.count a.run.steps)) (alone_same E a.run.entry b.run.entry same.entry)
+          behaves_alike = end_behaviour a ∙ behave ∙ sym (end_behaviour b);
+          all_else = end_alone a ∙ ap (λ x. replayed x (without_register a.run.entry) (take a.count a.run.steps)) behave
+              ∙ ap (λ x. replayed (behaviour_of b) x (take a.count a.run.steps)) (without_register_same E a.run.entry b.run.entry same.entry)
               ∙ ap (λ n. replayed (behaviour_of b) (without_register b.run.entry) (take n a.run.steps)) same.count
               ∙ ap (λ steps. replayed (behaviour_of b) (without_register b.run.entry) (take b.count steps)) same.steps ∙ sym (end_alone b);
         }
 
     module _ (places : LruCache (RunPart R P) (Configuration R P)) (all : MatchTheirKeys is places) where
-      pub found : (place : RunPart R P) (c : Configuration R P) → lookup (same_place E F place) places.entries ≡ Some c → IsAlike is c (part_end is place)
-      found place c kept =
+      pub found_alike : (place : RunPart R P) (c : Configuration R P) → lookup (same_place E F place) places.entries ≡ Some c → IsAlike is c (part_end is place)
+      found_alike place c kept =
           let at = Contains-lookup (same_place E F place) places.entries c kept in
           like_trans c (part_end is at.0) (part_end is place) (all (at.0, c) at.1) (like_symm (part_end is place) (part_end is at.0) (ends_alike place at.0 ((place_decides E F d place at.0).0 at.2)))
 
-      still_true : (test : RunPart R P → Bool) → MatchTheirKeys is (lru_cache (promoted test places.entries) places.cap)
-      still_true test e among = all e (Contains-promoted test places.entries e among)
+      keys_still_match : (test : RunPart R P → Bool) → MatchTheirKeys is (lru_cache (promoted test places.entries) places.cap)
+      keys_still_match test e among = all e (Contains-promoted test places.entries e among)
 
       -- after a look-up, a lens's cache is still one (`IsLens`)
       pub read_lens : (test : RunPart R P → Bool) → places.cap ≡ PLACES → IsLens is (lru_cache (promoted test places.entries) places.cap)
-      read_lens test most = (still_true test, most)
+      read_lens test most = (keys_still_match test, most)
 
-      put_true : (place : RunPart R P) (c : Configuration R P) → IsAlike is c (part_end is place) → MatchTheirKeys is (lru_cache (put_entries (same_place E F) places place c) places.cap)
-      put_true place c like e among = elim (Contains-put_entries (same_place E F) places place c e among) [
+      keys_match_after_put : (place : RunPart R P) (c : Configuration R P) → IsAlike is c (part_end is place) → MatchTheirKeys is (lru_cache (put_entries (same_place E F) places place c) places.cap)
+      keys_match_after_put place c like e among = elim (Contains-put_entries (same_place E F) places place c e among) [
         | inl old ↦ all e old
         | inr new ↦ elim new.1 [
           | inl here ↦ subst (λ x. IsAlike is x (part_end is e.0)) (sym new.0) (subst (λ x. IsAlike is c (part_end is x)) (sym here) like)
@@ -112,11 +112,11 @@ module _ {R P : Type 0} (is : R → Behaviour P) where
       -- still one (`IsLens`), also if the put fails
       pub put_lens : {X Y : Type 0} (place : RunPart R P) (c : Configuration R P) (new : LruCache (RunPart R P) (Configuration R P)) (result : Result X Y) → places.cap ≡ PLACES → IsAlike is c (part_end is place)
           → OnOk result (new ≡ lru_cache (put_entries (same_place E F) places place c) places.cap) → OnErr result (new ≡ places) → IsLens is new
-      put_lens place c new (Ok x) most like ok err = subst (IsLens is) (sym ok) (put_true place c like, most)
+      put_lens place c new (Ok x) most like ok err = subst (IsLens is) (sym ok) (keys_match_after_put place c like, most)
       put_lens place c new (Err x) most like ok err = subst (IsLens is) (sym err) (all, most)
 
   -- configurations that are alike have the same pages
   pub like_page : (kind : ConfigKind) (head : Head) (c d : Configuration R P) → IsAlike is c d → config_page (is c.register) kind head c ≡ config_page (is d.register) kind head d
   like_page kind head c d like =
-      page_alone (is c.register) (is d.register) kind head c (without_register d) like.home like.arrives
+      page_alone (is c.register) (is d.register) kind head c (without_register d) like.behaves_alike like.all_else
       ∙ sym (page_alone (is d.register) (is d.register) kind head d (without_register d) refl refl)

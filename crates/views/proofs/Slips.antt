@@ -7,7 +7,7 @@ use Rattle.std.specs.declared.sync.Arc.{Arc}
 use Rattle.checkpoints.specs.Segment.{SegmentRun}
 use Rattle.frames.specs.Behaviour.{Behaviour}
 use Rattle.frames.specs.Configuration.{Configuration, initial_configuration}
-use Rattle.frames.specs.Recorded.{indexed, shown}
+use Rattle.frames.specs.Recorded.{indexed, configuration_after}
 use Rattle.schedule_trie.specs.Forest.{len_of}
 use Rattle.schedule_trie.specs.Trie.{forest}
 use Rattle.cutoff.specs.Charts.{Charted, StepsFit}
@@ -36,22 +36,22 @@ module _ {R P : Type 0} (E : R → R → Bool) (equal : IsEquivalence E) (is : R
   abbrev head_of : ℕ → Head
   head_of n = record { branch = branch; place = place; len = n }
 
-  pub last_is_place : (kind : ConfigKind) → last_page is kind (head_of len) old.start parts ≡ config_page_in is old kind branch place
-  last_is_place kind =
+  pub last_page_is : (kind : ConfigKind) → last_page is kind (head_of len) old.start parts ≡ config_page_in is old kind branch place
+  last_page_is kind =
       ap (λ n. last_page is kind (head_of n) old.start parts) spot.counted
       ∙ page_alone (is (parts_end is old.start parts).register) (is old.start.register) kind (head_of (length (steps_in (forest old.trie) branch))) (parts_end is old.start parts)
-      (shown (is old.start.register) old.value (take place (steps_in (forest old.trie) branch))) spot.home spot.arrives
+      (configuration_after (is old.start.register) old.value (take place (steps_in (forest old.trie) branch))) spot.behaves_alike spot.reaches
 
-  pub all_are_events : (kind : EventsKind) → all_page is kind (head_of len) parts ≡ events_page_in is old kind branch place
-  all_are_events kind =
+  pub all_page_is : (kind : EventsKind) → all_page is kind (head_of len) parts ≡ events_page_in is old kind branch place
+  all_page_is kind =
       ap (λ n. all_page is kind (head_of n) parts) spot.counted
       ∙ ap (λ events. events_page kind (head_of (length (steps_in (forest old.trie) branch))) (indexed 0 events)) spot.records
 
   -- any verdicts on the page of events are on what the register records on these steps
-  pub all_judge : (kind : EventsKind) → old.value < (is old.start.register).values → StepsFit (is old.start.register) (forest old.trie) → JudgesFrom old.value kind
+  pub all_page_judges : (kind : EventsKind) → old.value < (is old.start.register).values → StepsFit (is old.start.register) (forest old.trie) → JudgesFrom old.value kind
       → Judges (is old.start.register) (all_page is kind (head_of len) parts)
-  all_judge kind within fits judged =
-      subst (Judges (is old.start.register)) (sym (all_are_events kind))
+  all_page_judges kind within fits judged =
+      subst (Judges (is old.start.register)) (sym (all_page_is kind))
       (events_judge (is old.start.register) old.value kind branch place (steps_in (forest old.trie) branch) within (fit_in (is old.start.register) (forest old.trie) branch fits) judged)
 
 -- if no part is the last, there are no parts

@@ -20,7 +20,7 @@ use Rattle.cutoff.specs.Fitting.{StoredRun, RunPart, RunFits, steps_at, reached,
 use Rattle.cutoff.specs.Settles.{Settles, IsSettled}
 use Rattle.cutoff.specs.Charts.{Charted, keys_named}
 use Rattle.cutoff.specs.Links.{without_register}
-use Rattle.cutoff.proofs.Fits.{register_kept, replayed_same, alone_same}
+use Rattle.cutoff.proofs.Fits.{register_kept, replayed_same, without_register_same}
 use Rattle.frames.specs.Recorded.{first_configuration}
 use Rattle.views.specs.Spots.{part_end, part_events, parts_end, parts_events, IsSpotOf}
 use Rattle.views.specs.Looks.{steps_in}
@@ -187,8 +187,8 @@ module _ {R P : Type 0} (E : R → R → Bool) (equal : IsEquivalence E) (is : R
       let first : without_register old.start ≡ first_configuration b old.value = ap without_register begins in
       record {
         counted = len_is_step_count (forest old.trie) name len len_of_is;
-        home = alike (parts_end is old.start parts).register (replayed b old.start (take place branch_steps)).register replays.end.register ∙ ap is (register_kept b old.start (take place branch_steps));
-        arrives = alone_same E (parts_end is old.start parts) (replayed b old.start (take place branch_steps)) replays.end ∙ replayed_alone b old.start (take place branch_steps)
+        behaves_alike = alike (parts_end is old.start parts).register (replayed b old.start (take place branch_steps)).register replays.end.register ∙ ap is (register_kept b old.start (take place branch_steps));
+        reaches = without_register_same E (parts_end is old.start parts) (replayed b old.start (take place branch_steps)) replays.end ∙ replayed_alone b old.start (take place branch_steps)
             ∙ ap (λ xs. replayed b (without_register old.start) (take place xs)) steps ∙ ap (λ c. replayed b c (take place (steps_in (forest old.trie) name))) first;
         records = replays.events ∙ history_alone b old.start (take place branch_steps) ∙ ap (λ xs. history b (without_register old.start) (take place xs)) steps
             ∙ ap (λ c. history b c (take place (steps_in (forest old.trie) name))) first;

@@ -26,7 +26,7 @@ use Rattle.pages.specs.declared.page.Page.{Page}
 use Rattle.pages.specs.declared.page.Page.TheVariants as page
 use Rattle.views.specs.Looks.{steps_in, events_at, judged_from, NeverShowsStray}
 use Rattle.views.specs.Slips.{Slipped}
-use Rattle.pages.specs.Strays.{OnVerdicts, AreVerdictsOn, Judges, JudgesIts, ShowsNoStray, IsRegularOrAtomic, JudgesFrom}
+use Rattle.pages.specs.Strays.{OnVerdicts, AreVerdictsOn, Judges, JudgesRegister, ShowsNoStray, IsRegularOrAtomic, JudgesFrom}
 
 NoneStray : List ReadVerdict → Type 0
 NoneStray reads = All (λ read. read.verdict ≢ Stray) reads
@@ -63,13 +63,13 @@ on_verdicts f (page.Branches p) h = tt
 on_verdicts f (page.Cursor p) h = tt
 on_verdicts f (page.Steps p) h = tt
 
-never_there : {P : Type 0} (b : Behaviour P) → NeverStray b → (reads : List ReadVerdict) → AreVerdictsOn b reads → NoneStray reads
-never_there b never reads of =
+verdicts_not_stray : {P : Type 0} (b : Behaviour P) → NeverStray b → (reads : List ReadVerdict) → AreVerdictsOn b reads → NoneStray reads
+verdicts_not_stray b never reads of =
     subst NoneStray (sym of.judged) (none_stray (initially of.value) (accepted (recorded b of.value of.steps)) (never of.value of.steps of.within of.fit))
 
 shows_no_stray : {P : Type 0} (b : Behaviour P) → NeverStray b → (p : Page) → Judges b p → ShowsNoStray p
 unfolding NoneStray
-shows_no_stray b never = on_verdicts (never_there b never)
+shows_no_stray b never = on_verdicts (verdicts_not_stray b never)
 
 -- a regular or atomic register never shows a stray read
 never_stray : {P : Type 0} (b : Behaviour P) → IsRegularOrAtomic b → NeverStray b
@@ -78,19 +78,19 @@ never_stray b (inr atomic) = atomic_never_stray b atomic
 
 -- if a page judges the register `judged`, and that register is regular or atomic, the page shows no
 -- stray read
-pub ok_its_shows_no_stray : {R P E : Type 0} (is : R → Behaviour P) (judged : Option R) (r : Result Page E) → IfOk r (JudgesIts is judged)
+pub judged_page_shows_no_stray : {R P E : Type 0} (is : R → Behaviour P) (judged : Option R) (r : Result Page E) → IfOk r (JudgesRegister is judged)
     → IfSome judged (λ register. IsRegularOrAtomic (is register) → IfOk r ShowsNoStray)
-ok_its_shows_no_stray is None r h = tt
-ok_its_shows_no_stray is (Some register) (Ok p) h = λ lawful. shows_no_stray (is register) (never_stray (is register) lawful) p h
-ok_its_shows_no_stray is (Some register) (Err e) h = λ lawful. tt
+judged_page_shows_no_stray is None r h = tt
+judged_page_shows_no_stray is (Some register) (Ok p) h = λ lawful. shows_no_stray (is register) (never_stray (is register) lawful) p h
+judged_page_shows_no_stray is (Some register) (Err e) h = λ lawful. tt
 
-pub ok_shows_no_stray : {R P E : Type 0} (b : Behaviour P) → IsRegularOrAtomic b → (r : Result (Slipped R) E) → IfOk r (λ slip. Judges b slip.page) → IfOk r (λ slip. ShowsNoStray slip.page)
-ok_shows_no_stray b lawful (Ok slip) h = shows_no_stray b (never_stray b lawful) slip.page h
-ok_shows_no_stray b lawful (Err e) h = tt
+pub slip_shows_no_stray : {R P E : Type 0} (b : Behaviour P) → IsRegularOrAtomic b → (r : Result (Slipped R) E) → IfOk r (λ slip. Judges b slip.page) → IfOk r (λ slip. ShowsNoStray slip.page)
+slip_shows_no_stray b lawful (Ok slip) h = shows_no_stray b (never_stray b lawful) slip.page h
+slip_shows_no_stray b lawful (Err e) h = tt
 
 -- a page that judges this register judges the register `judged`, if that is the same register
-pub judges_its : {R P : Type 0} (is : R → Behaviour P) (register : R) (judged : Option R) → judged ≡ Some register → (p : Page) → Judges (is register) p → JudgesIts is judged p
-judges_its is register judged named p h = subst (λ o. JudgesIts is o p) (sym named) h
+pub judges_its : {R P : Type 0} (is : R → Behaviour P) (register : R) (judged : Option R) → judged ≡ Some register → (p : Page) → Judges (is register) p → JudgesRegister is judged p
+judges_its is register judged named p h = subst (λ o. JudgesRegister is o p) (sym named) h
 
 -- the page of a branch's events judges what the register records on the branch's first steps
 pub events_judge : {P : Type 0} (b : Behaviour P) (value : ℕ) (what : EventsKind) (branch : List ℕ) (place : ℕ) (steps : List Step) → value < b.values → AllFit b steps → JudgesFrom value what
@@ -118,8 +118,8 @@ fit_in b f name fits = by (index_of f.branches name)
     by (Some i) = fits i
 
 -- the page of verdicts judges reads from the register's initial value
-pub judged_from_it : {P : Type 0} (b : Behaviour P) (value : ℕ) → JudgesFrom value (which.Verdict (judged_from b value))
-judged_from_it b value = by (b.suits 1 (op.Write 0))
+pub judged_from_initial : {P : Type 0} (b : Behaviour P) (value : ℕ) → JudgesFrom value (which.Verdict (judged_from b value))
+judged_from_initial b value = by (b.suits 1 (op.Write 0))
   where
     by : (t : Bool) → JudgesFrom value (which.Verdict (if t then None else Some value))
     by true = tt
@@ -137,4 +137,4 @@ never_shows_stray b lawful value f query.Branches within fits = tt
 never_shows_stray b lawful value f (query.Cursor who) within fits = tt
 never_shows_stray b lawful value f (query.Verdict branch place) within fits =
     shows_no_stray b (never_stray b lawful) (events_at b value (which.Verdict (judged_from b value)) branch place (steps_in f branch))
-    (events_judge b value (which.Verdict (judged_from b value)) branch place (steps_in f branch) within (fit_in b f branch fits) (judged_from_it b value))
+    (events_judge b value (which.Verdict (judged_from b value)) branch place (steps_in f branch) within (fit_in b f branch fits) (judged_from_initial b value))

@@ -17,7 +17,7 @@ use Rattle.pages.specs.declared.query.Query.{Query}
 use Rattle.pages.specs.declared.query.Query.TheVariants.{State, Process, Bits, Pending, History, Verdict, Branches, Cursor, Steps}
 use Rattle.pages.specs.declared.page.Page.{Page}
 use Rattle.pages.specs.declared.page.Page.TheVariants as page
-use Rattle.frames.specs.Recorded.{shown, recorded}
+use Rattle.frames.specs.Recorded.{configuration_after, recorded}
 use Rattle.pages.specs.Pages.{config_page, events_page}
 use Rattle.pages.specs.Strays.{ShowsNoStray}
 
@@ -48,7 +48,7 @@ head_at branch place steps = record { branch = branch; place = place; len = leng
 -- `branch` is the branch's name, `steps` are all its steps, and `value` is the register's initial
 -- value
 abbrev pub config_at : {P : Type 0} → Behaviour P → ℕ → ConfigKind → List ℕ → ℕ → List Step → Page
-config_at b value what branch place steps = config_page b what (head_at branch place steps) (shown b value (take place steps))
+config_at b value what branch place steps = config_page b what (head_at branch place steps) (configuration_after b value (take place steps))
 
 -- the page of the kind `what` that shows the events of a branch's first `place` steps
 abbrev pub events_at : {P : Type 0} → Behaviour P → ℕ → EventsKind → List ℕ → ℕ → List Step → Page

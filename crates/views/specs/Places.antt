@@ -10,5 +10,5 @@ last_steps count steps = drop (length (take count steps) - HASHED_STEPS) (take c
 
 -- the steps by which a place of a run is hashed: the last HASHED_STEPS steps before the place, or
 -- all if there are fewer
-abbrev pub last_made : {R P : Type 0} → RunPart R P → List Step
-last_made part = last_steps part.count part.run.steps
+abbrev pub hashed_steps : {R P : Type 0} → RunPart R P → List Step
+hashed_steps part = last_steps part.count part.run.steps

@@ -7,7 +7,7 @@ use Rattle.frames.specs.Behaviour.{Behaviour}
 use Rattle.frames.specs.Configuration.{Configuration, replayed, history}
 use Rattle.cutoff.specs.Fitting.{RunPart}
 use Rattle.cutoff.specs.Links.{without_register}
-use Rattle.frames.specs.Recorded.{first_configuration, shown}
+use Rattle.frames.specs.Recorded.{first_configuration, configuration_after}
 
 module _ {R P : Type 0} (is : R → Behaviour P) where
   -- the configuration that a part reaches: the one after the first `count` steps of its run
@@ -31,8 +31,8 @@ module _ {R P : Type 0} (is : R → Behaviour P) where
 -- two configurations are alike: their registers behave alike, and their cells, words, pending
 -- operations and stopped marks are equal
 pub record IsAlike {R P : Type 0} (is : R → Behaviour P) (c d : Configuration R P) : Type 0 where
-  pub home : is c.register ≡ is d.register
-  pub arrives : without_register c ≡ without_register d
+  pub behaves_alike : is c.register ≡ is d.register
+  pub all_else : without_register c ≡ without_register d
 
 -- These parts of runs are the result of settling the first `place` steps of a branch. The branch
 -- has the steps `steps`, and `len` is the number of all of them. Take the configuration that the
@@ -41,6 +41,6 @@ pub record IsAlike {R P : Type 0} (is : R → Behaviour P) (c d : Configuration 
 -- steps reach from the initial value, `value`. The parts record the events of these first steps.
 pub record IsSpotOf {R P : Type 0} (is : R → Behaviour P) (start : Configuration R P) (value : ℕ) (steps : List Step) (place len : ℕ) (parts : List (RunPart R P)) : Type 0 where
   pub counted : len ≡ length steps
-  pub home : is (parts_end is start parts).register ≡ is start.register
-  pub arrives : without_register (parts_end is start parts) ≡ shown (is start.register) value (take place steps)
+  pub behaves_alike : is (parts_end is start parts).register ≡ is start.register
+  pub reaches : without_register (parts_end is start parts) ≡ configuration_after (is start.register) value (take place steps)
   pub records : parts_events is parts ≡ history (is start.register) (first_configuration (is start.register) value) (take place steps)

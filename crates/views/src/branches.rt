@@ -32,7 +32,7 @@ pub fn branches_page<R: Register>(
 
 /// The name and the length of each branch, in the order the branches were made.
 fn lengths<R: Register>(alloc: Global, chart: &Chart<R>) -> Result<Listed<BranchLength>, AllocError>
-    ensures { IfOk result (λ all. all ≡ map spec.length_of (forest chart.now.trie).branches) }
+    ensures { IfOk result (λ all. all ≡ map spec.name_and_length (forest chart.now.trie).branches) }
 {
     let mut all = Vec::new(alloc);
     for index in 0..chart.branches() {
@@ -46,7 +46,7 @@ fn length_at<R: Register>(chart: &Chart<R>, index: u32) -> BranchLength
     requires apart { AreNamedApart (forest chart.now.trie).branches }
     requires within { index < length (forest chart.now.trie).branches }
     ensures { (b : Branch) × (slice_get (forest chart.now.trie).branches index ≡ Some b)
-        × (result ≡ spec.length_of b) }
+        × (result ≡ spec.name_and_length b) }
 {
     let Some(name) = chart.name_at(index) else {
         unreachable!();

@@ -7,7 +7,7 @@ ghost use Rattle.views.specs.declared.lens.TheConstants.{PLACES};
 ghost use Rattle.views.specs.Lenses.{IsAt};
 
 use crate::run_place::RunPlace;
-use crate::spot::make;
+use crate::spot::make_steps;
 use checkpoints::run::Run;
 use checkpoints::slices::front;
 use frames::config::Config;
@@ -190,7 +190,7 @@ fn advanced<R: Register>(run: &Run<R>, made: u32, count: u32, config: Config<R>)
     ensures { IsAt R.behaviour run.now count result }
 {
     let mut config = config;
-    make(
+    make_steps(
         &mut config,
         &front(run.steps(), count as usize)[made as usize..],
     );

@@ -4,7 +4,7 @@ ghost use Rattle.std.specs.Prelude.{◌≡◌, ◌++◌, IfOk};
 ghost use Rattle.std.specs.Arc.{arc_value};
 ghost use Rattle.std.specs.Hash as fed;
 ghost use Rattle.views.specs.Digests.{digest};
-ghost use Rattle.views.specs.Places.{last_made};
+ghost use Rattle.views.specs.Places.{hashed_steps};
 
 use crate::digest::digest;
 use checkpoints::run::Run;
@@ -47,8 +47,8 @@ impl<R: Register> RunPlace<R> {
     }
 
     /// The last steps before the place: at most `HASHED_STEPS` of them.
-    fn last_made(&self) -> &[Step]
-        ensures { result.now ≡ last_made self.now }
+    fn hashed_steps(&self) -> &[Step]
+        ensures { result.now ≡ hashed_steps self.now }
     {
         let made = front(self.run.steps(), self.count as usize);
         following(made, made.len().saturating_sub(HASHED_STEPS))
@@ -78,12 +78,12 @@ impl<R: Register> Eq for RunPlace<R> {
 impl<R: Register> Hash for RunPlace<R> {
     ghost use Rattle.views.specs.laws.PlaceLaws.{places_hash_alike};
 
-    ghost hash_input = { λ p. fed.u64 (digest (last_made p)) ++ fed.u32 p.count };
+    ghost hash_input = { λ p. fed.u64 (digest (hashed_steps p)) ++ fed.u32 p.count };
 
     ghost respects_eq = { places_hash_alike R.PartialEq.eq R.Pending.PartialEq.eq R.same_pending };
 
     fn hash<H: Hasher>(&self, state: &mut H) {
-        state.write_u64(digest(self.last_made()));
+        state.write_u64(digest(self.hashed_steps()));
         state.write_u32(self.count);
     }
 }

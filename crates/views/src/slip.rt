@@ -7,7 +7,7 @@ ghost use Rattle.views.specs.Looks as spec;
 ghost use Rattle.views.specs.Looks.{looked, IsChartKept};
 ghost use Rattle.views.specs.ChartLooks.{IsLookAt, shown_by, config_page_in, events_page_in, steps_page};
 ghost use Rattle.views.specs.RunPages.{found_last};
-ghost use Rattle.pages.specs.Strays.{IsRegularOrAtomic, Judges, JudgesIts, JudgesFrom, ShowsNoStray};
+ghost use Rattle.pages.specs.Strays.{IsRegularOrAtomic, Judges, JudgesRegister, JudgesFrom, ShowsNoStray};
 
 use crate::lens::Lens;
 use checkpoints::run::Run;
@@ -44,13 +44,13 @@ pub struct Slip<R: Register> {
 impl<R: Register> Model for Slip<R> {
     ghost use Rattle.views.specs.RunPages.{content_page};
     ghost use Rattle.views.specs.Slips.{Slipped};
-    ghost use Rattle.pages.specs.Strays.{JudgesIts};
+    ghost use Rattle.pages.specs.Strays.{JudgesRegister};
 
     ghost Value = { Slipped R };
 
     ghost view = { λ s. record { page = content_page R.behaviour s.content; judged = s.judged.value } };
 
-    ghost invariant = { λ s. JudgesIts R.behaviour s.judged.value (content_page R.behaviour s.content) };
+    ghost invariant = { λ s. JudgesRegister R.behaviour s.judged.value (content_page R.behaviour s.content) };
 }
 
 impl<R: Register> Slip<R> {
@@ -112,7 +112,7 @@ impl<R: Register> Slip<R> {
     /// stray. Fails only if memory runs out.
     pub fn page(&self, alloc: Global, lens: &mut Lens<R>) -> Result<Page, AllocError>
         ensures page { IfOk result (λ page. page ≡ self.now.page) }
-        ensures judges { IfOk result (JudgesIts R.behaviour self.now.judged) }
+        ensures judges { IfOk result (JudgesRegister R.behaviour self.now.judged) }
         ensures never_stray { IfSome self.now.judged
             (λ register. IsRegularOrAtomic (R.behaviour register) → IfOk result ShowsNoStray) }
     {
@@ -126,7 +126,7 @@ impl<R: Register> Slip<R> {
     /// memory runs out.
     pub fn into_page(self, alloc: Global, lens: &mut Lens<R>) -> Result<Page, AllocError>
         ensures page { IfOk result (λ page. page ≡ self.page) }
-        ensures judges { IfOk result (JudgesIts R.behaviour self.judged) }
+        ensures judges { IfOk result (JudgesRegister R.behaviour self.judged) }
         ensures never_stray { IfSome self.judged
             (λ register. IsRegularOrAtomic (R.behaviour register) → IfOk result ShowsNoStray) }
     {

@@ -25,7 +25,7 @@ pub(crate) fn exit_at<R: Register>(run: &Run<R>, count: u32) -> &Config<R>
 
 /// Replays `steps` from `config`, and sets `config` to the configuration after them. Each step must
 /// fit the register.
-pub(crate) fn make<R: Register>(config: &mut Config<R>, steps: &[Step])
+pub(crate) fn make_steps<R: Register>(config: &mut Config<R>, steps: &[Step])
     requires { AllFit (R.behaviour config.old.register) steps.now }
     ensures { config.new ≡ replayed (R.behaviour config.old.register) config.old steps.now }
 {

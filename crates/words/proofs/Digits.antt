@@ -29,8 +29,8 @@ next_digit xs i v d h lt e f =
     omega (arith, e, f, g, m)
 
 -- if the first i bytes are digits, and the next byte is one, then the first i + 1 bytes are digits
-pub more_digits : (xs : List ℕ) (i : ℕ) → i < length xs → list_all is_ascii_digit (take i xs) ≡ true → is_ascii_digit (get_or xs i 0) ≡ true → list_all is_ascii_digit (take (i + 1) xs) ≡ true
-more_digits xs i lt h k = list_all_more is_ascii_digit xs i 0 lt ∙ and_from (list_all is_ascii_digit (take i xs)) (is_ascii_digit (get_or xs i 0)) h k
+pub digits_with_next : (xs : List ℕ) (i : ℕ) → i < length xs → list_all is_ascii_digit (take i xs) ≡ true → is_ascii_digit (get_or xs i 0) ≡ true → list_all is_ascii_digit (take (i + 1) xs) ≡ true
+digits_with_next xs i lt h k = list_all_more is_ascii_digit xs i 0 lt ∙ and_from (list_all is_ascii_digit (take i xs)) (is_ascii_digit (get_or xs i 0)) h k
 
 pub next_small : (i v d : ℕ) → v < 10 ^ i → d ≤ 9 → v * 10 + d < 10 ^ (i + 1)
 next_small i v d h le = rw (add-one, pow-suc 10 i) (omega arith)

@@ -18,9 +18,9 @@ use Rattle.words.proofs.Digits.{digit_bounds}
 
 -- if the text after the number v begins with the digit d, then the same text is the number
 -- v * 10 + d and what follows the digit
-pub one_more : (first v d b : ℕ) (text left following : List ℕ) → 0 < v → v < 100000000 → is_ascii_digit b ≡ true → d ≡ b - 48 → left ≡ b ∷ following
+pub one_more_digit : (first v d b : ℕ) (text left following : List ℕ) → 0 < v → v < 100000000 → is_ascii_digit b ≡ true → d ≡ b - 48 → left ≡ b ∷ following
     → decimal first ++ text ≡ decimal v ++ left → decimal first ++ text ≡ decimal (v * 10 + d) ++ following
-one_more first v d b text left following some short h e is front =
+one_more_digit first v d b text left following some short h e is front =
     let bounds = digit_bounds b h in
     let tens : (v * 10 + d) / 10 ≡ v = omega arith in
     let ones : (v * 10 + d) % 10 ≡ d = omega arith in
@@ -29,8 +29,8 @@ one_more first v d b text left following some short h e is front =
     ∙ ap (λ (c : ℕ). decimal v ++ c ∷ []) (omega arith) in
     front ∙ ap (λ (xs : List ℕ). decimal v ++ xs) is ∙ sym (append_assoc (decimal v) (b ∷ []) following) ∙ ap (λ (ds : List ℕ). ds ++ following) (sym more)
 
-pub small_more : (v d b : ℕ) → v < 100000000 → is_ascii_digit b ≡ true → d ≡ b - 48 → v * 10 + d < 10 ^ 9
-small_more v d b short h e = let bounds = digit_bounds b h in omega arith
+pub one_more_digit_short : (v d b : ℕ) → v < 100000000 → is_ascii_digit b ≡ true → d ≡ b - 48 → v * 10 + d < 10 ^ 9
+one_more_digit_short v d b short h e = let bounds = digit_bounds b h in omega arith
 
 -- a space, a digit and `left` are a space, the decimal form of the digit's value, and `left`
 pub one_digit : (text digits left : List ℕ) (b d : ℕ) → text ≡ 32 ∷ digits → digits ≡ b ∷ left → is_ascii_digit b ≡ true → d ≡ b - 48 → text ≡ 32 ∷ (decimal d ++ left)
@@ -83,15 +83,15 @@ left_of_number v n left c rest hv hn other whole e =
     ]
 
 -- the text doesn't begin with a space and a digit
-abbrev pub HasNoNumber : List ℕ → Type 0
-HasNoNumber text = (d : ℕ) (rest : List ℕ) → is_ascii_digit d ≡ true → text ≡ 32 ∷ d ∷ rest → ⊥
+abbrev pub BeginsWithNoNumber : List ℕ → Type 0
+BeginsWithNoNumber text = (d : ℕ) (rest : List ℕ) → is_ascii_digit d ≡ true → text ≡ 32 ∷ d ∷ rest → ⊥
 
 -- the text doesn't begin with a line end
-abbrev pub HasNoEnd : List ℕ → Type 0
-HasNoEnd text = (left : List ℕ) → text ≡ 10 ∷ left → ⊥
+abbrev pub BeginsWithNoEnd : List ℕ → Type 0
+BeginsWithNoEnd text = (left : List ℕ) → text ≡ 10 ∷ left → ⊥
 
-no_number : (text : List ℕ) (n : ℕ) (more : List ℕ) → n < 10 ^ 9 → HasNoNumber text → text ≡ 32 ∷ (decimal n ++ more) → ⊥
-no_number text n more short none e =
+begins_with_no_number : (text : List ℕ) (n : ℕ) (more : List ℕ) → n < 10 ^ 9 → BeginsWithNoNumber text → text ≡ 32 ∷ (decimal n ++ more) → ⊥
+begins_with_no_number text n more short none e =
     let a = digit_first n short in
     none a.0 (a.1 ++ more) a.2 (e ∙ ap (λ (ds : List ℕ). 32 ∷ (ds ++ more)) a.3)
 
@@ -109,13 +109,13 @@ after_process (step.Read p) rest = rest
 after_process (step.Go p c) rest = 32 ∷ (decimal c ++ rest)
 after_process (step.Stop p) rest = rest
 
-spelled : (s : Step) (rest : List ℕ) → step_text s ++ rest ≡ letter s ∷ 32 ∷ (decimal (process_of s) ++ after_process s rest)
-spelled (step.Write p v) rest =
+step_text_split : (s : Step) (rest : List ℕ) → step_text s ++ rest ≡ letter s ∷ 32 ∷ (decimal (process_of s) ++ after_process s rest)
+step_text_split (step.Write p v) rest =
     ap (λ (xs : List ℕ). 119 ∷ 32 ∷ xs) (append_assoc (decimal p) (32 ∷ (decimal v ++ [])) rest ∙ ap (λ (xs : List ℕ). decimal p ++ 32 ∷ (xs ++ rest)) (append-nil (decimal v)))
-spelled (step.Read p) rest = ap (λ (xs : List ℕ). 114 ∷ 32 ∷ (xs ++ rest)) (append-nil (decimal p))
-spelled (step.Go p c) rest =
+step_text_split (step.Read p) rest = ap (λ (xs : List ℕ). 114 ∷ 32 ∷ (xs ++ rest)) (append-nil (decimal p))
+step_text_split (step.Go p c) rest =
     ap (λ (xs : List ℕ). 103 ∷ 32 ∷ xs) (append_assoc (decimal p) (32 ∷ (decimal c ++ [])) rest ∙ ap (λ (xs : List ℕ). decimal p ++ 32 ∷ (xs ++ rest)) (append-nil (decimal c)))
-spelled (step.Stop p) rest = ap (λ (xs : List ℕ). 120 ∷ 32 ∷ (xs ++ rest)) (append-nil (decimal p))
+step_text_split (step.Stop p) rest = ap (λ (xs : List ℕ). 120 ∷ 32 ∷ (xs ++ rest)) (append-nil (decimal p))
 
 short_process : (s : Step) → HasShortNumbers s → process_of s < 10 ^ 9
 short_process (step.Write p v) h = h.0
@@ -148,16 +148,16 @@ one_number_after word (step.Stop p) rest e nw ng = refl
 -- ---- what a text doesn't begin with
 
 -- the text doesn't begin with a step's line
-abbrev pub HasNoStep : List ℕ → Type 0
-HasNoStep text = (s : Step) (rest : List ℕ) → HasShortNumbers s → text ≡ step_text s ++ 10 ∷ rest → ⊥
+abbrev pub BeginsWithNoStep : List ℕ → Type 0
+BeginsWithNoStep text = (s : Step) (rest : List ℕ) → HasShortNumbers s → text ≡ step_text s ++ 10 ∷ rest → ⊥
 
 module _ (text numbers : List ℕ) (word : ℕ) (is : text ≡ word ∷ numbers) where
   letter_is : (s : Step) (rest : List ℕ) → text ≡ step_text s ++ 10 ∷ rest
       → (word ≡ letter s) × (numbers ≡ 32 ∷ (decimal (process_of s) ++ after_process s (10 ∷ rest)))
-  letter_is s rest e = let both = sym is ∙ e ∙ spelled s (10 ∷ rest) in (cc, cc)
+  letter_is s rest e = let both = sym is ∙ e ∙ step_text_split s (10 ∷ rest) in (cc, cc)
 
-  pub no_first : HasNoNumber numbers → HasNoStep text
-  no_first none s rest short e = no_number numbers (process_of s) (after_process s (10 ∷ rest)) (short_process s short) none (letter_is s rest e).1
+  pub no_first_number : BeginsWithNoNumber numbers → BeginsWithNoStep text
+  no_first_number none s rest short e = begins_with_no_number numbers (process_of s) (after_process s (10 ∷ rest)) (short_process s short) none (letter_is s rest e).1
 
   module _ (p : ℕ) (left : List ℕ) (short_p : p < 10 ^ 9) (front : numbers ≡ 32 ∷ (decimal p ++ left)) (whole : IsWholeNumber p left) where
     left_is : (s : Step) (rest : List ℕ) → HasShortNumbers s → text ≡ step_text s ++ 10 ∷ rest → left ≡ after_process s (10 ∷ rest)
@@ -167,17 +167,17 @@ module _ (text numbers : List ℕ) (word : ℕ) (is : text ≡ word ∷ numbers)
         let same : decimal p ++ left ≡ decimal (process_of s) ++ a.0 ∷ a.1 = (let t : decimal p ++ left ≡ decimal (process_of s) ++ after_process s (10 ∷ rest) = cc in t ∙ ap (λ (xs : List ℕ). decimal (process_of s) ++ xs) a.3) in
         left_of_number p (process_of s) left a.0 a.1 short_p (short_process s short) a.2 whole same ∙ sym a.3
 
-    pub no_second : (word ≡ 119) ⊎ (word ≡ 103) → HasNoNumber left → HasNoStep text
-    no_second two none s rest short e =
+    pub no_second_number : (word ≡ 119) ⊎ (word ≡ 103) → BeginsWithNoNumber left → BeginsWithNoStep text
+    no_second_number two none s rest short e =
         let a = two_numbers_after word s (10 ∷ rest) (letter_is s rest e).0 two short in
-        no_number left a.0 (10 ∷ rest) a.1 none (left_is s rest short e ∙ a.2)
+        begins_with_no_number left a.0 (10 ∷ rest) a.1 none (left_is s rest short e ∙ a.2)
 
-    pub no_end : (word ≡ 119 → ⊥) → (word ≡ 103 → ⊥) → HasNoEnd left → HasNoStep text
-    no_end nw ng none s rest short e =
+    pub no_end_after_first : (word ≡ 119 → ⊥) → (word ≡ 103 → ⊥) → BeginsWithNoEnd left → BeginsWithNoStep text
+    no_end_after_first nw ng none s rest short e =
         none rest (left_is s rest short e ∙ one_number_after word s (10 ∷ rest) (letter_is s rest e).0 nw ng)
 
-    pub no_second_end : (word ≡ 119) ⊎ (word ≡ 103) → (v : ℕ) (last : List ℕ) → v < 10 ^ 9 → left ≡ 32 ∷ (decimal v ++ last) → IsWholeNumber v last → HasNoEnd last → HasNoStep text
-    no_second_end two v last short_v front_v whole_v none s rest short e =
+    pub no_end_after_second : (word ≡ 119) ⊎ (word ≡ 103) → (v : ℕ) (last : List ℕ) → v < 10 ^ 9 → left ≡ 32 ∷ (decimal v ++ last) → IsWholeNumber v last → BeginsWithNoEnd last → BeginsWithNoStep text
+    no_end_after_second two v last short_v front_v whole_v none s rest short e =
         let a = two_numbers_after word s (10 ∷ rest) (letter_is s rest e).0 two short in
         let both : 32 ∷ (decimal v ++ last) ≡ 32 ∷ (decimal a.0 ++ 10 ∷ rest) = sym front_v ∙ left_is s rest short e ∙ a.2 in
         let same : decimal v ++ last ≡ decimal a.0 ++ 10 ∷ rest = cc in

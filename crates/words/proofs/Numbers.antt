@@ -1,24 +1,26 @@
 -- A word is read as a number n exactly if n is below 10 ^ 9 and the word is the decimal form of n.
-use Rattle.std.proofs.Common.{◌≡◌, ℕ, ◌^◌, ◌<◌, ◌≤◌, Bool, true, false, cond, ◌||◌, ◌&&◌, ◌==◌, not, nat_le, List, [], ◌∷◌, length, get_or, Some, None, refl, sym, ap, ◌∙◌, subst, arith, rules, inl, inr, lit<}
+use Rattle.std.proofs.Common.{◌≡◌, ℕ, ◌^◌, ◌<◌, ◌≤◌, true, cond, ◌||◌, ◌&&◌, ◌==◌, not, nat_le, List, [], ◌∷◌, length, get_or, Some, None, refl, sym, ap, ◌∙◌, subst, arith, rules, inl, inr, lit<}
 use Rattle.std.specs.List.{list_all}
 use Rattle.std.specs.Char.{is_ascii_digit}
 use Rattle.std.specs.Str.Parse.{digits_value}
 use Rattle.std.specs.Fmt.{decimal}
-use Rattle.std.proofs.lemmas.Bool.{and_parts, and_from, or_cases, not-true, leb-true, le-leb, eqb-true, eq-eqb, eqb-false, ne_eqb, cases_eq}
+use Rattle.std.proofs.lemmas.Bool.{and_parts, and_from, or_cases, or_left, or_right, not-true, leb-true, le-leb, eqb-true, eq-eqb, eqb-false, ne_eqb, cases_eq}
 use Rattle.std.proofs.lemmas.Option.{cond_some}
 use Rattle.std.proofs.lemmas.Str.Parse.{IsDigitsTest, IsNumeralModel, numerals_by_value, digits_value_short}
 use Rattle.std.proofs.lemmas.Fmt.{decimal_digit, digits_decimal, digits_value-decimal, first_decimal, decimal_nonempty, length-decimal-le, decimal-digits_value}
 use Rattle.words.specs.Words.{is_number, number}
 
+-- all these bytes are digits
 abbrev AreDigits : List ℕ → Type 0
 AreDigits ds = list_all is_ascii_digit ds ≡ true
 
-tests_digits : IsDigitsTest AreDigits
-tests_digits = search rules
+are_digits_test : IsDigitsTest AreDigits
+are_digits_test = search rules
 
-own : IsNumeralModel AreDigits (digits_value 10)
-own = numerals_by_value AreDigits tests_digits
+decimal_model : IsNumeralModel AreDigits (digits_value 10)
+decimal_model = numerals_by_value AreDigits are_digits_test
 
+-- only the word `0` begins with `0`
 abbrev IsPlainForm : List ℕ → Type 0
 IsPlainForm word = get_or word 0 0 ≡ 48 → length word ≡ 1
 
@@ -29,8 +31,8 @@ short_form d ds h zero =
       | inr alone ↦ omega (arith, eqb-true (length ds) 0 alone)
     ]
 
-parts_of : (d : ℕ) (ds : List ℕ) → is_number (d ∷ ds) ≡ true → (length ds ≤ 8) × IsPlainForm (d ∷ ds) × AreDigits (d ∷ ds)
-parts_of d ds h =
+is_number_parts : (d : ℕ) (ds : List ℕ) → is_number (d ∷ ds) ≡ true → (length ds ≤ 8) × IsPlainForm (d ∷ ds) × AreDigits (d ∷ ds)
+is_number_parts d ds h =
     let whole = and_parts (nat_le (length ds) 8 && (not (d == 48) || length ds == 0)) (list_all is_ascii_digit (d ∷ ds)) h in
     let front = and_parts (nat_le (length ds) 8) (not (d == 48) || length ds == 0) whole.0 in
     (leb-true (length ds) 8 front.0, short_form d ds front.1, whole.1)
@@ -39,18 +41,10 @@ pub decimal-number : (word : List ℕ) (n : ℕ) → number word ≡ Some n → 
 decimal-number [] n h = absurd cc
 decimal-number (d ∷ ds) n h =
     let c = cond_some (is_number (d ∷ ds)) (digits_value 10 (d ∷ ds)) n h in
-    let p = parts_of d ds c.0 in
-    let small = digits_value_short own (d ∷ ds) 9 p.2 (omega (arith, p.0)) in
-    let same = decimal-digits_value own (d ∷ ds) p.2 (omega arith) p.1 (omega (arith, small)) in
+    let p = is_number_parts d ds c.0 in
+    let small = digits_value_short decimal_model (d ∷ ds) 9 p.2 (omega (arith, p.0)) in
+    let same = decimal-digits_value decimal_model (d ∷ ds) p.2 (omega arith) p.1 (omega (arith, small)) in
     subst (λ m. (m < 10 ^ 9) × ((d ∷ ds) ≡ decimal m)) c.1 (small, sym same)
-
-or_first : (x y : Bool) → x ≡ true → (x || y) ≡ true
-or_first true y h = refl
-or_first false y h = absurd cc
-
-or_second : (x y : Bool) → y ≡ true → (x || y) ≡ true
-or_second true y h = refl
-or_second false y h = h
 
 is_number_from : (word : List ℕ) → 0 < length word → length word ≤ 9 → IsPlainForm word → AreDigits word → is_number word ≡ true
 is_number_from [] some short plain digits = absurd (omega arith)
@@ -58,8 +52,8 @@ is_number_from (d ∷ ds) some short plain digits =
     and_from (nat_le (length ds) 8 && (not (d == 48) || length ds == 0)) (list_all is_ascii_digit (d ∷ ds))
     (and_from (nat_le (length ds) 8) (not (d == 48) || length ds == 0) (le-leb (length ds) 8 (omega arith))
     (elim (cases_eq d 48) [
-      | inl zero ↦ or_second (not (d == 48)) (length ds == 0) (eq-eqb (length ds) 0 (omega (arith, plain zero)))
-      | inr other ↦ or_first (not (d == 48)) (length ds == 0) (ap not (ne_eqb d 48 other))
+      | inl zero ↦ or_right (not (d == 48)) (length ds == 0) (eq-eqb (length ds) 0 (omega (arith, plain zero)))
+      | inr other ↦ or_left (not (d == 48)) (length ds == 0) (ap not (ne_eqb d 48 other))
     ]))
     digits
 
@@ -71,19 +65,19 @@ plain_decimal n lt =
     ]
 
 pub digits-decimal : (n : ℕ) → n < 10 ^ 9 → list_all is_ascii_digit (decimal n) ≡ true
-digits-decimal n lt = digits_decimal own n (omega arith)
+digits-decimal n lt = digits_decimal decimal_model n (omega arith)
 
 pub number-decimal : (n : ℕ) → n < 10 ^ 9 → number (decimal n) ≡ Some n
 number-decimal n lt =
     let few : n < 2 ^ 64 = omega arith in
     let test = is_number_from (decimal n) (decimal_nonempty n few) (length-decimal-le 9 n (lit< tt) lt few) (plain_decimal n few) (digits-decimal n lt) in
-    ap (λ b. cond b (Some (digits_value 10 (decimal n))) None) test ∙ ap (λ m. Some m) (digits_value-decimal own n few)
+    ap (λ b. cond b (Some (digits_value 10 (decimal n))) None) test ∙ ap (λ m. Some m) (digits_value-decimal decimal_model n few)
 
 -- a number with at most 8 digits is below 10 ^ 8
 pub eight_digits : (n : ℕ) → n < 10 ^ 9 → length (decimal n) ≤ 8 → n < 10 ^ 8
 eight_digits n lt short =
     let few : n < 2 ^ 64 = omega arith in
-    omega (arith, digits_value_short own (decimal n) 8 (digits-decimal n lt) short, digits_value-decimal own n few)
+    omega (arith, digits_value_short decimal_model (decimal n) 8 (digits-decimal n lt) short, digits_value-decimal decimal_model n few)
 
 pub nine_digits : (n : ℕ) → n < 10 ^ 9 → length (decimal n) ≤ 9
 nine_digits n lt = length-decimal-le 9 n (lit< tt) lt (omega arith)

@@ -22,15 +22,15 @@ module _ (p : ℕ → Bool) where
       slice_split_first p xs 0 (omega arith) ∙ ap (λ n. take n xs ∷ slice_split p (drop (n + 1) xs)) at
 
   -- there is always a part
-  pub onto_first_some : (x : ℕ) (parts : List (List ℕ)) → is_end (onto_first x parts) ≡ false
-  onto_first_some x [] = refl
-  onto_first_some x (part ∷ parts) = refl
+  pub onto_first_nonempty : (x : ℕ) (parts : List (List ℕ)) → is_end (onto_first x parts) ≡ false
+  onto_first_nonempty x [] = refl
+  onto_first_nonempty x (part ∷ parts) = refl
 
-  pub split_some : (xs : List ℕ) → is_end (slice_split p xs) ≡ false
-  split_some [] = refl
-  split_some (x ∷ xs) = elim (p x) as (λ b. is_end (cond b ([] ∷ slice_split p xs) (onto_first x (slice_split p xs))) ≡ false) [
+  pub split_nonempty : (xs : List ℕ) → is_end (slice_split p xs) ≡ false
+  split_nonempty [] = refl
+  split_nonempty (x ∷ xs) = elim (p x) as (λ b. is_end (cond b ([] ∷ slice_split p xs) (onto_first x (slice_split p xs))) ≡ false) [
     | true ↦ refl
-    | false ↦ onto_first_some x (slice_split p xs)
+    | false ↦ onto_first_nonempty x (slice_split p xs)
   ]
 
 -- no part is left exactly if no text is left
@@ -38,4 +38,4 @@ pub is_end-parts_left : (c : ℕ) (text : Option (Bor (List ℕ))) (none : Bool)
 is_end-parts_left c None true e = refl
 is_end-parts_left c None false e = cc
 is_end-parts_left c (Some text) true e = cc
-is_end-parts_left c (Some text) false e = sym (split_some (λ b. b == c) text.now)
+is_end-parts_left c (Some text) false e = sym (split_nonempty (λ b. b == c) text.now)

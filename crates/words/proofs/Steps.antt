@@ -12,9 +12,9 @@ use Rattle.frames.specs.declared.types.Step.{Step}
 use Rattle.frames.specs.declared.types.Step.TheVariants as step
 use Rattle.words.specs.Words.{parts, parts_left, lines, words, next, after_next, is_end, number, one_number, two_numbers, three_numbers, four_numbers}
 use Rattle.words.specs.Steps.{step_of_words, text, step_text, HasShortNumbers}
-use Rattle.words.proofs.Splits.{split_some}
+use Rattle.words.proofs.Splits.{split_nonempty}
 use Rattle.words.proofs.Numbers.{decimal-number, number-decimal}
-use Rattle.words.proofs.Texts.{all_weaker, is_not, is_print, print_stays, text_prints, cut_at, words-text, join-words}
+use Rattle.words.proofs.Texts.{all_weaker, is_not, is_print, print_is_no_line_end, text_prints, cut_at, words-text, join-words}
 
 pub some_then : {A B : Type 0} (o : Option A) (f : A → Option B) (y : B) → option_and_then f o ≡ Some y → (x : A) × (o ≡ Some x) × (f x ≡ Some y)
 some_then None f y e = absurd cc
@@ -24,9 +24,9 @@ pub mapped : {A B : Type 0} (f : A → B) (o : Option A) (y : B) → option_map 
 mapped f None y e = absurd cc
 mapped f (Some x) y e = (x, refl, same_Some (f x) y e)
 
-ended : (ws : List (List ℕ)) → is_end ws ≡ true → ws ≡ []
-ended [] h = refl
-ended (w ∷ ws) h = absurd cc
+empty_at_end : (ws : List (List ℕ)) → is_end ws ≡ true → ws ≡ []
+empty_at_end [] h = refl
+empty_at_end (w ∷ ws) h = absurd cc
 
 -- ---- words
 
@@ -35,7 +35,7 @@ one_is [] n h = absurd cc
 one_is (w ∷ ws) n h =
     let a = some_then (number w) (λ x. cond (is_end ws) (Some x) None) n h in
     let b = cond_some (is_end ws) a.0 n a.2 in
-    let nothing = ended ws b.0 in
+    let nothing = empty_at_end ws b.0 in
     let first = (decimal-number w a.0 a.1).1 in
     cc
 
@@ -93,35 +93,35 @@ with_one w v ws s of spells e h =
     let a = mapped of (one_number ws) s h in
     joined w v ws (a.0 ∷ []) e (one_is ws a.0 a.1) ∙ spells a.0 ∙ ap step_text a.2
 
-step_by : (isw isr isg isx : Bool) (w : List ℕ) (ws : List (List ℕ)) (s : Step) → (isw ≡ true → w ≡ codes "w") → (isr ≡ true → w ≡ codes "r") → (isg ≡ true → w ≡ codes "g") → (isx ≡ true → w ≡ codes "x")
+step_by_letter : (isw isr isg isx : Bool) (w : List ℕ) (ws : List (List ℕ)) (s : Step) → (isw ≡ true → w ≡ codes "w") → (isr ≡ true → w ≡ codes "r") → (isg ≡ true → w ≡ codes "g") → (isx ≡ true → w ≡ codes "x")
     → cond isw (option_map (λ n. step.Write n.0 n.1) (two_numbers ws)) (cond isr (option_map (λ p. step.Read p) (one_number ws)) (cond isg (option_map (λ n. step.Go n.0 n.1) (two_numbers ws)) (cond isx (option_map (λ p. step.Stop p) (one_number ws)) None))) ≡ Some s
     → join_with_byte 32 (w ∷ ws) ≡ step_text s
-step_by true isr isg isx w ws s e f g k h = with_two w (codes "w") ws s (λ n. step.Write n.0 n.1) (λ n. refl) (e refl) h
-step_by false true isg isx w ws s e f g k h = with_one w (codes "r") ws s (λ p. step.Read p) (λ p. refl) (f refl) h
-step_by false false true isx w ws s e f g k h = with_two w (codes "g") ws s (λ n. step.Go n.0 n.1) (λ n. refl) (g refl) h
-step_by false false false true w ws s e f g k h = with_one w (codes "x") ws s (λ p. step.Stop p) (λ p. refl) (k refl) h
-step_by false false false false w ws s e f g k h = absurd cc
+step_by_letter true isr isg isx w ws s e f g k h = with_two w (codes "w") ws s (λ n. step.Write n.0 n.1) (λ n. refl) (e refl) h
+step_by_letter false true isg isx w ws s e f g k h = with_one w (codes "r") ws s (λ p. step.Read p) (λ p. refl) (f refl) h
+step_by_letter false false true isx w ws s e f g k h = with_two w (codes "g") ws s (λ n. step.Go n.0 n.1) (λ n. refl) (g refl) h
+step_by_letter false false false true w ws s e f g k h = with_one w (codes "x") ws s (λ p. step.Stop p) (λ p. refl) (k refl) h
+step_by_letter false false false false w ws s e f g k h = absurd cc
 
 pub step_is : (ws : List (List ℕ)) (s : Step) → step_of_words ws ≡ Some s → join_with_byte 32 ws ≡ step_text s
 step_is [] s h = absurd cc
-step_is (w ∷ ws) s h = step_by (bytes_eq w (codes "w")) (bytes_eq w (codes "r")) (bytes_eq w (codes "g")) (bytes_eq w (codes "x")) w ws s (is_word w (codes "w")) (is_word w (codes "r")) (is_word w (codes "g")) (is_word w (codes "x")) h
+step_is (w ∷ ws) s h = step_by_letter (bytes_eq w (codes "w")) (bytes_eq w (codes "r")) (bytes_eq w (codes "g")) (bytes_eq w (codes "x")) w ws s (is_word w (codes "w")) (is_word w (codes "r")) (is_word w (codes "g")) (is_word w (codes "x")) h
 
 -- the first word of a step is `w`, `r`, `g` or `x`, and so no other word
-words_of_steps : (isw isr isg isx : Bool) (ws : List (List ℕ)) (w other : List ℕ) (s : Step) → (isw ≡ true → w ≡ codes "w") → (isr ≡ true → w ≡ codes "r") → (isg ≡ true → w ≡ codes "g") → (isx ≡ true → w ≡ codes "x")
+first_word_by_letter : (isw isr isg isx : Bool) (ws : List (List ℕ)) (w other : List ℕ) (s : Step) → (isw ≡ true → w ≡ codes "w") → (isr ≡ true → w ≡ codes "r") → (isg ≡ true → w ≡ codes "g") → (isx ≡ true → w ≡ codes "x")
     → bytes_eq (codes "w") other ≡ false → bytes_eq (codes "r") other ≡ false → bytes_eq (codes "g") other ≡ false → bytes_eq (codes "x") other ≡ false
     → cond isw (option_map (λ n. step.Write n.0 n.1) (two_numbers ws)) (cond isr (option_map (λ p. step.Read p) (one_number ws)) (cond isg (option_map (λ n. step.Go n.0 n.1) (two_numbers ws)) (cond isx (option_map (λ p. step.Stop p) (one_number ws)) None))) ≡ Some s
     → bytes_eq w other ≡ false
-words_of_steps true isr isg isx ws w other s e f g k nw nr ng nx h = ap (λ (x : List ℕ). bytes_eq x other) (e refl) ∙ nw
-words_of_steps false true isg isx ws w other s e f g k nw nr ng nx h = ap (λ (x : List ℕ). bytes_eq x other) (f refl) ∙ nr
-words_of_steps false false true isx ws w other s e f g k nw nr ng nx h = ap (λ (x : List ℕ). bytes_eq x other) (g refl) ∙ ng
-words_of_steps false false false true ws w other s e f g k nw nr ng nx h = ap (λ (x : List ℕ). bytes_eq x other) (k refl) ∙ nx
-words_of_steps false false false false ws w other s e f g k nw nr ng nx h = absurd cc
+first_word_by_letter true isr isg isx ws w other s e f g k nw nr ng nx h = ap (λ (x : List ℕ). bytes_eq x other) (e refl) ∙ nw
+first_word_by_letter false true isg isx ws w other s e f g k nw nr ng nx h = ap (λ (x : List ℕ). bytes_eq x other) (f refl) ∙ nr
+first_word_by_letter false false true isx ws w other s e f g k nw nr ng nx h = ap (λ (x : List ℕ). bytes_eq x other) (g refl) ∙ ng
+first_word_by_letter false false false true ws w other s e f g k nw nr ng nx h = ap (λ (x : List ℕ). bytes_eq x other) (k refl) ∙ nx
+first_word_by_letter false false false false ws w other s e f g k nw nr ng nx h = absurd cc
 
-pub first_word : (ws : List (List ℕ)) (s : Step) (other : List ℕ) → bytes_eq (codes "w") other ≡ false → bytes_eq (codes "r") other ≡ false → bytes_eq (codes "g") other ≡ false → bytes_eq (codes "x") other ≡ false
+pub first_word_is_no_other : (ws : List (List ℕ)) (s : Step) (other : List ℕ) → bytes_eq (codes "w") other ≡ false → bytes_eq (codes "r") other ≡ false → bytes_eq (codes "g") other ≡ false → bytes_eq (codes "x") other ≡ false
     → step_of_words ws ≡ Some s → bytes_eq (next ws) other ≡ false
-first_word ws s other nw nr ng nx h =
+first_word_is_no_other ws s other nw nr ng nx h =
     let w = next ws in
-    words_of_steps (bytes_eq w (codes "w")) (bytes_eq w (codes "r")) (bytes_eq w (codes "g")) (bytes_eq w (codes "x")) (after_next ws) w other s
+    first_word_by_letter (bytes_eq w (codes "w")) (bytes_eq w (codes "r")) (bytes_eq w (codes "g")) (bytes_eq w (codes "x")) (after_next ws) w other s
     (is_word w (codes "w")) (is_word w (codes "r")) (is_word w (codes "g")) (is_word w (codes "x")) nw nr ng nx h
 
 one_short : (ws : List (List ℕ)) (n : ℕ) → one_number ws ≡ Some n → n < 10 ^ 9
@@ -143,18 +143,18 @@ two_short (w ∷ ws) n h =
 with_short : {A : Type 0} (o : Option A) (of : A → Step) (s : Step) → ((n : A) → o ≡ Some n → HasShortNumbers (of n)) → option_map of o ≡ Some s → HasShortNumbers s
 with_short o of s short h = let a = mapped of o s h in subst HasShortNumbers a.2 (short a.0 a.1)
 
-short_by : (isw isr isg isx : Bool) (ws : List (List ℕ)) (s : Step)
+short_by_letter : (isw isr isg isx : Bool) (ws : List (List ℕ)) (s : Step)
     → cond isw (option_map (λ n. step.Write n.0 n.1) (two_numbers ws)) (cond isr (option_map (λ p. step.Read p) (one_number ws)) (cond isg (option_map (λ n. step.Go n.0 n.1) (two_numbers ws)) (cond isx (option_map (λ p. step.Stop p) (one_number ws)) None))) ≡ Some s
     → HasShortNumbers s
-short_by true isr isg isx ws s h = with_short (two_numbers ws) (λ n. step.Write n.0 n.1) s (two_short ws) h
-short_by false true isg isx ws s h = with_short (one_number ws) (λ p. step.Read p) s (one_short ws) h
-short_by false false true isx ws s h = with_short (two_numbers ws) (λ n. step.Go n.0 n.1) s (two_short ws) h
-short_by false false false true ws s h = with_short (one_number ws) (λ p. step.Stop p) s (one_short ws) h
-short_by false false false false ws s h = absurd cc
+short_by_letter true isr isg isx ws s h = with_short (two_numbers ws) (λ n. step.Write n.0 n.1) s (two_short ws) h
+short_by_letter false true isg isx ws s h = with_short (one_number ws) (λ p. step.Read p) s (one_short ws) h
+short_by_letter false false true isx ws s h = with_short (two_numbers ws) (λ n. step.Go n.0 n.1) s (two_short ws) h
+short_by_letter false false false true ws s h = with_short (one_number ws) (λ p. step.Stop p) s (one_short ws) h
+short_by_letter false false false false ws s h = absurd cc
 
 step_short : (ws : List (List ℕ)) (s : Step) → step_of_words ws ≡ Some s → HasShortNumbers s
 step_short [] s h = absurd cc
-step_short (w ∷ ws) s h = short_by (bytes_eq w (codes "w")) (bytes_eq w (codes "r")) (bytes_eq w (codes "g")) (bytes_eq w (codes "x")) ws s h
+step_short (w ∷ ws) s h = short_by_letter (bytes_eq w (codes "w")) (bytes_eq w (codes "r")) (bytes_eq w (codes "g")) (bytes_eq w (codes "x")) ws s h
 
 pub step_again : (s : Step) → HasShortNumbers s → step_of_words (words (step_text s)) ≡ Some s
 step_again (step.Write p v) h =
@@ -182,7 +182,7 @@ step_prints (step.Stop p) h = text_prints (codes "x") (p ∷ []) refl (h, tt)
 -- if a text begins with a step's line, that is its first line, and its other lines are those of the
 -- rest
 pub step_first : (text rest : List ℕ) (s : Step) → HasShortNumbers s → text ≡ step_text s ++ 10 ∷ rest → parts 10 text ≡ step_text s ∷ parts 10 rest
-step_first text rest s h e = ap (parts 10) e ∙ cut_at 10 (step_text s) rest (all_weaker is_print (is_not 10) print_stays (step_text s) (step_prints s h))
+step_first text rest s h e = ap (parts 10) e ∙ cut_at 10 (step_text s) rest (all_weaker is_print (is_not 10) print_is_no_line_end (step_text s) (step_prints s h))
 
 -- the next of these lines spells the step s and ends with a line end; `rest` has the lines after it
 pub record IsNextStep (all : List (List ℕ)) (s : Step) (rest : List ℕ) : Type 0 where
@@ -197,7 +197,7 @@ step_next text left all rest s e view h front =
     sym view ∙ ap (λ (o : Option (Bor (List ℕ))). parts_left 10 (option_map (λ t. t.now) o)) e ∙ step_first left.now rest s h front in
     record {
       step = ap (λ (ls : List (List ℕ)). step_of_words (words (next ls))) is ∙ step_again s h;
-      whole = ap (λ (ls : List (List ℕ)). is_end (after_next ls)) is ∙ split_some (λ b. b == 10) rest;
+      whole = ap (λ (ls : List (List ℕ)). is_end (after_next ls)) is ∙ split_nonempty (λ b. b == 10) rest;
       left = sym (ap after_next is);
     }
 

@@ -37,8 +37,8 @@ digit_not c lt b h = let d = digit_bounds b h in grind (arith, nat_tests, d)
 pub digit_prints : (b : ℕ) → is_ascii_digit b ≡ true → is_print b ≡ true
 digit_prints b h = let d = digit_bounds b h in grind (arith, nat_tests, d)
 
-pub print_stays : (b : ℕ) → is_print b ≡ true → is_not 10 b ≡ true
-print_stays b h = grind (arith, nat_tests)
+pub print_is_no_line_end : (b : ℕ) → is_print b ≡ true → is_not 10 b ≡ true
+print_is_no_line_end b h = grind (arith, nat_tests)
 
 -- a number has at most 9 digits
 abbrev pub IsShort : ℕ → Type 0

@@ -61,7 +61,7 @@ pub(crate) fn first_part(text: &[u8], separator: u8) -> (&[u8], Option<&[u8]>)
     ensures { parts separator text.now ≡ result.0.now ∷ parts_left separator
         (option_map (λ t. t.now) result.1) }
 {
-    match first_place(text, separator) {
+    match first_index(text, separator) {
         None => (text, None),
         Some(end) => {
             let (part, following) = text.split_at(end);
@@ -71,7 +71,7 @@ pub(crate) fn first_part(text: &[u8], separator: u8) -> (&[u8], Option<&[u8]>)
 }
 
 /// The index of the first byte that equals `byte`; `None` if there is none.
-fn first_place(text: &[u8], byte: u8) -> Option<usize>
+fn first_index(text: &[u8], byte: u8) -> Option<usize>
     ensures { result ≡ position (λ b. b == byte) text.now }
 {
     // Parts are short: one test for each byte costs less than a call that tests many at once.

@@ -28,25 +28,25 @@ pub fn step_of(words: &mut Parts<'_>) -> Option<Step>
 /// # Errors
 ///
 /// If memory runs out.
-pub fn append_step(out: &mut Vec<u8>, step: Step) -> Result<(), AllocError>
+pub fn push_step(out: &mut Vec<u8>, step: Step) -> Result<(), AllocError>
     ensures { OnOk result (out.new.items ≡ out.old.items ++ spec.step_text step) }
 {
     match step {
-        Step::Write { p, v } => append_letter(out, b'w', &[p, v]),
-        Step::Read { p } => append_letter(out, b'r', &[p]),
-        Step::Go { p, c } => append_letter(out, b'g', &[p, c]),
-        Step::Stop { p } => append_letter(out, b'x', &[p]),
+        Step::Write { p, v } => push_letter(out, b'w', &[p, v]),
+        Step::Read { p } => push_letter(out, b'r', &[p]),
+        Step::Go { p, c } => push_letter(out, b'g', &[p, c]),
+        Step::Stop { p } => push_letter(out, b'x', &[p]),
     }
 }
 
 /// Adds a word of one letter at the end of `out` and then, for each number, a space and the number.
 /// Fails only if memory runs out.
-fn append_letter(out: &mut Vec<u8>, letter: u8, numbers: &[u32]) -> Result<(), AllocError>
+fn push_letter(out: &mut Vec<u8>, letter: u8, numbers: &[u32]) -> Result<(), AllocError>
     ensures { OnOk result
         (out.new.items ≡ out.old.items ++ spec.text (letter ∷ []) numbers.now) }
 {
     out.push(letter)?;
-    append_numbers(out, numbers)
+    push_numbers(out, numbers)
 }
 
 /// Adds a word at the end of `out` and then, for each number, a space and the number. Fails only if
@@ -55,12 +55,12 @@ pub fn push_words(out: &mut Vec<u8>, word: &str, numbers: &[u32]) -> Result<(), 
     ensures { OnOk result (out.new.items ≡ out.old.items ++ spec.text word.now numbers.now) }
 {
     push_text(out, word)?;
-    append_numbers(out, numbers)
+    push_numbers(out, numbers)
 }
 
 /// Adds at the end of `out`, for each number, a space and the number. Fails only if memory runs
 /// out.
-fn append_numbers(out: &mut Vec<u8>, numbers: &[u32]) -> Result<(), AllocError>
+fn push_numbers(out: &mut Vec<u8>, numbers: &[u32]) -> Result<(), AllocError>
     ensures { OnOk result (out.new.items ≡ out.old.items ++ spec.text [] numbers.now) }
 {
     for number in numbers {
@@ -71,7 +71,7 @@ fn append_numbers(out: &mut Vec<u8>, numbers: &[u32]) -> Result<(), AllocError>
 }
 
 /// Whether the bytes of `word` are those of `text`.
-pub fn is(word: &[u8], text: &str) -> bool
+pub fn is_word(word: &[u8], text: &str) -> bool
     ensures { result ≡ bytes_eq word.now text.now }
 {
     word == text.as_bytes()

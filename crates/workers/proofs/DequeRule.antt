@@ -63,22 +63,22 @@ module _ {J : Type 0} where
   le_total f (x ∷ xs) (suc port) v at = omega (arith, le_total f xs port v at)
 
   -- two hands have no more than all have
-  two : (f : Hand J → ℕ) (views : List (Hand J)) (i j : ℕ) (v u : Hand J) → i ≢ j → get_elem? views i ≡ some v → get_elem? views j ≡ some u → f v + f u ≤ total f views
-  two f [] i j v u apart at at' = absurd (some-ne-none v (sym at))
-  two f (x ∷ xs) zero zero v u apart at at' = absurd (apart refl)
-  two f (x ∷ xs) zero (suc j) v u apart at at' = let same : x ≡ v = cc in let also : f x ≡ f v = ap f same in omega (arith, le_total f xs j u at')
-  two f (x ∷ xs) (suc i) zero v u apart at at' = let same : x ≡ u = cc in let also : f x ≡ f u = ap f same in omega (arith, le_total f xs i v at)
-  two f (x ∷ xs) (suc i) (suc j) v u apart at at' = omega (arith, two f xs i j v u (λ e. apart (ap suc e)) at at')
+  two_within_total : (f : Hand J → ℕ) (views : List (Hand J)) (i j : ℕ) (v u : Hand J) → i ≢ j → get_elem? views i ≡ some v → get_elem? views j ≡ some u → f v + f u ≤ total f views
+  two_within_total f [] i j v u apart at at' = absurd (some-ne-none v (sym at))
+  two_within_total f (x ∷ xs) zero zero v u apart at at' = absurd (apart refl)
+  two_within_total f (x ∷ xs) zero (suc j) v u apart at at' = let same : x ≡ v = cc in let also : f x ≡ f v = ap f same in omega (arith, le_total f xs j u at')
+  two_within_total f (x ∷ xs) (suc i) zero v u apart at at' = let same : x ≡ u = cc in let also : f x ≡ f u = ap f same in omega (arith, le_total f xs i v at)
+  two_within_total f (x ∷ xs) (suc i) (suc j) v u apart at at' = omega (arith, two_within_total f xs i j v u (λ e. apart (ap suc e)) at at')
 
   total_none : (f : Hand J → ℕ) (views : List (Hand J)) → ((j : ℕ) (u : Hand J) → get_elem? views j ≡ some u → f u ≡ 0) → total f views ≡ 0
   total_none f [] none = refl
   total_none f (x ∷ xs) none = let here : f x ≡ 0 = none 0 x refl in omega (arith, total_none f xs (λ j u e. none (suc j) u e))
 
   -- if all others have nothing, one has what all have
-  only : (f : Hand J → ℕ) (views : List (Hand J)) (port : ℕ) (v : Hand J) → get_elem? views port ≡ some v → ((j : ℕ) (u : Hand J) → j ≢ port → get_elem? views j ≡ some u → f u ≡ 0) → total f views ≡ f v
-  only f [] port v at others = absurd (some-ne-none v (sym at))
-  only f (x ∷ xs) zero v at others = let same : x ≡ v = cc in let also : f x ≡ f v = ap f same in omega (arith, total_none f xs (λ j u e. others (suc j) u (omega arith) e))
-  only f (x ∷ xs) (suc port) v at others = let here : f x ≡ 0 = others 0 x (omega arith) refl in omega (arith, only f xs port v at (λ j u other e. others (suc j) u (λ same. other (omega arith)) e))
+  total_of_only : (f : Hand J → ℕ) (views : List (Hand J)) (port : ℕ) (v : Hand J) → get_elem? views port ≡ some v → ((j : ℕ) (u : Hand J) → j ≢ port → get_elem? views j ≡ some u → f u ≡ 0) → total f views ≡ f v
+  total_of_only f [] port v at others = absurd (some-ne-none v (sym at))
+  total_of_only f (x ∷ xs) zero v at others = let same : x ≡ v = cc in let also : f x ≡ f v = ap f same in omega (arith, total_none f xs (λ j u e. others (suc j) u (omega arith) e))
+  total_of_only f (x ∷ xs) (suc port) v at others = let here : f x ≡ 0 = others 0 x (omega arith) refl in omega (arith, total_of_only f xs port v at (λ j u other e. others (suc j) u (λ same. other (omega arith)) e))
 
   knows_set : (jobs : List J) (views : List (Hand J)) (port : ℕ) (w : Hand J) → KnowsJobs jobs w → ((j : ℕ) (u : Hand J) → j ≢ port → get_elem? views j ≡ some u → KnowsJobs jobs u)
       → (j : ℕ) (u : Hand J) → get_elem? (set views port w) j ≡ some u → KnowsJobs jobs u
@@ -86,13 +86,13 @@ module _ {J : Type 0} where
       (λ (x : (j ≢ port) × (get_elem? views j ≡ some u)). others j u x.0 x.1) (at_set views port j w u e)
 
   -- a hand with every part is the only one with a part
-  alone : (items : List (Numbered J)) (views : List (Hand J)) (port : ℕ) (v : Hand J) → IsDealt items views → v.parts ≡ 8 → get_elem? views port ≡ some v
+  others_have_none : (items : List (Numbered J)) (views : List (Hand J)) (port : ℕ) (v : Hand J) → IsDealt items views → v.parts ≡ 8 → get_elem? views port ≡ some v
       → (j : ℕ) (u : Hand J) → j ≢ port → get_elem? views j ≡ some u → u.parts ≡ 0
-  alone items views port v h all at j u other e = let p = two (λ x. x.parts) views port j v u (λ same. other (sym same)) at e in let q = h.whole in omega arith
+  others_have_none items views port v h all at j u other e = let p = two_within_total (λ x. x.parts) views port j v u (λ same. other (sym same)) at e in let q = h.whole in omega arith
 
-  starts_known : (j : ℕ) (u : Hand J) → get_elem? (hand 8 [] [] ∷ []) j ≡ some u → KnowsJobs [] u
-  starts_known zero u e = let is : hand 8 [] [] ≡ u = cc in subst (KnowsJobs []) is (record { dealt = λ _. refl; idle = λ _. refl })
-  starts_known (suc j) u e = absurd (some-ne-none u (sym e))
+  starts_knowing : (j : ℕ) (u : Hand J) → get_elem? (hand 8 [] [] ∷ []) j ≡ some u → KnowsJobs [] u
+  starts_knowing zero u e = let is : hand 8 [] [] ≡ u = cc in subst (KnowsJobs []) is (record { dealt = λ _. refl; idle = λ _. refl })
+  starts_knowing (suc j) u e = absurd (some-ne-none u (sym e))
 
   -- at first no job is dealt, the deque is empty, and one hand has every part
   pub starts : IsDealt {J = J} [] (hand 8 [] [] ∷ [])
@@ -101,26 +101,26 @@ module _ {J : Type 0} where
     whole = refl;
     once = λ g. refl;
     each = λ k d none. absurd (omega arith);
-    knows = starts_known;
+    knows = starts_knowing;
   }
 
   -- a job keeps its number if more are dealt
-  at_more : (jobs more : List J) (i : ℕ) (job : J) → IsJobAt jobs i job → IsJobAt (jobs ++ more) i job
-  at_more [] more i job at = absurd at
-  at_more (first ∷ jobs) more zero job at = at
-  at_more (first ∷ jobs) more (suc i) job at = at_more jobs more i job at
+  job_at_more : (jobs more : List J) (i : ℕ) (job : J) → IsJobAt jobs i job → IsJobAt (jobs ++ more) i job
+  job_at_more [] more i job at = absurd at
+  job_at_more (first ∷ jobs) more zero job at = at
+  job_at_more (first ∷ jobs) more (suc i) job at = job_at_more jobs more i job at
 
   -- the job that is dealt last has the next number
-  at_end : (jobs : List J) (job : J) → IsJobAt (jobs ++ job ∷ []) (length jobs) job
-  at_end [] job = refl
-  at_end (first ∷ jobs) job = at_end jobs job
+  job_at_end : (jobs : List J) (job : J) → IsJobAt (jobs ++ job ∷ []) (length jobs) job
+  job_at_end [] job = refl
+  job_at_end (first ∷ jobs) job = job_at_end jobs job
 
   -- each of the items is the job with its number
   abbrev AreAt : List J → List (Numbered J) → Type 0
   AreAt jobs items = All (λ item. IsJobAt jobs item.index item.job) items
 
   each_more : (jobs more : List J) (items : List (Numbered J)) → AreAt jobs items → AreAt (jobs ++ more) items
-  each_more jobs more items each k d within = at_more jobs more _ _ (each k d within)
+  each_more jobs more items each k d within = job_at_more jobs more _ _ (each k d within)
 
   each_of : (jobs : List J) (xs ys : List (Numbered J)) → AreAt jobs (xs ++ ys) → AreAt jobs xs × AreAt jobs ys
   each_of jobs [] ys each = (λ k d none. absurd (omega arith), each)
@@ -147,9 +147,9 @@ module _ {J : Type 0} where
               let m : weigh_below g (length jobs) ≡ weigh_below g (length v.jobs + 1) = ap (weigh_below g) (length-append v.jobs (item.job ∷ [])) in
               omega (arith, weigh-append g (numbers items) (item.index ∷ []), below_more g (length v.jobs));
           each = All-push (λ (i : Numbered J). IsJobAt jobs i.index i.job) items item (each_more v.jobs (item.job ∷ []) items (subst (λ (js : List J). AreAt js items) (sym same) h.each))
-              (subst (λ (n : ℕ). IsJobAt jobs n item.job) (sym next) (at_end v.jobs item.job));
+              (subst (λ (n : ℕ). IsJobAt jobs n item.job) (sym next) (job_at_end v.jobs item.job));
           knows = knows_set jobs views port w (record { dealt = λ _. refl; idle = λ none. absurd (omega arith) })
-              (λ j u other e. let none = alone items views port v h all at j u other e in record { dealt = λ some_part. absurd (omega arith); idle = (h.knows j u e).idle });
+              (λ j u other e. let none = others_have_none items views port v h all at j u other e in record { dealt = λ some_part. absurd (omega arith); idle = (h.knows j u e).idle });
         },
         refl,
       )
@@ -193,7 +193,7 @@ module _ {J : Type 0} where
   pub finds : (port : ℕ) (v : Hand J) → Finds IsDealt port v (HasAllJobs v)
   finds port v views h at all g =
       let same : v.jobs ≡ h.jobs = (h.knows port v at).dealt (omega arith) in
-      let mine = only (λ u. weigh g u.taken) views port v at (λ j u other e. ap (weigh g) ((h.knows j u e).idle (alone [] views port v h all at j u other e))) in
+      let mine = total_of_only (λ u. weigh g u.taken) views port v at (λ j u other e. ap (weigh g) ((h.knows j u e).idle (others_have_none [] views port v h all at j u other e))) in
       let p = h.once g in
       let q : weigh_below g (length v.jobs) ≡ weigh_below g (length h.jobs) = ap (λ (js : List J). weigh_below g (length js)) same in
       omega arith

@@ -18,8 +18,8 @@ module _ {J : Type 0} where
   took_at jobs v w x known took = subst (λ (js : List J). IsJobAt js x.index x.job) known (took.each 0 x (omega arith))
 
   -- once a hand has taken one more job, fewer are left for it to take
-  pub nearer : (v w : Hand J) (x : Numbered J) → HasTaken v (x ∷ []) w → length w.jobs - length w.taken < length v.jobs - length v.taken
-  nearer v w x took =
+  pub fewer_left : (v w : Hand J) (x : Numbered J) → HasTaken v (x ∷ []) w → length w.jobs - length w.taken < length v.jobs - length v.taken
+  fewer_left v w x took =
       let jobs : length w.jobs ≡ length v.jobs = ap (λ (u : Hand J). length u.jobs) took.hand_is in
       let len : length w.taken ≡ length (v.taken ++ x.index ∷ []) = ap (λ (u : Hand J). length u.taken) took.hand_is in
       let within = took.within in
@@ -53,8 +53,8 @@ module _ {D : Type 0} where
   not_empty slot items rest split full none = true≢false (sym (subst IsSome none (All-head IsSome slot rest (All-same IsSome (slot ∷ rest) items (sym split) full))))
 
   -- the outcomes so far, with the slots that are left, are all slots; so they are with one more
-  pub outcomes_on : (slots items rest : List (Option D)) (slot : Option D) (all more : List D) (done : D) → items ≡ slot ∷ rest → slot ≡ Some done → more ≡ all ++ done ∷ [] → slots ≡ map Some all ++ items → slots ≡ map Some more ++ rest
-  outcomes_on slots items rest slot all more done split is added whole =
+  pub outcomes_more : (slots items rest : List (Option D)) (slot : Option D) (all more : List D) (done : D) → items ≡ slot ∷ rest → slot ≡ Some done → more ≡ all ++ done ∷ [] → slots ≡ map Some all ++ items → slots ≡ map Some more ++ rest
+  outcomes_more slots items rest slot all more done split is added whole =
       whole ∙ ap (λ (l : List (Option D)). map Some all ++ l) (split ∙ ap (λ (s : Option D). s ∷ rest) is) ∙ sym (append_assoc (map Some all) (Some done ∷ []) rest)
       ∙ ap (λ (l : List (Option D)). l ++ rest) (sym (map-append Some all (done ∷ [])) ∙ ap (map Some) (sym added))
 
@@ -80,10 +80,10 @@ module _ {J D : Type 0} (ends : J → D → Type 0) where
   job_below (first ∷ jobs) zero job at = omega arith
   job_below (first ∷ jobs) (suc i) job at = omega (arith, job_below jobs i job at)
 
-  pub at_below : (jobs : List J) (i : ℕ) (o : D) → IsOutcomeAt ends jobs i o → i < length jobs
-  at_below [] i o at = absurd at
-  at_below (j ∷ jobs) zero o at = omega arith
-  at_below (j ∷ jobs) (suc i) o at = omega (arith, at_below jobs i o at)
+  pub outcome_below : (jobs : List J) (i : ℕ) (o : D) → IsOutcomeAt ends jobs i o → i < length jobs
+  outcome_below [] i o at = absurd at
+  outcome_below (j ∷ jobs) zero o at = omega arith
+  outcome_below (j ∷ jobs) (suc i) o at = omega (arith, outcome_below jobs i o at)
 
   -- one more job is taken, which isn't the job of this slot
   slot_more : (n : ℕ) (taken : List ℕ) (job : J) (slot : Option D) (k : ℕ) → k ≢ n → IsSlot ends n taken job slot → IsSlot ends n (taken ++ k ∷ []) job slot
@@ -128,12 +128,12 @@ module _ {J D : Type 0} (ends : J → D → Type 0) where
       let count : length v.jobs ≡ length jobs = ap length h.known in
       slots_full_from 0 v.taken jobs slots h.slotted (λ i from to. all whole (one_at i) ∙ one_below i (length v.jobs) (omega arith))
 
-  pub full_some : (jobs : List J) (slots : List (Option D)) → AreFull ends jobs slots → All IsSome slots
-  full_some [] [] full = λ k d none. absurd (omega arith)
-  full_some [] (slot ∷ slots) full = absurd full
-  full_some (job ∷ jobs) [] full = absurd full
-  full_some (job ∷ jobs) (None ∷ slots) full = absurd full
-  full_some (job ∷ jobs) (Some o ∷ slots) full = All-cons IsSome (Some o) slots refl (full_some jobs slots full.1)
+  pub full_is_some : (jobs : List J) (slots : List (Option D)) → AreFull ends jobs slots → All IsSome slots
+  full_is_some [] [] full = λ k d none. absurd (omega arith)
+  full_is_some [] (slot ∷ slots) full = absurd full
+  full_is_some (job ∷ jobs) [] full = absurd full
+  full_is_some (job ∷ jobs) (None ∷ slots) full = absurd full
+  full_is_some (job ∷ jobs) (Some o ∷ slots) full = All-cons IsSome (Some o) slots refl (full_is_some jobs slots full.1)
 
   -- the jobs were dealt, and none was taken
   pub at_start : (jobs : List J) (v : Hand J) (slots : List (Option D)) → v ≡ hand 8 jobs [] → slots ≡ replicate (length jobs) None → IsAtWork ends v.jobs v slots
@@ -142,20 +142,20 @@ module _ {J D : Type 0} (ends : J → D → Type 0) where
       subst P (sym dealt) (record { part = omega arith; known = refl; slotted = subst (AreSlots ends 0 [] jobs) (sym vacant) (vacant_slots 0 jobs) })
 
   -- the caller takes one more job, and puts its outcome into its slot
-  pub works_on : (jobs : List J) (v w : Hand J) (slots : List (Option D)) (x : Numbered J) (o : D) → IsAtWork ends jobs v slots → HasTaken v (x ∷ []) w → ends x.job o → IsAtWork ends jobs w (set slots x.index (Some o))
-  works_on jobs v w slots x o h took of =
+  pub at_work_after_job : (jobs : List J) (v w : Hand J) (slots : List (Option D)) (x : Numbered J) (o : D) → IsAtWork ends jobs v slots → HasTaken v (x ∷ []) w → ends x.job o → IsAtWork ends jobs w (set slots x.index (Some o))
+  at_work_after_job jobs v w slots x o h took of =
       let P : Hand J → Type 0 = λ u. IsAtWork ends jobs u (set slots x.index (Some o)) in
       let at = outcome_at jobs x.index x.job o (took_at jobs v w x h.known took) of in
       subst P (sym took.hand_is) (record { part = h.part; known = h.known; slotted = slots_put v.taken jobs slots x.index o h.slotted at })
 
   -- the job that the caller takes has a slot
-  pub works_within : (jobs : List J) (v w : Hand J) (slots : List (Option D)) (x : Numbered J) → IsAtWork ends jobs v slots → HasTaken v (x ∷ []) w → x.index < length slots
-  works_within jobs v w slots x h took = omega (arith, job_below jobs x.index x.job (took_at jobs v w x h.known took), slots_length 0 v.taken jobs slots h.slotted)
+  pub taken_within_slots : (jobs : List J) (v w : Hand J) (slots : List (Option D)) (x : Numbered J) → IsAtWork ends jobs v slots → HasTaken v (x ∷ []) w → x.index < length slots
+  taken_within_slots jobs v w slots x h took = omega (arith, job_below jobs x.index x.job (took_at jobs v w x h.known took), slots_length 0 v.taken jobs slots h.slotted)
 
   -- a thief takes one more job, and adds its outcome to its list
-  pub steals_on : (jobs : List J) (v w : Hand J) (ran : List (Taken D)) (x : Numbered J) (o : D) → HasRunItsJobs ends jobs v ran → HasTaken v (x ∷ []) w → ends x.job o
+  pub has_run_after_job : (jobs : List J) (v w : Hand J) (ran : List (Taken D)) (x : Numbered J) (o : D) → HasRunItsJobs ends jobs v ran → HasTaken v (x ∷ []) w → ends x.job o
       → HasRunItsJobs ends jobs w (ran ++ record { index = x.index; done = o } ∷ [])
-  steals_on jobs v w ran x o h took of =
+  has_run_after_job jobs v w ran x o h took of =
       let t : Taken D = record { index = x.index; done = o } in
       let P : Hand J → Type 0 = λ u. HasRunItsJobs ends jobs u (ran ++ t ∷ []) in
       subst P (sym took.hand_is) (record {
@@ -185,14 +185,14 @@ module _ {J D : Type 0} (ends : J → D → Type 0) where
   pub ran_slots : (jobs mine his : List J) (v u : Hand J) (slots : List (Option D)) (ran : List (Taken D)) → mine ≡ jobs → his ≡ jobs → IsAtWork ends mine v slots → HasRunItsJobs ends his u ran → All (λ t. t.index < length slots) ran
   ran_slots jobs mine his v u slots ran same same' h t k d within =
       let len : length slots ≡ length mine = slots_length 0 v.taken mine slots h.slotted in
-      let below : (get_or ran k d).index < length his = at_below his (get_or ran k d).index (get_or ran k d).done (t.outcomes k d within) in
+      let below : (get_or ran k d).index < length his = outcome_below his (get_or ran k d).index (get_or ran k d).done (t.outcomes k d within) in
       let count : length mine ≡ length his = ap length (same ∙ sym same') in
       omega arith
 
   -- the caller takes over the jobs of a thief, and their outcomes go into their slots
-  pub comes_over : (jobs mine his : List J) (v u w : Hand J) (slots : List (Option D)) (ran : List (Taken D)) → mine ≡ jobs → his ≡ jobs → IsAtWork ends mine v slots → HasRunItsJobs ends his u ran → w ≡ hand (v.parts + u.parts) v.jobs (v.taken ++ u.taken)
+  pub takes_over : (jobs mine his : List J) (v u w : Hand J) (slots : List (Option D)) (ran : List (Taken D)) → mine ≡ jobs → his ≡ jobs → IsAtWork ends mine v slots → HasRunItsJobs ends his u ran → w ≡ hand (v.parts + u.parts) v.jobs (v.taken ++ u.taken)
       → IsAtWork ends jobs w (with_all slots ran)
-  comes_over jobs mine his v u w slots ran same same' h t is =
+  takes_over jobs mine his v u w slots ran same same' h t is =
       let P : Hand J → Type 0 = λ x. IsAtWork ends jobs x (with_all slots ran) in
       let slotted : AreSlots ends 0 v.taken jobs slots = subst (λ (js : List J). AreSlots ends 0 v.taken js slots) same h.slotted in
       let outcomes : All (λ (x : Taken D). IsOutcomeAt ends jobs x.index x.done) ran = subst (λ (js : List J). All (λ (x : Taken D). IsOutcomeAt ends js x.index x.done) ran) same' t.outcomes in
@@ -203,8 +203,8 @@ module _ {J D : Type 0} (ends : J → D → Type 0) where
       })
 
   -- the jobs were dealt, shared, and worked on until the deque was empty
-  pub at_end : (jobs : List J) (u v w : Hand J) (shared slots : List (Option D)) → u ≡ hand 8 jobs [] → IsAtWork ends u.jobs v shared → v.parts ≡ u.parts → IsAtWork ends v.jobs w slots → w.parts ≡ v.parts → HasAllJobs w → AreFull ends jobs slots
-  at_end jobs u v w shared slots dealt was kept h kept' all =
+  pub full_at_end : (jobs : List J) (u v w : Hand J) (shared slots : List (Option D)) → u ≡ hand 8 jobs [] → IsAtWork ends u.jobs v shared → v.parts ≡ u.parts → IsAtWork ends v.jobs w slots → w.parts ≡ v.parts → HasAllJobs w → AreFull ends jobs slots
+  full_at_end jobs u v w shared slots dealt was kept h kept' all =
       let same : v.jobs ≡ jobs = was.known ∙ ap (λ (x : Hand J). x.jobs) dealt in
       let whole : w.parts ≡ 8 = kept' ∙ kept ∙ ap (λ (x : Hand J). x.parts) dealt in
       subst (λ (js : List J). AreFull ends js slots) same (slots_full v.jobs w slots h whole all)
@@ -225,17 +225,17 @@ module _ {J K R : Type 0} (named : J → K) (gives : J → R → Type 0) where
   full_outcomes (job ∷ jobs) (done ∷ all) full = (full.0, full_outcomes jobs all full.1)
 
   -- `all`, with an outcome for each of the jobs `left`, are the outcomes of all jobs
-  abbrev pub GoesOn : List J → List J → List (Done K R) → Type 0
-  GoesOn jobs left all = (later : List (Done K R)) → OneForEach named gives left later → OneForEach named gives jobs (all ++ later)
+  abbrev pub AreOutcomesSoFar : List J → List J → List (Done K R) → Type 0
+  AreOutcomesSoFar jobs left all = (later : List (Done K R)) → OneForEach named gives left later → OneForEach named gives jobs (all ++ later)
 
-  -- `GoesOn` still holds when the outcome of the next job is added
-  pub goes_on : (jobs items left : List J) (job : J) (all more : List (Done K R)) (done : Done K R) → items ≡ job ∷ left → IsDoneOf named gives job done → more ≡ all ++ done ∷ [] → GoesOn jobs items all → GoesOn jobs left more
-  goes_on jobs items left job all more done split of added goes later rest =
+  -- `AreOutcomesSoFar` still holds when the outcome of the next job is added
+  pub one_more_outcome : (jobs items left : List J) (job : J) (all more : List (Done K R)) (done : Done K R) → items ≡ job ∷ left → IsDoneOf named gives job done → more ≡ all ++ done ∷ [] → AreOutcomesSoFar jobs items all → AreOutcomesSoFar jobs left more
+  one_more_outcome jobs items left job all more done split of added goes later rest =
       let on : OneForEach named gives jobs (all ++ done ∷ later) = goes (done ∷ later) (subst (λ (js : List J). OneForEach named gives js (done ∷ later)) (sym split) (of, rest)) in
       subst (λ (l : List (Done K R)). OneForEach named gives jobs (l ++ later)) (sym added)
       (subst (λ (l : List (Done K R)). OneForEach named gives jobs l) (sym (append_assoc all (done ∷ []) later)) on)
 
   -- once no job is left, the outcomes are those of all jobs
-  pub goes_over : (jobs items : List J) (n : ℕ) (all : List (Done K R)) → n ≡ length items → n ≡ 0 → GoesOn jobs items all → OneForEach named gives jobs all
-  goes_over jobs [] n all len none goes = subst (λ (l : List (Done K R)). OneForEach named gives jobs l) (append-nil all) (goes [] tt)
-  goes_over jobs (job ∷ items) n all len none goes = absurd (omega arith)
+  pub outcomes_of_all : (jobs items : List J) (n : ℕ) (all : List (Done K R)) → n ≡ length items → n ≡ 0 → AreOutcomesSoFar jobs items all → OneForEach named gives jobs all
+  outcomes_of_all jobs [] n all len none goes = subst (λ (l : List (Done K R)). OneForEach named gives jobs l) (append-nil all) (goes [] tt)
+  outcomes_of_all jobs (job ∷ items) n all len none goes = absurd (omega arith)

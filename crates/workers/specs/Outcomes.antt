@@ -15,7 +15,8 @@ module _ {J K R : Type 0} (key : J → K) (gives : J → R → Type 0) where
   abbrev pub IsDoneOf : J → Done K R → Type 0
   IsDoneOf job done = (done.key ≡ key job) × IsOutcomeOf gives job done.outcome
 
-  -- the list has one possible outcome for each job, in the order of the jobs, each with its job's key
+  -- the list has one possible outcome for each job, in the order of the jobs, each with its job's
+  -- key
   abbrev pub OneForEach : List J → List (Done K R) → Type 0
   OneForEach [] [] = Unit {0}
   OneForEach (job ∷ jobs) (done ∷ rest) = IsDoneOf job done × OneForEach jobs rest

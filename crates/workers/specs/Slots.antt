@@ -1,5 +1,5 @@
--- Outcomes while a crew is at work. The caller has a slot for each job; each thief has a list of the
--- outcomes of the jobs that it ran.
+-- Outcomes while a crew is at work. The caller has a slot for each job; each thief has a list of
+-- the outcomes of the jobs that it ran.
 use Rattle.std.specs.Prelude.{◌≡◌, ℕ, zero, suc, ◌<◌, List, [], ◌∷◌, All, map, slice_set, Option, Some, None}
 use Rattle.workers.specs.declared.thief.Taken.{Taken}
 use Rattle.workers.specs.declared.hand.Hand.{Hand}

@@ -20,8 +20,8 @@ pub(crate) struct Taken<D> {
     pub done: D,
 }
 
-/// What a thief works with: its end of the deque, its pass (its right to steal), and the outcomes of
-/// the jobs that it has run.
+/// What a thief works with: its end of the deque, its pass (its right to steal), and the outcomes
+/// of the jobs that it has run.
 #[derive(Drop)]
 pub(crate) struct Thief<J, D> {
     pub deque: Other<J>,

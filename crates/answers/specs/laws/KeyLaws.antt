@@ -1,4 +1,5 @@
--- Keys of states are equal exactly if the states are; and what holds of each state is kept by moves.
+-- Keys of states are equal exactly if the states are; and what holds of each state is kept by
+-- moves.
 use Rattle.std.proofs.Common.{◌≡◌, ℕ, zero, suc, ◌+◌, ◌/◌, ◌%◌, ◌<◌, ◌≤◌, inl, inr, Bool, true, false, List, [], ◌++◌, map, Option, None, Some, refl, sym, ap, subst, ◌∙◌, append_assoc, if◌then◌else◌, arith}
 use Rattle.std.specs.Prelude.{◌&&◌, slice_index_or, bytes_eq}
 use Rattle.std.specs.Bool.{Decides}
@@ -51,8 +52,8 @@ module _ {P : Type 0} (b : Behaviour P) (running run : List (Option (Running P))
 
 module _ {R P : Type 0} (b : Behaviour P) (Holds : Memory → Type 0) (Reaches : ℕ → Op → P → Type 0) (lawful : IsLawful b Holds Reaches) (r : R) where
   module _ (point : ℕ → List Frame → Option P) (reports : FramesGivePoint b Reaches point) (E : R → R → Bool) (e : IsEquivalence E) where
-    unpacked : (x y : StateOf R P) → IsStateOf b Holds Reaches r x → IsStateOf b Holds Reaches r y → state_bytes b x ≡ state_bytes b y → SameState E x y
-    unpacked x y kx ky h =
+    same_by_bytes : (x y : StateOf R P) → IsStateOf b Holds Reaches r x → IsStateOf b Holds Reaches r y → state_bytes b x ≡ state_bytes b y → SameState E x y
+    same_by_bytes x y kx ky h =
         let cells = x.configuration.memory.cells in
         let cells' = y.configuration.memory.cells in
         let words = x.configuration.memory.words in
@@ -91,7 +92,7 @@ module _ {R P : Type 0} (b : Behaviour P) (Holds : Memory → Type 0) (Reaches :
           → bytes_eq (state_bytes b x) (state_bytes b y) ≡ state_eq E F x y
       same_bytes x y kx ky =
           let bytes = bytes_eq-Decides (state_bytes b x) (state_bytes b y) in
-          same_from_decides _ _ ((λ h. unpacked x y kx ky (bytes.0 h)), (λ same. bytes.1 (bytes_alike x y same))) (state_decides E F d x y)
+          same_from_decides _ _ ((λ h. same_by_bytes x y kx ky (bytes.0 h)), (λ same. bytes.1 (bytes_alike x y same))) (state_decides E F d x y)
 
   by_test : (x y : StateOf R P) (s : Step) (t u : Bool) → IsStateOf b Holds Reaches r x → fits_step b s ≡ t → (if t && u then Some (advanced b x s) else None) ≡ Some y
       → IsStateOf b Holds Reaches r y
@@ -111,8 +112,8 @@ module _ {R P : Type 0} (b : Behaviour P) (Holds : Memory → Type 0) (Reaches :
 
 module _ {R P : Type 0} (is : R → Behaviour P) (r : R) (Holds : Memory → Type 0) (Reaches : ℕ → Op → P → Type 0) (lawful : IsLawful (is r) Holds Reaches) where
   -- what holds of a state holds after a move
-  pub state_after : (q : Question) (x y : StateOf R P) (l : ℕ) → IsStateOf (is r) Holds Reaches r x → moved (is x.configuration.register) q x l ≡ Some y → IsStateOf (is r) Holds Reaches r y
-  state_after q x y l k h =
+  pub holds_after_move : (q : Question) (x y : StateOf R P) (l : ℕ) → IsStateOf (is r) Holds Reaches r x → moved (is x.configuration.register) q x l ≡ Some y → IsStateOf (is r) Holds Reaches r y
+  holds_after_move q x y l k h =
       by_step (is r) Holds Reaches lawful r x y (step_by q x.answers (l / 4) (l % 4)) k (ap (λ n. moved (is n) q x l) (sym k.register) ∙ h)
 
   -- keys are equal exactly if states are

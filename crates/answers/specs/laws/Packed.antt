@@ -14,8 +14,9 @@ use Rattle.frames.specs.declared.types.Outcome.{Outcome}
 use Rattle.frames.specs.declared.types.Outcome.TheVariants.{Value, Written, Spent}
 use Rattle.answers.specs.Packing.{half_bytes, number_bytes, packed, by_gaps, cell_code, op_code, layer_code, name_numbers, frame_numbers, frames_numbers, outcome_code, stack_numbers, outcomes_numbers}
 
-parts : {X : Type 0} {x y : X} {xs ys : List X} → x ∷ xs ≡ y ∷ ys → (x ≡ y) × (xs ≡ ys)
-parts h = (cc, cc)
+-- equal lists that aren't empty have equal first items and equal rests
+cons_parts : {X : Type 0} {x y : X} {xs ys : List X} → x ∷ xs ≡ y ∷ ys → (x ≡ y) × (xs ≡ ys)
+cons_parts h = (cc, cc)
 
 -- numbers with equal remainders and quotients by 256 are equal
 same_by_256 : (n m : ℕ) → n % 256 ≡ m % 256 → n / 256 ≡ m / 256 → n ≡ m
@@ -26,10 +27,10 @@ same_by_halves n m a b = omega (arith, a, b)
 
 same_half : (n m : ℕ) (r s : List ℕ) → half_bytes n ++ r ≡ half_bytes m ++ s → (n ≡ m) × (r ≡ s)
 same_half n m r s h =
-    let a = parts h in
-    let b = parts a.1 in
-    let c = parts b.1 in
-    let d = parts c.1 in
+    let a = cons_parts h in
+    let b = cons_parts a.1 in
+    let c = cons_parts b.1 in
+    let d = cons_parts c.1 in
     (same_by_256 n m a.0 (same_by_256 (n / 256) (m / 256) b.0 (same_by_256 (n / 256 / 256) (m / 256 / 256) c.0 d.0)), d.1)
 
 same_halves : (n m : ℕ) (r s : List ℕ) → (half_bytes (n % 4294967296) ++ half_bytes (n / 4294967296)) ++ r ≡ (half_bytes (m % 4294967296) ++ half_bytes (m / 4294967296)) ++ s
@@ -45,44 +46,44 @@ bytes_by t u n = if t then n ∷ [] else if u then (192 + n / 256) ∷ n % 256 �
 
 same_by_tests : (t u v w : Bool) (n m : ℕ) (r s : List ℕ) → nat_lt n 192 ≡ t → nat_lt n 16128 ≡ u → nat_lt m 192 ≡ v → nat_lt m 16128 ≡ w
     → bytes_by t u n ++ r ≡ bytes_by v w m ++ s → (n ≡ m) × (r ≡ s)
-same_by_tests true u true w n m r s a b c d h = parts h
-same_by_tests true u false true n m r s a b c d h = let e = parts h in let low = ltb-true n 192 a in absurd (omega (arith, e.0, low))
-same_by_tests true u false false n m r s a b c d h = let e = parts h in let low = ltb-true n 192 a in absurd (omega (arith, e.0, low))
-same_by_tests false true true w n m r s a b c d h = let e = parts h in let low = ltb-true m 192 c in absurd (omega (arith, e.0, low))
+same_by_tests true u true w n m r s a b c d h = cons_parts h
+same_by_tests true u false true n m r s a b c d h = let e = cons_parts h in let low = ltb-true n 192 a in absurd (omega (arith, e.0, low))
+same_by_tests true u false false n m r s a b c d h = let e = cons_parts h in let low = ltb-true n 192 a in absurd (omega (arith, e.0, low))
+same_by_tests false true true w n m r s a b c d h = let e = cons_parts h in let low = ltb-true m 192 c in absurd (omega (arith, e.0, low))
 same_by_tests false true false true n m r s a b c d h =
-    let e = parts h in
-    let f = parts e.1 in
+    let e = cons_parts h in
+    let f = cons_parts e.1 in
     let high : n / 256 ≡ m / 256 = omega (arith, e.0) in
     (same_by_256 n m f.0 high, f.1)
-same_by_tests false true false false n m r s a b c d h = let e = parts h in let low = ltb-true n 16128 b in absurd (omega (arith, e.0, low))
-same_by_tests false false true w n m r s a b c d h = let e = parts h in let low = ltb-true m 192 c in absurd (omega (arith, e.0, low))
-same_by_tests false false false true n m r s a b c d h = let e = parts h in let low = ltb-true m 16128 d in absurd (omega (arith, e.0, low))
-same_by_tests false false false false n m r s a b c d h = same_halves n m r s (parts h).1
+same_by_tests false true false false n m r s a b c d h = let e = cons_parts h in let low = ltb-true n 16128 b in absurd (omega (arith, e.0, low))
+same_by_tests false false true w n m r s a b c d h = let e = cons_parts h in let low = ltb-true m 192 c in absurd (omega (arith, e.0, low))
+same_by_tests false false false true n m r s a b c d h = let e = cons_parts h in let low = ltb-true m 16128 d in absurd (omega (arith, e.0, low))
+same_by_tests false false false false n m r s a b c d h = same_halves n m r s (cons_parts h).1
 
 same_number : (n m : ℕ) (r s : List ℕ) → number_bytes n ++ r ≡ number_bytes m ++ s → (n ≡ m) × (r ≡ s)
 same_number n m r s h = same_by_tests (nat_lt n 192) (nat_lt n 16128) (nat_lt m 192) (nat_lt m 16128) n m r s refl refl refl refl h
 
-no_first : {X : Type 0} {x : X} {xs : List X} → x ∷ xs ≡ [] → ⊥
-no_first {X} {x} {xs} h = let e : length (x ∷ xs) ≡ 0 = ap length h in omega (arith, e)
+cons_is_not_nil : {X : Type 0} {x : X} {xs : List X} → x ∷ xs ≡ [] → ⊥
+cons_is_not_nil {X} {x} {xs} h = let e : length (x ∷ xs) ≡ 0 = ap length h in omega (arith, e)
 
-some_bytes : (t u : Bool) (n : ℕ) (r : List ℕ) → bytes_by t u n ++ r ≡ [] → ⊥
-some_bytes true u n r h = no_first h
-some_bytes false true n r h = no_first h
-some_bytes false false n r h = no_first h
+bytes_are_not_nil : (t u : Bool) (n : ℕ) (r : List ℕ) → bytes_by t u n ++ r ≡ [] → ⊥
+bytes_are_not_nil true u n r h = cons_is_not_nil h
+bytes_are_not_nil false true n r h = cons_is_not_nil h
+bytes_are_not_nil false false n r h = cons_is_not_nil h
 
 pub same_packed : (ns ms : List ℕ) → packed ns ≡ packed ms → ns ≡ ms
 same_packed [] [] h = refl
-same_packed [] (m ∷ ms) h = absurd (some_bytes (nat_lt m 192) (nat_lt m 16128) m (packed ms) (sym h))
-same_packed (n ∷ ns) [] h = absurd (some_bytes (nat_lt n 192) (nat_lt n 16128) n (packed ns) h)
+same_packed [] (m ∷ ms) h = absurd (bytes_are_not_nil (nat_lt m 192) (nat_lt m 16128) m (packed ms) (sym h))
+same_packed (n ∷ ns) [] h = absurd (bytes_are_not_nil (nat_lt n 192) (nat_lt n 16128) n (packed ns) h)
 same_packed (n ∷ ns) (m ∷ ms) h = let p = same_number n m (packed ns) (packed ms) h in λ i. p.0 i ∷ same_packed ns ms p.1 i
 
 -- one more zero before n zeros gives the same list as one after them
-one_zero : (n : ℕ) (xs : List ℕ) → replicate (suc n) 0 ++ xs ≡ replicate n 0 ++ 0 ∷ xs
-one_zero zero xs = refl
-one_zero (suc n) xs = ap (λ l. 0 ∷ l) (one_zero n xs)
+zero_past_zeros : (n : ℕ) (xs : List ℕ) → replicate (suc n) 0 ++ xs ≡ replicate n 0 ++ 0 ∷ xs
+zero_past_zeros zero xs = refl
+zero_past_zeros (suc n) xs = ap (λ l. 0 ∷ l) (zero_past_zeros n xs)
 
 zeros_before : (n : ℕ) (xs : List ℕ) → replicate (n + 1) 0 ++ xs ≡ replicate n 0 ++ 0 ∷ xs
-zeros_before n xs = ap (λ k. replicate k 0 ++ xs) (add-one n) ∙ one_zero n xs
+zeros_before n xs = ap (λ k. replicate k 0 ++ xs) (add-one n) ∙ zero_past_zeros n xs
 
 -- the numbers for x ∷ xs after n zeros, given whether x is 0 (t) and whether it is 1 (u)
 abbrev gaps_by : Bool → Bool → ℕ → ℕ → List ℕ → List ℕ
@@ -92,62 +93,62 @@ gaps_by t u n x xs = if t then by_gaps (n + 1) xs else if u then 2 * n ∷ by_ga
 abbrev AreSame : List ℕ → List ℕ → ℕ → ℕ → List ℕ → List ℕ → Type 0
 AreSame xs ys n m r s = (replicate n 0 ++ xs ≡ replicate m 0 ++ ys) × (r ≡ s)
 
-more_zeros : (xs ys : List ℕ) (y n m : ℕ) (r s : List ℕ) → y ≡ 0 → AreSame xs ys n (m + 1) r s → AreSame xs (y ∷ ys) n m r s
-more_zeros xs ys y n m r s e h = (h.0 ∙ (zeros_before m ys ∙ (λ i. replicate m 0 ++ sym e i ∷ ys)), h.1)
+more_zeros_right : (xs ys : List ℕ) (y n m : ℕ) (r s : List ℕ) → y ≡ 0 → AreSame xs ys n (m + 1) r s → AreSame xs (y ∷ ys) n m r s
+more_zeros_right xs ys y n m r s e h = (h.0 ∙ (zeros_before m ys ∙ (λ i. replicate m 0 ++ sym e i ∷ ys)), h.1)
 
-zeros_more : (xs ys : List ℕ) (x n m : ℕ) (r s : List ℕ) → x ≡ 0 → AreSame xs ys (n + 1) m r s → AreSame (x ∷ xs) ys n m r s
-zeros_more xs ys x n m r s e h = ((λ i. replicate n 0 ++ e i ∷ xs) ∙ (sym (zeros_before n xs) ∙ h.0), h.1)
+more_zeros_left : (xs ys : List ℕ) (x n m : ℕ) (r s : List ℕ) → x ≡ 0 → AreSame xs ys (n + 1) m r s → AreSame (x ∷ xs) ys n m r s
+more_zeros_left xs ys x n m r s e h = ((λ i. replicate n 0 ++ e i ∷ xs) ∙ (sym (zeros_before n xs) ∙ h.0), h.1)
 
-is_zero : (x : ℕ) → (x == 0) ≡ true → x ≡ 0
-is_zero x h = (Decides-eqb x 0).0 h
+zero_by_test : (x : ℕ) → (x == 0) ≡ true → x ≡ 0
+zero_by_test x h = (Decides-eqb x 0).0 h
 
-is_one : (x : ℕ) → (x == 1) ≡ true → x ≡ 1
-is_one x h = (Decides-eqb x 1).0 h
+one_by_test : (x : ℕ) → (x == 1) ≡ true → x ≡ 1
+one_by_test x h = (Decides-eqb x 1).0 h
 
 -- if the numbers for n zeros and for m zeros before ys are the same, the lists are
 gaps_none : (ys : List ℕ) (n m : ℕ) (r s : List ℕ) → n ≡ m + length ys → 2 * n ∷ r ≡ by_gaps m ys ++ s → AreSame [] ys n m r s
-gaps_none [] n m r s len h = let p = parts h in let e : n ≡ m = omega (arith, p.0) in ((λ i. replicate (e i) 0 ++ []), p.1)
+gaps_none [] n m r s len h = let p = cons_parts h in let e : n ≡ m = omega (arith, p.0) in ((λ i. replicate (e i) 0 ++ []), p.1)
 gaps_none (y ∷ ys) n m r s len h = by (y == 0) (y == 1) refl h (λ k g. gaps_none ys n (m + 1) r s k g)
   where
     by : (t u : Bool) → (y == 0) ≡ t → 2 * n ∷ r ≡ gaps_by t u m y ys ++ s
         → (n ≡ m + 1 + length ys → 2 * n ∷ r ≡ by_gaps (m + 1) ys ++ s → AreSame [] ys n (m + 1) r s) → AreSame [] (y ∷ ys) n m r s
-    by true u e g later = more_zeros [] ys y n m r s (is_zero y e) (later (omega (arith, len)) g)
-    by false true e g later = let p = parts g in absurd (omega (arith, p.0, len))
-    by false false e g later = let p = parts g in absurd (omega (arith, p.0, len))
+    by true u e g later = more_zeros_right [] ys y n m r s (zero_by_test y e) (later (omega (arith, len)) g)
+    by false true e g later = let p = cons_parts g in absurd (omega (arith, p.0, len))
+    by false false e g later = let p = cons_parts g in absurd (omega (arith, p.0, len))
 
 -- if the numbers for two lists are the same, the lists are: a list that begins with a 1, and any ys
 gaps_one : (x : ℕ) (xs : List ℕ) → x ≡ 1 → ((ys : List ℕ) (n m : ℕ) (r s : List ℕ) → n + length xs ≡ m + length ys → by_gaps n xs ++ r ≡ by_gaps m ys ++ s → AreSame xs ys n m r s)
     → (ys : List ℕ) (n m : ℕ) (r s : List ℕ) → n + length (x ∷ xs) ≡ m + length ys → gaps_by false true n x xs ++ r ≡ by_gaps m ys ++ s → AreSame (x ∷ xs) ys n m r s
-gaps_one x xs is rest [] n m r s len h = let p = parts h in absurd (omega (arith, p.0, len))
+gaps_one x xs is rest [] n m r s len h = let p = cons_parts h in absurd (omega (arith, p.0, len))
 gaps_one x xs is rest (y ∷ ys) n m r s len h = by (y == 0) (y == 1) refl refl h (λ k g. gaps_one x xs is rest ys n (m + 1) r s k g)
   where
     by : (t u : Bool) → (y == 0) ≡ t → (y == 1) ≡ u → gaps_by false true n x xs ++ r ≡ gaps_by t u m y ys ++ s
         → (n + length (x ∷ xs) ≡ m + 1 + length ys → gaps_by false true n x xs ++ r ≡ by_gaps (m + 1) ys ++ s → AreSame (x ∷ xs) ys n (m + 1) r s)
         → AreSame (x ∷ xs) (y ∷ ys) n m r s
-    by true u e f g later = more_zeros (x ∷ xs) ys y n m r s (is_zero y e) (later (omega (arith, len)) g)
+    by true u e f g later = more_zeros_right (x ∷ xs) ys y n m r s (zero_by_test y e) (later (omega (arith, len)) g)
     by false true e f g later =
-        let p = parts g in
+        let p = cons_parts g in
         let k : n ≡ m = omega (arith, p.0) in
         let q = rest ys 0 0 r s (omega (arith, len, k)) p.1 in
-        ((λ i. replicate (k i) 0 ++ (is ∙ sym (is_one y f)) i ∷ q.0 i), q.1)
-    by false false e f g later = let p = parts g in absurd (omega (arith, p.0))
+        ((λ i. replicate (k i) 0 ++ (is ∙ sym (one_by_test y f)) i ∷ q.0 i), q.1)
+    by false false e f g later = let p = cons_parts g in absurd (omega (arith, p.0))
 
 -- if the numbers for two lists are the same, the lists are: one that begins with 2 or more, and any
 -- ys
 gaps_greater : (x : ℕ) (xs : List ℕ) → ((ys : List ℕ) (n m : ℕ) (r s : List ℕ) → n + length xs ≡ m + length ys → by_gaps n xs ++ r ≡ by_gaps m ys ++ s → AreSame xs ys n m r s)
     → (ys : List ℕ) (n m : ℕ) (r s : List ℕ) → n + length (x ∷ xs) ≡ m + length ys → gaps_by false false n x xs ++ r ≡ by_gaps m ys ++ s → AreSame (x ∷ xs) ys n m r s
-gaps_greater x xs rest [] n m r s len h = let p = parts h in absurd (omega (arith, p.0, len))
+gaps_greater x xs rest [] n m r s len h = let p = cons_parts h in absurd (omega (arith, p.0, len))
 gaps_greater x xs rest (y ∷ ys) n m r s len h = by (y == 0) (y == 1) refl h (λ k g. gaps_greater x xs rest ys n (m + 1) r s k g)
   where
     by : (t u : Bool) → (y == 0) ≡ t → gaps_by false false n x xs ++ r ≡ gaps_by t u m y ys ++ s
         → (n + length (x ∷ xs) ≡ m + 1 + length ys → gaps_by false false n x xs ++ r ≡ by_gaps (m + 1) ys ++ s → AreSame (x ∷ xs) ys n (m + 1) r s)
         → AreSame (x ∷ xs) (y ∷ ys) n m r s
-    by true u e g later = more_zeros (x ∷ xs) ys y n m r s (is_zero y e) (later (omega (arith, len)) g)
-    by false true e g later = let p = parts g in absurd (omega (arith, p.0))
+    by true u e g later = more_zeros_right (x ∷ xs) ys y n m r s (zero_by_test y e) (later (omega (arith, len)) g)
+    by false true e g later = let p = cons_parts g in absurd (omega (arith, p.0))
     by false false e g later =
-        let p = parts g in
+        let p = cons_parts g in
         let k : n ≡ m = omega (arith, p.0) in
-        let d = parts p.1 in
+        let d = cons_parts p.1 in
         let q = rest ys 0 0 r s (omega (arith, len, k)) d.1 in
         ((λ i. replicate (k i) 0 ++ d.0 i ∷ q.0 i), q.1)
 
@@ -158,8 +159,8 @@ same_gaps (x ∷ xs) ys n m r s len h = by (x == 0) (x == 1) refl refl h (λ zs 
     by : (t u : Bool) → (x == 0) ≡ t → (x == 1) ≡ u → gaps_by t u n x xs ++ r ≡ by_gaps m ys ++ s
         → ((zs : List ℕ) (k l : ℕ) (t u : List ℕ) → k + length xs ≡ l + length zs → by_gaps k xs ++ t ≡ by_gaps l zs ++ u → AreSame xs zs k l t u)
         → AreSame (x ∷ xs) ys n m r s
-    by true u e f g rest = zeros_more xs ys x n m r s (is_zero x e) (rest ys (n + 1) m r s (omega (arith, len)) g)
-    by false true e f g rest = gaps_one x xs (is_one x f) rest ys n m r s len g
+    by true u e f g rest = more_zeros_left xs ys x n m r s (zero_by_test x e) (rest ys (n + 1) m r s (omega (arith, len)) g)
+    by false true e f g rest = gaps_one x xs (one_by_test x f) rest ys n m r s len g
     by false false e f g rest = gaps_greater x xs rest ys n m r s len g
 
 pub same_list : (xs ys r s : List ℕ) → length xs ≡ length ys → by_gaps 0 xs ++ r ≡ by_gaps 0 ys ++ s → (xs ≡ ys) × (r ≡ s)
@@ -169,28 +170,30 @@ same_list xs ys r s len h = same_gaps xs ys 0 0 r s (ap (λ n. 0 + n) len) h
 abbrev writing_of : ℕ → Option Bool
 writing_of n = if n == 0 then None else if n == 1 then Some false else Some true
 
+-- the cell with this number
 abbrev cell_of : ℕ → Cell
 cell_of n = record { value = n % 2 == 1; writing = writing_of (n / 2 % 4); reading = n / 8 % 2 == 1; hit = n / 16 == 1 }
 
+-- a cell's number gives the cell again
 abbrev IsDecoded : Cell → Type 0
 IsDecoded c = cell_of (cell_code c) ≡ c
 
--- what holds of three bits in each of the eight cases
-by_cases : (A : Bool → Bool → Bool → Type 0) → A false false false → A false false true → A false true false → A false true true
+-- what holds of three bits in each of the eight cases holds of any three bits
+by_three_bits : (A : Bool → Bool → Bool → Type 0) → A false false false → A false false true → A false true false → A false true true
     → A true false false → A true false true → A true true false → A true true true → (x y z : Bool) → A x y z
-by_cases A a b c d e f g h false false false = a
-by_cases A a b c d e f g h false false true = b
-by_cases A a b c d e f g h false true false = c
-by_cases A a b c d e f g h false true true = d
-by_cases A a b c d e f g h true false false = e
-by_cases A a b c d e f g h true false true = f
-by_cases A a b c d e f g h true true false = g
-by_cases A a b c d e f g h true true true = h
+by_three_bits A a b c d e f g h false false false = a
+by_three_bits A a b c d e f g h false false true = b
+by_three_bits A a b c d e f g h false true false = c
+by_three_bits A a b c d e f g h false true true = d
+by_three_bits A a b c d e f g h true false false = e
+by_three_bits A a b c d e f g h true false true = f
+by_three_bits A a b c d e f g h true true false = g
+by_three_bits A a b c d e f g h true true true = h
 
 decoded_by : (w : Option Bool) (v r h : Bool) → IsDecoded (record { value = v; writing = w; reading = r; hit = h })
-decoded_by None = by_cases (λ v r h. IsDecoded (record { value = v; writing = None; reading = r; hit = h })) refl refl refl refl refl refl refl refl
-decoded_by (Some false) = by_cases (λ v r h. IsDecoded (record { value = v; writing = Some false; reading = r; hit = h })) refl refl refl refl refl refl refl refl
-decoded_by (Some true) = by_cases (λ v r h. IsDecoded (record { value = v; writing = Some true; reading = r; hit = h })) refl refl refl refl refl refl refl refl
+decoded_by None = by_three_bits (λ v r h. IsDecoded (record { value = v; writing = None; reading = r; hit = h })) refl refl refl refl refl refl refl refl
+decoded_by (Some false) = by_three_bits (λ v r h. IsDecoded (record { value = v; writing = Some false; reading = r; hit = h })) refl refl refl refl refl refl refl refl
+decoded_by (Some true) = by_three_bits (λ v r h. IsDecoded (record { value = v; writing = Some true; reading = r; hit = h })) refl refl refl refl refl refl refl refl
 
 decoded : (c : Cell) → IsDecoded c
 decoded c = decoded_by c.writing c.value c.reading c.hit
@@ -200,7 +203,7 @@ same_cells [] [] h = refl
 same_cells [] (y ∷ ys) h = cc
 same_cells (x ∷ xs) [] h = cc
 same_cells (x ∷ xs) (y ∷ ys) h =
-    let p = parts h in
+    let p = cons_parts h in
     let e : x ≡ y = sym (decoded x) ∙ (ap cell_of p.0 ∙ decoded y) in
     λ i. e i ∷ same_cells xs ys p.1 i
 
@@ -230,17 +233,17 @@ same_layer layers.Stamped layers.Stamped r s e h = (refl, h)
 same_layer layers.MatrixRead layers.MatrixRead r s e h = (refl, h)
 same_layer layers.MatrixWrite layers.MatrixWrite r s e h = (refl, h)
 same_layer (layers.Named a) (layers.Named b) r s e h =
-    let p = parts h in
-    let q = parts p.1 in
-    let t = parts q.1 in
+    let p = cons_parts h in
+    let q = cons_parts p.1 in
+    let t = cons_parts q.1 in
     ((λ i. layers.Named (record { 0 = p.0 i; 1 = q.0 i; 2 = t.0 i })), t.1)
 same_layer _ _ r s e h = absurd (omega (arith, e))
 
 same_frame : (f g : Frame) (r s : List ℕ) → frame_numbers f ++ r ≡ frame_numbers g ++ s → (f ≡ g) × (r ≡ s)
 same_frame f g r s h =
-    let p = parts h in
-    let q = parts p.1 in
-    let t = parts q.1 in
+    let p = cons_parts h in
+    let q = cons_parts p.1 in
+    let t = cons_parts q.1 in
     let low = layer_low f.layer in
     let low' = layer_low g.layer in
     let head = p.0 in
@@ -283,7 +286,7 @@ same_codes [] [] r s len h = (refl, h)
 same_codes [] (u ∷ us) r s len h = absurd (omega (arith, len))
 same_codes (o ∷ os) [] r s len h = absurd (omega (arith, len))
 same_codes (o ∷ os) (u ∷ us) r s len h =
-    let p = parts h in
+    let p = cons_parts h in
     let q = same_codes os us r s (omega (arith, len)) p.1 in
     ((λ i. same_outcome o u p.0 i ∷ q.0 i), q.1)
 
@@ -298,9 +301,9 @@ pub same_process : (fs gs : List Frame) (t u : Bool) (os us : List Outcome) (r s
     → (stack_numbers fs t ++ outcomes_numbers os) ++ r ≡ (stack_numbers gs u ++ outcomes_numbers us) ++ s
     → ((fs ≡ gs) × (t ≡ u)) × ((os ≡ us) × (r ≡ s))
 same_process fs gs t u os us r s h =
-    let p = parts h in
+    let p = cons_parts h in
     let e = same_stop t u (length fs) (length gs) p.0 in
     let f = same_frames fs gs (outcomes_numbers os ++ r) (outcomes_numbers us ++ s) e.0
     (sym (append_assoc (frames_numbers fs) (outcomes_numbers os) r) ∙ (p.1 ∙ append_assoc (frames_numbers gs) (outcomes_numbers us) s)) in
-    let q = parts f.1 in
+    let q = cons_parts f.1 in
     ((f.0, e.1), same_codes os us r s q.0 q.1)

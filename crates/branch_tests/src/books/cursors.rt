@@ -2,7 +2,7 @@
 //! branch that shares the edited cell, and of one that doesn't.
 
 use super::commands::{detach, fork, insert, remove, replace};
-use super::{Ask, tried};
+use super::{Ask, first_wrong_in_new_book};
 use crate::given::{GO, READ, name, none_wrong};
 use schedule_trie::limits::Limits;
 use schedule_trie::name::Name;
@@ -51,7 +51,7 @@ fn first_wrong_move(
         Ask::AreAt(4, on.a, *a),
         Ask::AreAt(8, on.b, *b),
     ];
-    tried(alloc, LIMITS, &[READ, GO, GO], &rows, 29)
+    first_wrong_in_new_book(alloc, LIMITS, &[READ, GO, GO], &rows, 29)
 }
 
 /// The places of four cursors that don't move.

@@ -18,7 +18,7 @@
 ghost use Rattle.std.specs.Prelude.{◌<◌};
 
 use super::commands::{detach, drop_branch, fork, go, insert, remove, replace};
-use super::{Ask, tried};
+use super::{Ask, first_wrong_in_new_book};
 use crate::given::{GO, READ, name, none_wrong};
 use frames::types::Step;
 use schedule_trie::limits::Limits;
@@ -108,7 +108,10 @@ fn a_log_of_one_entry(rt: HostRuntime) {
         log: 1,
     };
     let rows = full_rows(&commands);
-    none_wrong(&rt, tried(rt.alloc(), limits, &[], &rows, 1));
+    none_wrong(
+        &rt,
+        first_wrong_in_new_book(rt.alloc(), limits, &[], &rows, 1),
+    );
 }
 
 /// Commands that are refused late, for a reason that is checked after their guards. The book has
@@ -181,5 +184,8 @@ fn refusals_in_order(rt: HostRuntime) {
         late: late_commands(&main, &zed, &name(&rt, b"a"), &name(&rt, b"9x")),
     };
     let rows = rows_in_order(&refused);
-    none_wrong(&rt, tried(rt.alloc(), limits, &[READ, GO, GO], &rows, 61));
+    none_wrong(
+        &rt,
+        first_wrong_in_new_book(rt.alloc(), limits, &[READ, GO, GO], &rows, 61),
+    );
 }

@@ -67,7 +67,7 @@ const AFTER_TWO_WRITES: [(Step, u32); 10] = [
 ];
 
 /// The steps of `rows`, each repeated as often as its count.
-fn in_a_row(alloc: Global, rows: &[(Step, u32)]) -> Result<Vec<Step>, AllocError> {
+fn repeat_steps(alloc: Global, rows: &[(Step, u32)]) -> Result<Vec<Step>, AllocError> {
     let mut steps = Vec::new(alloc);
     for (step, count) in rows {
         for _ in 0..*count {
@@ -131,7 +131,7 @@ fn verdicts<R: Register>(
 }
 
 /// Fails unless the verdicts on these steps, from an initial value, have the text `expected`.
-fn judges<R: Register>(
+fn check_verdicts<R: Register>(
     rt: &impl Abort,
     alloc: Global,
     register: R,
@@ -139,7 +139,7 @@ fn judges<R: Register>(
     rows: &[(Step, u32)],
     expected: &[u8],
 ) -> Result<(), Refusal> {
-    let Ok(steps) = in_a_row(alloc, rows) else {
+    let Ok(steps) = repeat_steps(alloc, rows) else {
         return Err(Refusal::Memory);
     };
     let text = verdicts(rt, alloc, register, value, &steps)?;
@@ -151,7 +151,7 @@ fn judges<R: Register>(
 fn refused_before_clearing(rt: HostRuntime) -> Result<(), Fail> {
     let register = Unary::new(RegularBit::new(stamped(2, 1))?, 3)?;
     let expected = b"0: verdict main 21 of 21\n  19 p1 1 stray\n";
-    judges(&rt, rt.alloc(), register, 2, &BEFORE_CLEARING, expected)?;
+    check_verdicts(&rt, rt.alloc(), register, 2, &BEFORE_CLEARING, expected)?;
     Ok(())
 }
 
@@ -159,6 +159,6 @@ fn refused_before_clearing(rt: HostRuntime) -> Result<(), Fail> {
 fn refused_after_two_writes(rt: HostRuntime) -> Result<(), Fail> {
     let register = Unary::new(stamped(2, 2), 3)?;
     let expected = b"0: verdict main 160 of 160\n  158 p1 2 stray\n";
-    judges(&rt, rt.alloc(), register, 1, &AFTER_TWO_WRITES, expected)?;
+    check_verdicts(&rt, rt.alloc(), register, 1, &AFTER_TWO_WRITES, expected)?;
     Ok(())
 }

@@ -1,7 +1,7 @@
 //! Rows worked out by hand: drops, seeks, looks, and a run that is made elsewhere.
 
 use super::commands::{drop_branch, fork, go, remove};
-use super::{Ask, tried};
+use super::{Ask, first_wrong_in_new_book};
 use crate::given::{GO, READ, name, none_wrong};
 use frames::types::Step;
 use schedule_trie::limits::Limits;
@@ -46,7 +46,10 @@ fn drop_rows(main: &Name, a: &Name, b: &Name) -> [Ask<'static>; 9] {
 #[test]
 fn drops(rt: HostRuntime) {
     let rows = drop_rows(&name(&rt, b"main"), &name(&rt, b"a"), &name(&rt, b"b"));
-    none_wrong(&rt, tried(rt.alloc(), LIMITS, &[READ, GO, GO], &rows, 8));
+    none_wrong(
+        &rt,
+        first_wrong_in_new_book(rt.alloc(), LIMITS, &[READ, GO, GO], &rows, 8),
+    );
 }
 
 /// Seeks from the beginning of a branch, and back.
@@ -82,7 +85,10 @@ fn seek_rows(main: &Name) -> [Ask<'static>; 20] {
 #[test]
 fn seeks(rt: HostRuntime) {
     let rows = seek_rows(&name(&rt, b"main"));
-    none_wrong(&rt, tried(rt.alloc(), LIMITS, &OVERLAPPED, &rows, 19));
+    none_wrong(
+        &rt,
+        first_wrong_in_new_book(rt.alloc(), LIMITS, &OVERLAPPED, &rows, 19),
+    );
 }
 
 fn verdict(branch: &Name, place: u32) -> Query {
@@ -112,7 +118,10 @@ fn look_rows(main: &Name, zed: &Name) -> [Ask<'static>; 7] {
 #[test]
 fn looks(rt: HostRuntime) {
     let rows = look_rows(&name(&rt, b"main"), &name(&rt, b"zed"));
-    none_wrong(&rt, tried(rt.alloc(), LIMITS, &OVERLAPPED, &rows, 0));
+    none_wrong(
+        &rt,
+        first_wrong_in_new_book(rt.alloc(), LIMITS, &OVERLAPPED, &rows, 0),
+    );
 }
 
 #[test]
@@ -122,5 +131,8 @@ fn a_run_made_elsewhere(rt: HostRuntime) {
         Ask::Replies(Command::Join, Reply::Joined),
         Ask::Fills(&main),
     ];
-    none_wrong(&rt, tried(rt.alloc(), LIMITS, &OVERLAPPED, &rows, 1));
+    none_wrong(
+        &rt,
+        first_wrong_in_new_book(rt.alloc(), LIMITS, &OVERLAPPED, &rows, 1),
+    );
 }

@@ -5,7 +5,7 @@ ghost use Rattle.schedule_trie.specs.Trie.{AreLimits};
 ghost use Rattle.schedule_trie.specs.Limbs.{AreLawfulLimbs};
 ghost use Rattle.branch_terms.specs.declared.limits.TheConstants.{MOST_CELLS_MADE};
 
-use crate::given::{Branch, Change, Edit, GO, GO_ON, READ, edited_by};
+use crate::given::{Branch, Change, Edit, GO, GO_CHOICE_1, READ, make_edits};
 use frames::types::Step;
 use schedule_trie::limb::Limb;
 use schedule_trie::limits::Limits;
@@ -15,10 +15,10 @@ use std::alloc::Global;
 use std::process::Abort;
 
 /// A write of 1 by process 0.
-const WRITE: Step = Step::Write { p: 0, v: 1 };
+const WRITE_1: Step = Step::Write { p: 0, v: 1 };
 
 /// A write of 0 by process 0.
-const CLEAR: Step = Step::Write { p: 0, v: 0 };
+const WRITE_0: Step = Step::Write { p: 0, v: 0 };
 
 /// A limb: the branch's name, the index of the branch whose first cells it shares, how many cells
 /// the two share, and the branch's own steps.
@@ -30,27 +30,27 @@ const THREE_BRANCHES: [Edit; 4] = [
     (Branch::Main, Change::Fork(1, Branch::A)),
     (Branch::A, Change::Insert(1, GO)),
     (Branch::A, Change::Fork(2, Branch::B)),
-    (Branch::B, Change::Insert(2, GO_ON)),
+    (Branch::B, Change::Insert(2, GO_CHOICE_1)),
 ];
 
 /// The limbs of the three branches.
 const LIMBS: [Row; 3] = [
-    (b"main", 0, 0, &[READ, WRITE]),
+    (b"main", 0, 0, &[READ, WRITE_1]),
     (b"a", 0, 1, &[GO]),
-    (b"b", 1, 2, &[GO_ON]),
+    (b"b", 1, 2, &[GO_CHOICE_1]),
 ];
 
 /// The limbs of the three branches after a write of 0 is inserted before `a`'s own cell.
 const INSERTED: [Row; 3] = [
-    (b"main", 0, 0, &[READ, WRITE]),
-    (b"a", 0, 1, &[CLEAR, GO]),
-    (b"b", 1, 3, &[GO_ON]),
+    (b"main", 0, 0, &[READ, WRITE_1]),
+    (b"a", 0, 1, &[WRITE_0, GO]),
+    (b"b", 1, 3, &[GO_CHOICE_1]),
 ];
 
 /// The limbs of the other two branches after the same insert and a drop of `a`.
 const DROPPED: [Row; 2] = [
-    (b"main", 0, 0, &[READ, WRITE]),
-    (b"b", 0, 1, &[CLEAR, GO, GO_ON]),
+    (b"main", 0, 0, &[READ, WRITE_1]),
+    (b"b", 0, 1, &[WRITE_0, GO, GO_CHOICE_1]),
 ];
 
 fn limits(cells: u32, branches: u32) -> Limits
@@ -75,7 +75,7 @@ fn limbs_after(
     ensures lawful { IfOk result (λ r. AreLawfulLimbs r.items) }
     ensures some { IfOk result (λ r. 0 < length r.items) }
 {
-    edited_by(rt, alloc, trie, edits)?;
+    make_edits(rt, alloc, trie, edits)?;
     Ok(trie.limbs(alloc)?)
 }
 
@@ -84,7 +84,7 @@ fn limbs_of(rt: &impl Abort, alloc: Global, edits: &[Edit]) -> Result<Vec<Limb>,
     ensures lawful { IfOk result (λ r. AreLawfulLimbs r.items) }
     ensures some { IfOk result (λ r. 0 < length r.items) }
 {
-    let mut trie: Trie<u32> = Trie::new(alloc, limits(64, 64), &[READ, WRITE])?;
+    let mut trie: Trie<u32> = Trie::new(alloc, limits(64, 64), &[READ, WRITE_1])?;
     limbs_after(rt, alloc, &mut trie, edits)
 }
 
@@ -112,7 +112,7 @@ fn is_row(limb: &Limb, row: &Row) -> bool {
 }
 
 /// Whether the limbs are those of `rows`, in this order.
-fn are(limbs: &[Limb], rows: &[Row]) -> bool {
+fn are_rows(limbs: &[Limb], rows: &[Row]) -> bool {
     limbs.len() == rows.len() && limbs.iter().zip(rows).all(|(limb, row)| is_row(limb, row))
 }
 
@@ -121,15 +121,15 @@ fn are(limbs: &[Limb], rows: &[Row]) -> bool {
 fn are_kept(rt: &impl Abort, alloc: Global) -> Result<bool, Refusal> {
     let limbs = limbs_of(rt, alloc, &THREE_BRANCHES)?;
     let again = limbs_again(rt, alloc, limits(64, 64), &limbs, &[])?;
-    let insert = (Branch::A, Change::Insert(1, CLEAR));
+    let insert = (Branch::A, Change::Insert(1, WRITE_0));
     let inserted = limbs_again(rt, alloc, limits(64, 64), &limbs, &[insert])?;
     let drop = (Branch::A, Change::Drop);
     let dropped = limbs_again(rt, alloc, limits(64, 64), &limbs, &[insert, drop])?;
     Ok(
-        are(&limbs, &LIMBS)
-            && are(&again, &LIMBS)
-            && are(&inserted, &INSERTED)
-            && are(&dropped, &DROPPED),
+        are_rows(&limbs, &LIMBS)
+            && are_rows(&again, &LIMBS)
+            && are_rows(&inserted, &INSERTED)
+            && are_rows(&dropped, &DROPPED),
     )
 }
 

@@ -5,7 +5,9 @@ ghost use Rattle.frames.specs.Configuration.{fits_step};
 ghost use Rattle.frames.specs.SafeBit.{safe_behaviour};
 
 use super::rows::{Kind, limits, step_of};
-use super::single::{Kept, edit, first_run, fork_with, install, jobs_of, keep, settle, state_text};
+use super::single::{
+    KeyedRun, edit, first_run, fork_with, install, jobs_of, keep, settle, state_text,
+};
 use crate::given::{Branch, name_of, none_wrong};
 use checkpoints::run::Run;
 use cutoff::chart::Chart;
@@ -43,7 +45,7 @@ struct Segments {
 
 /// A run of a write after the read. The segment that the run was made for may be gone.
 #[derive(Drop)]
-struct Old {
+struct OldRun {
     is_one: bool,
     run: Arc<Run<Safe>>,
 }
@@ -53,7 +55,7 @@ struct Old {
 struct Shelf {
     chart: Chart<Safe>,
     segments: Segments,
-    runs: Vec<Old>,
+    runs: Vec<OldRun>,
 }
 
 fn write_of(is_one: bool) -> Step
@@ -64,7 +66,7 @@ fn write_of(is_one: bool) -> Step
 
 /// The expected result of installing a run of a write at `key`; `None` unless `segment` has that
 /// key. `is_settled` is whether a run is stored at the shared read.
-fn reported_of(
+fn expected_on(
     segment: Option<OwnSegment>,
     key: SegKey,
     is_settled: bool,
@@ -81,11 +83,11 @@ fn reported_of(
 /// The expected result of installing a run of a write at a key: Gone if no segment has the key,
 /// Installed if the key's segment is that write and a run is stored at the shared read, and
 /// otherwise Stale.
-fn reported(segments: Segments, key: SegKey, is_one: bool) -> Installation {
-    let of_a = reported_of(segments.a, key, segments.is_settled, is_one);
-    let of_b = reported_of(segments.b, key, segments.is_settled, is_one);
+fn expected_install(segments: Segments, key: SegKey, is_one: bool) -> Installation {
+    let of_a = expected_on(segments.a, key, segments.is_settled, is_one);
+    let of_b = expected_on(segments.b, key, segments.is_settled, is_one);
     match (of_a, of_b) {
-        (Some(reported), _) | (_, Some(reported)) => reported,
+        (Some(expected), _) | (_, Some(expected)) => expected,
         _ if key == segments.shared => Installation::Stale,
         _ => Installation::Gone,
     }
@@ -97,53 +99,61 @@ fn clone_of(run: &Arc<Run<Safe>>) -> Result<Arc<Run<Safe>>, Refusal> {
 }
 
 /// Whether the install of an old run has the expected result at a key.
-fn is_reported_at(
+fn installs_as_expected_at(
     chart: &mut Chart<Safe>,
     segments: Segments,
-    old: &Old,
+    old: &OldRun,
     key: SegKey,
 ) -> Result<bool, Refusal> {
     let run = clone_of(&old.run)?;
-    Ok(install(chart, key, run) == reported(segments, key, old.is_one))
+    Ok(install(chart, key, run) == expected_install(segments, key, old.is_one))
 }
 
 /// Whether the install of an old run has the expected result at each key.
-fn is_reported(chart: &mut Chart<Safe>, segments: Segments, old: &Old) -> Result<bool, Refusal> {
+fn installs_as_expected(
+    chart: &mut Chart<Safe>,
+    segments: Segments,
+    old: &OldRun,
+) -> Result<bool, Refusal> {
     let mut all = true;
     for key in 0..KEYS {
-        all &= is_reported_at(chart, segments, old, key)?;
+        all &= installs_as_expected_at(chart, segments, old, key)?;
     }
     Ok(all)
 }
 
 /// Whether the installs of all old runs have the expected results at each key.
-fn are_reported(
+fn all_install_as_expected(
     chart: &mut Chart<Safe>,
     segments: Segments,
-    runs: &[Old],
+    runs: &[OldRun],
 ) -> Result<bool, Refusal> {
     let mut all = true;
     for old in runs {
-        all &= is_reported(chart, segments, old)?;
+        all &= installs_as_expected(chart, segments, old)?;
     }
     Ok(all)
 }
 
 /// The run of the first job of a branch's plan; `None` unless the job is of this write alone.
-fn made_for(
+fn first_run_of(
     alloc: Global,
     chart: &Chart<Safe>,
     branch: &Name,
     write: Step,
-) -> Result<Option<Kept<Safe>>, Refusal> {
+) -> Result<Option<KeyedRun<Safe>>, Refusal> {
     let jobs = jobs_of(alloc, chart, branch)?;
     first_run(alloc, &jobs, write)
 }
 
 /// Keeps a run of a write, and returns the write's segment.
-fn own_segment(runs: &mut Vec<Old>, is_one: bool, made: Kept<Safe>) -> Result<OwnSegment, Refusal> {
+fn own_segment(
+    runs: &mut Vec<OldRun>,
+    is_one: bool,
+    made: KeyedRun<Safe>,
+) -> Result<OwnSegment, Refusal> {
     let (key, run) = made;
-    keep(runs, Old { is_one, run })?;
+    keep(runs, OldRun { is_one, run })?;
     Ok(OwnSegment { key, is_one })
 }
 
@@ -158,7 +168,7 @@ fn forked(
 ) -> Result<Option<OwnSegment>, Refusal> {
     let write = write_of(is_one);
     fork_with(alloc, &mut shelf.chart, main, *branch, write)?;
-    match made_for(alloc, &shelf.chart, branch, write)? {
+    match first_run_of(alloc, &shelf.chart, branch, write)? {
         Some(made) => Ok(Some(own_segment(&mut shelf.runs, is_one, made)?)),
         None => Ok(None),
     }
@@ -204,7 +214,7 @@ fn forks(
     let main = name_of(rt, alloc, Branch::Main);
     let branch = branch_of(rt, alloc, is_a);
     let segment = forked(alloc, shelf, &main, &branch, is_one)?;
-    put(&mut shelf.segments, is_a, segment);
+    set_segment(&mut shelf.segments, is_a, segment);
     Ok(segment.is_some())
 }
 
@@ -212,7 +222,7 @@ fn branch_of(rt: &impl Abort, alloc: Global, is_a: bool) -> Name {
     name_of(rt, alloc, if is_a { Branch::A } else { Branch::B })
 }
 
-fn put(segments: &mut Segments, is_a: bool, segment: Option<OwnSegment>) {
+fn set_segment(segments: &mut Segments, is_a: bool, segment: Option<OwnSegment>) {
     if is_a {
         segments.a = segment;
     } else {
@@ -238,7 +248,7 @@ fn shows(rt: &impl Abort, alloc: Global, shelf: &mut Shelf, is_a: bool) -> Resul
 fn drops(rt: &impl Abort, alloc: Global, shelf: &mut Shelf, is_a: bool) -> Result<(), Refusal> {
     let branch = branch_of(rt, alloc, is_a);
     edit(alloc, &mut shelf.chart, &Edit::Drop(&branch))?;
-    put(&mut shelf.segments, is_a, None);
+    set_segment(&mut shelf.segments, is_a, None);
     Ok(())
 }
 
@@ -258,7 +268,12 @@ fn settles(alloc: Global, shelf: &mut Shelf, main: &Name) -> Result<(), Refusal>
 }
 
 /// Does what is asked, and returns whether the result is the expected one.
-fn goes(rt: &impl Abort, alloc: Global, shelf: &mut Shelf, ask: Ask) -> Result<bool, Refusal> {
+fn is_expected(
+    rt: &impl Abort,
+    alloc: Global,
+    shelf: &mut Shelf,
+    ask: Ask,
+) -> Result<bool, Refusal> {
     let main = name_of(rt, alloc, Branch::Main);
     match ask {
         Ask::Forks(is_a, is_one) => return forks(rt, alloc, shelf, is_a, is_one),
@@ -272,11 +287,16 @@ fn goes(rt: &impl Abort, alloc: Global, shelf: &mut Shelf, ask: Ask) -> Result<b
 
 /// Does what is asked. Returns whether the result is the expected one, and the installs of all old
 /// runs then have the expected results at each key.
-fn goes_well(rt: &impl Abort, alloc: Global, shelf: &mut Shelf, ask: Ask) -> Result<bool, Refusal> {
-    if !goes(rt, alloc, shelf, ask)? {
+fn is_expected_with_installs(
+    rt: &impl Abort,
+    alloc: Global,
+    shelf: &mut Shelf,
+    ask: Ask,
+) -> Result<bool, Refusal> {
+    if !is_expected(rt, alloc, shelf, ask)? {
         return Ok(false);
     }
-    are_reported(&mut shelf.chart, shelf.segments, &shelf.runs)
+    all_install_as_expected(&mut shelf.chart, shelf.segments, &shelf.runs)
 }
 
 /// The index of the first of `asks` that has a wrong result, or after which the install of an old
@@ -288,7 +308,7 @@ fn first_wrong(
     asks: &[Ask],
 ) -> Result<Option<usize>, Refusal> {
     for (i, ask) in asks.iter().enumerate() {
-        if !goes_well(rt, alloc, shelf, *ask)? {
+        if !is_expected_with_installs(rt, alloc, shelf, *ask)? {
             return Ok(Some(i));
         }
     }
@@ -340,8 +360,13 @@ fn first_wrong_from(
     first_wrong(rt, alloc, shelf, asks)
 }
 
-/// The index that `first_wrong` returns for a new chart of one read; 0 if the chart has no job.
-fn tried(rt: &impl Abort, alloc: Global, asks: &[Ask]) -> Result<Option<usize>, Refusal> {
+/// What `first_wrong_from` returns for a new chart. The chart's owner makes only this call, so that
+/// the proof that the chart is dropped stays small.
+fn first_wrong_in_new_chart(
+    rt: &impl Abort,
+    alloc: Global,
+    asks: &[Ask],
+) -> Result<Option<usize>, Refusal> {
     let mut shelf = shelf_of(alloc)?;
     first_wrong_from(rt, alloc, &mut shelf, asks)
 }
@@ -378,5 +403,5 @@ const ASKS: [Ask; 21] = [
 
 #[test]
 fn old_runs_under_every_key(rt: HostRuntime) {
-    none_wrong(&rt, tried(&rt, rt.alloc(), &ASKS));
+    none_wrong(&rt, first_wrong_in_new_chart(&rt, rt.alloc(), &ASKS));
 }

@@ -3,7 +3,7 @@
 
 use super::rows::{Kind, limits, step_of};
 use super::single::{
-    Kept, edit, fork_with, installs_first, jobs_of, keeps_only, settle, state_text,
+    KeyedRun, edit, fork_with, installs_first, jobs_of, keeps_only, settle, state_text,
 };
 use crate::given::{name, none_wrong};
 use cutoff::chart::Chart;
@@ -23,7 +23,7 @@ fn keeps_run(
     alloc: Global,
     chart: &Chart<Safe>,
     branch: &Name,
-    runs: &mut Vec<Kept<Safe>>,
+    runs: &mut Vec<KeyedRun<Safe>>,
 ) -> Result<bool, Refusal> {
     let jobs = jobs_of(alloc, chart, branch)?;
     keeps_only(alloc, &jobs, runs)
@@ -40,7 +40,7 @@ fn keeps_old_run(
     rt: &impl Abort,
     alloc: Global,
     chart: &mut Chart<Safe>,
-    runs: &mut Vec<Kept<Safe>>,
+    runs: &mut Vec<KeyedRun<Safe>>,
 ) -> Result<bool, Refusal> {
     let (main, a, b) = (name(rt, b"main"), name(rt, b"a"), name(rt, b"b"));
     fork_with(alloc, chart, &main, a, step_of(Kind::Write1))?;
@@ -57,7 +57,7 @@ fn first_wrong_in(
     rt: &impl Abort,
     alloc: Global,
     chart: &mut Chart<Safe>,
-    runs: &mut Vec<Kept<Safe>>,
+    runs: &mut Vec<KeyedRun<Safe>>,
 ) -> Result<Option<usize>, Refusal> {
     let b = name(rt, b"b");
     if !keeps_old_run(rt, alloc, chart, runs)? {

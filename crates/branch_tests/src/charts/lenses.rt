@@ -20,7 +20,7 @@ use views::query::Query;
 use views::slip::Slip;
 
 /// A lens for charts that count their calls.
-type Used<'a> = Lens<Counting<'a>>;
+type CountingLens<'a> = Lens<Counting<'a>>;
 
 /// Whether a slip's page through a new lens has this text.
 fn has_text(alloc: Global, slip: &Slip<Counting<'_>>, text: &[u8]) -> Result<bool, Refusal> {
@@ -31,7 +31,7 @@ fn has_text(alloc: Global, slip: &Slip<Counting<'_>>, text: &[u8]) -> Result<boo
 fn is_same<'a>(
     alloc: Global,
     slip: &Slip<Counting<'a>>,
-    lens: &mut Used<'a>,
+    lens: &mut CountingLens<'a>,
 ) -> Result<bool, Refusal> {
     let text = text_through(alloc, slip, lens)?;
     has_text(alloc, slip, &text)
@@ -43,7 +43,7 @@ fn steps_for<'a>(
     alloc: Global,
     calls: &AtomicU64,
     slip: &Slip<Counting<'a>>,
-    lens: &mut Used<'a>,
+    lens: &mut CountingLens<'a>,
 ) -> Result<Option<u64>, Refusal> {
     let before = calls.load(Ordering::SeqCst);
     let text = text_through(alloc, slip, lens)?;
@@ -55,7 +55,7 @@ fn steps_for<'a>(
 fn is_same_once<'a>(
     alloc: Global,
     slip: Slip<Counting<'a>>,
-    lens: &mut Used<'a>,
+    lens: &mut CountingLens<'a>,
 ) -> Result<bool, Refusal> {
     is_same(alloc, &slip, lens)
 }
@@ -65,7 +65,7 @@ fn steps_once<'a>(
     alloc: Global,
     calls: &AtomicU64,
     slip: Slip<Counting<'a>>,
-    lens: &mut Used<'a>,
+    lens: &mut CountingLens<'a>,
 ) -> Result<Option<u64>, Refusal> {
     steps_for(alloc, calls, &slip, lens)
 }
@@ -111,7 +111,11 @@ impl<'a> Counted<'a> {
 
     /// How many steps were made for the page of the state at a place; `None` if the page differs
     /// from the page through a new lens.
-    fn steps_at(&mut self, lens: &mut Used<'a>, place: u32) -> Result<Option<u64>, Refusal> {
+    fn steps_at(
+        &mut self,
+        lens: &mut CountingLens<'a>,
+        place: u32,
+    ) -> Result<Option<u64>, Refusal> {
         let query = self.state_at(place);
         let slip = slip_of(self.alloc, &mut self.chart, query)?;
         steps_once(self.alloc, self.calls, slip, lens)
@@ -119,7 +123,7 @@ impl<'a> Counted<'a> {
 
     /// Whether the page of the state at a place is as through a new lens, and takes at most one
     /// step.
-    fn is_cheap_at(&mut self, lens: &mut Used<'a>, place: u32) -> Result<bool, Refusal> {
+    fn is_cheap_at(&mut self, lens: &mut CountingLens<'a>, place: u32) -> Result<bool, Refusal> {
         match self.steps_at(lens, place)? {
             Some(made) => Ok(made <= 1),
             None => Ok(false),
@@ -130,7 +134,7 @@ impl<'a> Counted<'a> {
     /// from the page through a new lens, or takes more than one step.
     fn first_wrong_up(
         &mut self,
-        lens: &mut Used<'a>,
+        lens: &mut CountingLens<'a>,
         places: u32,
     ) -> Result<Option<usize>, Refusal> {
         for place in 0..places {
@@ -146,7 +150,7 @@ impl<'a> Counted<'a> {
     /// average.
     fn first_wrong_down(
         &mut self,
-        lens: &mut Used<'a>,
+        lens: &mut CountingLens<'a>,
         places: u32,
     ) -> Result<Option<usize>, Refusal> {
         let mut steps = 0u64;
@@ -168,7 +172,7 @@ impl<'a> Counted<'a> {
     /// wrong.
     fn first_wrong_place(
         &mut self,
-        lens: &mut Used<'a>,
+        lens: &mut CountingLens<'a>,
         places: u32,
     ) -> Result<Option<usize>, Refusal> {
         match self.first_wrong_up(lens, places)? {
@@ -203,8 +207,8 @@ fn three_hundred_places_up_and_down(rt: HostRuntime) {
 struct TwoCharts<'a> {
     zero: Counted<'a>,
     one: Counted<'a>,
-    shared: Used<'a>,
-    own: Used<'a>,
+    shared: CountingLens<'a>,
+    own: CountingLens<'a>,
 }
 
 impl<'a> TwoCharts<'a> {
@@ -274,7 +278,7 @@ fn query_of(kind: u32, branch: Name, place: u32) -> Query
 
 impl<'a> Counted<'a> {
     /// Whether each kind of page of a place is the same through `lens` as through a new lens.
-    fn are_all_same(&mut self, lens: &mut Used<'a>, place: u32) -> Result<bool, Refusal> {
+    fn are_all_same(&mut self, lens: &mut CountingLens<'a>, place: u32) -> Result<bool, Refusal> {
         for kind in 0..KINDS {
             let query = query_of(kind, self.main, place);
             if !self.is_page_same(lens, query)? {
@@ -285,7 +289,7 @@ impl<'a> Counted<'a> {
     }
 
     /// Whether a page is the same through `lens` as through a new lens.
-    fn is_page_same(&mut self, lens: &mut Used<'a>, query: Query) -> Result<bool, Refusal>
+    fn is_page_same(&mut self, lens: &mut CountingLens<'a>, query: Query) -> Result<bool, Refusal>
         requires { is_at_branch query ≡ true }
     {
         let slip = slip_of(self.alloc, &mut self.chart, query)?;
@@ -294,7 +298,10 @@ impl<'a> Counted<'a> {
 
     /// Goes up through 40 places and down again. Returns how many places were passed before a page
     /// of some kind differed from the page through a new lens.
-    fn first_wrong_of_all_kinds(&mut self, lens: &mut Used<'a>) -> Result<Option<usize>, Refusal> {
+    fn first_wrong_of_all_kinds(
+        &mut self,
+        lens: &mut CountingLens<'a>,
+    ) -> Result<Option<usize>, Refusal> {
         for passed in 0..80u32 {
             let place = if passed < 40 { passed } else { 79 - passed };
             if !self.are_all_same(lens, place)? {
@@ -305,7 +312,7 @@ impl<'a> Counted<'a> {
     }
 
     /// The text of the page of the state at a place.
-    fn state_text(&mut self, lens: &mut Used<'a>, place: u32) -> Result<Vec<u8>, Refusal> {
+    fn state_text(&mut self, lens: &mut CountingLens<'a>, place: u32) -> Result<Vec<u8>, Refusal> {
         let query = self.state_at(place);
         let slip = slip_of(self.alloc, &mut self.chart, query)?;
         text_once_through(self.alloc, slip, lens)
@@ -331,7 +338,7 @@ const LAST_STATE: &[u8] =
 
 impl<'a> Counted<'a> {
     /// Whether the page of the state after all 1,000 steps has the text `LAST_STATE`.
-    fn shows_the_last_state(&mut self, lens: &mut Used<'a>) -> Result<bool, Refusal> {
+    fn shows_the_last_state(&mut self, lens: &mut CountingLens<'a>) -> Result<bool, Refusal> {
         Ok(self.state_text(lens, 1000)?.as_slice() == LAST_STATE)
     }
 
@@ -340,8 +347,8 @@ impl<'a> Counted<'a> {
     /// the first wrong page.
     fn first_wrong_after_an_edit(
         &mut self,
-        lens: &mut Used<'a>,
-        new: &mut Used<'a>,
+        lens: &mut CountingLens<'a>,
+        new: &mut CountingLens<'a>,
     ) -> Result<Option<usize>, Refusal> {
         if !self.shows_the_last_state(lens)? {
             return Ok(Some(0));

@@ -8,7 +8,7 @@ ghost use Rattle.frames.specs.Recorded.{AllFit};
 ghost use Rattle.schedule_trie.specs.Trie.{AreLimits};
 
 use super::counting::Counting;
-use super::single::{Kept, edit, fork, installs_first, is_of, jobs_of, keeps_only, settle};
+use super::single::{KeyedRun, edit, fork, installs_first, is_of, jobs_of, keeps_only, settle};
 use crate::given::{Branch, name, name_of, none_wrong};
 use cutoff::chart::Chart;
 use cutoff::plan::Job;
@@ -111,7 +111,7 @@ pub(super) struct Subject<'a> {
     wanted: Wanted,
     tries: u32,
     chart: Chart<Counting<'a>>,
-    runs: Vec<Kept<Counting<'a>>>,
+    runs: Vec<KeyedRun<Counting<'a>>>,
 }
 
 /// The number of jobs in a plan.
@@ -126,7 +126,7 @@ fn keeps_only_of<'a>(
     alloc: Global,
     jobs: &[Job<Counting<'a>>],
     step: Step,
-    runs: &mut Vec<Kept<Counting<'a>>>,
+    runs: &mut Vec<KeyedRun<Counting<'a>>>,
 ) -> Result<bool, Refusal> {
     match jobs {
         [job] if is_of(job, step) => keeps_only(alloc, jobs, runs),
@@ -135,7 +135,7 @@ fn keeps_only_of<'a>(
 }
 
 /// Makes the edit of a branch that is asked for; does nothing if what is asked isn't an edit.
-fn edited(
+fn make_asked_edit(
     rt: &impl Abort,
     alloc: Global,
     chart: &mut Chart<Counting<'_>>,
@@ -189,12 +189,7 @@ impl Subject<'_> {
 
     /// Asks the chart. Returns whether the result is the expected one, and how many steps the chart
     /// reports as replayed, or a run took.
-    fn reported(
-        &mut self,
-        rt: &impl Abort,
-        branch: &Name,
-        ask: Ask,
-    ) -> Result<(bool, u32), Refusal> {
+    fn ask(&mut self, rt: &impl Abort, branch: &Name, ask: Ask) -> Result<(bool, u32), Refusal> {
         match ask {
             Ask::Settle(place, least, most) => self.settles(branch, place, least, most),
             Ask::Plan(kind) => Ok((self.keeps_run(branch, kind)?, 1)),
@@ -206,7 +201,7 @@ impl Subject<'_> {
             }
             Ask::Left(jobs) => Ok((jobs_left(self.alloc, &self.chart, branch)? == jobs, 0)),
             _ => {
-                edited(rt, self.alloc, &mut self.chart, branch, ask)?;
+                make_asked_edit(rt, self.alloc, &mut self.chart, branch, ask)?;
                 Ok((true, 0))
             }
         }
@@ -214,19 +209,19 @@ impl Subject<'_> {
 
     /// Asks the chart. Returns whether the result is the expected one, and the register was called
     /// once for each of these steps.
-    fn is_reported(&mut self, rt: &impl Abort, row: Row) -> Result<bool, Refusal> {
+    fn is_expected(&mut self, rt: &impl Abort, row: Row) -> Result<bool, Refusal> {
         let (branch, ask) = row;
         let branch = name_of(rt, self.alloc, branch);
         let before = self.calls.load(Ordering::SeqCst);
-        let (is_wanted, steps) = self.reported(rt, &branch, ask)?;
+        let (is_wanted, steps) = self.ask(rt, &branch, ask)?;
         let made = self.calls.load(Ordering::SeqCst).wrapping_sub(before);
         Ok(is_wanted && made == u64::from(steps))
     }
 
-    /// Asks as `is_reported` does, again each time that memory runs out, at most `tries` times.
-    fn is_reported_at_last(&mut self, rt: &impl Abort, row: Row) -> Result<bool, Refusal> {
+    /// Asks as `is_expected` does, again each time that memory runs out, at most `tries` times.
+    fn is_expected_at_last(&mut self, rt: &impl Abort, row: Row) -> Result<bool, Refusal> {
         for _ in 0..self.tries {
-            match self.is_reported(rt, row) {
+            match self.is_expected(rt, row) {
                 Err(Refusal::Memory) => {}
                 reported => return reported,
             }
@@ -241,7 +236,7 @@ impl Subject<'_> {
         rows: &[Row],
     ) -> Result<Option<usize>, Refusal> {
         for (i, row) in rows.iter().enumerate() {
-            if !self.is_reported_at_last(rt, *row)? {
+            if !self.is_expected_at_last(rt, *row)? {
                 return Ok(Some(i));
             }
         }

@@ -28,7 +28,7 @@ use views::query::Query;
 use views::slip::Slip;
 
 /// The key of a segment, and a run of it.
-pub(crate) type Kept<R> = (SegKey, Arc<Run<R>>);
+pub(crate) type KeyedRun<R> = (SegKey, Arc<Run<R>>);
 
 /// The run of a job.
 fn run_of<R: Register>(alloc: Global, job: &Job<R>) -> Result<Arc<Run<R>>, Refusal> {
@@ -39,7 +39,7 @@ fn run_of<R: Register>(alloc: Global, job: &Job<R>) -> Result<Arc<Run<R>>, Refus
 }
 
 /// The key and the run of a job.
-fn kept_of<R: Register>(alloc: Global, job: &Job<R>) -> Result<Kept<R>, Refusal> {
+fn keyed_run_of<R: Register>(alloc: Global, job: &Job<R>) -> Result<KeyedRun<R>, Refusal> {
     Ok((job.key, run_of(alloc, job)?))
 }
 
@@ -47,9 +47,9 @@ fn kept_of<R: Register>(alloc: Global, job: &Job<R>) -> Result<Kept<R>, Refusal>
 pub(crate) fn only_run<R: Register>(
     alloc: Global,
     jobs: &[Job<R>],
-) -> Result<Option<Kept<R>>, Refusal> {
+) -> Result<Option<KeyedRun<R>>, Refusal> {
     match jobs {
-        [job] => Ok(Some(kept_of(alloc, job)?)),
+        [job] => Ok(Some(keyed_run_of(alloc, job)?)),
         _ => Ok(None),
     }
 }
@@ -59,9 +59,9 @@ pub(super) fn first_run<R: Register>(
     alloc: Global,
     jobs: &[Job<R>],
     step: Step,
-) -> Result<Option<Kept<R>>, Refusal> {
+) -> Result<Option<KeyedRun<R>>, Refusal> {
     match jobs.first() {
-        Some(job) if is_of(job, step) => Ok(Some(kept_of(alloc, job)?)),
+        Some(job) if is_of(job, step) => Ok(Some(keyed_run_of(alloc, job)?)),
         _ => Ok(None),
     }
 }
@@ -92,7 +92,7 @@ pub(super) fn keep<T: Drop>(items: &mut Vec<T>, item: T) -> Result<bool, Refusal
 pub(super) fn keeps_only<R: Register>(
     alloc: Global,
     jobs: &[Job<R>],
-    runs: &mut Vec<Kept<R>>,
+    runs: &mut Vec<KeyedRun<R>>,
 ) -> Result<bool, Refusal> {
     match only_run(alloc, jobs)? {
         Some(kept) => keep(runs, kept),
@@ -110,7 +110,10 @@ pub(super) fn install<R: Register>(
 }
 
 /// Offers the run that was kept first, and returns whether it was installed.
-pub(super) fn installs_first<R: Register>(chart: &mut Chart<R>, runs: &mut Vec<Kept<R>>) -> bool {
+pub(super) fn installs_first<R: Register>(
+    chart: &mut Chart<R>,
+    runs: &mut Vec<KeyedRun<R>>,
+) -> bool {
     if runs.is_empty() {
         return false;
     }
@@ -209,7 +212,7 @@ pub(crate) fn page_once<R: Register>(alloc: Global, slip: Slip<R>) -> Result<Pag
 }
 
 /// The text of a page.
-fn written(alloc: Global, page: &Page) -> Result<Vec<u8>, Refusal> {
+fn text_of_page(alloc: Global, page: &Page) -> Result<Vec<u8>, Refusal> {
     page_text(alloc, 0, page).or(Err(Refusal::Memory))
 }
 
@@ -220,13 +223,13 @@ pub(super) fn text_through<R: Register>(
     lens: &mut Lens<R>,
 ) -> Result<Vec<u8>, Refusal> {
     let page = page_through(alloc, slip, lens)?;
-    written(alloc, &page)
+    text_of_page(alloc, &page)
 }
 
 /// The text of a slip's page, through a new lens.
 pub(super) fn text_of<R: Register>(alloc: Global, slip: &Slip<R>) -> Result<Vec<u8>, Refusal> {
     let page = page_of(alloc, slip)?;
-    written(alloc, &page)
+    text_of_page(alloc, &page)
 }
 
 /// The text of the page of a slip that isn't used again, through a new lens.

@@ -29,7 +29,7 @@ impl<R: Register> Chart<R> {
     ///
     /// NoBranch; NoPlace if the branch is shorter than `place`; Full if the number of cells made is
     /// at its limit; Memory. On an error nothing changes.
-    #[tactic(auto, using(crate::proofs::Edited::chart_edited))]
+    #[tactic(auto, using(crate::proofs::Edited::edits_from_trie))]
     pub fn insert(&mut self, alloc: Global, branch: &Name, place: u32, step: Step) -> Edited
         requires { fits_step (R.behaviour self.old.start.register) step ≡ true }
         ensures { Edits self.old self.new (Insert branch.now place step) result }
@@ -45,7 +45,7 @@ impl<R: Register> Chart<R> {
     /// # Errors
     ///
     /// NoBranch; NoPlace if the branch has no cell there. On an error nothing changes.
-    #[tactic(auto, using(crate::proofs::Edited::chart_edited))]
+    #[tactic(auto, using(crate::proofs::Edited::edits_from_trie))]
     pub fn remove(&mut self, branch: &Name, place: u32) -> Edited
         ensures { Edits self.old self.new (Remove branch.now place) result }
     {
@@ -61,7 +61,7 @@ impl<R: Register> Chart<R> {
     /// # Errors
     ///
     /// NoBranch; NoPlace if the branch has no cell there. On an error nothing changes.
-    #[tactic(auto, using(crate::proofs::Edited::chart_edited))]
+    #[tactic(auto, using(crate::proofs::Edited::edits_from_trie))]
     pub fn replace(&mut self, branch: &Name, place: u32, step: Step) -> Edited
         requires { fits_step (R.behaviour self.old.start.register) step ≡ true }
         ensures { Edits self.old self.new (Replace branch.now place step) result }
@@ -80,7 +80,7 @@ impl<R: Register> Chart<R> {
     /// NoBranch; NameTaken; BadName if the name isn't a lower-case letter, followed by lower-case
     /// letters or digits; NoPlace if the branch is shorter than `place`; TooManyBranches; Memory.
     /// On an error nothing changes.
-    #[tactic(auto, using(crate::proofs::Edited::chart_edited))]
+    #[tactic(auto, using(crate::proofs::Edited::edits_from_trie))]
     pub fn fork(&mut self, alloc: Global, branch: &Name, place: u32, name: Name) -> Edited
         ensures { Edits self.old self.new (Fork branch.now place name) result }
     {
@@ -96,7 +96,7 @@ impl<R: Register> Chart<R> {
     ///
     /// NoBranch; Full if the number of cells made would exceed its limit; Memory. On an error
     /// nothing changes.
-    #[tactic(auto, using(crate::proofs::Edited::chart_edited))]
+    #[tactic(auto, using(crate::proofs::Edited::edits_from_trie))]
     pub fn detach(&mut self, alloc: Global, branch: &Name) -> Edited
         ensures { Edits self.old self.new (Detach branch.now) result }
     {
@@ -111,7 +111,7 @@ impl<R: Register> Chart<R> {
     /// # Errors
     ///
     /// NoBranch; LastBranch if it is the only one. On an error nothing changes.
-    #[tactic(auto, using(crate::proofs::Edited::chart_edited))]
+    #[tactic(auto, using(crate::proofs::Edited::edits_from_trie))]
     pub fn drop_branch(&mut self, branch: &Name) -> Edited
         ensures { Edits self.old self.new (Drop branch.now) result }
     {

@@ -1,4 +1,4 @@
-//! Settling a branch's first cells, and the last of their stored runs.
+//! The call that settles a branch's first cells and returns only the last of their stored runs.
 
 ghost use Rattle.std.specs.Prelude.{◌≡◌, Ok, Some, IfOk, OnOk, IfErr};
 ghost use Rattle.std.specs.Option.{option_map};

@@ -30,25 +30,25 @@ name_decides a b =
     (λ p. (ap (λ n. n.0) p, (ap (λ n. n.1) p, ap (λ n. n.2) p)))
     (Decides-and _ _ (Decides-eqb a.0 b.0) (Decides-and _ _ (Decides-eqb a.1 b.1) (Decides-eqb a.2 b.2)))
 
-layer_same : (a : FrameLayer) → layers.eq-value.it a a ≡ true
-layer_same = elim [ layer.Named a ↦ (name_decides a a).1 refl | _ ↦ refl ]
+layer_equals_itself : (a : FrameLayer) → layers.eq-value.it a a ≡ true
+layer_equals_itself = elim [ layer.Named a ↦ (name_decides a a).1 refl | _ ↦ refl ]
 
 -- layers that the derived `==` finds equal are the same; by cases, since `cc` at two different
 -- layers takes a quarter of a second
-layer_found : (a b : FrameLayer) → layers.eq-value.it a b ≡ true → a ≡ b
-layer_found layer.Safe layer.Safe h = refl
-layer_found layer.Copies layer.Copies h = refl
-layer_found layer.Regular layer.Regular h = refl
-layer_found layer.Unary layer.Unary h = refl
-layer_found layer.Stamped layer.Stamped h = refl
-layer_found layer.MatrixRead layer.MatrixRead h = refl
-layer_found layer.MatrixWrite layer.MatrixWrite h = refl
-layer_found (layer.Named a) (layer.Named b) h = ap layer.Named ((name_decides a b).0 h)
-layer_found _ _ h = absurd (false≢true h)
+layers_same_if_equal : (a b : FrameLayer) → layers.eq-value.it a b ≡ true → a ≡ b
+layers_same_if_equal layer.Safe layer.Safe h = refl
+layers_same_if_equal layer.Copies layer.Copies h = refl
+layers_same_if_equal layer.Regular layer.Regular h = refl
+layers_same_if_equal layer.Unary layer.Unary h = refl
+layers_same_if_equal layer.Stamped layer.Stamped h = refl
+layers_same_if_equal layer.MatrixRead layer.MatrixRead h = refl
+layers_same_if_equal layer.MatrixWrite layer.MatrixWrite h = refl
+layers_same_if_equal (layer.Named a) (layer.Named b) h = ap layer.Named ((name_decides a b).0 h)
+layers_same_if_equal _ _ h = absurd (false≢true h)
 
 -- the derived `==` of frames' layers is true exactly if the two layers are the same
 layer_decides : (a b : FrameLayer) → Decides (layers.eq-value.it a b) (a ≡ b)
-layer_decides a b = (layer_found a b, λ h. subst (λ x. layers.eq-value.it a x ≡ true) h (layer_same a))
+layer_decides a b = (layers_same_if_equal a b, λ h. subst (λ x. layers.eq-value.it a x ≡ true) h (layer_equals_itself a))
 
 -- the derived `==` of frames is true exactly if the two frames are the same
 pub frame_decides : (a b : Frame) → Decides (frames.eq-value.it a b) (a ≡ b)
@@ -80,11 +80,11 @@ pub parked_per : IsPartialEquivalence parked_eq
 parked_per = per_from_decides parked_eq parked_decides
 
 -- an item can be set before or after the first `count` items are taken
-pub set_at : (index count : ℕ) (frames : List Frame) (frame : Frame) → take count (set frames index frame) ≡ set (take count frames) index frame
-set_at index zero frames frame = refl
-set_at index (suc count) [] frame = refl
-set_at zero (suc count) (x ∷ xs) frame = refl
-set_at (suc index) (suc count) (x ∷ xs) frame = ap (λ l. x ∷ l) (set_at index count xs frame)
+pub take_of_set : (index count : ℕ) (frames : List Frame) (frame : Frame) → take count (set frames index frame) ≡ set (take count frames) index frame
+take_of_set index zero frames frame = refl
+take_of_set index (suc count) [] frame = refl
+take_of_set zero (suc count) (x ∷ xs) frame = refl
+take_of_set (suc index) (suc count) (x ∷ xs) frame = ap (λ l. x ∷ l) (take_of_set index count xs frame)
 
 -- replacing a process's stack replaces the operation that the stack describes
 pub set_running : {P : Type 0} (point : ℕ → List Frame → Option P) (k : ℕ) (stacks : List (List Frame)) (who : ℕ) (stack : List Frame)

@@ -21,11 +21,11 @@ writer_zero values processes who v h = grind (arith, nat_tests)
 pub no_other_value : (values processes who v : ℕ) → one_writer values processes who (op.Write v) ≡ true → v < values
 no_other_value values processes who v h = grind (arith, nat_tests)
 
-pub reader_some : (values processes who : ℕ) → one_writer values processes who op.Read ≡ true → 1 ≤ who
-reader_some values processes who h = grind (arith, nat_tests)
+pub reader_is_not_zero : (values processes who : ℕ) → one_writer values processes who op.Read ≡ true → 1 ≤ who
+reader_is_not_zero values processes who h = grind (arith, nat_tests)
 
-pub reader_few : (values processes who : ℕ) → one_writer values processes who op.Read ≡ true → who < processes
-reader_few values processes who h = grind (arith, nat_tests)
+pub reader_below_processes : (values processes who : ℕ) → one_writer values processes who op.Read ≡ true → who < processes
+reader_below_processes values processes who h = grind (arith, nat_tests)
 
 pub writer_suits : (values processes who v : ℕ) → who ≡ 0 → 0 < processes → v < values → one_writer values processes who (op.Write v) ≡ true
 writer_suits values processes who v zero some lt = grind (arith, nat_tests)

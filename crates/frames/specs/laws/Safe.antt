@@ -25,70 +25,70 @@ use Rattle.frames.specs.declared.types.Next.TheVariants.{Pending, Done}
 use Rattle.frames.specs.declared.types.Frame.{Frame}
 use Rattle.frames.specs.declared.types.FrameLayer.TheVariants as layer
 use Rattle.frames.specs.Behaviour.{IsLawful, GoesOn, Moved}
-use Rattle.frames.specs.Flat.{ended, left_frames, outermost, Lands, HasFramesFrom, FramesGivePoint}
+use Rattle.frames.specs.Flat.{outcome_of, left_frames, outermost, Lands, HasFramesFrom, FramesGivePoint}
 use Rattle.frames.specs.SafeBit.{safe_behaviour, SafeReaches, safe_suits, safe_begins, safe_goes, safe_acts, safe_frame, point_at, safe_point, bit_of, value_of}
 
 value_below : (b : Bool) → value_of b < 2
 value_below false = omega arith
 value_below true = omega arith
 
-suits_few : (who : ℕ) (o : Op) → safe_suits who o ≡ true → who < 2
-suits_few who (op.Write v) h = grind (arith, nat_tests)
-suits_few who op.Read h = grind (arith, nat_tests)
+suited_below_2 : (who : ℕ) (o : Op) → safe_suits who o ≡ true → who < 2
+suited_below_2 who (op.Write v) h = grind (arith, nat_tests)
+suited_below_2 who op.Read h = grind (arith, nat_tests)
 
-begins : (who : ℕ) (o : Op) (m : Memory) → HasSize safe_behaviour.size m → safe_suits who o ≡ true
+invocation_goes_on : (who : ℕ) (o : Op) (m : Memory) → HasSize safe_behaviour.size m → safe_suits who o ≡ true
     → GoesOn safe_behaviour (HasSize safe_behaviour.size) SafeReaches who o (safe_begins who o m).next (safe_begins who o m).memory
-begins who (op.Write v) m z fits = let zero : who ≡ 0 = grind (arith, nat_tests) in let low : v < 2 = grind (arith, nat_tests) in record { holds = z; may_be_at = (zero, low, refl) }
-begins who op.Read m z fits = let one : who ≡ 1 = grind (arith, nat_tests) in record { holds = z; may_be_at = one }
+invocation_goes_on who (op.Write v) m z fits = let zero : who ≡ 0 = grind (arith, nat_tests) in let low : v < 2 = grind (arith, nat_tests) in record { holds = z; may_be_at = (zero, low, refl) }
+invocation_goes_on who op.Read m z fits = let one : who ≡ 1 = grind (arith, nat_tests) in record { holds = z; may_be_at = one }
 
-hit_bit : (hit v : Bool) → MatchOption {T = ℕ × Bool} (if hit then Some (0, v) else None) ⊤ (λ bit. bit.0 < 1)
-hit_bit false v = tt
-hit_bit true v = omega arith
+hit_bit_is_0 : (hit v : Bool) → MatchOption {T = ℕ × Bool} (if hit then Some (0, v) else None) ⊤ (λ bit. bit.0 < 1)
+hit_bit_is_0 false v = tt
+hit_bit_is_0 true v = omega arith
 
-goes : (who : ℕ) (o : Op) (p : SafePoint) (choice : Bool) (m : Memory) → HasSize safe_behaviour.size m → SafeReaches who o p
+action_goes_on : (who : ℕ) (o : Op) (p : SafePoint) (choice : Bool) (m : Memory) → HasSize safe_behaviour.size m → SafeReaches who o p
     → GoesOn safe_behaviour (HasSize safe_behaviour.size) SafeReaches who o (safe_goes p choice m).next (safe_goes p choice m).memory
-goes who (op.Write v) (at.WriteStart b) choice m z r = record { holds = HasSize-on_cell _ 0 (start_write b) m z; may_be_at = r }
-goes who (op.Write v) (at.WriteEnd b) choice m z r = record { holds = HasSize-on_cell _ 0 end_write m z; may_be_at = tt }
-goes who op.Read at.ReadStart choice m z r = record { holds = HasSize-on_cell _ 0 start_read m z; may_be_at = r }
-goes who op.Read at.ReadEnd choice m z r = record {
+action_goes_on who (op.Write v) (at.WriteStart b) choice m z r = record { holds = HasSize-on_cell _ 0 (start_write b) m z; may_be_at = r }
+action_goes_on who (op.Write v) (at.WriteEnd b) choice m z r = record { holds = HasSize-on_cell _ 0 end_write m z; may_be_at = tt }
+action_goes_on who op.Read at.ReadStart choice m z r = record { holds = HasSize-on_cell _ 0 start_read m z; may_be_at = r }
+action_goes_on who op.Read at.ReadEnd choice m z r = record {
   holds = HasSize-on_cell _ 0 end_read m z;
   may_be_at = value_below (read_gives choice (cell_at 0 m));
 }
-goes who _ _ choice m z r = absurd r
+action_goes_on who _ _ choice m z r = absurd r
 
-chooses : (p : SafePoint) (choice : Bool) (m : Memory) → MatchOption (safe_goes p choice m).chosen ⊤ (λ bit. bit.0 < 1)
-chooses at.ReadEnd choice m = hit_bit (cell_at 0 m).hit (read_gives choice (cell_at 0 m))
-chooses _ choice m = tt
+chosen_is_cell_0 : (p : SafePoint) (choice : Bool) (m : Memory) → MatchOption (safe_goes p choice m).chosen ⊤ (λ bit. bit.0 < 1)
+chosen_is_cell_0 at.ReadEnd choice m = hit_bit_is_0 (cell_at 0 m).hit (read_gives choice (cell_at 0 m))
+chosen_is_cell_0 _ choice m = tt
 
 -- the effect of a read's end action on a bit with this value; `hit`: whether the read was hit
-abbrev read_ends : Bool → Bool → Bool → Memory → Moved SafePoint
-read_ends hit value choice after = record {
+abbrev read_end_effect : Bool → Bool → Bool → Memory → Moved SafePoint
+read_end_effect hit value choice after = record {
   next = Done (Value (value_of (if hit then choice else value)));
   chosen = if hit then Some (0, if hit then choice else value) else None;
   memory = after;
 }
 
 -- a read's end action has the same effect with either choice, if the read isn't hit
-unhit : (hit value : Bool) (after : Memory) → (read_ends hit value false after).chosen ≡ None → read_ends hit value true after ≡ read_ends hit value false after
-unhit false value after none = refl
-unhit true value after none = cc
+choice_unused_if_not_hit : (hit value : Bool) (after : Memory) → (read_end_effect hit value false after).chosen ≡ None → read_end_effect hit value true after ≡ read_end_effect hit value false after
+choice_unused_if_not_hit false value after none = refl
+choice_unused_if_not_hit true value after none = cc
 
-unused : (p : SafePoint) (m : Memory) → (safe_goes p false m).chosen ≡ None → safe_goes p true m ≡ safe_goes p false m
-unused (at.WriteStart b) m none = refl
-unused (at.WriteEnd b) m none = refl
-unused at.ReadStart m none = refl
-unused at.ReadEnd m none = unhit (cell_at 0 m).hit (cell_at 0 m).value (on_cell 0 end_read m) none
+choice_unused : (p : SafePoint) (m : Memory) → (safe_goes p false m).chosen ≡ None → safe_goes p true m ≡ safe_goes p false m
+choice_unused (at.WriteStart b) m none = refl
+choice_unused (at.WriteEnd b) m none = refl
+choice_unused at.ReadStart m none = refl
+choice_unused at.ReadEnd m none = choice_unused_if_not_hit (cell_at 0 m).hit (cell_at 0 m).value (on_cell 0 end_read m) none
 
-suited : (who : ℕ) (o : Op) (p : SafePoint) → SafeReaches who o p → safe_suits who o ≡ true
-suited who (op.Write v) (at.WriteStart b) r = let zero = r.0 in let low = r.1 in grind (arith, nat_tests)
-suited who (op.Write v) (at.WriteEnd b) r = let zero = r.0 in let low = r.1 in grind (arith, nat_tests)
-suited who op.Read at.ReadStart r = grind (arith, nat_tests)
-suited who op.Read at.ReadEnd r = grind (arith, nat_tests)
-suited who _ _ r = absurd r
+reached_is_suited : (who : ℕ) (o : Op) (p : SafePoint) → SafeReaches who o p → safe_suits who o ≡ true
+reached_is_suited who (op.Write v) (at.WriteStart b) r = let zero = r.0 in let low = r.1 in grind (arith, nat_tests)
+reached_is_suited who (op.Write v) (at.WriteEnd b) r = let zero = r.0 in let low = r.1 in grind (arith, nat_tests)
+reached_is_suited who op.Read at.ReadStart r = grind (arith, nat_tests)
+reached_is_suited who op.Read at.ReadEnd r = grind (arith, nat_tests)
+reached_is_suited who _ _ r = absurd r
 
-acts : (p : SafePoint) → (safe_acts p).cell < 1
-acts (at.WriteStart b) = omega arith
-acts _ = omega arith
+acts_on_cell_0 : (p : SafePoint) → (safe_acts p).cell < 1
+acts_on_cell_0 (at.WriteStart b) = omega arith
+acts_on_cell_0 _ = omega arith
 
 set_single : {A : Type 0} (x : A) (xs : List A) → length xs ≡ 1 → set xs 0 x ≡ x ∷ []
 set_single x [] e = absurd (omega arith)
@@ -129,17 +129,17 @@ safe_lawful = record {
   few_frames = omega arith;
   zero_writes = λ v lt. grind (arith, nat_tests);
   others_read = λ who some few. grind (arith, nat_tests);
-  nobody_else = suits_few;
+  nobody_else = suited_below_2;
   no_other_value = λ who v h. grind (arith, nat_tests);
   size_holds = λ m z. z;
   initial_holds = λ v lt. record { cells = refl; words = refl };
-  begins_well = begins;
-  goes_well = goes;
-  chooses_own = λ who o p choice m z r. chooses p choice m;
-  unused_choice = λ who o p m z r none. unused p m none;
-  reached_suits = suited;
+  begins_well = invocation_goes_on;
+  goes_well = action_goes_on;
+  chooses_own = λ who o p choice m z r. chosen_is_cell_0 p choice m;
+  unused_choice = λ who o p m z r none. choice_unused p m none;
+  reached_suits = reached_is_suited;
   frames_fit = λ who o p r. omega arith;
-  acts_own = λ who o p r. acts p;
+  acts_own = λ who o p r. acts_on_cell_0 p;
 }
 
 -- the byte that represents a bit is the bit's value, 0 or 1
@@ -177,9 +177,9 @@ pub safe_frames_give_point : FramesGivePoint safe_behaviour SafeReaches safe_poi
 safe_frames_give_point = record { point = λ who o p r. ap Some (point_of_its_frame p); op = op_of_the_frames; none = λ who. refl }
 
 -- an invocation leaves the memory as it was
-pub begin_leaves : (at : Place) (m : Memory) (who : ℕ) (o : Op) → LiesIn at safe_size m → m ≡ with_part at (safe_begins who o (part at safe_size m)).memory m
-begin_leaves at m who (op.Write v) lies = sym (with_part-own at safe_size m lies)
-begin_leaves at m who op.Read lies = sym (with_part-own at safe_size m lies)
+pub begin_leaves_memory : (at : Place) (m : Memory) (who : ℕ) (o : Op) → LiesIn at safe_size m → m ≡ with_part at (safe_begins who o (part at safe_size m)).memory m
+begin_leaves_memory at m who (op.Write v) lies = sym (with_part-own at safe_size m lies)
+begin_leaves_memory at m who op.Read lies = sym (with_part-own at safe_size m lies)
 
 -- an invocation pushes the operation's one frame after the frames already on the stack
 pub begin_lands : (at : Place) (m : Memory) (who : ℕ) (o : Op) (stack : List Frame) → LiesIn at safe_size m → safe_suits who o ≡ true
@@ -195,14 +195,14 @@ begin_lands at m who (op.Write v) stack lies fits =
 begin_lands at m who op.Read stack lies fits = record { answer = refl; stack = refl; memory = sym (with_part-own at safe_size m lies) }
 
 -- if a list has just one item from index `first` on, its length is `first` + 1
-one_left : {A : Type 0} (first : ℕ) (xs : List A) (x : A) → drop first xs ≡ x ∷ [] → length xs ≡ first + 1
-one_left first xs x e = let l = ap length e in omega (arith, l, length-drop first xs)
+length_if_one_left : {A : Type 0} (first : ℕ) (xs : List A) (x : A) → drop first xs ≡ x ∷ [] → length xs ≡ first + 1
+length_if_one_left first xs x e = let l = ap length e in omega (arith, l, length-drop first xs)
 
 -- if a list has just one item from index `first` on, setting that item gives the items before it,
 -- and then the new one
 set_last : {A : Type 0} (first : ℕ) (xs : List A) (x y : A) → drop first xs ≡ x ∷ [] → set xs first y ≡ take first xs ++ y ∷ []
 set_last first xs x y e =
-    let l = one_left first xs x e in
+    let l = length_if_one_left first xs x e in
     sym (take_all (first + 1) (set xs first y) (omega (arith, l, length-set xs first y))) ∙ take_more_set xs first y (omega (arith, l))
 
 module _ (at : Place) (m : Memory) (who first : ℕ) (stack : List Frame) (choice : Bool) (frame : Frame) (q : SafePoint)
@@ -217,27 +217,27 @@ module _ (at : Place) (m : Memory) (who first : ℕ) (stack : List Frame) (choic
 
   -- if an operation is still pending after a bit action, its frame is replaced by that of the new
   -- point
-  pub goes_on_reached : (q' : SafePoint) (m' : Memory) → (safe_goes q choice (part at safe_size m)).next ≡ Pending q' → m' ≡ with_part at (safe_goes q choice (part at safe_size m)).memory m
+  pub frame_replaced : (q' : SafePoint) (m' : Memory) → (safe_goes q choice (part at safe_size m)).next ≡ Pending q' → m' ≡ with_part at (safe_goes q choice (part at safe_size m)).memory m
       → (o : Op) (p : SafePoint) → HasFramesFrom safe_behaviour.frames SafeReaches who first stack o p
       → Lands safe_behaviour.frames at (safe_goes p choice (part at safe_size m)).next (safe_goes p choice (part at safe_size m)).memory (take first stack) m None (set stack first (safe_frame q')) m'
-  goes_on_reached q' m' next memory o p on =
+  frame_replaced q' m' next memory o p on =
       subst (λ x. Lands safe_behaviour.frames at (safe_goes x choice (part at safe_size m)).next (safe_goes x choice (part at safe_size m)).memory (take first stack) m None (set stack first (safe_frame q')) m')
       (same_point o p on)
       (record {
-        answer = sym (ap ended next);
+        answer = sym (ap outcome_of next);
         stack = set_last first stack (safe_frame p) (safe_frame q') on.there ∙ ap (λ n. take first stack ++ left_frames safe_behaviour.frames n) (sym next);
         memory = memory;
       })
 
   -- if a bit action ends an operation, the operation's frame is dropped
-  pub ends_there : (outcome : Outcome) (m' : Memory) → (safe_goes q choice (part at safe_size m)).next ≡ Done outcome → m' ≡ with_part at (safe_goes q choice (part at safe_size m)).memory m
+  pub frame_dropped : (outcome : Outcome) (m' : Memory) → (safe_goes q choice (part at safe_size m)).next ≡ Done outcome → m' ≡ with_part at (safe_goes q choice (part at safe_size m)).memory m
       → (o : Op) (p : SafePoint) → HasFramesFrom safe_behaviour.frames SafeReaches who first stack o p
       → Lands safe_behaviour.frames at (safe_goes p choice (part at safe_size m)).next (safe_goes p choice (part at safe_size m)).memory (take first stack) m (Some outcome) (take first stack) m'
-  ends_there outcome m' next memory o p on =
+  frame_dropped outcome m' next memory o p on =
       subst (λ x. Lands safe_behaviour.frames at (safe_goes x choice (part at safe_size m)).next (safe_goes x choice (part at safe_size m)).memory (take first stack) m (Some outcome) (take first stack) m')
       (same_point o p on)
       (record {
-        answer = sym (ap ended next);
+        answer = sym (ap outcome_of next);
         stack = sym (append-nil (take first stack)) ∙ ap (λ n. take first stack ++ left_frames safe_behaviour.frames n) (sym next);
         memory = memory;
       })

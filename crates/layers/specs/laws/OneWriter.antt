@@ -11,13 +11,13 @@ use Rattle.frames.specs.OneWriter.{one_writer}
 use Rattle.frames.specs.laws.OneWriter as writer
 use Rattle.layers.specs.Nested.{Table}
 use Rattle.layers.specs.Sound.{IsSound, IsSoundTable, IsNotSpent, Falls, FitsPart}
-pub use Rattle.frames.specs.laws.OneWriter.{zero_writes, others_read, nobody_else, writer_zero, no_other_value, reader_some, reader_few, writer_suits}
+pub use Rattle.frames.specs.laws.OneWriter.{zero_writes, others_read, nobody_else, writer_zero, no_other_value, reader_is_not_zero, reader_below_processes, writer_suits}
 
 module _ {Task : Type 0} (t : Table Task) (MayBeAt : ℕ → Op → Task → Type 0) (left : Task → ℕ) where
   -- `Then` holds, if process `who` can be in the task during operation o, and the outcome suits the
   -- operation that the task asks for and isn't `Spent`
-  abbrev GoesOn : ℕ → Op → Task → Outcome → (Type 0) → Type 0
-  GoesOn who o task outcome Then = MayBeAt who o task → Answers t.inner_values (t.asks task).op outcome → IsNotSpent outcome → Then
+  abbrev AfterTask : ℕ → Op → Task → Outcome → (Type 0) → Type 0
+  AfterTask who o task outcome Then = MayBeAt who o task → Answers t.inner_values (t.asks task).op outcome → IsNotSpent outcome → Then
 
   pub one_writer_sound : ((who : ℕ) (o : Op) → t.suits who o ≡ one_writer t.values t.processes who o) → 0 < t.processes
       → ((v j : ℕ) → v < t.values → j < t.parts → t.first v j < t.inner_values)
@@ -26,8 +26,8 @@ module _ {Task : Type 0} (t : Table Task) (MayBeAt : ℕ → Op → Task → Typ
       → ((who : ℕ) (o : Op) (task : Task) → MayBeAt who o task → t.suits who o ≡ true)
       → ((who : ℕ) (o : Op) (task : Task) → MayBeAt who o task → (t.find who (t.frame task) ≡ task) × ((t.frame task).op ≡ o))
       → ((who : ℕ) (o : Op) → t.suits who o ≡ true → IsSound t (MayBeAt who o) (Answers t.values o) (t.program who o))
-      → ((who : ℕ) (o : Op) (task : Task) (outcome : Outcome) → GoesOn who o task outcome (IsSound t (MayBeAt who o) (Answers t.values o) (t.rest task outcome)))
-      → ((who : ℕ) (o : Op) (task : Task) (outcome : Outcome) → GoesOn who o task outcome (Falls left (left task) (t.rest task outcome)))
+      → ((who : ℕ) (o : Op) (task : Task) (outcome : Outcome) → AfterTask who o task outcome (IsSound t (MayBeAt who o) (Answers t.values o) (t.rest task outcome)))
+      → ((who : ℕ) (o : Op) (task : Task) (outcome : Outcome) → AfterTask who o task outcome (Falls left (left task) (t.rest task outcome)))
       → IsSoundTable t MayBeAt left
   one_writer_sound suits some first_fits first_words asks_fit may_be_at_suits frame_gives_task begins_sound rest_sound rest_falls = record {
     zero_writes = λ v lt. suits 0 (op.Write v) ∙ writer.zero_writes t.values t.processes v some lt;

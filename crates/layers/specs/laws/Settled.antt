@@ -8,7 +8,7 @@ use Rattle.safe_bit.specs.Parts.{HasSize, LiesIn, part, with_part}
 use Rattle.safe_bit.specs.laws.Parts.{HasSize-part, HasSize-with_word, LiesIn-with_part, part-with_part, with_part-with_part, with_part-own, word_at-part, with_word-part}
 use Rattle.frames.specs.declared.types.Outcome.{Outcome}
 use Rattle.frames.specs.Behaviour.{Behaviour}
-use Rattle.layers.specs.Nested.{Program, Ends, Asks, Reads, Sets, Table, own_words, asked, after_part, advance}
+use Rattle.layers.specs.Nested.{Program, Ends, Asks, Reads, Sets, Table, own_words_start, asked, after_part, advance}
 use Rattle.layers.specs.Sound.{IsSound, Falls, WordsHold, LayerHolds}
 use Rattle.layers.specs.laws.Nested.{holds_with_word}
 use Rattle.layers.specs.Settled.{ContinuationIsSound, run_on, settled, tasks_left}
@@ -42,15 +42,15 @@ module _ {Task : Type 0} (t : Table Task) (MayBeAt : Task → Type 0) (Answer : 
   -- running a program until it waits for a bit action or ends has the same effect as running it to
   -- its next task or end, and then running on from this
   pub advance_settled : {P : Type 0} (b : Behaviour P) (p : Program Task) (m : Memory) → IsSound t MayBeAt Answer p
-      → own_words t b.size + t.words ≤ length m.words → WordsHold t (own_words t b.size) m
-      → advance t b p m ≡ run_on t b (settled (own_words t b.size) p m).continuation (settled (own_words t b.size) p m).memory
+      → own_words_start t b.size + t.words ≤ length m.words → WordsHold t (own_words_start t b.size) m
+      → advance t b p m ≡ run_on t b (settled (own_words_start t b.size) p m).continuation (settled (own_words_start t b.size) p m).memory
   advance_settled b (Ends o) m sound fit h = refl
   advance_settled b (Asks task k) m sound fit h =
       λ i. after_part (λ o n. advance t b (sound.1 o i) n) task (asked b (t.asks task) m).next (asked b (t.asks task) m).memory
-  advance_settled b (Reads i k) m sound fit h = advance_settled b (k (word_at (own_words t b.size + i) m)) m (sound.1 _ (h i sound.0)) fit h
+  advance_settled b (Reads i k) m sound fit h = advance_settled b (k (word_at (own_words_start t b.size + i) m)) m (sound.1 _ (h i sound.0)) fit h
   advance_settled b (Sets i x k) m sound fit h =
-      advance_settled b k (with_word (own_words t b.size + i) x m) sound.1.1 (omega (arith, length-set m.words (own_words t b.size + i) x))
-      (words_hold_set t (own_words t b.size) i x m fit sound.0 sound.1.0 h)
+      advance_settled b k (with_word (own_words_start t b.size + i) x m) sound.1.1 (omega (arith, length-set m.words (own_words_start t b.size + i) x))
+      (words_hold_set t (own_words_start t b.size) i x m fit sound.0 sound.1.0 h)
 
   -- whether a sound program runs in a store or in the layer's memory that lies there, it reaches
   -- the same next task or end, and changes that memory in the same way, but nothing else in the
@@ -87,10 +87,10 @@ module _ {Task : Type 0} (t : Table Task) (MayBeAt : Task → Type 0) (Answer : 
 -- end
 pub settled_holds : {Task P : Type 0} (l : LayerOver Task P)
     (MayBeAt : Task → Type 0) (Answer : Outcome → Type 0) (p : Program Task) (m : Memory) → IsSound l.table MayBeAt Answer p → LayerHolds l.table l.below l.Holds m
-    → LayerHolds l.table l.below l.Holds (settled (own_words l.table l.below.size) p m).memory
+    → LayerHolds l.table l.below l.Holds (settled (own_words_start l.table l.below.size) p m).memory
 settled_holds l MayBeAt Answer (Ends o) m sound h = h
 settled_holds l MayBeAt Answer (Asks task k) m sound h = h
 settled_holds l MayBeAt Answer (Reads i k) m sound h =
-    settled_holds l MayBeAt Answer (k (word_at (own_words l.table l.below.size + i) m)) m (sound.1 _ (h.words i sound.0)) h
+    settled_holds l MayBeAt Answer (k (word_at (own_words_start l.table l.below.size + i) m)) m (sound.1 _ (h.words i sound.0)) h
 settled_holds l MayBeAt Answer (Sets i x k) m sound h =
-    settled_holds l MayBeAt Answer k (with_word (own_words l.table l.below.size + i) x m) sound.1.1 (holds_with_word l i x m sound.0 sound.1.0 h)
+    settled_holds l MayBeAt Answer k (with_word (own_words_start l.table l.below.size + i) x m) sound.1.1 (holds_with_word l i x m sound.0 sound.1.0 h)

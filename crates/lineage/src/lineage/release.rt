@@ -4,7 +4,7 @@ ghost use Rattle.std.specs.Prelude.{◌≡◌, ◌≢◌, ◌<◌, ℕ, List, Op
 ghost use Rattle.std.specs.List.{remove};
 ghost use Rattle.slab.specs.Slab.{get, ContainsKey};
 ghost use Rattle.lineage.specs.Family.{IsReleased};
-ghost use Rattle.lineage.specs.Lineages.{IsReleasing, IsSoundFamily, Stays, next_up, less_one};
+ghost use Rattle.lineage.specs.Lineages.{IsReleasing, IsSoundFamily, Stays, next_up, without_holder};
 
 use super::{Key, Lineage};
 use crate::node::{Above, Node};
@@ -43,7 +43,7 @@ pub(super) fn free_up<X: Drop>(nodes: &mut Slab<Node<X>>, tip: Above)
 fn free_node<X: Drop>(nodes: &mut Slab<Node<X>>, key: Key) -> Above
     requires { ContainsKey nodes.old key }
     ensures next { result ≡ next_up (get nodes.old key) }
-    ensures here { get nodes.new key ≡ less_one (get nodes.old key) }
+    ensures here { get nodes.new key ≡ without_holder (get nodes.old key) }
     ensures others { (k : ℕ) → k ≢ key → get nodes.new k ≡ get nodes.old k }
 {
     let node = &mut nodes[key];

@@ -43,7 +43,7 @@ module _ (processes : ℕ) (some : 0 < processes) where
   begins_sound : (who : ℕ) (o : Op) → one_writer 4 processes who o ≡ true
       → IsSound (two_bits_table processes) (TwoBitsMayBeAt processes who o) (Answers 4 o) (two_bits_program who o)
   begins_sound who (op.Write x) h = ((writer.writer_zero 4 processes who x h, refl, writer.no_other_value 4 processes who x h), λ o. refl)
-  begins_sound who op.Read h = ((refl, writer.reader_some 4 processes who h, writer.reader_few 4 processes who h), λ o. refl)
+  begins_sound who op.Read h = ((refl, writer.reader_is_not_zero 4 processes who h, writer.reader_below_processes 4 processes who h), λ o. refl)
 
   asks_fit : (who : ℕ) (o : Op) (task : TwoBitsTask) → TwoBitsMayBeAt processes who o task
       → ((two_bits_asks task).part < 2) × FitsPart 2 processes (two_bits_asks task).who (two_bits_asks task).op

@@ -8,13 +8,13 @@ use Rattle.pages.specs.declared.page.branches.BranchesPage.{BranchesPage}
 use Rattle.pages.specs.page.Head.{line_end}
 
 -- the name and the length of a branch
-abbrev pub length_of : Branch → BranchLength
-length_of b = record { name = b.name; len = length b.slots }
+abbrev pub name_and_length : Branch → BranchLength
+name_and_length b = record { name = b.name; len = length b.slots }
 
 -- the page that lists a forest's branches, in the order they were made; it also shows `edits`, how
 -- many edits were accepted, and how many cells were ever made
 abbrev pub branches_page : ℕ → Forest → BranchesPage
-branches_page edits f = record { edits = edits; made = f.made; branches = map length_of f.branches }
+branches_page edits f = record { edits = edits; made = f.made; branches = map name_and_length f.branches }
 
 -- the first line of the page: the session's number, how many branches there are, how many edits
 -- were accepted, and how many cells were ever made

@@ -21,18 +21,18 @@ event_process (Stop p) = p
 event_process (Chosen p bit v) = p
 
 -- the text of an event: its kind, and its operation, value, layer, reason or bit if it has them
-abbrev pub event_name : Event → List ℕ
-event_name (Invoke p o) = codes "invoke " ++ op_text o
-event_name (Got p v) = codes "return " ++ decimal v
-event_name (Wrote p) = codes "return written"
-event_name (Refused p layer) = codes "refused spent " ++ layer_name layer
-event_name (Void p why) = codes "void " ++ reason_name why
-event_name (Stop p) = codes "stop"
-event_name (Chosen p bit v) = codes "chosen bit " ++ decimal bit ++ codes " value " ++ bit_name v
+abbrev pub event_text : Event → List ℕ
+event_text (Invoke p o) = codes "invoke " ++ op_text o
+event_text (Got p v) = codes "return " ++ decimal v
+event_text (Wrote p) = codes "return written"
+event_text (Refused p layer) = codes "refused spent " ++ layer_name layer
+event_text (Void p why) = codes "void " ++ reason_name why
+event_text (Stop p) = codes "stop"
+event_text (Chosen p bit v) = codes "chosen bit " ++ decimal bit ++ codes " value " ++ bit_name v
 
 -- the line of an event: the index of its step, its process, and its text
 abbrev pub event_line : ℕ × Event → List ℕ
-event_line e = codes "  " ++ decimal e.0 ++ codes " p" ++ decimal (event_process e.1) ++ codes " " ++ event_name e.1 ++ line_end
+event_line e = codes "  " ++ decimal e.0 ++ codes " p" ++ decimal (event_process e.1) ++ codes " " ++ event_text e.1 ++ line_end
 
 -- a line for each event, with the index of its step, or the line `none` if there are no events
 abbrev pub history_lines : List (ℕ × Event) → List ℕ

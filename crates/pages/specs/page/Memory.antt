@@ -18,14 +18,14 @@ cell_value c = c.value
 abbrev pub bits_line : List Bool → List ℕ
 bits_line bits = codes "  bits " ++ flat_map bit_name bits ++ line_end
 
--- a word, which is a number, after a space
-abbrev pub spaced : ℕ → List ℕ
-spaced w = codes " " ++ decimal w
+-- a number after a space
+abbrev pub after_space : ℕ → List ℕ
+after_space w = codes " " ++ decimal w
 
 -- all words, each after a space, or a dash if there are no words
 abbrev pub words_text : List ℕ → List ℕ
 words_text [] = codes " -"
-words_text (w ∷ ws) = flat_map spaced (w ∷ ws)
+words_text (w ∷ ws) = flat_map after_space (w ∷ ws)
 
 -- one line with all words, or with a dash if there are no words
 abbrev pub words_line : List ℕ → List ℕ

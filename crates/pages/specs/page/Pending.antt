@@ -15,6 +15,7 @@ use Rattle.pages.specs.Numbered.{numbered_lines}
 use Rattle.pages.specs.declared.page.head.Head.{Head}
 use Rattle.pages.specs.declared.page.pending.PendingPage.{PendingPage}
 use Rattle.pages.specs.page.Head.{line_end, head_line}
+use Rattle.pages.specs.page.Memory.{after_space}
 use Rattle.pages.specs.page.Names.{frame_name}
 use Rattle.pages.specs.page.Process.{stopped_text, idle_line}
 
@@ -43,10 +44,6 @@ frame_op Stamped (op.Write v) x = short_op (op.Write v) x
 frame_op Stamped op.Read x = short_op op.Read 0
 frame_op layer (op.Write v) x = short_op (op.Write v) v
 frame_op layer op.Read x = short_op op.Read 0
-
--- a number after a space
-abbrev pub after_space : ℕ → List ℕ
-after_space n = codes " " ++ decimal n
 
 -- What follows the operation in a frame's text. Safe bit: how many bit actions the operation has
 -- made; copies: the reader whose copy is in use; unary number: the bit in use; matrix: the phase,
@@ -81,13 +78,13 @@ frames_line p fs stopped = codes "  p" ++ decimal p ++ codes " " ++ frames_text 
 
 -- the line of a process, given the frames of its pending operation (`None` if nothing is pending),
 -- and whether the process has stopped
-abbrev pub shown_frames : ℕ → Option (List Frame) → Bool → List ℕ
-shown_frames p None stopped = idle_line p stopped
-shown_frames p (Some fs) stopped = frames_line p fs stopped
+abbrev pub frames_or_idle_line : ℕ → Option (List Frame) → Bool → List ℕ
+frames_or_idle_line p None stopped = idle_line p stopped
+frames_or_idle_line p (Some fs) stopped = frames_line p fs stopped
 
 -- the line of process p, given what it has pending and whether it has stopped
 abbrev pub pending_line : ℕ → PendingStatus → List ℕ
-pending_line p s = shown_frames p s.frames s.stopped
+pending_line p s = frames_or_idle_line p s.frames s.stopped
 
 -- a line for each process, numbered from 0
 abbrev pub pending_lines : List PendingStatus → List ℕ

@@ -62,9 +62,9 @@ status_line p (Busy o a) = busy_line p o a
 status_line p (Stopped o) = stopped_line p o
 
 -- the line of process p, which ends in `none` if the register has no such process
-abbrev pub one_line : ℕ → Option ProcessStatus → List ℕ
-one_line p None = codes "  p" ++ decimal p ++ codes " none" ++ line_end
-one_line p (Some s) = status_line p s
+abbrev pub process_line : ℕ → Option ProcessStatus → List ℕ
+process_line p None = codes "  p" ++ decimal p ++ codes " none" ++ line_end
+process_line p (Some s) = status_line p s
 
 -- the page that shows what process p is doing in a configuration
 abbrev pub process_page : {R P : Type 0} → Behaviour P → Head → ℕ → Configuration R P → ProcessPage
@@ -72,4 +72,4 @@ process_page b head p c = record { head = head; process = p; status = status_of 
 
 -- the text of a page of one process, as the answer to the session with this number
 abbrev pub process_text : ℕ → ProcessPage → List ℕ
-process_text session page = head_line session (codes "process") page.head ++ one_line page.process page.status
+process_text session page = head_line session (codes "process") page.head ++ process_line page.process page.status

@@ -38,7 +38,7 @@ impl Line for (usize, Event) {
         push_labelled(out, "  ", step as u64)?;
         push_labelled(out, " p", u64::from(event_process(event)))?;
         push_text(out, " ")?;
-        push_event_name(out, event)?;
+        push_event_text(out, event)?;
         push_text(out, "\n")
     }
 }
@@ -61,8 +61,8 @@ fn event_process(event: Event) -> u32
 /// Adds the text of an event: its kind, and after it an invocation's operation, the value that a
 /// read returned, a refusal's layer, a void's reason, or a choice's bit and value. The text of a
 /// write's return is `return written`, and that of a stop is `stop`.
-fn push_event_name(out: &mut Vec<u8>, event: Event) -> Pushed
-    ensures { OnOk result (out.new.items ≡ out.old.items ++ spec.event_name event) }
+fn push_event_text(out: &mut Vec<u8>, event: Event) -> Pushed
+    ensures { OnOk result (out.new.items ≡ out.old.items ++ spec.event_text event) }
 {
     match event {
         Event::Invoke(_, op) => push_invocation(out, op),

@@ -1,12 +1,13 @@
 //! The page that shows each pending operation as frames, one for each of its layers.
 
 ghost use Rattle.std.specs.Prelude.{◌≡◌, ◌++◌, IfOk, OnOk, decimal};
+ghost use Rattle.pages.specs.page.Memory.{after_space};
 ghost use Rattle.pages.specs.page.Pending as spec;
 
 use crate::page::head::{Head, push_head};
 use crate::page::lines::{Line, push_lines};
 use crate::page::names::push_frame_name;
-use crate::page::process::{push_idle, push_name, stopped_text};
+use crate::page::process::{push_idle, push_process_number, stopped_text};
 use branch_terms::listed::Listed;
 use frames::config::Config;
 use frames::register::Register;
@@ -113,7 +114,7 @@ impl Line for PendingStatus {
 fn push_frames(out: &mut Vec<u8>, p: usize, frames: &[Frame], stopped: bool) -> Pushed
     ensures { OnOk result (out.new.items ≡ out.old.items ++ spec.frames_line p frames.now stopped) }
 {
-    push_name(out, p)?;
+    push_process_number(out, p)?;
     push_nested(out, frames)?;
     push_text(out, stopped_text(stopped))?;
     push_text(out, "\n")
@@ -174,9 +175,9 @@ fn push_frame_rest(out: &mut Vec<u8>, layer: FrameLayer, i: u32, x: u32) -> Push
             push_labelled(out, " ", u64::from(i))
         }
         FrameLayer::Regular | FrameLayer::Stamped => Ok(()),
-        FrameLayer::MatrixRead => push_part(out, " read ", i, x),
-        FrameLayer::MatrixWrite => push_part(out, " write ", i, x),
-        FrameLayer::Named(_) => push_part(out, " ", i, x),
+        FrameLayer::MatrixRead => push_two_numbers(out, " read ", i, x),
+        FrameLayer::MatrixWrite => push_two_numbers(out, " write ", i, x),
+        FrameLayer::Named(_) => push_two_numbers(out, " ", i, x),
     }
 }
 
@@ -184,9 +185,9 @@ fn push_frame_rest(out: &mut Vec<u8>, layer: FrameLayer, i: u32, x: u32) -> Push
 /// For a matrix, `i` is the number of the part in use within the column being read or the row being
 /// written. In the phase `read`, `x` is the greatest code read so far, at first 0. In the phase
 /// `write`, `x` is the code being written. A construction that names itself has no phase.
-fn push_part(out: &mut Vec<u8>, phase: &str, i: u32, x: u32) -> Pushed
+fn push_two_numbers(out: &mut Vec<u8>, phase: &str, i: u32, x: u32) -> Pushed
     ensures { OnOk result (out.new.items ≡ out.old.items
-        ++ phase.now ++ decimal i ++ spec.after_space x) }
+        ++ phase.now ++ decimal i ++ after_space x) }
 {
     push_labelled(out, phase, u64::from(i))?;
     push_labelled(out, " ", u64::from(x))

@@ -56,7 +56,7 @@ pub(crate) fn push_process(out: &mut Vec<u8>, session: u32, page: &ProcessPage) 
     ensures { OnOk result (out.new.items ≡ out.old.items ++ spec.process_text session page.now) }
 {
     push_head(out, session, "process", &page.head)?;
-    push_one(out, page.process, page.status)
+    push_process_line(out, page.process, page.status)
 }
 
 /// What each process is doing in a configuration, in the order of the processes.
@@ -103,8 +103,8 @@ fn status_at<R: Register>(config: &Config<R>, p: u32) -> ProcessStatus
 }
 
 /// Adds the line of process `p`, which ends in `none` if the register has no such process.
-fn push_one(out: &mut Vec<u8>, p: u32, status: Option<ProcessStatus>) -> Pushed
-    ensures { OnOk result (out.new.items ≡ out.old.items ++ spec.one_line p status) }
+fn push_process_line(out: &mut Vec<u8>, p: u32, status: Option<ProcessStatus>) -> Pushed
+    ensures { OnOk result (out.new.items ≡ out.old.items ++ spec.process_line p status) }
 {
     match status {
         None => push_none(out, p),
@@ -114,7 +114,7 @@ fn push_one(out: &mut Vec<u8>, p: u32, status: Option<ProcessStatus>) -> Pushed
 
 /// Adds the line of a process that the register doesn't have.
 fn push_none(out: &mut Vec<u8>, p: u32) -> Pushed
-    ensures { OnOk result (out.new.items ≡ out.old.items ++ spec.one_line p None) }
+    ensures { OnOk result (out.new.items ≡ out.old.items ++ spec.process_line p None) }
 {
     push_labelled(out, "  p", u64::from(p))?;
     push_text(out, " none\n")
@@ -155,14 +155,14 @@ pub(crate) fn stopped_text(stopped: bool) -> &'static str
 fn push_busy(out: &mut Vec<u8>, p: usize, op: Op, next: Action) -> Pushed
     ensures { OnOk result (out.new.items ≡ out.old.items ++ spec.busy_line p op next) }
 {
-    push_name(out, p)?;
+    push_process_number(out, p)?;
     push_op(out, op)?;
     push_next(out, next)
 }
 
 /// Adds to `out` the beginning of the line of process `p`: two spaces, the letter p and the number,
 /// a space.
-pub(super) fn push_name(out: &mut Vec<u8>, p: usize) -> Pushed
+pub(super) fn push_process_number(out: &mut Vec<u8>, p: usize) -> Pushed
     ensures { OnOk result
         (out.new.items ≡ out.old.items ++ codes "  p" ++ decimal p ++ codes " ") }
 {
@@ -185,7 +185,7 @@ fn push_next(out: &mut Vec<u8>, next: Action) -> Pushed
 fn push_stopped(out: &mut Vec<u8>, p: usize, op: Op) -> Pushed
     ensures { OnOk result (out.new.items ≡ out.old.items ++ spec.stopped_line p op) }
 {
-    push_name(out, p)?;
+    push_process_number(out, p)?;
     push_op(out, op)?;
     push_text(out, " stopped\n")
 }

@@ -9,7 +9,7 @@ use branch_terms::listed::Listed;
 use branch_terms::name::Name;
 use frames::types::Step;
 use std::alloc::{AllocError, Global};
-use words::step::append_step;
+use words::step::push_step;
 use words::text::{Pushed, push_labelled, push_number, push_text};
 
 /// A page that shows all steps of a branch, in order.
@@ -45,7 +45,7 @@ impl Line for Step {
     fn push_line(&self, out: &mut Vec<u8>, index: usize) -> Pushed {
         push_labelled(out, "  ", index as u64)?;
         push_text(out, " ")?;
-        append_step(out, *self)?;
+        push_step(out, *self)?;
         push_text(out, "\n")
     }
 }

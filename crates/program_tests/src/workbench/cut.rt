@@ -14,7 +14,7 @@ use towerbench::{Fault, run};
 const TOWER: &[u8] = b"tower 1\nsafe 0\nr 1\ng 1 0\ng 1 0\n";
 
 /// The lines of row `shared-insert`, and their answers on the tower above.
-const TALK: [(&str, &str); 7] = [
+const CONVERSATION: [(&str, &str); 7] = [
     ("0 fork main 3 a\n", "0: edit 1\n"),
     ("1 join\n", "1: joined\n"),
     ("1 go a 2\n", "1: at a 2\n"),
@@ -118,7 +118,7 @@ struct Streams {
 }
 
 /// Runs the program over a script. Returns the fault, if there was one, and the bytes written.
-fn ended<H: Threads + Wait + Sync>(
+fn run_script<H: Threads + Wait + Sync>(
     rt: &H,
     alloc: Global,
     script: &[u8],
@@ -138,10 +138,10 @@ fn ended<H: Threads + Wait + Sync>(
     (ran.err(), writer.taken)
 }
 
-/// The script: the lines of `TALK`.
+/// The script: the lines of `CONVERSATION`.
 fn script(alloc: Global) -> Result<Vec<u8>, AllocError> {
     let mut script = Vec::new(alloc);
-    for (line, _) in TALK {
+    for (line, _) in CONVERSATION {
         script.extend_from_slice(line.as_bytes())?;
     }
     Ok(script)
@@ -151,7 +151,7 @@ fn script(alloc: Global) -> Result<Vec<u8>, AllocError> {
 fn answers_within(alloc: Global, count: usize) -> Result<Vec<u8>, AllocError> {
     let mut answers = Vec::new(alloc);
     let mut left = count;
-    for (line, answer) in TALK {
+    for (line, answer) in CONVERSATION {
         if left < line.len() {
             break;
         }
@@ -182,7 +182,7 @@ fn check<H: Abort + AllocGlobal + Threads + Wait + Sync>(
 ) -> Result<(), Fail> {
     let answers = answers_within(rt.alloc(), count)?;
     let front = &script[..count.min(script.len())];
-    let (found, taken) = ended(rt, rt.alloc(), front, streams);
+    let (found, taken) = run_script(rt, rt.alloc(), front, streams);
     assert_eq!(rt; found, Some(fault), "{count}");
     assert!(rt; taken == answers, "{count}");
     Ok(())
@@ -226,7 +226,7 @@ fn check_interrupted<H: Abort + AllocGlobal + Threads + Wait + Sync>(
 fn a_reader_is_only_interrupted_after_each_line(rt: HostRuntime) -> Result<(), Fail> {
     let mut count = 0_usize;
     check_interrupted(&rt, count)?;
-    for (line, _) in TALK {
+    for (line, _) in CONVERSATION {
         count = count.wrapping_add(line.len());
         check_interrupted(&rt, count)?;
     }
@@ -236,7 +236,7 @@ fn a_reader_is_only_interrupted_after_each_line(rt: HostRuntime) -> Result<(), F
 #[test]
 fn a_reader_is_only_interrupted_within_each_line(rt: HostRuntime) -> Result<(), Fail> {
     let mut count = 0_usize;
-    for (line, _) in TALK {
+    for (line, _) in CONVERSATION {
         check_interrupted(&rt, count.wrapping_add(line.len() / 2))?;
         count = count.wrapping_add(line.len());
     }
@@ -257,7 +257,7 @@ fn a_write_fails_after_each_byte(rt: HostRuntime) -> Result<(), Fail> {
                 write,
                 room,
             };
-            let (found, taken) = ended(&rt, rt.alloc(), &script, streams);
+            let (found, taken) = run_script(&rt, rt.alloc(), &script, streams);
             let fault = (room < answers.len()).then_some(Fault::Write);
             assert_eq!(rt; found, fault, "{room}");
             assert!(rt;

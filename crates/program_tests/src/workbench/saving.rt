@@ -24,7 +24,7 @@ const SAVED: &[u8] = b"bench 1\nsafe 0\nbranch main 0 0\nr 1\nw 0 1\n\
 /// Runs the program over the file with these options. The writer takes at most `answers` bytes, and
 /// the saver at most `saved`. Returns the fault, if there was one, and what the writer and the
 /// saver took.
-fn ended<H: AllocGlobal + Threads + Wait + Sync>(
+fn run_file<H: AllocGlobal + Threads + Wait + Sync>(
     rt: &H,
     options: Options,
     answers: usize,
@@ -52,7 +52,7 @@ fn ended<H: AllocGlobal + Threads + Wait + Sync>(
 #[test]
 fn a_saver_fails_after_each_byte(rt: HostRuntime) {
     for room in 0..=SAVED.len() {
-        let (found, answers, saved) = ended(&rt, options(), ALL, room);
+        let (found, answers, saved) = run_file(&rt, options(), ALL, room);
         let fault = if room < SAVED.len() {
             Some(Fault::Save)
         } else {
@@ -91,7 +91,7 @@ fn a_saver_takes_no_byte(rt: HostRuntime) {
 #[test]
 fn a_write_fails_before_the_save(rt: HostRuntime) {
     for room in 0..ANSWERS.len() {
-        let (found, answers, saved) = ended(&rt, options(), room, ALL);
+        let (found, answers, saved) = run_file(&rt, options(), room, ALL);
         assert_eq!(rt; found, Some(Fault::Write), "{room}");
         assert!(rt; answers.as_slice() == &ANSWERS[..room], "{room}");
         assert!(rt; saved.is_empty(), "{room}");
@@ -107,7 +107,7 @@ fn check_refused<H: Abort + AllocGlobal + Threads + Wait + Sync>(
 )
     requires { AreOptionsInRange options }
 {
-    let (found, answers, saved) = ended(rt, options, ALL, ALL);
+    let (found, answers, saved) = run_file(rt, options, ALL, ALL);
     assert_eq!(rt; found, Some(Fault::Refused(refusal)));
     assert!(rt; answers.is_empty() && saved.is_empty());
 }

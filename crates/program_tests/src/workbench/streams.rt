@@ -22,7 +22,7 @@ struct Ended {
 
 /// Runs the program with these words and this reader. `out` is what the writer of answers does with
 /// bytes, and `err` what the writer of fault lines does.
-fn end<F: Files + AllocGlobal + Threads + Wait + Sync>(
+fn run_tool<F: Files + AllocGlobal + Threads + Wait + Sync>(
     files: &F,
     words: io::Result<Vec<String>>,
     reader: &mut Slow<'_>,
@@ -56,7 +56,7 @@ fn check<F: Abort + Files + AllocGlobal + Threads + Wait + Sync>(
     reported: &str,
 ) {
     let words = Ok(Vec::new(rt.alloc()));
-    let ended = end(rt, words, reader, way, Way::Takes);
+    let ended = run_tool(rt, words, reader, way, Way::Takes);
     assert_eq!(rt; ended.answers.as_slice(), answers.as_bytes());
     assert_eq!(rt; ended.reported.as_slice(), reported.as_bytes());
     assert_eq!(rt; ended.status, status);
@@ -101,7 +101,7 @@ fn failed_flush(rt: HostRuntime) {
 fn fault_line_lost(rt: HostRuntime) {
     let mut reader = Slow::new(b"0 state main 0\n".as_slice(), 0, None);
     let words = Ok(Vec::new(rt.alloc()));
-    let ended = end(&rt, words, &mut reader, Way::TakesNone, Way::Fails);
+    let ended = run_tool(&rt, words, &mut reader, Way::TakesNone, Way::Fails);
     assert_eq!(rt; ended.status, 1);
 }
 
@@ -139,7 +139,7 @@ fn help_not_written(rt: HostRuntime) -> Result<(), Fail> {
     for way in [Way::TakesNone, Way::Fails, Way::Sticks] {
         let words = Ok(words_of(rt.alloc(), ["--help"].as_slice())?);
         let mut reader = Slow::new(SCRIPT, 0, None);
-        let ended = end(&rt, words, &mut reader, way, Way::Takes);
+        let ended = run_tool(&rt, words, &mut reader, way, Way::Takes);
         assert_eq!(rt; ended.status, 1);
         assert_eq!(rt;
             ended.reported.as_slice(),
@@ -155,7 +155,7 @@ fn words_before_the_script(rt: HostRuntime) -> Result<(), Fail> {
     for (texts, status) in [(["--cells", "0"].as_slice(), 2), (["--help"].as_slice(), 0)] {
         let words = Ok(words_of(rt.alloc(), texts)?);
         let mut reader = Slow::new(SCRIPT, 0, None);
-        let ended = end(&rt, words, &mut reader, Way::Takes, Way::Takes);
+        let ended = run_tool(&rt, words, &mut reader, Way::Takes, Way::Takes);
         assert_eq!(rt; ended.status, status);
         assert_eq!(rt; ended.answers.is_empty(), status == 2);
         assert_eq!(rt; ended.reported.is_empty(), status == 0);
@@ -177,7 +177,7 @@ fn words_that_cannot_be_read(rt: HostRuntime) {
     ] {
         let words = Err(io::Error::from(kind));
         let mut reader = Slow::new(SCRIPT, 0, None);
-        let ended = end(&rt, words, &mut reader, Way::Takes, Way::Takes);
+        let ended = run_tool(&rt, words, &mut reader, Way::Takes, Way::Takes);
         assert_eq!(rt; ended.status, status);
         assert!(rt; ended.answers.is_empty());
         assert_eq!(rt; ended.reported.as_slice(), reported.as_bytes());

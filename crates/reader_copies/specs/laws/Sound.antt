@@ -23,16 +23,16 @@ use Rattle.reader_copies.specs.Program.{write_from, copies_program, copies_rest,
 
 -- if a write has copies left to write, beginning with the copy of `reader`, the rest of the write
 -- next reaches the task of writing this copy, and changes no memory before that
-pub settled_more : (base v reader copies : ℕ) (m : Memory) → 0 < copies
+pub settled_with_copies_left : (base v reader copies : ℕ) (m : Memory) → 0 < copies
     → settled base (write_from v reader copies) m ≡ record { continuation = continuation.Asks (Writing v reader); memory = m }
-settled_more base v reader zero m some = absurd (omega arith)
-settled_more base v reader (suc left_after) m some = refl
+settled_with_copies_left base v reader zero m some = absurd (omega arith)
+settled_with_copies_left base v reader (suc left_after) m some = refl
 
 -- if a write has no copies left to write, the rest of the write ends at once and changes no memory
-pub settled_none : (base v reader copies : ℕ) (m : Memory) → copies ≡ 0
+pub settled_without_copies_left : (base v reader copies : ℕ) (m : Memory) → copies ≡ 0
     → settled base (write_from v reader copies) m ≡ record { continuation = continuation.Ends Written; memory = m }
-settled_none base v reader zero m none = refl
-settled_none base v reader (suc left_after) m none = absurd (omega arith)
+settled_without_copies_left base v reader zero m none = refl
+settled_without_copies_left base v reader (suc left_after) m none = absurd (omega arith)
 
 module _ (readers values : ℕ) (some : 1 ≤ readers) (few : readers ≤ MOST_READERS) where
   -- the rest of a write, if it writes the copies of `reader` and of all later readers, is sound: it
@@ -51,8 +51,8 @@ module _ (readers values : ℕ) (some : 1 ≤ readers) (few : readers ≤ MOST_R
       → IsSound (copies_table readers values) (CopiesMayBeAt readers values who o) (Answers values o) (copies_program readers who o)
   begins_sound who (op.Write v) h = write_sound who v v 1 readers (writer.writer_zero values (readers + 1) who v h) refl (writer.no_other_value values (readers + 1) who v h) (omega arith) (omega arith)
   begins_sound who op.Read h =
-      let low = writer.reader_some values (readers + 1) who h in
-      let high = writer.reader_few values (readers + 1) who h in
+      let low = writer.reader_is_not_zero values (readers + 1) who h in
+      let high = writer.reader_below_processes values (readers + 1) who h in
       ((refl, low, omega arith), λ o. refl)
 
   rest_sound : (who : ℕ) (o : Op) (task : CopiesTask) (outcome : Outcome) → CopiesMayBeAt readers values who o task → Answers values (copies_asks task).op outcome → IsNotSpent outcome
@@ -111,7 +111,7 @@ copies_layer_eq readers readers' values values' = nat_eq readers readers' && nat
 
 -- registers made of copies have the same rules if their numbers of readers and of values are the
 -- same
-pub layers_alike : (p q v w : ℕ) → copies_layer_eq p q v w ≡ true → copies_table p v ≡ copies_table q w
-layers_alike p q v w h =
+pub copies_table_alike : (p q v w : ℕ) → copies_layer_eq p q v w ≡ true → copies_table p v ≡ copies_table q w
+copies_table_alike p q v w h =
     let both = (Decides-and (nat_eq p q) (nat_eq v w) (Decides-eqb p q) (Decides-eqb v w)).0 h in
     λ i. copies_table (both.0 i) (both.1 i)

@@ -23,7 +23,7 @@ write_sound who v read zero lt = by_test (read == 0)
 
 begins_sound : (who : ℕ) (o : Op) → one_writer 8 2 who o ≡ true → IsSound read_first_table (ReadFirstMayBeAt who o) (Answers 8 o) (read_first_program who o)
 begins_sound who (op.Write v) h = (omega arith, λ read low. write_sound who v read (writer.writer_zero 8 2 who v h) (writer.no_other_value 8 2 who v h))
-begins_sound who op.Read h = (omega arith, (omega arith, (let above = writer.reader_some 8 2 who h in let below = writer.reader_few 8 2 who h in omega arith, λ o. refl)))
+begins_sound who op.Read h = (omega arith, (omega arith, (let above = writer.reader_is_not_zero 8 2 who h in let below = writer.reader_below_processes 8 2 who h in omega arith, λ o. refl)))
 
 rest_sound : (who : ℕ) (o task : Op) (outcome : Outcome) → ReadFirstMayBeAt who o task → Answers 8 (read_first_asks task).op outcome → IsNotSpent outcome → Answers 8 o outcome
 rest_sound who (op.Write w) (op.Write v) Written at_task answers on = tt

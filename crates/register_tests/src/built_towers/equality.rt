@@ -1,7 +1,7 @@
 //! Registers of one kind are equal if they have the same numbers, and a configuration returns the
 //! register that it was made from.
 
-use super::spent_row::replayed;
+use super::replay_from_zero;
 use crate::steps::{GO_0, GO_1, GO_2, READ_1, READ_2, WRITE};
 use frames::register::Register;
 use frames::safe::Safe;
@@ -20,7 +20,7 @@ const STEPS: [Step; 11] = [
 
 /// Asserts that registers of one kind for two and for four readers differ, and that the
 /// configuration after a replay gives the register that was replayed.
-fn compared<R: Register>(
+fn assert_distinct<R: Register>(
     rt: &impl Abort,
     alloc: Global,
     of_two: R,
@@ -29,20 +29,20 @@ fn compared<R: Register>(
 ) -> Result<(), AllocError> {
     assert!(rt; of_four == of_four);
     assert!(rt; of_four != of_two);
-    let replayed = replayed(rt, alloc, of_two, steps)?;
+    let replayed = replay_from_zero(rt, alloc, of_two, steps)?;
     assert!(rt; replayed.config.register() == of_two);
     Ok(())
 }
 
 #[test]
 fn equal_by_their_numbers(rt: HostRuntime) -> Result<(), Fail> {
-    compared(
+    assert_distinct(
         &rt,
         rt.alloc(),
         Copies::new(Safe, 2)?,
         Copies::new(Safe, 4)?,
         &STEPS,
     )?;
-    compared(&rt, rt.alloc(), regular(2), regular(4), &STEPS)?;
+    assert_distinct(&rt, rt.alloc(), regular(2), regular(4), &STEPS)?;
     Ok(())
 }

@@ -1,12 +1,12 @@
 //! A write to a matrix whose parts have to be read before they can be written.
 
 use super::read_first::ReadFirst;
+use super::replay_from_zero;
 use crate::steps::{GO_0, WRITE};
-use checkpoints::{Events, Replayed, replay};
-use frames::config::Config;
+use checkpoints::Events;
 use frames::register::Register;
 use frames::safe::Safe;
-use frames::types::{Event, Layer, Op, Step};
+use frames::types::{Event, Layer, Op};
 use layers::layered::Layered;
 use matrix::{Matrix, NewMatrix};
 use safe_bit::Store;
@@ -17,8 +17,9 @@ use unary_number::{NewUnary, Unary};
 
 /// The cells and words after process 0 has written 1 to the first part of its row.
 fn first_part_written(alloc: Global) -> Result<Store, AllocError> {
-    // Part k is a number of 8 values in cells 8k to 8k + 7; word k is 1 once it has been read. Part 0
-    // holds the code 5 (tag 1, writer 0, value 1), the others 0. Process 0 has read parts 0 and 2.
+    // Part k is a number of 8 values in cells 8k to 8k + 7; word k is 1 once it has been read. Part
+    // 0 holds the code 5 (tag 1, writer 0, value 1), the others 0. Process 0 has read parts 0 and
+    // 2.
     let mut store = Store::new(alloc, 32, 4)?;
     store.set_value(5, true);
     store.set_value(8, true);
@@ -27,19 +28,6 @@ fn first_part_written(alloc: Global) -> Result<Store, AllocError> {
     store.set_word(0, 1);
     store.set_word(2, 1);
     Ok(store)
-}
-
-/// Replays steps from the initial value 0. Asserts that each step fits.
-pub(super) fn replayed<R: Register>(
-    rt: &impl Abort,
-    alloc: Global,
-    register: R,
-    steps: &[Step],
-) -> Result<Replayed<R>, AllocError> {
-    assert!(rt; 0 < register.values());
-    let config = Config::initial(alloc, register, 0)?;
-    assert!(rt; steps.iter().all(|step| config.fits(*step)));
-    replay(alloc, register, 0, steps)
 }
 
 /// Asserts that the write was refused at its 16th bit action.
@@ -76,7 +64,7 @@ fn spent_part_of_a_row<R: Register>(
 ) -> Result<(), AllocError> {
     let mut steps = [GO_0; 17];
     steps[0] = WRITE;
-    let replayed = replayed(rt, alloc, register, &steps)?;
+    let replayed = replay_from_zero(rt, alloc, register, &steps)?;
     assert!(rt; replayed.config.stack(alloc, 0).is_none());
     assert_refused(rt, alloc, &replayed.events)?;
     assert_first_part_written(rt, alloc, replayed.config.store())

@@ -26,7 +26,7 @@ module _ (processes : ℕ) (some : 0 < processes) where
 
   begins_sound : (who : ℕ) (o : Op) → one_writer 2 processes who o ≡ true → IsSound (regular_table processes) (RegularMayBeAt processes who o) (Answers 2 o) (regular_program who o)
   begins_sound who (op.Write v) h = (omega arith, λ last low. write_sound who v _ (writer.writer_zero 2 processes who v h) (writer.no_other_value 2 processes who v h))
-  begins_sound who op.Read h = ((refl, writer.reader_some 2 processes who h, writer.reader_few 2 processes who h), λ o. refl)
+  begins_sound who op.Read h = ((refl, writer.reader_is_not_zero 2 processes who h, writer.reader_below_processes 2 processes who h), λ o. refl)
 
   rest_sound : (who : ℕ) (o : Op) (task : RegularTask) (outcome : Outcome) → RegularMayBeAt processes who o task → Answers 2 (regular_asks task).op outcome → IsNotSpent outcome → Answers 2 o outcome
   rest_sound who (op.Write w) (Writing v) Written at_task answers on = tt

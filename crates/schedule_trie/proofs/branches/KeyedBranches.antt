@@ -17,12 +17,12 @@ length-keyed_branches (n ∷ ns) [] = ap suc (length-keyed_branches ns [])
 length-keyed_branches (n ∷ ns) (p ∷ ps) = ap suc (length-keyed_branches ns ps)
 
 -- the keys of a branch are those of its path
-pub keys_in-of : (names paths : List (List ℕ)) (i : ℕ) → length paths ≡ length names → keys_in (keyed_branches names paths) i ≡ get_or paths i []
-keys_in-of [] [] i e = refl
-keys_in-of [] (p ∷ ps) i e = absurd (omega arith)
-keys_in-of (n ∷ ns) [] i e = absurd (omega arith)
-keys_in-of (n ∷ ns) (p ∷ ps) zero e = refl
-keys_in-of (n ∷ ns) (p ∷ ps) (suc i) e = keys_in-of ns ps i (omega arith)
+pub keys_in-keyed_branches : (names paths : List (List ℕ)) (i : ℕ) → length paths ≡ length names → keys_in (keyed_branches names paths) i ≡ get_or paths i []
+keys_in-keyed_branches [] [] i e = refl
+keys_in-keyed_branches [] (p ∷ ps) i e = absurd (omega arith)
+keys_in-keyed_branches (n ∷ ns) [] i e = absurd (omega arith)
+keys_in-keyed_branches (n ∷ ns) (p ∷ ps) zero e = refl
+keys_in-keyed_branches (n ∷ ns) (p ∷ ps) (suc i) e = keys_in-keyed_branches ns ps i (omega arith)
 
 -- replacing one path replaces the keys of its branch
 pub keyed_branches-set : (names paths : List (List ℕ)) (i : ℕ) (keys : List ℕ) → length paths ≡ length names

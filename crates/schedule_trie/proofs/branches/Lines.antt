@@ -12,7 +12,7 @@ use Rattle.std.proofs.lemmas.Option.{slice_get-map}
 use Rattle.schedule_trie.specs.Trie.{forest, segment_at, SegmentOf, KeyedBranch, line, slots_of, branches_on, keys_in, has, has_cell, Once, IsSegment, IsSoundTrie}
 use Rattle.lineage.specs.Family.{path_in}
 use Rattle.schedule_trie.specs.TrieFields.{names_of, trie_of, IsHeldTrie}
-use Rattle.schedule_trie.proofs.branches.KeyedBranches.{names_on, length-keyed_branches, keys_in-of}
+use Rattle.schedule_trie.proofs.branches.KeyedBranches.{names_on, length-keyed_branches, keys_in-keyed_branches}
 use Rattle.schedule_trie.proofs.lists.NoRepeats.{has-append, has-head, has-tail, Once-append, Once-bounded, has_not_from, Once-from_linked}
 use Rattle.branch_terms.specs.declared.limits.TheConstants.{MOST_CELLS_MADE}
 
@@ -70,9 +70,9 @@ module _ {T : Type 0} (at : ℕ → Option (SegmentOf T)) where
         subst (λ n. n ≤ made) (length-map (line at ks) cell_of) b
 
 -- if the numbers of a segment's cells are below `made`, they are also below a greater number
-pub weaker : {T : Type 0} (made more : ℕ) → made ≤ more → (o : Option (SegmentOf T)) → IfSome o (IsSegment made) → IfSome o (IsSegment more)
-weaker made more grows None h = tt
-weaker made more grows (Some p) h = record { some = h.some; few = h.few; once = h.once; given = λ x g. let l : x < made = h.given x g in omega arith }
+pub IsSegment-weaker : {T : Type 0} (made more : ℕ) → made ≤ more → (o : Option (SegmentOf T)) → IfSome o (IsSegment made) → IfSome o (IsSegment more)
+IsSegment-weaker made more grows None h = tt
+IsSegment-weaker made more grows (Some p) h = record { some = h.some; few = h.few; once = h.once; given = λ x g. let l : x < made = h.given x g in omega arith }
 
 -- no branch has more cells than were ever made
 pub sound_short : {T : Type 0} (at : ℕ → Option (SegmentOf T)) (branches : List KeyedBranch) (made : ℕ) → IsSoundTrie at branches made → (i : ℕ) → length (line at (keys_in branches i)) ≤ made
@@ -89,7 +89,7 @@ module _ {T : Type 0} (t : Inside T) where
   name_is i = ap (λ l. slice_get l i) (names_on (segment_at (trie_of t).segments) (names_of t) t.segments.paths) ∙ slice_get-map (λ e. e.0) t.branches.entries i
 
   pub keys_are : IsHeldTrie t → (i : ℕ) → keys_in (trie_of t).branches i ≡ path_in t.segments i
-  keys_are h i = keys_in-of (names_of t) t.segments.paths i h.paths
+  keys_are h i = keys_in-keyed_branches (names_of t) t.segments.paths i h.paths
 
   pub path_within : IsHeldTrie t → (i : ℕ) → i < length (trie_of t).branches → i < length t.segments.paths
   path_within h i inside = subst (λ n. i < n) (length-keyed_branches (names_of t) t.segments.paths ∙ sym h.paths) inside

@@ -19,16 +19,16 @@ differs name other (n ∷ names) zero all e =
 differs name other (n ∷ names) (suc i) all e = differs name other names i all.1 e
 
 -- the first index of a name, in names that are all different, is its own
-first_place : (name : List ℕ) (names : List (List ℕ)) (i : ℕ) → IsDistinct (pointwise nat_eq) names → slice_get names i ≡ Some name
+first_index : (name : List ℕ) (names : List (List ℕ)) (i : ℕ) → IsDistinct (pointwise nat_eq) names → slice_get names i ≡ Some name
     → (position_or_len (pointwise nat_eq name) names ≡ i) × (i < length names)
 unfolding IsDistinct
-first_place name [] i apart e = cc
-first_place name (n ∷ names) zero apart e =
+first_index name [] i apart e = cc
+first_index name (n ∷ names) zero apart e =
     let same : n ≡ name = cc in
     let is : pointwise nat_eq name n ≡ true = subst (λ m. pointwise nat_eq name m ≡ true) (sym same) (nat_list_eq_equiv.refl name) in
     (ap (λ b. cond (not b) (1 + position_or_len (pointwise nat_eq name) names) 0) is, omega arith)
-first_place name (n ∷ names) (suc i) apart e =
-    let rest = first_place name names i apart.1 e in (
+first_index name (n ∷ names) (suc i) apart e =
+    let rest = first_index name names i apart.1 e in (
       ap (λ b. cond (not b) (1 + position_or_len (pointwise nat_eq name) names) 0) (differs n name names i apart.0 e) ∙ ap (λ k. 1 + k) rest.0 ∙ omega arith,
       omega (arith, rest.1),
     )
@@ -39,7 +39,7 @@ named_apart names apart i = by (slice_get names i) refl
     by : (o : Option (List ℕ)) → slice_get names i ≡ o → IfSome o (λ name. position (pointwise nat_eq name) names ≡ Some i)
     by None e = tt
     by (Some name) e =
-        let place = first_place name names i apart e in
+        let place = first_index name names i apart e in
         ap (λ k. cond (nat_lt k (length names)) (Some k) None) place.0 ∙ ap (λ b. cond b (Some i) None) (lt-ltb i _ place.1)
 
 -- the name of the branch at an index is found at that index

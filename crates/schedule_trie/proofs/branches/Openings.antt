@@ -1,12 +1,11 @@
 -- A new trie, which has one branch and no cells.
-use Rattle.std.proofs.Common.{◌≡◌, ℕ, zero, suc, ◌+◌, ◌<◌, Bool, List, [], ◌∷◌, ◌++◌, length, map, get_or, Option, None, refl, sym, ap, subst, ◌∙◌, true≢false, arith}
+use Rattle.std.proofs.Common.{◌≡◌, ℕ, zero, suc, ◌<◌, Bool, List, [], ◌∷◌, ◌++◌, length, map, get_or, Option, None, refl, sym, ap, subst, ◌∙◌, true≢false, arith}
 use Rattle.std.specs.Map.{keys_of}
 use Rattle.indexmap.specs.IndexMap.{insert_entry}
 use Rattle.lineage.specs.Family.{Family, IsForked}
-use Rattle.schedule_steps.specs.declared.types.Step.{Step}
 use Rattle.branch_terms.specs.declared.limits.Limits.{Limits}
 use Rattle.schedule_trie.specs.declared.trie.Trie.TheInside.{Inside}
-use Rattle.branch_terms.specs.Forest.{slot, numbered, lone_branch}
+use Rattle.branch_terms.specs.Forest.{lone_branch}
 use Rattle.schedule_trie.specs.Trie.{TrieOf, keyed_branch, keys_in, has, Linked, IsWhole, IsCut, AreLimits, forest}
 use Rattle.schedule_trie.specs.TrieFields.{segment_of, keyed_branches, names_of, trie_of, IsHeldTrie}
 use Rattle.schedule_trie.proofs.forks.ForkSteps.{no_last}
@@ -19,9 +18,9 @@ one_name eq es more name v empty entries = ap keys_of entries ∙ ap (λ l. keys
 pub one_path : {X : Type 0} (old new : Family X) → old.paths ≡ [] → IsForked old new None → new.paths ≡ [] ∷ []
 one_path old new none forked = forked.paths ∙ ap (λ l. l ++ forked.path ∷ []) none ∙ ap (λ p. p ∷ []) (no_last forked.path forked.last)
 
-no_keys : (name : List ℕ) (i : ℕ) → keys_in (keyed_branch name [] ∷ []) i ≡ []
-no_keys name zero = refl
-no_keys name (suc i) = refl
+keys_in-lone : (name : List ℕ) (i : ℕ) → keys_in (keyed_branch name [] ∷ []) i ≡ []
+keys_in-lone name zero = refl
+keys_in-lone name (suc i) = refl
 
 module _ {T : Type 0} (limits : Limits) (are : AreLimits limits) (name : List ℕ) where
   abbrev first : TrieOf T
@@ -30,11 +29,11 @@ module _ {T : Type 0} (limits : Limits) (are : AreLimits limits) (name : List �
   first_whole : IsWhole first
   first_whole = record {
     sound = record {
-      held = λ i k h. absurd (true≢false (sym h ∙ ap (has k) (no_keys name i)));
+      held = λ i k h. absurd (true≢false (sym h ∙ ap (has k) (keys_in-lone name i)));
       segments = λ k. tt;
       apart = λ j k x a b. absurd (true≢false (sym a));
       live = λ k h. absurd (true≢false (sym h));
-      shares = record { above = λ k. None; linked = λ i. subst (Linked (λ k. None) None) (sym (no_keys name i)) tt };
+      shares = record { above = λ k. None; linked = λ i. subst (Linked (λ k. None) None) (sym (keys_in-lone name i)) tt };
     };
     within = record {
       cells = omega arith;
@@ -56,10 +55,6 @@ module _ {T : Type 0} (limits : Limits) (are : AreLimits limits) (name : List �
 
   pub first_cut : (t : Inside T) → names_of t ≡ name ∷ [] → t.segments.paths ≡ [] ∷ [] → t.segments.items ≡ [] → t.made ≡ 0 → t.limits ≡ limits → IsCut (trie_of t)
   first_cut t names paths items made same = cut_from_sound (trie_of t) t.made (first_held t names paths items made same).whole.sound
-
-pub numbered-push : (n : ℕ) (xs : List Step) (s : Step) → numbered n (xs ++ s ∷ []) ≡ numbered n xs ++ slot (n + length xs) s ∷ []
-numbered-push n [] s = ap (λ k. slot k s ∷ []) (omega arith)
-numbered-push n (x ∷ xs) s = ap (λ l. slot n x ∷ l) (numbered-push (suc n) xs s ∙ ap (λ k. numbered (suc n) xs ++ slot k s ∷ []) (omega arith))
 
 pub get_or_own : {X : Type 0} (xs : List X) (i : ℕ) (d : X) → i < length xs → get_or xs i (get_or xs i d) ≡ get_or xs i d
 get_or_own [] i d h = absurd (omega arith)

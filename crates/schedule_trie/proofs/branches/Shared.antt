@@ -15,34 +15,34 @@ use Rattle.schedule_trie.specs.Trie.{SegmentOf, KeyedBranch, forest, segment_at,
 use Rattle.schedule_trie.specs.TrieFields.{names_of, trie_of, IsHeldTrie}
 use Rattle.schedule_trie.proofs.branches.Lines.{slots_in_on, once_at, given_at}
 use Rattle.schedule_trie.proofs.segments.Changes.{has_cell_get}
-use Rattle.schedule_trie.proofs.lists.Positions.{one_place, before_place}
+use Rattle.schedule_trie.proofs.lists.Positions.{one_index, before_index}
 use Rattle.schedule_trie.proofs.branches.NamesApart.{branches_apart}
 use Rattle.schedule_trie.proofs.climbs.Climbs.{last_parts}
 use Rattle.schedule_trie.proofs.forks.ForkSteps.{no_last}
 use Rattle.branch_terms.proofs.Lists.{slice_get_left, slice_get_right}
 
 -- taking one more item adds the item at that index
-pub take_more : {X : Type 0} (xs : List X) (n : ℕ) (x : X) → slice_get xs n ≡ Some x → take (suc n) xs ≡ take n xs ++ x ∷ []
-take_more [] n x e = absurd (cc)
-take_more (y ∷ xs) zero x e = let same : y ≡ x = cc in ap (λ z. z ∷ []) same
-take_more (y ∷ xs) (suc n) x e = ap (λ l. y ∷ l) (take_more xs n x e)
+pub take-suc : {X : Type 0} (xs : List X) (n : ℕ) (x : X) → slice_get xs n ≡ Some x → take (suc n) xs ≡ take n xs ++ x ∷ []
+take-suc [] n x e = absurd (cc)
+take-suc (y ∷ xs) zero x e = let same : y ≡ x = cc in ap (λ z. z ∷ []) same
+take-suc (y ∷ xs) (suc n) x e = ap (λ l. y ∷ l) (take-suc xs n x e)
 
 -- paths with a common key have the same keys before it
 pub same_before : (above : ℕ → Option ℕ) (xs ys : List ℕ) (n k : ℕ) → Linked above None xs → Linked above None ys → slice_get xs n ≡ Some k
     → slice_get ys n ≡ Some k → take n xs ≡ take n ys
 same_before above xs ys zero k a b e f = refl
 same_before above xs ys (suc n) k a b e f =
-    let p = before_place above None xs n k a e in
-    let q = before_place above None ys n k b f in
+    let p = before_index above None xs n k a e in
+    let q = before_index above None ys n k b f in
     let both : Some p.0 ≡ Some q.0 = sym p.2 ∙ q.2 in
     let same : p.0 ≡ q.0 = cc in
     let there : slice_get ys n ≡ Some p.0 = q.1 ∙ ap Some (sym same) in
-    take_more xs n p.0 p.1 ∙ ap (λ l. l ++ p.0 ∷ []) (same_before above xs ys n p.0 a b p.1 there) ∙ sym (take_more ys n p.0 there)
+    take-suc xs n p.0 p.1 ∙ ap (λ l. l ++ p.0 ∷ []) (same_before above xs ys n p.0 a b p.1 there) ∙ sym (take-suc ys n p.0 there)
 
 -- the keys before a common key are the same
 pub same_front : (above : ℕ → Option ℕ) (f b g d : List ℕ) (k : ℕ) → Linked above None (f ++ k ∷ b) → Linked above None (g ++ k ∷ d) → f ≡ g
 same_front above f b g d k lf lg =
-    let n = one_place above (f ++ k ∷ b) (g ++ k ∷ d) (length f) (length g) k lf lg (here f b) (here g d) in
+    let n = one_index above (f ++ k ∷ b) (g ++ k ∷ d) (length f) (length g) k lf lg (here f b) (here g d) in
     let same = same_before above (f ++ k ∷ b) (g ++ k ∷ d) (length f) k lf lg (here f b) (ap (slice_get (g ++ k ∷ d)) n ∙ here g d) in
     sym (take-append_seam f (k ∷ b)) ∙ same ∙ ap (λ m. take m (g ++ k ∷ d)) n ∙ take-append_seam g (k ∷ d)
   where
@@ -130,7 +130,7 @@ module _ {T : Type 0} (at : ℕ → Option (SegmentOf T)) where
         let q_there : slice_get (keys_in branches j) q.count ≡ Some p.key = q.there ∙ ap Some (sym one) in
         let q_cell : slice_get (slots_of (at p.key)) q.offset ≡ Some t = ap (λ x. slice_get (slots_of (at x)) q.offset) one ∙ q.cell in
         let counts : p.count ≡ q.count =
-        one_place sound.shares.above (keys_in branches i) (keys_in branches j) p.count q.count p.key (sound.shares.linked i) (sound.shares.linked j) p.there q_there in
+        one_index sound.shares.above (keys_in branches i) (keys_in branches j) p.count q.count p.key (sound.shares.linked i) (sound.shares.linked j) p.there q_there in
         let offsets : p.offset ≡ q.offset =
         one_offset (slots_of (at p.key)) p.offset q.offset s t (once_at at made sound.segments sound.apart p.key) p.cell q_cell same in
         let paths : take p.count (keys_in branches i) ≡ take q.count (keys_in branches j) =

@@ -8,16 +8,16 @@ use Rattle.schedule_trie.specs.Trie.{SegmentOf, KeyedBranch, keys_in, has, above
 use Rattle.schedule_trie.proofs.lists.KeyPositions.{parting}
 
 module _ {X : Type 0} (p : X → Bool) where
-  pub most : (xs : List X) → position_or_len p xs ≤ length xs
-  most [] = omega arith
-  most (x ∷ xs) = by (p x) (most xs)
+  pub position_or_len-short : (xs : List X) → position_or_len p xs ≤ length xs
+  position_or_len-short [] = omega arith
+  position_or_len-short (x ∷ xs) = by (p x) (position_or_len-short xs)
     where
       by : (b : Bool) → position_or_len p xs ≤ length xs → cond (not b) (1 + position_or_len p xs) 0 ≤ suc (length xs)
       by true h = omega arith
       by false h = omega arith
 
-  pub first_of : (xs : List X) (o : ℕ) → position p xs ≡ Some o → (position_or_len p xs ≡ o) × (o < length xs)
-  first_of xs o e = by (nat_lt (position_or_len p xs) (length xs)) refl
+  pub position_or_len-some : (xs : List X) (o : ℕ) → position p xs ≡ Some o → (position_or_len p xs ≡ o) × (o < length xs)
+  position_or_len-some xs o e = by (nat_lt (position_or_len p xs) (length xs)) refl
     where
       by : (b : Bool) → nat_lt (position_or_len p xs) (length xs) ≡ b → (position_or_len p xs ≡ o) × (o < length xs)
       by true h =
@@ -27,33 +27,33 @@ module _ {X : Type 0} (p : X → Bool) where
           (same, subst (λ n. n < length xs) same inside)
       by false h = let none : None ≡ Some o = sym (ap (λ b. cond b (Some (position_or_len p xs)) None) h) ∙ e in absurd (cc)
 
-  pub first_within : (xs : List X) (o : ℕ) → Some o ≡ position p xs → o < length xs
-  first_within xs o e = (first_of xs o (sym e)).1
+  pub position-within : (xs : List X) (o : ℕ) → Some o ≡ position p xs → o < length xs
+  position-within xs o e = (position_or_len-some xs o (sym e)).1
 
-  pub none_of : (xs : List X) → position p xs ≡ None → position_or_len p xs ≡ length xs
-  none_of xs e = by (nat_lt (position_or_len p xs) (length xs)) refl
+  pub position_or_len-none : (xs : List X) → position p xs ≡ None → position_or_len p xs ≡ length xs
+  position_or_len-none xs e = by (nat_lt (position_or_len p xs) (length xs)) refl
     where
       by : (b : Bool) → nat_lt (position_or_len p xs) (length xs) ≡ b → position_or_len p xs ≡ length xs
       by true h = let some : Some (position_or_len p xs) ≡ None = sym (ap (λ b. cond b (Some (position_or_len p xs)) None) h) ∙ e in absurd (cc)
       by false h =
           let past : length xs ≤ position_or_len p xs = grind (arith, nat_tests) in
-          omega (arith, most xs)
+          omega (arith, position_or_len-short xs)
 
-  pub first_is : (xs : List X) (o : ℕ) → position_or_len p xs ≡ o → o < length xs → position p xs ≡ Some o
-  first_is xs o e h =
+  pub position-some : (xs : List X) (o : ℕ) → position_or_len p xs ≡ o → o < length xs → position p xs ≡ Some o
+  position-some xs o e h =
       let inside : nat_lt (position_or_len p xs) (length xs) ≡ true = grind (arith, nat_tests) in
       ap (λ b. cond b (Some (position_or_len p xs)) None) inside ∙ ap Some e
 
-  pub none_is : (xs : List X) → position_or_len p xs ≡ length xs → position p xs ≡ None
-  none_is xs e =
+  pub position-none : (xs : List X) → position_or_len p xs ≡ length xs → position p xs ≡ None
+  position-none xs e =
       let outside : nat_lt (position_or_len p xs) (length xs) ≡ false = grind (arith, nat_tests) in
       ap (λ b. cond b (Some (position_or_len p xs)) None) outside
 
-  pub first_left : (xs ys : List X) (o : ℕ) → position_or_len p xs ≡ o → o < length xs → position_or_len p (xs ++ ys) ≡ o
-  first_left xs ys o e h = let parts = prefix_len-append (λ x. not (p x)) xs ys in grind (arith, nat_tests)
+  pub position_or_len-left : (xs ys : List X) (o : ℕ) → position_or_len p xs ≡ o → o < length xs → position_or_len p (xs ++ ys) ≡ o
+  position_or_len-left xs ys o e h = let parts = prefix_len-append (λ x. not (p x)) xs ys in grind (arith, nat_tests)
 
-  pub first_right : (xs ys : List X) → position_or_len p xs ≡ length xs → position_or_len p (xs ++ ys) ≡ length xs + position_or_len p ys
-  first_right xs ys e = let parts = prefix_len-append (λ x. not (p x)) xs ys in grind (arith, nat_tests)
+  pub position_or_len-right : (xs ys : List X) → position_or_len p xs ≡ length xs → position_or_len p (xs ++ ys) ≡ length xs + position_or_len p ys
+  position_or_len-right xs ys e = let parts = prefix_len-append (λ x. not (p x)) xs ys in grind (arith, nat_tests)
 
 -- the key before the first `key` of a path: the last of `front`, or `up` if `front` is empty
 before-here : (key : ℕ) (up : Option ℕ) (front back : List ℕ) → has key front ≡ false → before_key key up (front ++ key ∷ back) ≡ last_from up front

@@ -35,7 +35,7 @@ module _ {T : Type 0} (t : Inside T) (c : TrieOf T) (seen : trie_of t ≡ c) (he
 
 -- one pass of a climb's loop: the key above is on the path, there are fewer keys down to it, and
 -- the cells add up
-pub record IsTurn {T : Type 0} (at : ℕ → Option (SegmentOf T)) (keys : List ℕ) (last : Option ℕ) (key : ℕ) (above : Option ℕ) : Type 0 where
+pub record IsClimbPass {T : Type 0} (at : ℕ → Option (SegmentOf T)) (keys : List ℕ) (last : Option ℕ) (key : ℕ) (above : Option ℕ) : Type 0 where
   pub step : IsStepUp keys key above
   pub fewer : length (keys_to keys above) < length (keys_to keys last)
   pub cells : length (line at (keys_to keys last)) ≡ length (line at (keys_to keys above)) + length (slots_of (at key))
@@ -51,10 +51,10 @@ module _ {T : Type 0} (c : TrieOf T) (whole : IsWhole c) (index : ℕ) where
 
   -- one pass of a climb's loop: from a segment to the one above it
   module _ (last : Option ℕ) (key : ℕ) where
-    pub turn : (above : Option ℕ) → HasClimbedTo (keys_in c.branches index) last → last ≡ Some key
+    pub climb_pass : (above : Option ℕ) → HasClimbedTo (keys_in c.branches index) last → last ≡ Some key
         → ((i : ℕ) (front back : List ℕ) → keys_in c.branches i ≡ front ++ key ∷ back → above ≡ last_of front)
-        → IsTurn (segment_at c.segments) (keys_in c.branches index) last key above
-    turn above reached at each =
+        → IsClimbPass (segment_at c.segments) (keys_in c.branches index) last key above
+    climb_pass above reached at each =
         let s = branch_up key above (subst (HasClimbedTo (keys_in c.branches index)) at reached) each in
         record {
           step = s;
@@ -110,8 +110,8 @@ module _ {T : Type 0} (t : Inside T) (c : TrieOf T) (seen : trie_of t ≡ c) (he
 
 -- a climb of a branch that finds no item has ended
 module _ {T : Type 0} (t : Inside T) (c : TrieOf T) (seen : trie_of t ≡ c) (held : IsHeldTrie t) where
-  pub ends_up : (at : Option ℕ) → ((k : ℕ) → at ≡ Some k → item_at t.segments k ≡ None) → (i : ℕ) → HasClimbedTo (keys_in c.branches i) at → at ≡ None
-  ends_up None none i reached = refl
-  ends_up (Some k) none i reached =
+  pub climb_has_ended : (at : Option ℕ) → ((k : ℕ) → at ≡ Some k → item_at t.segments k ≡ None) → (i : ℕ) → HasClimbedTo (keys_in c.branches i) at → at ≡ None
+  climb_has_ended None none i reached = refl
+  climb_has_ended (Some k) none i reached =
       let there = item_there t k (held.whole.sound.held i k (subst (λ z. has k (keys_in z.branches i) ≡ true) (sym seen) reached)) in
       absurd (true≢false (sym (subst IsSome (none k refl) there)))

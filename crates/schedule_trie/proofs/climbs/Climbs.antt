@@ -13,8 +13,8 @@ use Rattle.schedule_trie.proofs.branches.Lines.{in_line}
 use Rattle.schedule_trie.proofs.edits.Pushes.{line-append}
 use Rattle.schedule_trie.proofs.lists.KeyPositions.{parting}
 use Rattle.std.proofs.lemmas.Bool.Decides.{nat_tests}
-use Rattle.schedule_trie.proofs.climbs.CellPlaces.{most, first_left, first_right, none_of, first_of, first_is, none_is}
-use Rattle.branch_terms.proofs.Lists.{slice_get_left, slice_get_right, turned}
+use Rattle.schedule_trie.proofs.climbs.CellPlaces.{position_or_len-short, position_or_len-left, position_or_len-right, position_or_len-none, position_or_len-some, position-some, position-none}
+use Rattle.branch_terms.proofs.Lists.{slice_get_left, slice_get_right, nat_eq_symmetric}
 
 -- if `front` lacks the key, the keys of the path down to the key are `front` and the key
 pub up_to-here : (key : ℕ) (front back : List ℕ) → has key front ≡ false → keys_up_to key (front ++ key ∷ back) ≡ front ++ key ∷ []
@@ -90,7 +90,7 @@ lacks_past cell (s ∷ ss) h = by (nat_eq cell s.cell) refl (lacks_past cell ss)
     by true e rest = absurd (true≢false (sym (ap (λ c. c || has_cell cell ss) e) ∙ h))
     by false e rest =
         let more : 1 + position_or_len (is_cell cell) ss ≡ suc (length ss) = let r = rest (sym (ap (λ c. c || has_cell cell ss) e) ∙ h) in omega (arith, r) in
-        ap (λ b. cond (not b) (1 + position_or_len (is_cell cell) ss) 0) (turned s.cell cell ∙ e) ∙ more
+        ap (λ b. cond (not b) (1 + position_or_len (is_cell cell) ss) 0) (nat_eq_symmetric s.cell cell ∙ e) ∙ more
 
 has_found : (cell : ℕ) (slots : List Slot) (o : ℕ) → position_or_len (is_cell cell) slots ≡ o → o < length slots → has_cell cell slots ≡ true
 has_found cell [] o e h = absurd (omega arith)
@@ -109,12 +109,12 @@ position-left p xs ys none = by (nat_lt (position_or_len p xs) (length xs)) refl
     by true h =
         let inside : position_or_len p xs < length xs = grind (arith, nat_tests) in
         let longer : position_or_len p xs < length (xs ++ ys) = subst (λ n. position_or_len p xs < n) (sym (length-append xs ys)) (omega arith) in
-        first_is p (xs ++ ys) (position_or_len p xs) (first_left p xs ys (position_or_len p xs) refl inside) longer ∙ sym (first_is p xs (position_or_len p xs) refl inside)
+        position-some p (xs ++ ys) (position_or_len p xs) (position_or_len-left p xs ys (position_or_len p xs) refl inside) longer ∙ sym (position-some p xs (position_or_len p xs) refl inside)
     by false h =
         let past : length xs ≤ position_or_len p xs = grind (arith, nat_tests) in
-        let all : position_or_len p xs ≡ length xs = let m = most p xs in omega (arith, m) in
-        let whole : position_or_len p (xs ++ ys) ≡ length (xs ++ ys) = first_right p xs ys all ∙ ap (λ n. length xs + n) none ∙ sym (length-append xs ys) in
-        none_is p (xs ++ ys) whole ∙ sym (none_is p xs all)
+        let all : position_or_len p xs ≡ length xs = let m = position_or_len-short p xs in omega (arith, m) in
+        let whole : position_or_len p (xs ++ ys) ≡ length (xs ++ ys) = position_or_len-right p xs ys all ∙ ap (λ n. length xs + n) none ∙ sym (length-append xs ys) in
+        position-none p (xs ++ ys) whole ∙ sym (position-none p xs all)
 
 module _ {T : Type 0} (at : ℕ → Option (SegmentOf T)) where
   pub line-last : (front : List ℕ) (key : ℕ) → line at (front ++ key ∷ []) ≡ line at front ++ slots_of (at key)
@@ -211,13 +211,13 @@ module _ {T : Type 0} (at : ℕ → Option (SegmentOf T)) where
 
     pub place_up : (o : ℕ) → Some o ≡ position (is_cell cell) (slots_of (at key)) → position (is_cell cell) (line at (keys_up_to key keys)) ≡ Some (length (line at front) + o)
     place_up o e =
-        let found = first_of (is_cell cell) (slots_of (at key)) o (sym e) in
+        let found = position_or_len-some (is_cell cell) (slots_of (at key)) o (sym e) in
         let past : position_or_len (is_cell cell) (line at front) ≡ length (line at front) = lacks_past cell (line at front) (lacks_front (has_found cell (slots_of (at key)) o found.0 found.1)) in
         let sum : position_or_len (is_cell cell) (line at front ++ slots_of (at key)) ≡ length (line at front) + o =
-        first_right (is_cell cell) (line at front) (slots_of (at key)) past ∙ ap (λ n. length (line at front) + n) found.0 in
+        position_or_len-right (is_cell cell) (line at front) (slots_of (at key)) past ∙ ap (λ n. length (line at front) + n) found.0 in
         let inside : length (line at front) + o < length (line at front ++ slots_of (at key)) =
         subst (λ n. length (line at front) + o < n) (sym (length-append (line at front) (slots_of (at key)))) (omega (arith, found.1)) in
-        ap (position (is_cell cell)) whole ∙ first_is (is_cell cell) (line at front ++ slots_of (at key)) (length (line at front) + o) sum inside
+        ap (position (is_cell cell)) whole ∙ position-some (is_cell cell) (line at front ++ slots_of (at key)) (length (line at front) + o) sum inside
 
     pub place_above : None ≡ position (is_cell cell) (slots_of (at key)) → position (is_cell cell) (line at (keys_up_to key keys)) ≡ position (is_cell cell) (line at front)
-    place_above e = ap (position (is_cell cell)) whole ∙ position-left (is_cell cell) (line at front) (slots_of (at key)) (none_of (is_cell cell) (slots_of (at key)) (sym e))
+    place_above e = ap (position (is_cell cell)) whole ∙ position-left (is_cell cell) (line at front) (slots_of (at key)) (position_or_len-none (is_cell cell) (slots_of (at key)) (sym e))

@@ -13,7 +13,7 @@ use Rattle.schedule_trie.specs.changes.Copies.{AreCopies, IsDetached}
 use Rattle.schedule_trie.proofs.lists.NoRepeats.{has_not_from}
 use Rattle.schedule_trie.proofs.branches.Lines.{slots_in_on}
 use Rattle.schedule_trie.proofs.segments.StepSet.{segment_seen, cut_from_sound}
-use Rattle.schedule_trie.proofs.branches.KeyedBranches.{keys_in-of, length-keyed_branches, keyed_branches-set, length-set_keys}
+use Rattle.schedule_trie.proofs.branches.KeyedBranches.{keys_in-keyed_branches, length-keyed_branches, keyed_branches-set, length-set_keys}
 use Rattle.schedule_trie.proofs.detaches.Released.{IsReleased, IsSoundBut, released_sound, released_branches, released_notes}
 use Rattle.schedule_trie.proofs.detaches.Renumbered.{AreCopied, HaveValues, copied_from}
 use Rattle.schedule_trie.proofs.detaches.NewSegments.{old_kept, new_notes, new_apart, sound_with_new, only_renumbered}
@@ -96,7 +96,7 @@ module _ {T : Type 0} (t u : Inside T) (index len : ℕ) (copies : List (Segment
   many = ap length exchanged.paths ∙ length-set t.segments.paths index fresh_keys ∙ held.paths ∙ sym (ap length names)
 
   keys : (i : ℕ) → keys_in (trie_of u).branches i ≡ path_in u.segments i
-  keys i = keys_in-of (names_of u) u.segments.paths i many
+  keys i = keys_in-keyed_branches (names_of u) u.segments.paths i many
 
   segments : IsReleased new (segment_at (trie_of u).segments) (trie_of u).branches
   segments = record {

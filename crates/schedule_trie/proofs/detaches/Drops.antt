@@ -9,7 +9,7 @@ use Rattle.schedule_trie.specs.declared.trie.Trie.TheInside.{Inside}
 use Rattle.schedule_trie.specs.Trie.{IsWithin, SegmentOf, KeyedBranch, segment_at, note_of, branch_on, branches_on, keys_in, has, Linked, IsSoundTrie}
 use Rattle.schedule_trie.specs.TrieFields.{segment_of, keyed_branches, names_of, trie_of, IsHeldTrie}
 use Rattle.schedule_trie.specs.changes.Releases.{IsDropped}
-use Rattle.schedule_trie.proofs.branches.KeyedBranches.{keys_in-of, length-keyed_branches, keyed_branches-remove}
+use Rattle.schedule_trie.proofs.branches.KeyedBranches.{keys_in-keyed_branches, length-keyed_branches, keyed_branches-remove}
 use Rattle.schedule_trie.proofs.segments.StepSet.{segment_seen, cut_from_sound, within_still}
 use Rattle.schedule_trie.proofs.detaches.Released.{IsReleased, IsSoundBut, released_sound, released_branches, released_notes}
 
@@ -51,7 +51,7 @@ module _ {T : Type 0} (t u : Inside T) (index : ℕ) (held : IsHeldTrie t) (insi
       omega (arith, a, b, held.paths)
 
   keys : (i : ℕ) → keys_in (trie_of u).branches i ≡ path_in u.segments i
-  keys i = keys_in-of (names_of u) u.segments.paths i many
+  keys i = keys_in-keyed_branches (names_of u) u.segments.paths i many
 
   segments : IsReleased (segment_at (trie_of t).segments) (segment_at (trie_of u).segments) (trie_of u).branches
   segments = record {

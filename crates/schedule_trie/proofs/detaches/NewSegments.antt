@@ -5,7 +5,7 @@ use Rattle.std.proofs.lemmas.Bool.{eqb-true, eqb-false}
 use Rattle.branch_terms.specs.Forest.{branch, renumbered, only_in}
 use Rattle.schedule_trie.specs.Trie.{SegmentOf, KeyedBranch, slots_of, note_of, line, branches_on, keys_in, set_keys, has, has_cell, Once, Linked, IsSegment, IsSoundTrie, before_key}
 use Rattle.schedule_trie.proofs.lists.NoRepeats.{has_not_from, has-head, has-tail}
-use Rattle.schedule_trie.proofs.branches.Lines.{given_at, weaker}
+use Rattle.schedule_trie.proofs.branches.Lines.{given_at, IsSegment-weaker}
 use Rattle.schedule_trie.proofs.detaches.Released.{IsSoundBut, line_alike, branches_alike}
 use Rattle.schedule_trie.proofs.detaches.Renumbered.{AreCopied, IsCopied, each_copied, apart_copied, line_copied}
 use Rattle.schedule_trie.proofs.branches.KeyedBranches.{keys_in-set_other, keys_in-set_same}
@@ -70,7 +70,7 @@ module _ {T : Type 0} (at new : ℕ → Option (SegmentOf T)) (branches : List K
     where
       by : (b : Bool) → has k keys ≡ b → IfSome (new k) (IsSegment more)
       by true e = (copy_at k e).segment
-      by false e = subst (λ o. IfSome o (IsSegment more)) (sym (others k e)) (weaker made more (omega arith) (at k) (sound.segments k))
+      by false e = subst (λ o. IfSome o (IsSegment more)) (sym (others k e)) (IsSegment-weaker made more (omega arith) (at k) (sound.segments k))
 
   was_in : (k x : ℕ) → has k keys ≡ false → has_cell x (slots_of (new k)) ≡ true → has_cell x (slots_of (at k)) ≡ true
   was_in k x e h = subst (λ o. has_cell x (slots_of o) ≡ true) (others k e) h

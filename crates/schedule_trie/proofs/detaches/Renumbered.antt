@@ -137,8 +137,8 @@ module _ {T : Type 0} where
       cells : (x : ℕ) → has_cell x (renumbered n (slots_of (at k))) ≡ true → (n ≤ x) × (x < made)
       cells x h = let p = renumbered_cell n (slots_of (at k)) x h in (p.0, omega (arith, p.1))
 
-  later : (n m made : ℕ) (o : Option (SegmentOf T)) → n ≤ m → IsCopied m made o → IsCopied n made o
-  later n m made o h c = record { cells = λ x g. let p = c.cells x g in (omega (arith, p.0), p.1); segment = c.segment; there = c.there; note = c.note }
+  IsCopied-weaker : (n m made : ℕ) (o : Option (SegmentOf T)) → n ≤ m → IsCopied m made o → IsCopied n made o
+  IsCopied-weaker n m made o h c = record { cells = λ x g. let p = c.cells x g in (omega (arith, p.0), p.1); segment = c.segment; there = c.there; note = c.note }
 
   pub each_copied : (at new : ℕ → Option (SegmentOf T)) (n made : ℕ) (ks js : List ℕ) (j : ℕ) → AreCopied at new n ks js
       → ((k : ℕ) → has k ks ≡ true → (0 < length (slots_of (at k))) × (length (slots_of (at k)) ≤ 128)) → n + length (line at ks) ≤ made → has j js ≡ true → IsCopied n made (new j)
@@ -149,7 +149,7 @@ module _ {T : Type 0} where
       let parts : length (line at (k ∷ ks)) ≡ length (slots_of (at k)) + length (line at ks) = length-append (slots_of (at k)) (line at ks) in
       has_cases j i js (IsCopied n made (new j)) h
       (λ e. subst (λ z. IsCopied n made (new z)) (sym e) (copied_here at new n made i k c.0 (sizes k (has-head k ks)) (omega arith)))
-      (λ r. later n (n + length (slots_of (at k))) made (new j) (omega arith)
+      (λ r. IsCopied-weaker n (n + length (slots_of (at k))) made (new j) (omega arith)
       (each_copied at new (n + length (slots_of (at k))) made ks js j c.1 (λ z g. sizes z (has-tail z k ks g)) (omega arith) r))
 
   -- no two copies have a common cell

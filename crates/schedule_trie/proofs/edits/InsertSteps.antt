@@ -24,7 +24,7 @@ use Rattle.schedule_trie.proofs.edits.Insertion.{put, grown_put, put_through, pu
 use Rattle.schedule_trie.proofs.forks.Division.{Divides, lacked-divided, sound-divided, branches-divided, notes-divided}
 use Rattle.schedule_trie.proofs.forks.DivisionSteps.{divides_from}
 use Rattle.schedule_trie.proofs.segments.Notes.{notes_at, notes_but, unchanged_kept}
-use Rattle.schedule_trie.proofs.segments.TouchedSegments.{ends_before, none_at_end}
+use Rattle.schedule_trie.proofs.segments.TouchedSegments.{end_holds_before, none_at_end}
 use Rattle.branch_terms.proofs.Lists.{cell_in_at, slice_get_some}
 use Rattle.std.proofs.lemmas.Option.{slice_get_within}
 
@@ -168,7 +168,7 @@ module _ {T : Type 0} (old new : TrieOf T) (index place : ℕ) (step : Step) (al
       each = λ k h. absurd (none_at_end old name index place found all k h);
       only = λ k e. inr (
         ap (option_map (λ i. length (slots_in (forest old).branches i))) found ∙ ap Some all,
-        (ends_before old name index found k place (pushed.notes.only k e).0 all, (pushed.notes.only k e).1),
+        (end_holds_before old name index found k place (pushed.notes.only k e).0 all, (pushed.notes.only k e).1),
       );
     };
     unchanged = unchanged_kept old new pushed.notes.notes (λ k e. extended_changed old new step k (pushed.notes.only k e).1);
@@ -219,8 +219,8 @@ module _ {T : Type 0} (c d : TrieOf T) (key fresh offset : ℕ) (step : Step) (a
   count : length d.branches ≡ length c.branches
   count = ap length branches ∙ length-map c.branches (divided_branch key fresh)
 
-  cut_held : IsWhole d
-  cut_held = record {
+  cut_whole : IsWhole d
+  cut_whole = record {
     sound = sound_after;
     within = subst (λ l. IsWithin l d.made (length d.branches)) (sym limits) (subst (λ n. IsWithin c.limits n (length d.branches)) (sym made)
         (subst (IsWithin c.limits (c.made + 1)) (sym count) (within_more c.limits c.made (length c.branches) whole.within room)));
@@ -285,7 +285,7 @@ module _ {T : Type 0} (t d : Inside T) (view : TrieOf T) (view_is : trie_of t �
 
   held_divided : IsHeldTrie d
   held_divided = record {
-    whole = cut_held (trie_of t) (trie_of d) key fresh offset step (segment above.items None) (segment below.items None) held.whole divides same_branches made limits
+    whole = cut_whole (trie_of t) (trie_of d) key fresh offset step (segment above.items None) (segment below.items None) held.whole divides same_branches made limits
         room_before inside_before full_before parts_before least most refl refl;
     paths = many;
   }

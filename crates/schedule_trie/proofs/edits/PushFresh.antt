@@ -13,9 +13,9 @@ use Rattle.schedule_trie.proofs.lists.NoRepeats.{has_not_from}
 use Rattle.schedule_trie.proofs.segments.Changes.{Changes}
 use Rattle.schedule_trie.proofs.segments.Notes.{notes_with_new}
 use Rattle.schedule_trie.proofs.branches.Whole.{whole_pushed, is_pushed}
-use Rattle.schedule_trie.proofs.edits.PushSteps.{has_front}
+use Rattle.schedule_trie.proofs.edits.PushSteps.{has_before_last}
 use Rattle.schedule_trie.proofs.segments.StepSet.{segment_seen}
-use Rattle.schedule_trie.proofs.branches.KeyedBranches.{keyed_branches-set, keys_in-of, keys_in-set_other, keys_in-set_same}
+use Rattle.schedule_trie.proofs.branches.KeyedBranches.{keyed_branches-set, keys_in-keyed_branches, keys_in-set_other, keys_in-set_same}
 
 -- the key right above each key, as `above` gives it, but for `key` it is `up`
 abbrev above_with : (ℕ → Option ℕ) → ℕ → Option ℕ → ℕ → Option ℕ
@@ -64,7 +64,7 @@ module _ {T : Type 0} (t grown : Inside T) (index key : ℕ) (s : Segment T) (st
   branches =
       (λ i. keyed_branches (names i) (paths i))
       ∙ keyed_branches-set (names_of t) t.segments.paths index (path_in t.segments index ++ key ∷ []) held.paths
-      ∙ ap (λ l. set_keys (trie_of t).branches index (l ++ key ∷ [])) (sym (keys_in-of (names_of t) t.segments.paths index held.paths))
+      ∙ ap (λ l. set_keys (trie_of t).branches index (l ++ key ∷ [])) (sym (keys_in-keyed_branches (names_of t) t.segments.paths index held.paths))
 
   was : line (segment_at (trie_of t).segments) (keys_in (trie_of t).branches index)
       ≡ line (segment_at (trie_of t).segments) (keys_in (trie_of t).branches index) ++ slots_of (segment_at (trie_of t).segments key)
@@ -95,11 +95,11 @@ module _ {T : Type 0} (t grown : Inside T) (index key : ℕ) (s : Segment T) (st
   pub segment_held : IsHeldTrie grown
   segment_held = record {
     whole = whole_pushed (trie_of t) (trie_of grown) index key step (keys_in (trie_of t).branches index) (segment s.slots.items s.note) held.whole room change note slots few made limits branches index_in was
-        (λ k h. has_front k key (keys_in (trie_of t).branches index) h) (λ k h. h) (lacked index) (λ j ne. lacked j) shares;
+        (λ k h. has_before_last k key (keys_in (trie_of t).branches index) h) (λ k h. h) (lacked index) (λ j ne. lacked j) shares;
     paths = many;
   }
 
   pub segment_pushed : IsPushed (trie_of t) (trie_of grown) index step
   segment_pushed = is_pushed (trie_of t) (trie_of grown) index key step (keys_in (trie_of t).branches index) (segment s.slots.items s.note) held.whole room change note slots few made limits branches index_in was
-      (λ k h. has_front k key (keys_in (trie_of t).branches index) h) (λ k h. h) (lacked index) (λ j ne. lacked j) shares
+      (λ k h. has_before_last k key (keys_in (trie_of t).branches index) h) (λ k h. h) (lacked index) (λ j ne. lacked j) shares
       (notes_with_new (trie_of t) (trie_of grown) key change.others (ap note_of change.here ∙ note) (IsExtendedEnd (trie_of t) (trie_of grown) index step) none)

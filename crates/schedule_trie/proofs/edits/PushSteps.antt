@@ -9,7 +9,7 @@ use Rattle.schedule_trie.specs.declared.segment.Segment.{Segment}
 use Rattle.schedule_trie.specs.declared.trie.Trie.TheInside.{Inside}
 use Rattle.branch_terms.specs.Forest.{slot}
 use Rattle.schedule_trie.specs.Trie.{TrieOf, forest, segment, segment_at, slots_of, note_of, line, keys_in, set_keys, has, Once, IsOwnEnd, IsExtendedEnd, Nowhere, IsPushed, IsWhole}
-use Rattle.schedule_trie.specs.TrieFields.{segment_of, segments_of, keyed_branches, trie_of, AreLengths, AreNames, IsHeldTrie, IsKept}
+use Rattle.schedule_trie.specs.TrieFields.{segment_of, segments_of, keyed_branches, trie_of, AreLengths, AreNames, IsHeldTrie, IsTrie}
 use Rattle.schedule_trie.proofs.lists.NoRepeats.{has-append, Once-from_linked, has-in, once_before}
 use Rattle.schedule_trie.proofs.segments.Changes.{Changes, segment_at_set}
 use Rattle.schedule_trie.proofs.climbs.Climbs.{last_parts}
@@ -21,23 +21,23 @@ use Rattle.schedule_trie.proofs.segments.TouchedSegments.{some_slots}
 use Rattle.schedule_trie.proofs.branches.Whole.{whole_pushed, is_pushed}
 use Rattle.schedule_trie.proofs.branches.KeyedBranches.{set_keys-same}
 
-pub on_err : {A E : Type 0} (r : Result A E) (P : Type 0) → P → OnErr r P
-on_err (Ok x) P p = tt
-on_err (Err e) P p = p
+pub always_on_err : {A E : Type 0} (r : Result A E) (P : Type 0) → P → OnErr r P
+always_on_err (Ok x) P p = tt
+always_on_err (Err e) P p = p
 
-pub has_front : (k key : ℕ) (front : List ℕ) → has k front ≡ true → has k (front ++ key ∷ []) ≡ true
-has_front k key front h = has-append k front (key ∷ []) ∙ ap (λ b. b || has k (key ∷ [])) h
+pub has_before_last : (k key : ℕ) (front : List ℕ) → has k front ≡ true → has k (front ++ key ∷ []) ≡ true
+has_before_last k key front h = has-append k front (key ∷ []) ∙ ap (λ b. b || has k (key ∷ [])) h
 
 -- the trie is unchanged when a segment is replaced by an equal one
-pub cut_written : {T : Type 0} (t : Inside T) (key : ℕ) (v w : Segment T) → item_at t.segments key ≡ Some v → w.slots.items ≡ v.slots.items → w.note ≡ v.note
+pub equal_item_seen : {T : Type 0} (t : Inside T) (key : ℕ) (v w : Segment T) → item_at t.segments key ≡ Some v → w.slots.items ≡ v.slots.items → w.note ≡ v.note
     → trie_of (record t { segments = with_item t.segments key w }) ≡ trie_of t
-cut_written t key v w there items note =
+equal_item_seen t key v w there items note =
     let same : segment_of (Some w) ≡ segment_of (item_at t.segments key) = (λ i. Some (segment (items i) (note i))) ∙ ap segment_of (sym there) in
     ap (λ p. record (trie_of t) { segments = p }) (map-set_same segment_of t.segments.items key (Some w) None same)
 
-pub kept_held : {T : Type 0} (t : Inside T) (key : ℕ) (w : Segment T) → IsKept t → trie_of (record t { segments = with_item t.segments key w }) ≡ trie_of t
-    → IsKept (record t { segments = with_item t.segments key w })
-kept_held t key w kept same = record {
+pub equal_item_kept : {T : Type 0} (t : Inside T) (key : ℕ) (w : Segment T) → IsTrie t → trie_of (record t { segments = with_item t.segments key w }) ≡ trie_of t
+    → IsTrie (record t { segments = with_item t.segments key w })
+equal_item_kept t key w kept same = record {
   held = record { whole = subst IsWhole (sym same) kept.held.whole; paths = kept.held.paths };
   lengths = subst (λ c. AreLengths t.branches.entries (forest c).branches) (sym same) kept.lengths;
   names = kept.names;
@@ -54,8 +54,8 @@ module _ {T : Type 0} (t u : Inside T) (entries : u.branches.entries ≡ t.branc
     limits = limits i;
   }
 
-  pub roomed_held : IsKept t → IsKept u
-  roomed_held kept = record {
+  pub roomed_kept : IsTrie t → IsTrie u
+  roomed_kept kept = record {
     held = record {
       whole = subst IsWhole (sym roomed_seen) kept.held.whole;
       paths = ap (λ s. length s.paths) segments ∙ kept.held.paths ∙ sym (ap (λ es. length (keys_of es)) entries);
@@ -66,7 +66,7 @@ module _ {T : Type 0} (t u : Inside T) (entries : u.branches.entries ≡ t.branc
   }
 
   pub roomed_err : {A E : Type 0} (r : Result A E) {cut : TrieOf T} → trie_of t ≡ cut → OnErr r (trie_of u ≡ cut)
-  roomed_err r was = on_err r _ (roomed_seen ∙ was)
+  roomed_err r was = always_on_err r _ (roomed_seen ∙ was)
 
 -- a push in the last segment of a branch
 module _ {T : Type 0} (t : Inside T) (index key : ℕ) (held : IsHeldTrie t) (end : IsOwnEnd (trie_of t) index key) where
@@ -79,8 +79,8 @@ module _ {T : Type 0} (t : Inside T) (index key : ℕ) (held : IsHeldTrie t) (en
     seen = segment_seen t key ∙ ap segment_of there
 
     -- a push that fails leaves an equal segment, so the trie is unchanged
-    pub cut_kept : w.slots.items ≡ v.slots.items → w.note ≡ v.note → trie_of (record t { segments = with_item t.segments key w }) ≡ trie_of t
-    cut_kept items note = cut_written t key v w there items note
+    pub failed_push_seen : w.slots.items ≡ v.slots.items → w.note ≡ v.note → trie_of (record t { segments = with_item t.segments key w }) ≡ trie_of t
+    failed_push_seen items note = equal_item_seen t key v w there items note
 
     module _ (step : Step) (index_in : index < length (trie_of t).branches) (room : t.made < t.limits.cells)
         (items : w.slots.items ≡ v.slots.items ++ slot t.made step ∷ []) (note : w.note ≡ None) where
@@ -107,7 +107,7 @@ module _ {T : Type 0} (t : Inside T) (index key : ℕ) (held : IsHeldTrie t) (en
       kept k h = subst (λ l. has k l ≡ true) end.last h
 
       in_front : (k : ℕ) → has k end.front ≡ true → has k (keys_in (trie_of t).branches index) ≡ true
-      in_front k h = subst (λ l. has k l ≡ true) (sym end.last) (has_front k key end.front h)
+      in_front k h = subst (λ l. has k l ≡ true) (sym end.last) (has_before_last k key end.front h)
 
       pub in_held : IsHeldTrie after
       in_held = record {

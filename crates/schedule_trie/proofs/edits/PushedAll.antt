@@ -6,7 +6,10 @@ use Rattle.branch_terms.specs.declared.slot.Slot.{Slot}
 use Rattle.branch_terms.specs.Forest.{Branch, branch, slot, numbered, only_in, put_last, put_all}
 use Rattle.schedule_trie.specs.Trie.{TrieOf, forest, IsPushed, ArePushed}
 use Rattle.schedule_trie.proofs.segments.Notes.{blank_kept}
-use Rattle.schedule_trie.proofs.branches.Openings.{numbered-push}
+
+numbered-last : (n : ℕ) (xs : List Step) (s : Step) → numbered n (xs ++ s ∷ []) ≡ numbered n xs ++ slot (n + length xs) s ∷ []
+numbered-last n [] s = ap (λ k. slot k s ∷ []) (omega arith)
+numbered-last n (x ∷ xs) s = ap (λ l. slot n x ∷ l) (numbered-last (suc n) xs s ∙ ap (λ k. numbered (suc n) xs ++ slot k s ∷ []) (omega arith))
 
 only_none : (bs : List Branch) (i : ℕ) → bs ≡ only_in i (put_all []) bs
 only_none [] i = refl
@@ -44,7 +47,7 @@ module _ {T : Type 0} where
       both l =
           append_assoc l (numbered a.made steps) (slot b.made s ∷ [])
           ∙ ap (λ n. l ++ (numbered a.made steps ++ slot n s ∷ [])) p.made
-          ∙ ap (λ x. l ++ x) (sym (numbered-push a.made steps s))
+          ∙ ap (λ x. l ++ x) (sym (numbered-last a.made steps s))
 
   pub pushed_more : (a b d : TrieOf T) (index : ℕ) (steps : List Step) (i : ℕ) (s : Step) → i < length steps → get_or steps i s ≡ s
       → ArePushed a b index (take i steps) → IsPushed b d index s → ArePushed a d index (take (i + 1) steps)

@@ -5,7 +5,7 @@ use Rattle.std.proofs.lemmas.Bool.{eqb-true, eqb-false}
 use Rattle.branch_terms.specs.declared.slot.Slot.{Slot}
 use Rattle.branch_terms.specs.Forest.{branch, cell_of, only_in, put_last}
 use Rattle.schedule_trie.specs.Trie.{SegmentOf, KeyedBranch, slots_of, line, branches_on, keys_in, set_keys, has, has_cell, Once, IsSegment, IsSoundTrie, LackedByOthers}
-use Rattle.schedule_trie.proofs.branches.Lines.{given_at, weaker}
+use Rattle.schedule_trie.proofs.branches.Lines.{given_at, IsSegment-weaker}
 use Rattle.schedule_trie.proofs.segments.Changes.{Changes}
 
 module _ {T : Type 0} where
@@ -63,7 +63,7 @@ module _ {T : Type 0} (old new : ℕ → Option (SegmentOf T)) (key : ℕ) (q : 
 
         by : (b : Bool) → nat_eq k key ≡ b → IfSome (new k) (IsSegment (made + 1))
         by true e = subst (λ j. IfSome (new j) (IsSegment (made + 1))) (sym (eqb-true k key e)) (subst (λ o. IfSome o (IsSegment (made + 1))) (sym change.here) at_key)
-        by false e = subst (λ o. IfSome o (IsSegment (made + 1))) (sym (change.others k (eqb-false k key e))) (weaker made (made + 1) (omega arith) (old k) (sound.segments k))
+        by false e = subst (λ o. IfSome o (IsSegment (made + 1))) (sym (change.others k (eqb-false k key e))) (IsSegment-weaker made (made + 1) (omega arith) (old k) (sound.segments k))
 
     in_other : (k x : ℕ) → (k ≡ key → ⊥) → has_cell x (slots_of (new k)) ≡ true → has_cell x (slots_of (old k)) ≡ true
     in_other k x ne h = subst (λ o. has_cell x (slots_of o) ≡ true) (change.others k ne) h

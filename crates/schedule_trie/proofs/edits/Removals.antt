@@ -9,7 +9,7 @@ use Rattle.std.proofs.lemmas.Option.{slice_get_within}
 use Rattle.branch_terms.specs.declared.slot.Slot.{Slot}
 use Rattle.branch_terms.specs.Forest.{branch, cell_of, is_other, without, everywhere}
 use Rattle.schedule_trie.specs.Trie.{SegmentOf, KeyedBranch, slots_of, line, branches_on, keys_in, has, has_cell, Once, Linked, IsSegment, IsSoundTrie, keys_without, branch_without}
-use Rattle.branch_terms.proofs.Lists.{turned}
+use Rattle.branch_terms.proofs.Lists.{nat_eq_symmetric}
 use Rattle.schedule_trie.proofs.lists.NoRepeats.{has_not_from, has-head, has-tail, has_cases}
 use Rattle.schedule_trie.proofs.segments.Changes.{line_through, everywhere_on, cell_apart, has_cell_get}
 use Rattle.schedule_trie.proofs.branches.Lines.{once_at, given_at}
@@ -23,7 +23,7 @@ without-absent x (s ∷ ss) h = by (nat_eq x s.cell) refl (without-absent x ss)
     by : (b : Bool) → nat_eq x s.cell ≡ b → (has_cell x ss ≡ false → without x ss ≡ ss) → without x (s ∷ ss) ≡ s ∷ ss
     by true e rest = absurd (true≢false (sym (ap (λ c. c || has_cell x ss) e) ∙ h))
     by false e rest =
-        ap (λ b. cond (not b) (s ∷ without x ss) (without x ss)) (turned s.cell x ∙ e) ∙ ap (λ l. s ∷ l) (rest (sym (ap (λ c. c || has_cell x ss) e) ∙ h))
+        ap (λ b. cond (not b) (s ∷ without x ss) (without x ss)) (nat_eq_symmetric s.cell x ∙ e) ∙ ap (λ l. s ∷ l) (rest (sym (ap (λ c. c || has_cell x ss) e) ∙ h))
 
 -- removing the item at an index removes just the cell there, if no cell is twice
 pub without-at : (slots : List Slot) (i : ℕ) (s : Slot) → Once (map cell_of slots) → slice_get slots i ≡ Some s → remove slots i ≡ without s.cell slots
@@ -76,11 +76,11 @@ module _ {T : Type 0} (old new : ℕ → Option (SegmentOf T)) (key offset : ℕ
   gone_everywhere =
       everywhere_on old new (without s.cell) (line_through old new (without s.cell) refl (filter-append (is_other s.cell)) each_without) branches
 
-  fewer : (j y : ℕ) → has_cell y (slots_of (new j)) ≡ true → has_cell y (slots_of (old j)) ≡ true
-  fewer j y h = has_cell_without s.cell y (slots_of (old j)) (subst (λ l. has_cell y l ≡ true) (each_without j) h)
+  was_in : (j y : ℕ) → has_cell y (slots_of (new j)) ≡ true → has_cell y (slots_of (old j)) ≡ true
+  was_in j y h = has_cell_without s.cell y (slots_of (old j)) (subst (λ l. has_cell y l ≡ true) (each_without j) h)
 
   apart_still : (j k x : ℕ) → has_cell x (slots_of (new j)) ≡ true → has_cell x (slots_of (new k)) ≡ true → j ≡ k
-  apart_still j k x a b = sound.apart j k x (fewer j x a) (fewer k x b)
+  apart_still j k x a b = sound.apart j k x (was_in j x a) (was_in k x b)
 
   short_at : (o : Option (SegmentOf T)) → IfSome o (IsSegment made) → 0 < length (slots_of o) → length (slots_of o) < 129
   short_at None h l = absurd (omega arith)
@@ -93,7 +93,7 @@ module _ {T : Type 0} (old new : ℕ → Option (SegmentOf T)) (key offset : ℕ
       some = omega (arith, more, size);
       few = let short : length (slots_of (old key)) < 129 = short_at (old key) (sound.segments key) (omega arith) in omega (arith, short, size);
       once = subst (λ l. Once (map cell_of l)) (sym without_it) (once_without s.cell (slots_of (old key)) (once_at old made sound.segments sound.apart key));
-      given = λ x h. given_at old made sound.segments sound.apart key x (fewer key x (subst (λ o. has_cell x (slots_of o) ≡ true) (sym is) h));
+      given = λ x h. given_at old made sound.segments sound.apart key x (was_in key x (subst (λ o. has_cell x (slots_of o) ≡ true) (sym is) h));
     }
       where
         slots : q.slots ≡ remove (slots_of (old key)) offset
@@ -137,9 +137,9 @@ module _ {T : Type 0} (old new : ℕ → Option (SegmentOf T)) (key offset : ℕ
     not_key : (k : ℕ) → IsSome (new k) → k ≡ key → ⊥
     not_key k h e = true≢false (sym (subst IsSome (ap new e ∙ gone) h))
 
-    line_past : (ks : List ℕ) → line new (keys_without key ks) ≡ line new ks
-    line_past [] = refl
-    line_past (k ∷ ks) = by (nat_eq key k) refl (line_past ks)
+    line_without : (ks : List ℕ) → line new (keys_without key ks) ≡ line new ks
+    line_without [] = refl
+    line_without (k ∷ ks) = by (nat_eq key k) refl (line_without ks)
       where
         by : (b : Bool) → nat_eq key k ≡ b → line new (keys_without key ks) ≡ line new ks → line new (keys_without key (k ∷ ks)) ≡ line new (k ∷ ks)
         by true e rest =
@@ -148,12 +148,12 @@ module _ {T : Type 0} (old new : ℕ → Option (SegmentOf T)) (key offset : ℕ
         by false e rest =
             ap (λ b. line new (cond (not b) (k ∷ keys_without key ks) (keys_without key ks))) e ∙ ap (λ l. slots_of (new k) ++ l) rest
 
-    branches_past : (ss : List KeyedBranch) → branches_on new (map (branch_without key) ss) ≡ branches_on new ss
-    branches_past [] = refl
-    branches_past (t ∷ ts) = λ i. branch t.name (line_past t.keys i) ∷ branches_past ts i
+    branches_without : (ss : List KeyedBranch) → branches_on new (map (branch_without key) ss) ≡ branches_on new ss
+    branches_without [] = refl
+    branches_without (t ∷ ts) = λ i. branch t.name (line_without t.keys i) ∷ branches_without ts i
 
     pub gone_with_segment : branches_on new (map (branch_without key) branches) ≡ everywhere (without s.cell) (branches_on old branches)
-    gone_with_segment = branches_past branches ∙ gone_everywhere
+    gone_with_segment = branches_without branches ∙ gone_everywhere
 
     pub sound_gone : IsSoundTrie new (map (branch_without key) branches) made
     sound_gone = record {

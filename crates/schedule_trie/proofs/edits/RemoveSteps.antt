@@ -11,7 +11,7 @@ use Rattle.schedule_trie.specs.Trie.{IsWithin, TrieOf, segment, segment_at, slot
 use Rattle.schedule_trie.specs.TrieFields.{segment_of, keyed_branches, names_of, trie_of, IsHeldTrie}
 use Rattle.schedule_trie.proofs.branches.KeyedBranches.{keyed_branches-without}
 use Rattle.schedule_trie.proofs.segments.Notes.{notes_at}
-use Rattle.schedule_trie.proofs.segments.StepSet.{IsSeen, seen_with, with_segment, within_still, segment_seen, cut_from_sound, command_at, the_cell}
+use Rattle.schedule_trie.proofs.segments.StepSet.{IsStoredAt, is_stored_at, with_segment, within_still, segment_seen, cut_from_sound, command_at, the_cell}
 use Rattle.schedule_trie.proofs.edits.Removals.{gone_everywhere, sound_within, gone_with_segment, sound_gone}
 use Rattle.branch_terms.proofs.Lists.{slice_get_some}
 
@@ -22,8 +22,8 @@ module _ {T : Type 0} (t : Inside T) (key offset : ℕ) (v w : Segment T) (held 
   abbrev after : Inside T
   after = with_segment t key w
 
-  seen : IsSeen t key v w
-  seen = seen_with t key v w there
+  seen : IsStoredAt t key v w
+  seen = is_stored_at t key v w there
 
   here : slots_of (segment_at (trie_of after).segments key) ≡ remove (slots_of (segment_at (trie_of t).segments key)) offset
   here = ap slots_of seen.change.here ∙ slots ∙ sym (ap (λ o. remove (slots_of o) offset) seen.was)

@@ -7,7 +7,7 @@ use Rattle.branch_terms.specs.declared.slot.Slot.{Slot}
 use Rattle.branch_terms.specs.Forest.{branch, cell_of, everywhere}
 use Rattle.schedule_trie.specs.Trie.{TrieOf, SegmentOf, KeyedBranch, segment_at, slots_of, note_of, line, branches_on, keys_in, has, has_cell, Once, Linked, IsSegment, IsSoundTrie, KeepsNotesOff, divided_keys, divided_branch}
 use Rattle.schedule_trie.proofs.lists.NoRepeats.{has-head, has-tail, has_cases, has_not_from, has-left, has-right, Once-left, Once-right, Once-apart}
-use Rattle.schedule_trie.proofs.branches.Lines.{given_at, weaker}
+use Rattle.schedule_trie.proofs.branches.Lines.{given_at, IsSegment-weaker}
 
 -- the key has the cells below the cut, and a new key has those above
 pub record Divides {T : Type 0} (old new : ℕ → Option (SegmentOf T)) (key fresh : ℕ) (above below : SegmentOf T) : Type 0 where
@@ -201,7 +201,7 @@ module _ {T : Type 0} (old new : ℕ → Option (SegmentOf T)) (key fresh : ℕ)
           once = Once-left (map cell_of above.slots) (map cell_of below.slots) once_parts;
           given = λ x h. given x (in_above x h);
         }))
-        (λ a b. subst (λ o. IfSome o (IsSegment more)) (sym (divides.others k a b)) (weaker made more grows (old k) (sound.segments k)))
+        (λ a b. subst (λ o. IfSome o (IsSegment more)) (sym (divides.others k a b)) (IsSegment-weaker made more grows (old k) (sound.segments k)))
 
     -- no other segment has a cell of the two parts
     outside : (k x : ℕ) → (k ≡ key → ⊥) → has_cell x (above.slots ++ below.slots) ≡ true → has_cell x (slots_of (old k)) ≡ true → ⊥

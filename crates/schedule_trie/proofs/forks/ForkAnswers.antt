@@ -23,9 +23,9 @@ any_or_none test (x ∷ xs) = by (test x) (any_or_none test xs)
     by true rest = lt-ltb 0 (suc (length xs)) (omega arith)
     by false rest = nat_lt-more (position_or_len test xs) (length xs) ∙ rest
 
-pub none_from : {X : Type 0} (o : Option X) → is_some o ≡ false → o ≡ None
-none_from None h = refl
-none_from (Some x) h = absurd (true≢false h)
+pub none_from_is_some : {X : Type 0} (o : Option X) → is_some o ≡ false → o ≡ None
+none_from_is_some None h = refl
+none_from_is_some (Some x) h = absurd (true≢false h)
 
 is_some-cond : {X : Type 0} (b : Bool) (x : X) → is_some (cond b (Some x) None) ≡ b
 is_some-cond true x = refl
@@ -77,10 +77,10 @@ module _ (limits : Limits) (f : Forest) (name new : List ℕ) (place i : ℕ) (f
             answered
             ∙ (λ j. answer (free j) (formed j) (le-ltb (length (slots_in f.branches i)) place fits j) (le-leb limits.branches (length f.branches) h j))
 
-        pub is_forked : length f.branches < limits.branches → fork limits f name place new ≡ Ok forked
-        is_forked h =
+        pub fork_ok : length f.branches < limits.branches → fork limits f name place new ≡ Ok forked
+        fork_ok h =
             answered
             ∙ (λ j. answer (free j) (formed j) (le-ltb (length (slots_in f.branches i)) place fits j) (lt-leb limits.branches (length f.branches) h j))
 
         pub memory_alone : length f.branches < limits.branches → IsRefused (fork limits f name place new) Memory
-        memory_alone h = inr (refl, subst IsOk (sym (is_forked h)) refl)
+        memory_alone h = inr (refl, subst IsOk (sym (fork_ok h)) refl)

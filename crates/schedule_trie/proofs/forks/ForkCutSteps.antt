@@ -20,16 +20,16 @@ use Rattle.schedule_trie.proofs.forks.ForkSteps.{fork_held, is_branch_forked}
 use Rattle.schedule_trie.proofs.edits.InsertSteps.{unnoted}
 use Rattle.schedule_trie.proofs.segments.Notes.{notes_but}
 use Rattle.schedule_trie.proofs.segments.CellHolders.{one_holder}
-use Rattle.schedule_trie.proofs.branches.KeyedBranches.{keys_in-of, keyed_branches-divided}
+use Rattle.schedule_trie.proofs.branches.KeyedBranches.{keys_in-keyed_branches, keyed_branches-divided}
 use Rattle.schedule_trie.proofs.segments.TouchedSegments.{parted}
 
 -- the first `length xs - n` items of `drop n xs` are all of them
 pub rest_of : {X : Type 0} (n : ℕ) (xs : List X) → take (length xs - n) (drop n xs) ≡ drop n xs
 rest_of n xs = ap (λ k. take k (drop n xs)) (sym (length-drop n xs)) ∙ take-length (drop n xs)
 
-there_from_slots : {T : Type 0} (o : Option (SegmentOf T)) (n : ℕ) → n < length (slots_of o) → IsSome o
-there_from_slots None n h = absurd (omega arith)
-there_from_slots (Some p) n h = refl
+some_from_slots : {T : Type 0} (o : Option (SegmentOf T)) (n : ℕ) → n < length (slots_of o) → IsSome o
+some_from_slots None n h = absurd (omega arith)
+some_from_slots (Some p) n h = refl
 
 get_or-here : (front back : List ℕ) (key : ℕ) → get_or (front ++ key ∷ back) (length front) 0 ≡ key
 get_or-here [] back key = refl
@@ -59,7 +59,7 @@ module _ {T : Type 0} (t u : Inside T) (mid : Family (Segment T)) (name : List �
   at_key = sym (ap (λ l. get_or l count 0) parting ∙ get_or-here front back key)
 
   divides : Divides (segment_at c.segments) (segment_at (segments_of u.segments.items)) key new (segment above.items None) (segment below.items None)
-  divides = divides_from t u mid key new (unnoted above) v w below.items (there_from_slots (segment_at c.segments key) rest within) forked.added there after (ap (λ z. z.items) slots) note
+  divides = divides_from t u mid key new (unnoted above) v w below.items (some_from_slots (segment_at c.segments key) rest within) forked.added there after (ap (λ z. z.items) slots) note
 
   parts : above.items ++ below.items ≡ slots_of (segment_at c.segments key)
   parts = (λ i. first i ++ second i) ∙ take-append-drop rest (slots_of (segment_at c.segments key))
@@ -77,7 +77,7 @@ module _ {T : Type 0} (t u : Inside T) (mid : Family (Segment T)) (name : List �
   same = same_branches c (segments_of u.segments.items) index count key new rest (segment above.items None) (segment below.items None) held.whole inside at_key divides parts len some within
 
   path : path_in t.segments index ≡ front ++ key ∷ back
-  path = sym (keys_in-of (names_of t) t.segments.paths index held.paths) ∙ parting
+  path = sym (keys_in-keyed_branches (names_of t) t.segments.paths index held.paths) ∙ parting
 
   path_now : forked.path ≡ take (count + 1) (keys_in middle.branches index)
   path_now =

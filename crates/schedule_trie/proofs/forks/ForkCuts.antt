@@ -6,12 +6,13 @@ use Rattle.std.proofs.lemmas.List.{length-append, length-map, length-take-le, ta
 use Rattle.std.proofs.Math.Seq.{drop-cons, take-append_seam}
 use Rattle.branch_terms.specs.Forest.{Branch, cell_of, everywhere}
 use Rattle.schedule_trie.specs.Trie.{TrieOf, SegmentOf, segment_at, slots_of, line, forest, keys_in, has, has_cell, Once, IsSegment, IsWhole, divided_keys, divided_branch, above_key}
-use Rattle.schedule_trie.proofs.lists.NoRepeats.{has-head, has-tail, Once-from_linked, once_before}
+use Rattle.schedule_trie.proofs.lists.NoRepeats.{Once-from_linked, once_before}
 use Rattle.schedule_trie.proofs.branches.Lines.{once_at}
+use Rattle.schedule_trie.proofs.detaches.Released.{line_alike}
 use Rattle.schedule_trie.proofs.edits.Pushes.{line-append}
 use Rattle.schedule_trie.proofs.forks.Division.{Divides, keys_in-divided, branches-divided, lacked-divided, sound-divided}
 use Rattle.lineage.proofs.ForksAbove.{divided-other}
-use Rattle.schedule_trie.proofs.forks.Forks.{linked_front, has_front}
+use Rattle.schedule_trie.proofs.forks.Forks.{linked_front, has_from_take}
 
 -- a path, divided at a key
 module _ (key new : ℕ) where
@@ -40,10 +41,6 @@ everywhere-same [] = refl
 everywhere-same (b ∷ bs) = ap (λ l. b ∷ l) (everywhere-same bs)
 
 module _ {T : Type 0} where
-  line_alike : (old new : ℕ → Option (SegmentOf T)) (ks : List ℕ) → ((k : ℕ) → has k ks ≡ true → new k ≡ old k) → line new ks ≡ line old ks
-  line_alike old new [] h = refl
-  line_alike old new (k ∷ ks) h = λ i. slots_of (h k (has-head k ks) i) ++ line_alike old new ks (λ j g. h j (has-tail j k ks g)) i
-
   few_slots : (made : ℕ) (o : Option (SegmentOf T)) → IfSome o (IsSegment made) → length (slots_of o) ≤ 128
   few_slots made None h = omega arith
   few_slots made (Some p) h = h.few
@@ -119,4 +116,4 @@ module _ {T : Type 0} (c : TrieOf T) (segments : List (Option (SegmentOf T))) (i
       alike k h =
           divides.others k
           (λ e. true≢false (sym (subst (λ j. has j front ≡ true) e h) ∙ front_lacks))
-          (λ e. true≢false (sym (has_front count new (keys_in c.branches index) (subst (λ j. has j front ≡ true) e h)) ∙ lacked index))
+          (λ e. true≢false (sym (has_from_take count new (keys_in c.branches index) (subst (λ j. has j front ≡ true) e h)) ∙ lacked index))

@@ -8,9 +8,9 @@ use Rattle.schedule_trie.proofs.climbs.Climbs.{up_to-here}
 use Rattle.schedule_trie.proofs.edits.Pushes.{line-append}
 use Rattle.schedule_trie.proofs.segments.TouchedSegments.{some_slots}
 
-pub on_ok : {X E P Q : Type 0} (r : Result X E) → (P → Q) → OnOk r P → OnOk r Q
-on_ok (Ok x) f h = f h
-on_ok (Err e) f h = tt
+pub map_on_ok : {X E P Q : Type 0} (r : Result X E) → (P → Q) → OnOk r P → OnOk r Q
+map_on_ok (Ok x) f h = f h
+map_on_ok (Err e) f h = tt
 
 pub always_on_ok : {X E P : Type 0} (r : Result X E) → P → OnOk r P
 always_on_ok (Ok x) h = h

@@ -17,7 +17,7 @@ use Rattle.schedule_trie.specs.changes.Forks.{IsBranchForked, IsForkedWhole}
 use Rattle.schedule_trie.proofs.lists.KeyPositions.{parting}
 use Rattle.schedule_trie.proofs.forks.Forks.{with_front, front_whole, front_forked}
 use Rattle.schedule_trie.proofs.segments.StepSet.{item_there}
-use Rattle.schedule_trie.proofs.branches.KeyedBranches.{names_on, keys_in-of, keyed_branches-last}
+use Rattle.schedule_trie.proofs.branches.KeyedBranches.{names_on, keys_in-keyed_branches, keyed_branches-last}
 
 -- a branch with a new name is added last, with the first `count` keys of the branch at `index`
 module _ {T : Type 0} (c : TrieOf T) (u : Inside T) (name : List ℕ) (index count : ℕ) (es : List (List ℕ × Option ℕ)) (paths : List (List ℕ)) (path : List ℕ) (v : Option ℕ)
@@ -98,7 +98,7 @@ module _ {T : Type 0} (t u : Inside T) (name : List ℕ) (index : ℕ) (last : O
   keys = keys_in (trie_of t).branches index
 
   same : keys ≡ path_in t.segments index
-  same = keys_in-of (names_of t) t.segments.paths index held.paths
+  same = keys_in-keyed_branches (names_of t) t.segments.paths index held.paths
 
   abbrev count : ℕ
   count = length (keys_to keys last)

@@ -23,8 +23,8 @@ linked_front above up zero ks l = tt
 linked_front above up (suc n) [] l = tt
 linked_front above up (suc n) (k ∷ ks) l = (l.0, linked_front above (Some k) n ks l.1)
 
-pub has_front : (n k : ℕ) (ks : List ℕ) → has k (take n ks) ≡ true → has k ks ≡ true
-has_front n k ks h = ap (has k) (sym (take-append-drop n ks)) ∙ has-append k (take n ks) (drop n ks) ∙ ap (λ b. b || has k (drop n ks)) h
+pub has_from_take : (n k : ℕ) (ks : List ℕ) → has k (take n ks) ≡ true → has k ks ≡ true
+has_from_take n k ks h = ap (has k) (sym (take-append-drop n ks)) ∙ has-append k (take n ks) (drop n ks) ∙ ap (λ b. b || has k (drop n ks)) h
 
 module _ {T : Type 0} where
   branches_on-append : (at : ℕ → Option (SegmentOf T)) (a b : List KeyedBranch) → branches_on at (a ++ b) ≡ branches_on at a ++ branches_on at b
@@ -54,7 +54,7 @@ module _ {T : Type 0} (c : TrieOf T) (name : List ℕ) (index count : ℕ) (whol
   sound = record {
     held = λ i k h. elim (keys_in-last c.branches (keyed_branch name front) i) [
       | inl e ↦ whole.sound.held i k (subst (λ l. has k l ≡ true) e h)
-      | inr e ↦ whole.sound.held index k (has_front count k (keys_in c.branches index) (subst (λ l. has k l ≡ true) e h))
+      | inr e ↦ whole.sound.held index k (has_from_take count k (keys_in c.branches index) (subst (λ l. has k l ≡ true) e h))
     ];
     segments = whole.sound.segments;
     apart = whole.sound.apart;

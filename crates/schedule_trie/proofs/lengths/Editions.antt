@@ -97,10 +97,10 @@ forgotten edition (e ∷ es) h zero = not_known edition e.1 (h 0)
 forgotten edition (e ∷ es) h (suc i) = forgotten edition es (λ j. h (suc j)) i
 
 -- lengths cached before an edition were also cached before each later one
-pub later : (edition more : ℕ) (es : List (List ℕ × Cached)) → edition ≤ more → AreEarlier edition es → AreEarlier more es
-later edition more [] less h i = tt
-later edition more (e ∷ es) less h zero = let first : e.1.edition < edition = h 0 in omega (arith, less, first)
-later edition more (e ∷ es) less h (suc i) = later edition more es less (λ j. h (suc j)) i
+pub AreEarlier-weaker : (edition more : ℕ) (es : List (List ℕ × Cached)) → edition ≤ more → AreEarlier edition es → AreEarlier more es
+AreEarlier-weaker edition more [] less h i = tt
+AreEarlier-weaker edition more (e ∷ es) less h zero = let first : e.1.edition < edition = h 0 in omega (arith, less, first)
+AreEarlier-weaker edition more (e ∷ es) less h (suc i) = AreEarlier-weaker edition more es less (λ j. h (suc j)) i
 
 -- after the next cached length becomes `unknown`, all up to it have an edition below 1
 pub one_more_unknown : (es : List (List ℕ × Cached)) (index : ℕ) → ((i : ℕ) → i < index → IfSome (slice_get es i) (λ e. e.1.edition < 1))

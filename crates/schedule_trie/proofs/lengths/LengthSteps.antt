@@ -14,7 +14,7 @@ use Rattle.schedule_trie.specs.Trie.{TrieOf, forest, segment_at, slots_of, line,
 use Rattle.schedule_trie.specs.changes.Copies.{IsDetached}
 use Rattle.schedule_trie.specs.changes.Forks.{IsBranchForked}
 use Rattle.schedule_trie.specs.changes.Releases.{IsDropped}
-use Rattle.schedule_trie.specs.TrieFields.{names_of, trie_of, AreLengths, AreNames, IsHeldTrie, IsKept}
+use Rattle.schedule_trie.specs.TrieFields.{names_of, trie_of, AreLengths, AreNames, IsHeldTrie, IsTrie}
 use Rattle.schedule_trie.specs.NamedLengths.{cached_in}
 use Rattle.schedule_trie.proofs.lengths.Lengths.{cached_is, relength_seen, relength_held, none_cached, same_lengths, length-everywhere, length-only_in, one_forgotten, lengths_left, lengths_more}
 use Rattle.schedule_trie.proofs.branches.Lines.{index_is, keys_are, slots_in_on}
@@ -47,11 +47,11 @@ module _ {T : Type 0} (old new : TrieOf T) (es : List (List ℕ × Option ℕ)) 
   dropped_lengths index is_step = subst (AreLengths (remove es index)) (sym is_step.branches) (lengths_left es (forest old).branches index right)
 
 -- the number of branches
-pub count_of : {T : Type 0} (t : Inside T) → length t.branches.entries ≡ length (trie_of t).branches
-count_of t = sym (length-map t.branches.entries (λ e. e.0)) ∙ sym (length-keyed_branches (names_of t) t.segments.paths)
+pub entry_count : {T : Type 0} (t : Inside T) → length t.branches.entries ≡ length (trie_of t).branches
+entry_count t = sym (length-map t.branches.entries (λ e. e.0)) ∙ sym (length-keyed_branches (names_of t) t.segments.paths)
 
 pub entry_within : {T : Type 0} (t : Inside T) (c : TrieOf T) (index : ℕ) → trie_of t ≡ c → index < length c.branches → index < length t.branches.entries
-entry_within t c index view inside = subst (λ n. index < n) (ap (λ z. length z.branches) (sym view) ∙ sym (count_of t)) inside
+entry_within t c index view inside = subst (λ n. index < n) (ap (λ z. length z.branches) (sym view) ∙ sym (entry_count t)) inside
 
 pub forked_lengths : {T : Type 0} (t : Inside T) (new : TrieOf T) (entries : List (List ℕ × Option ℕ)) (index place : ℕ) (name : List ℕ) → AreLengths t.branches.entries (forest (trie_of t)).branches
     → index_of (forest (trie_of t)).branches name ≡ None → entries ≡ insert_entry (pointwise nat_eq) t.branches.entries name None
@@ -60,21 +60,21 @@ forked_lengths t new entries index place name right free is is_step =
     let es = t.branches.entries in
     let absent : position (pointwise nat_eq name) (names_of t) ≡ None = sym (index_is t name) ∙ free in
     let all : entries ≡ es ++ (name, None) ∷ [] = is ∙ insert_entry-absent (pointwise nat_eq) name None es (Missing-position (pointwise nat_eq name) es absent).absent in
-    let count : length es ≡ length (forest (trie_of t)).branches = count_of t ∙ sym (length-map (trie_of t).branches (branch_on (segment_at (trie_of t).segments))) in
+    let count : length es ≡ length (forest (trie_of t)).branches = entry_count t ∙ sym (length-map (trie_of t).branches (branch_on (segment_at (trie_of t).segments))) in
     subst (λ l. AreLengths l (forest new).branches) (sym all)
     (subst (AreLengths (es ++ (name, None) ∷ [])) (sym is_step.branches) (lengths_more es (forest (trie_of t)).branches name _ count right))
 
 -- only cached lengths differ between the fields t and u; in u none is cached, or all are right
 module _ {T : Type 0} (t u : Inside T) (names : names_of u ≡ names_of t) (segments : u.segments ≡ t.segments) (made : u.made ≡ t.made) (limits : u.limits ≡ t.limits) where
-  pub none_held : IsHeldTrie t → AreNames (names_of t) → ((i : ℕ) → cached_in (slice_get u.branches.entries i) ≡ None) → IsKept u
-  none_held held named none = record {
+  pub none_cached_kept : IsHeldTrie t → AreNames (names_of t) → ((i : ℕ) → cached_in (slice_get u.branches.entries i) ≡ None) → IsTrie u
+  none_cached_kept held named none = record {
     held = relength_held t u names segments made limits held;
     lengths = none_cached u.branches.entries (forest (trie_of u)).branches none;
     names = subst AreNames (sym names) named;
   }
 
-  pub one_held : (es : List (List ℕ × Option ℕ)) → IsHeldTrie t → AreNames (names_of t) → AreLengths es (forest (trie_of t)).branches → u.branches.entries ≡ es → IsKept u
-  one_held es held named right is = record {
+  pub right_lengths_kept : (es : List (List ℕ × Option ℕ)) → IsHeldTrie t → AreNames (names_of t) → AreLengths es (forest (trie_of t)).branches → u.branches.entries ≡ es → IsTrie u
+  right_lengths_kept es held named right is = record {
     held = relength_held t u names segments made limits held;
     lengths = subst (λ l. AreLengths l (forest (trie_of u)).branches) (sym is)
         (subst (λ c. AreLengths es (forest c).branches) (sym (relength_seen t u names segments made limits)) right);

@@ -11,6 +11,7 @@ use Rattle.schedule_trie.specs.Trie.{IsWhole}
 use Rattle.schedule_trie.specs.TrieFields.{segments_of, keyed_branches, names_of, trie_of, AreLengths, IsHeldTrie}
 use Rattle.schedule_trie.specs.NamedLengths.{cached_in}
 
+-- a cached length, if there is one, is the given one
 abbrev IsRight : Option ℕ → ℕ → Type 0
 IsRight kept len = IfSome kept (λ n. n ≡ len)
 

@@ -76,8 +76,8 @@ module _ {T : Type 0} (old new : TrieOf T) (whole : IsWhole old) (index : ℕ) (
           less : (a b : ℕ) → a ≤ b → (a ≡ b → ⊥) → a < b
           less a b le ne = omega (arith, le, ne)
 
-  pub still_inserted : (place : ℕ) (step : Step) → IsInserted old new index place step → index < length new.branches
-  still_inserted place step is_step =
+  pub inside_after_insert : (place : ℕ) (step : Step) → IsInserted old new index place step → index < length new.branches
+  inside_after_insert place step is_step =
       let same : length (forest new).branches ≡ length (forest old).branches = ap (λ f. length f.branches) is_step.forest_is ∙ by (nat_eq place (length slots)) in
       omega (arith, same, within, branch_count new)
     where
@@ -87,8 +87,8 @@ module _ {T : Type 0} (old new : TrieOf T) (whole : IsWhole old) (index : ℕ) (
       by true = count_only (put_last (slot old.made step)) (forest old).branches index
       by false = length-map (forest old).branches (changed (put_before (cell_in slots place) (slot old.made step)))
 
-  pub still_removed : (key offset : ℕ) → offset < length (slots_of (segment_at old.segments key)) → IsRemoved old new key offset → index < length new.branches
-  still_removed key offset inside_key is_step =
+  pub inside_after_removal : (key offset : ℕ) → offset < length (slots_of (segment_at old.segments key)) → IsRemoved old new key offset → index < length new.branches
+  inside_after_removal key offset inside_key is_step =
       let p = slice_get_some (slots_of (segment_at old.segments key)) offset inside_key in
       let same : length (forest new).branches ≡ length (forest old).branches = ap length (is_step.everywhere_gone p.0 p.1) ∙ length-map (forest old).branches (changed (without p.0.cell)) in
       omega (arith, same, within, branch_count new)

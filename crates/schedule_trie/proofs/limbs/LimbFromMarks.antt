@@ -18,7 +18,7 @@ use Rattle.schedule_trie.proofs.climbs.Climbs.{last_some, up_to-here, line-last}
 use Rattle.schedule_trie.proofs.branches.Lines.{in_line, slots_in_on, sound_short}
 use Rattle.branch_terms.proofs.LimbLists.{slot-head, slot-tail, slot_not_from, any_from, any_none, first_is, StopsAt, prefix_is, all_in}
 use Rattle.branch_terms.proofs.LimbsLawful.{slots_at, slots_in-first, limbs_at}
-use Rattle.branch_terms.proofs.Lists.{turned}
+use Rattle.branch_terms.proofs.Lists.{nat_eq_symmetric}
 use Rattle.schedule_trie.proofs.lists.NoRepeats.{has_cases, has-head, has-append, has_not_from, Once-from_linked, has-left, has-right, Once-right, Once-apart, once_before}
 use Rattle.schedule_trie.proofs.lists.KeyPositions.{parting}
 use Rattle.schedule_trie.proofs.edits.Pushes.{line-append}
@@ -26,9 +26,9 @@ use Rattle.schedule_trie.proofs.branches.Shared.{same_front}
 use Rattle.schedule_trie.proofs.segments.TouchedSegments.{some_slots}
 
 -- membership of a cell, in its two definitions
-slot_is_cell : (x : ℕ) (xs : List Slot) → has_slot x xs ≡ has_cell x xs
-slot_is_cell x [] = refl
-slot_is_cell x (s ∷ xs) = (λ i. turned s.cell x i || slot_is_cell x xs i)
+has_slot-has_cell : (x : ℕ) (xs : List Slot) → has_slot x xs ≡ has_cell x xs
+has_slot-has_cell x [] = refl
+has_slot-has_cell x (s ∷ xs) = (λ i. nat_eq_symmetric s.cell x i || has_slot-has_cell x xs i)
 
 once_apart : (xs ys : List ℕ) (k : ℕ) → Once (xs ++ ys) → has k ys ≡ true → has k xs ≡ false
 once_apart xs ys k once h = has_not_from k xs (λ g. Once-apart k xs ys once g h)
@@ -145,13 +145,13 @@ module _ {T : Type 0} (c : TrieOf T) (whole : IsWhole c) (index : ℕ) (marks : 
       omega (arith, short, most, cells, cells_are, total)
 
   -- the branches that have a segment have its cells, and no others do
-  seg_in : (j k x : ℕ) → has k (keys_in c.branches j) ≡ true → has_cell x (slots_of (at k)) ≡ true → has_slot x (slots_in bs j) ≡ true
-  seg_in j k x h g =
-      ap (has_slot x) (slots_in_on at c.branches j) ∙ slot_is_cell x (line at (keys_in c.branches j)) ∙ line_has at k x (keys_in c.branches j) h g
+  segment_in : (j k x : ℕ) → has k (keys_in c.branches j) ≡ true → has_cell x (slots_of (at k)) ≡ true → has_slot x (slots_in bs j) ≡ true
+  segment_in j k x h g =
+      ap (has_slot x) (slots_in_on at c.branches j) ∙ has_slot-has_cell x (line at (keys_in c.branches j)) ∙ line_has at k x (keys_in c.branches j) h g
 
-  seg_out : (j k x : ℕ) → has k (keys_in c.branches j) ≡ false → has_cell x (slots_of (at k)) ≡ true → has_slot x (slots_in bs j) ≡ false
-  seg_out j k x h g = slot_not_from x (slots_in bs j) (λ e.
-      let p = in_line at x (keys_in c.branches j) (sym (slot_is_cell x (line at (keys_in c.branches j))) ∙ ap (has_slot x) (sym (slots_in_on at c.branches j)) ∙ e) in
+  segment_out : (j k x : ℕ) → has k (keys_in c.branches j) ≡ false → has_cell x (slots_of (at k)) ≡ true → has_slot x (slots_in bs j) ≡ false
+  segment_out j k x h g = slot_not_from x (slots_in bs j) (λ e.
+      let p = in_line at x (keys_in c.branches j) (sym (has_slot-has_cell x (line at (keys_in c.branches j))) ∙ ap (has_slot x) (sym (slots_in_on at c.branches j)) ∙ e) in
       let same : p.0 ≡ k = whole.sound.apart p.0 k x p.2 g in
       true≢false (sym (subst (λ z. has z (keys_in c.branches j) ≡ true) same p.1) ∙ h))
 
@@ -161,14 +161,14 @@ module _ {T : Type 0} (c : TrieOf T) (whole : IsWhole c) (index : ℕ) (marks : 
   out_of_earlier : (j k x : ℕ) → ((i : ℕ) → i < index → has k (keys_in c.branches i) ≡ false) → has_cell x (slots_of (at k)) ≡ true → has_slot x (slots_in earlier j) ≡ false
   out_of_earlier j k x none g = slot_not_from x (slots_in earlier j) (λ e.
       let r = slots_in-first index bs j x e in
-      true≢false (sym r.1 ∙ seg_out j k x (none j r.0) g))
+      true≢false (sym r.1 ∙ segment_out j k x (none j r.0) g))
 
   in_earlier : (j k x : ℕ) → j < index → has k (keys_in c.branches j) ≡ true → has_cell x (slots_of (at k)) ≡ true → has_slot x (slots_in earlier j) ≡ true
-  in_earlier j k x less h g = ap (has_slot x) (slots_in-taken index bs j less) ∙ seg_in j k x h g
+  in_earlier j k x less h g = ap (has_slot x) (slots_in-taken index bs j less) ∙ segment_in j k x h g
 
   front_in : (x : ℕ) → has_slot x (line at part.front) ≡ true → list_any (holds x) earlier ≡ true
   front_in x h =
-      let p = in_line at x part.front (sym (slot_is_cell x (line at part.front)) ∙ h) in
+      let p = in_line at x part.front (sym (has_slot-has_cell x (line at part.front)) ∙ h) in
       let q = front_known p.0 p.1 in
       any_from earlier q.0 x (in_earlier q.0 p.0 x q.1 q.2 p.2)
 
@@ -212,10 +212,10 @@ module _ {T : Type 0} (c : TrieOf T) (whole : IsWhole c) (index : ℕ) (marks : 
       let parts : slots ≡ line at f ++ (slots_of (at j) ++ line at own) =
       ap (λ l. line at l ++ line at own) is ∙ ap (λ l. l ++ line at own) (line-last at f j) ∙ append_assoc (line at f) (slots_of (at j)) (line at own) in
       let there : has_cell (cell_in slots n) (slots_of (at j)) ≡ true =
-      sym (slot_is_cell (cell_in slots n) (slots_of (at j))) ∙ ap (λ l. has_slot (cell_in l n) (slots_of (at j))) parts
+      sym (has_slot-has_cell (cell_in slots n) (slots_of (at j))) ∙ ap (λ l. has_slot (cell_in l n) (slots_of (at j))) parts
       ∙ cell_in-middle (line at f) (slots_of (at j)) (line at own) n (omega (arith, some, long, e)) (omega (arith, some, long, e)) in
       first_is earlier m.branch (cell_in slots n) (in_earlier m.branch j (cell_in slots n) mk.within mk.has_it there)
-      (λ i less. ap (has_slot (cell_in slots n)) (slots_in-taken index bs i (omega (arith, less, mk.within))) ∙ seg_out i j (cell_in slots n) (mk.first i less) there))
+      (λ i less. ap (has_slot (cell_in slots n)) (slots_in-taken index bs i (omega (arith, less, mk.within))) ∙ segment_out i j (cell_in slots n) (mk.first i less) there))
 
   steps_are : map step_of (drop (shared_with earlier slots) slots) ≡ map step_of (line at own)
   steps_are = ap (λ n. map step_of (drop n slots)) shared_is ∙ ap (map step_of) (drop-append_seam (line at part.front) (line at own))
@@ -253,16 +253,16 @@ module _ {T : Type 0} (c : TrieOf T) (whole : IsWhole c) (index : ℕ) (marks : 
           cells = omega (arith, long, cells_are);
         }
 
-    later : (k : ℕ) (o : Option Mark) → IfSome o (IsMark at c.branches index k) → IfSome o (IsMark at c.branches (index + 1) k)
-    later k None h = tt
-    later k (Some n) h = record { within = omega (arith, h.within); has_it = h.has_it; first = h.first; cells = h.cells }
+    IsMark-weaker : (k : ℕ) (o : Option Mark) → IfSome o (IsMark at c.branches index k) → IfSome o (IsMark at c.branches (index + 1) k)
+    IsMark-weaker k None h = tt
+    IsMark-weaker k (Some n) h = record { within = omega (arith, h.within); has_it = h.has_it; first = h.first; cells = h.cells }
 
     right : (k : ℕ) → IfSome (mark_at new k) (IsMark at c.branches (index + 1) k)
     right k = by (has k own) refl
       where
         by : (b : Bool) → has k own ≡ b → IfSome (mark_at new k) (IsMark at c.branches (index + 1) k)
         by true h = subst (λ o. IfSome o (IsMark at c.branches (index + 1) k)) (sym (are_marked.marked k h)) (own_mark k h)
-        by false h = subst (λ o. IfSome o (IsMark at c.branches (index + 1) k)) (sym (are_marked.others k h)) (later k (mark_at marks k) (first.right k))
+        by false h = subst (λ o. IfSome o (IsMark at c.branches (index + 1) k)) (sym (are_marked.others k h)) (IsMark-weaker k (mark_at marks k) (first.right k))
 
     none : (j k : ℕ) → mark_at new k ≡ None → j < index + 1 → has k (keys_in c.branches j) ≡ false
     none j k e less = by (has k own) refl

@@ -1,6 +1,5 @@
 -- The numbers of branches and of cells in a trie's limbs are within the trie's limits.
-use Rattle.std.proofs.Common.{◌≡◌, ℕ, zero, suc, ◌+◌, ◌<◌, ◌≤◌, Bool, true, false, List, [], ◌∷◌, ◌++◌, length, refl, ap, arith}
-use Rattle.std.specs.List.{position_or_len}
+use Rattle.std.proofs.Common.{◌≡◌, ℕ, zero, suc, ◌+◌, ◌<◌, ◌≤◌, List, [], ◌∷◌, ◌++◌, length, refl, ap, arith}
 use Rattle.std.proofs.lemmas.List.{length-append, length-map}
 use Rattle.std.proofs.lemmas.List.Elements.{All-nil, All-cons}
 use Rattle.std.proofs.lemmas.List.Sums.{prefix_len-le-length}
@@ -10,18 +9,11 @@ use Rattle.branch_terms.specs.Forest.{Branch, cell_in, slots_in}
 use Rattle.schedule_trie.specs.Trie.{TrieOf, forest, segment_at, branch_on, IsWhole}
 use Rattle.branch_terms.specs.Limbs.{FitLimits, holds, is_in_branches, shared_with, first_with, limb_of, limbs_after, limbs}
 use Rattle.schedule_trie.proofs.branches.Lines.{slots_in_on, sound_short}
-
-position-short : {X : Type 0} (p : X → Bool) (xs : List X) → position_or_len p xs ≤ length xs
-position-short p [] = omega arith
-position-short p (x ∷ xs) = by (p x) refl (position-short p xs)
-  where
-    by : (b : Bool) → p x ≡ b → position_or_len p xs ≤ length xs → position_or_len p (x ∷ xs) ≤ suc (length xs)
-    by true e less = rw e (omega arith)
-    by false e less = rw e (omega arith)
+use Rattle.schedule_trie.proofs.climbs.CellPlaces.{position_or_len-short}
 
 first-within : (earlier : List Branch) (slots : List Slot) (k most : ℕ) → length earlier < most → first_with earlier slots k < most
 first-within earlier slots zero most few = omega arith
-first-within earlier slots (suc k) most few = let less = position-short (holds (cell_in slots k)) earlier in omega arith
+first-within earlier slots (suc k) most few = let less = position_or_len-short (holds (cell_in slots k)) earlier in omega arith
 
 after-within : (limits : Limits) (earlier bs : List Branch) → length earlier + length bs ≤ limits.branches
     → ((i : ℕ) → length (slots_in bs i) ≤ limits.cells) → FitLimits limits (limbs_after earlier bs)

@@ -11,12 +11,12 @@ use Rattle.branch_terms.specs.declared.limb.Limb.{Limb}
 use Rattle.branch_terms.specs.Forest.{Forest, Branch, branch, changed, numbered, slots_in, only_in, put_all, name_of, index_of, lone_branch, IsForest}
 use Rattle.schedule_trie.specs.Trie.{TrieOf, forest, IsBlank, IsWhole, ArePushed}
 use Rattle.schedule_trie.specs.changes.Forks.{IsBranchForked}
-use Rattle.branch_terms.specs.Limbs.{slots_on, grown, grow, no_branches, forest_of, cells_of, is_name, has_name, is_new_name, may_share, are_lawful_after, AreLawfulLimbs}
+use Rattle.branch_terms.specs.Limbs.{slots_on, grown, grow, no_branches, forest_of, own_cell_count, is_name, has_name, is_new_name, may_share, are_lawful_after, AreLawfulLimbs}
 use Rattle.schedule_trie.specs.changes.Loads.{CanGrow, IsGrown}
 use Rattle.schedule_trie.proofs.forks.ForkAnswers.{any_or_none}
 use Rattle.schedule_trie.proofs.lengths.LengthsAfter.{branch_count, cells_few}
 use Rattle.schedule_trie.proofs.limbs.LimbCounts.{cells_of-first, cells_of-next}
-use Rattle.branch_terms.proofs.LimbLaws.{may_share_parts, HasGrown, grown_none, grown_more, short, forest_made, forest_count}
+use Rattle.branch_terms.proofs.LimbLaws.{may_share_parts, HasGrown, grown_none, grown_more, shared_within_stem, forest_made, forest_count}
 use Rattle.branch_terms.proofs.LimbLists.{slots_in-last}
 use Rattle.schedule_trie.proofs.segments.Notes.{blank_kept}
 use Rattle.branch_terms.specs.declared.limits.TheConstants.{MOST_CELLS_MADE}
@@ -135,8 +135,8 @@ any_names : (name : List ℕ) (ls : List Limb) → list_any (pointwise nat_eq na
 any_names name [] = refl
 any_names name (l ∷ ls) = ap (λ b. pointwise nat_eq name l.name || b) (any_names name ls)
 
-none_found : {X : Type 0} (p : X → Bool) (xs : List X) → list_any p xs ≡ false → position p xs ≡ None
-none_found p xs h = ap (λ b. cond b (Some (position_or_len p xs)) None) (any_or_none p xs ∙ h)
+position-none_from_any : {X : Type 0} (p : X → Bool) (xs : List X) → list_any p xs ≡ false → position p xs ≡ None
+position-none_from_any p xs h = ap (λ b. cond b (Some (position_or_len p xs)) None) (any_or_none p xs ∙ h)
 
 free_name : (ls : List Limb) (name : List ℕ) → is_new_name ls name ≡ true → (is_name name ≡ true) × (index_of (forest_of ls).branches name ≡ None)
 free_name ls name new =
@@ -144,7 +144,7 @@ free_name ls name new =
     let names : map name_of (forest_of ls).branches ≡ map limb_name ls = grow_names no_branches ls in
     let none : list_any (pointwise nat_eq name) (map name_of (forest_of ls).branches) ≡ false =
     ap (list_any (pointwise nat_eq name)) names ∙ any_names name ls ∙ not-true (list_any (has_name name) ls) p.1 in
-    (p.0, none_found (pointwise nat_eq name) (map name_of (forest_of ls).branches) none)
+    (p.0, position-none_from_any (pointwise nat_eq name) (map name_of (forest_of ls).branches) none)
 
 -- limb n of lawful limbs, once the n limbs before it have been added
 module _ (ls : List Limb) (lawful : AreLawfulLimbs ls) (n : ℕ) (l : Limb) (less : n < length ls) (at : get_or ls n l ≡ l) where
@@ -164,10 +164,10 @@ module _ (ls : List Limb) (lawful : AreLawfulLimbs ls) (n : ℕ) (l : Limb) (les
   count = length-take-le n ls (omega arith)
 
   module _ {T : Type 0} (c : TrieOf T) (is : forest c ≡ forest_of xs) where
-    pub can_grow : 0 < n → cells_of ls ≤ c.limits.cells → length ls ≤ c.limits.branches → CanGrow c l
+    pub can_grow : 0 < n → own_cell_count ls ≤ c.limits.cells → length ls ≤ c.limits.branches → CanGrow c l
     can_grow some cells branches =
         let free = free_name xs l.name next.0 in
-        let made : c.made ≡ cells_of xs = ap (λ f. f.made) is ∙ forest_made xs in
+        let made : c.made ≡ own_cell_count xs = ap (λ f. f.made) is ∙ forest_made xs in
         let sum = cells_of-next ls n l less at in
         let first = cells_of-first (n + 1) ls in
         let as_many : length c.branches ≡ n = sym (branch_count c) ∙ ap (λ f. length f.branches) is ∙ forest_count xs ∙ count in
@@ -175,7 +175,7 @@ module _ (ls : List Limb) (lawful : AreLawfulLimbs ls) (n : ℕ) (l : Limb) (les
           from = may_share_parts xs l (l.from < length c.branches) next.1
               (λ s. let z = s.from in omega arith)
               (λ s. let w = slice_get_within xs l.from s.stem s.there in let k = count in omega arith);
-          place = subst (λ f. l.shared ≤ length (slots_in f.branches l.from)) (sym is) (short xs (forest_of xs) l has_grown next.1);
+          place = subst (λ f. l.shared ≤ length (slots_in f.branches l.from)) (sym is) (shared_within_stem xs (forest_of xs) l has_grown next.1);
           free = subst (λ f. index_of f.branches l.name ≡ None) (sym is) free.1;
           form = free.0;
           room = omega arith;

@@ -45,36 +45,36 @@ pub Once-bounded : (xs : List ℕ) (n : ℕ) → Once xs → ((x : ℕ) → has 
 Once-bounded xs n once below =
     length-le_from_distinct_below xs n (IsDistinct-from_once xs once) (λ q h. below q (sym (has-list_any q xs) ∙ h))
 
--- the keys above a key, the nearest first
-abbrev pub Ups : (ℕ → Option ℕ) → Option ℕ → List ℕ → Type 0
-Ups above up [] = up ≡ None
-Ups above up (k ∷ ks) = (up ≡ Some k) × Ups above (above k) ks
+-- these are the keys from `up` upwards, the nearest first; none if `up` is None
+abbrev pub AreAbove : (ℕ → Option ℕ) → Option ℕ → List ℕ → Type 0
+AreAbove above up [] = up ≡ None
+AreAbove above up (k ∷ ks) = (up ≡ Some k) × AreAbove above (above k) ks
 
-pub Ups-one : (above : ℕ → Option ℕ) (up : Option ℕ) (xs ys : List ℕ) → Ups above up xs → Ups above up ys → length xs ≡ length ys
-Ups-one above up [] [] a b = refl
-Ups-one above up [] (y ∷ ys) a b = let e : None ≡ Some y = sym a ∙ b.0 in absurd (cc)
-Ups-one above up (x ∷ xs) [] a b = let e : None ≡ Some x = sym b ∙ a.0 in absurd (cc)
-Ups-one above up (x ∷ xs) (y ∷ ys) a b =
+pub AreAbove-one : (above : ℕ → Option ℕ) (up : Option ℕ) (xs ys : List ℕ) → AreAbove above up xs → AreAbove above up ys → length xs ≡ length ys
+AreAbove-one above up [] [] a b = refl
+AreAbove-one above up [] (y ∷ ys) a b = let e : None ≡ Some y = sym a ∙ b.0 in absurd (cc)
+AreAbove-one above up (x ∷ xs) [] a b = let e : None ≡ Some x = sym b ∙ a.0 in absurd (cc)
+AreAbove-one above up (x ∷ xs) (y ∷ ys) a b =
     let e : Some x ≡ Some y = sym a.0 ∙ b.0 in
     let same : x ≡ y = cc in
-    ap suc (Ups-one above (above x) xs ys a.1 (subst (λ z. Ups above (above z) ys) (sym same) b.1))
+    ap suc (AreAbove-one above (above x) xs ys a.1 (subst (λ z. AreAbove above (above z) ys) (sym same) b.1))
 
-Ups-from : (above : ℕ → Option ℕ) (up : Option ℕ) (k : ℕ) (xs : List ℕ) → Ups above up xs → has k xs ≡ true
-    → (ys : List ℕ) × Ups above (above k) ys × (length ys < length xs)
-Ups-from above up k [] a h = absurd (true≢false (sym h))
-Ups-from above up k (x ∷ xs) a h =
-    has_cases k x xs ((ys : List ℕ) × Ups above (above k) ys × (length ys < suc (length xs))) h
-    (λ e. (xs, subst (λ z. Ups above (above z) xs) (sym e) a.1, omega arith))
-    (λ r. let p = Ups-from above (above x) k xs a.1 r in (p.0, p.1, omega arith))
+AreAbove-from : (above : ℕ → Option ℕ) (up : Option ℕ) (k : ℕ) (xs : List ℕ) → AreAbove above up xs → has k xs ≡ true
+    → (ys : List ℕ) × AreAbove above (above k) ys × (length ys < length xs)
+AreAbove-from above up k [] a h = absurd (true≢false (sym h))
+AreAbove-from above up k (x ∷ xs) a h =
+    has_cases k x xs ((ys : List ℕ) × AreAbove above (above k) ys × (length ys < suc (length xs))) h
+    (λ e. (xs, subst (λ z. AreAbove above (above z) xs) (sym e) a.1, omega arith))
+    (λ r. let p = AreAbove-from above (above x) k xs a.1 r in (p.0, p.1, omega arith))
 
-Once-from_linked_below : (above : ℕ → Option ℕ) (up : Option ℕ) (seen ks : List ℕ) → Ups above up seen → Linked above up ks
+Once-from_linked_below : (above : ℕ → Option ℕ) (up : Option ℕ) (seen ks : List ℕ) → AreAbove above up seen → Linked above up ks
     → Once ks × ((j : ℕ) → has j seen ≡ true → has j ks ≡ false)
 Once-from_linked_below above up seen [] u l = (tt, λ j h. refl)
 Once-from_linked_below above up seen (k ∷ ks) u l =
-    let at_k : Ups above (above k) seen = subst (λ o. Ups above o seen) (sym l.0) u in
+    let at_k : AreAbove above (above k) seen = subst (λ o. AreAbove above o seen) (sym l.0) u in
     let rest = Once-from_linked_below above (Some k) (k ∷ seen) ks (refl, at_k) l.1 in
-    let fresh : has k seen ≡ true → ⊥ = λ h. let p = Ups-from above up k seen u h in
-    let e : length p.0 ≡ length seen = Ups-one above (above k) p.0 seen p.1 at_k in omega arith in (
+    let fresh : has k seen ≡ true → ⊥ = λ h. let p = AreAbove-from above up k seen u h in
+    let e : length p.0 ≡ length seen = AreAbove-one above (above k) p.0 seen p.1 at_k in omega arith in (
       (rest.1 k (has-head k seen), rest.0),
       λ j h. has_not_from j (k ∷ ks) (λ g. has_cases j k ks ⊥ g
           (λ e. fresh (subst (λ z. has z seen ≡ true) e h))

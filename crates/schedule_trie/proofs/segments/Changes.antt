@@ -12,7 +12,7 @@ use Rattle.branch_terms.specs.Forest.{slot, cell_of, with_step, replaced, everyw
 use Rattle.schedule_trie.specs.Slots.{set_step}
 use Rattle.schedule_trie.specs.Trie.{SegmentOf, KeyedBranch, segment, segment_at, slots_of, line, branches_on, has, has_cell, Once, IsSegment, IsSoundTrie}
 use Rattle.schedule_trie.specs.TrieFields.{segment_of, segments_of}
-use Rattle.branch_terms.proofs.Lists.{turned}
+use Rattle.branch_terms.proofs.Lists.{nat_eq_symmetric}
 use Rattle.schedule_trie.proofs.lists.NoRepeats.{has_not_from, has-head, has-tail}
 
 -- one key has another segment, and each other key still has the segment that it had
@@ -60,7 +60,7 @@ absent_by x P none more (s ∷ ss) h = by (nat_eq x s.cell) refl (absent_by x P 
   where
     by : (b : Bool) → nat_eq x s.cell ≡ b → (has_cell x ss ≡ false → P ss) → P (s ∷ ss)
     by true e rest = absurd (true≢false (sym (ap (λ c. c || has_cell x ss) e) ∙ h))
-    by false e rest = more s ss (turned s.cell x ∙ e) (rest (sym (ap (λ c. c || has_cell x ss) e) ∙ h))
+    by false e rest = more s ss (nat_eq_symmetric s.cell x ∙ e) (rest (sym (ap (λ c. c || has_cell x ss) e) ∙ h))
 
 -- replacing the step of a cell that isn't there changes nothing
 pub replaced-absent : (x : ℕ) (step : Step) (slots : List Slot) → has_cell x slots ≡ false → replaced x step slots ≡ slots

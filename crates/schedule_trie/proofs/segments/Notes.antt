@@ -19,9 +19,9 @@ slots_from None (Some q) e = cc
 slots_from (Some p) None e = cc
 slots_from (Some p) (Some q) e = cc
 
-none_from : {T : Type 0} (o : Option (SegmentOf T)) → slots_by o ≡ None → o ≡ None
-none_from None e = refl
-none_from (Some p) e = cc
+none_from_slots_by : {T : Type 0} (o : Option (SegmentOf T)) → slots_by o ≡ None → o ≡ None
+none_from_slots_by None e = refl
+none_from_slots_by (Some p) e = cc
 
 -- if the touched segment has other cells than before, each with unchanged cells keeps its note
 pub unchanged_kept : {T : Type 0} (old new : TrieOf T) (notes : KeepsNotes old new) → ((k : ℕ) → notes.touched ≡ Some k → HasChanged old new k)
@@ -29,7 +29,7 @@ pub unchanged_kept : {T : Type 0} (old new : TrieOf T) (notes : KeepsNotes old n
 unchanged_kept {T} old new notes changed k same = by (segment_at old.segments k) refl
   where
     by : (o : Option (SegmentOf T)) → segment_at old.segments k ≡ o → segment_at new.segments k ≡ segment_at old.segments k
-    by None e = none_from (segment_at new.segments k) (same ∙ ap slots_by e) ∙ sym e
+    by None e = none_from_slots_by (segment_at new.segments k) (same ∙ ap slots_by e) ∙ sym e
     by (Some p) e = elim (is_touched notes.touched k) [
       | inl touched ↦ absurd (changed k touched (slots_from (segment_at new.segments k) (segment_at old.segments k) same))
       | inr other ↦ elim (notes.kept k other (subst IsSome (sym e) refl)) [

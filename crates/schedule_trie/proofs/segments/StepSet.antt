@@ -71,12 +71,12 @@ abbrev pub with_segment : {T : Type 0} → Inside T → ℕ → Segment T → In
 with_segment t key w = record t { segments = with_item t.segments key w }
 
 -- storing w in place of v changes the trie's segment at `key`, from v's to w's, and no other
-pub record IsSeen {T : Type 0} (t : Inside T) (key : ℕ) (v w : Segment T) : Type 0 where
+pub record IsStoredAt {T : Type 0} (t : Inside T) (key : ℕ) (v w : Segment T) : Type 0 where
   pub change : Changes (segment_at (trie_of t).segments) (segment_at (trie_of (with_segment t key w)).segments) key (segment w.slots.items w.note)
   pub was : segment_at (trie_of t).segments key ≡ Some (segment v.slots.items v.note)
 
-pub seen_with : {T : Type 0} (t : Inside T) (key : ℕ) (v w : Segment T) → item_at t.segments key ≡ Some v → IsSeen t key v w
-seen_with t key v w there = record {
+pub is_stored_at : {T : Type 0} (t : Inside T) (key : ℕ) (v w : Segment T) → item_at t.segments key ≡ Some v → IsStoredAt t key v w
+is_stored_at t key v w there = record {
   change = segment_at_set t.segments.items key w (key_within t.segments.items key v there);
   was = segment_seen t key ∙ ap segment_of there;
 }
@@ -96,8 +96,8 @@ module _ {T : Type 0} (t : Inside T) (key offset : ℕ) (step : Step) (v w : Seg
   abbrev after : Inside T
   after = with_segment t key w
 
-  seen : IsSeen t key v w
-  seen = seen_with t key v w there
+  seen : IsStoredAt t key v w
+  seen = is_stored_at t key v w there
 
   here : segment_at (trie_of after).segments key ≡ Some (segment (set_step (slots_of (segment_at (trie_of t).segments key)) offset step) None)
   here = seen.change.here ∙ (λ i. Some (segment (slots i) (note i))) ∙ sym (ap (λ o. Some (segment (set_step (slots_of o) offset step) None)) seen.was)
@@ -149,8 +149,8 @@ module _ {T : Type 0} (t : Inside T) (key : ℕ) (v w : Segment T) (held : IsHel
   abbrev noted : Inside T
   noted = with_segment t key w
 
-  note_seen : IsSeen t key v w
-  note_seen = seen_with t key v w there
+  note_seen : IsStoredAt t key v w
+  note_seen = is_stored_at t key v w there
 
   slots_kept : (k : ℕ) → slots_of (segment_at (trie_of noted).segments k) ≡ slots_of (segment_at (trie_of t).segments k)
   slots_kept k = by (nat_eq k key) refl
@@ -199,12 +199,3 @@ module _ {T : Type 0} (t : Inside T) (key : ℕ) (v w : Segment T) (held : IsHel
 
   pub is_noted_with : (note : Option T) → w.note ≡ note → IsNoted (trie_of t) (trie_of noted) key note
   is_noted_with other e = subst (IsNoted (trie_of t) (trie_of noted) key) e is_noted
-
-pub not_there : {T : Type 0} (t : Inside T) (key : ℕ) (note : Option T) → (IsSome (item_at t.segments key) → ⊥) → IsNoted (trie_of t) (trie_of t) key note
-not_there {T} t key note none =
-    let absent : segment_at (trie_of t).segments key ≡ None = segment_seen t key ∙ gone (item_at t.segments key) none in
-    record { here = absent ∙ sym (ap (option_map (with_note note)) absent); others = λ j ne. refl; branches = refl; limits = refl; unchanged = refl }
-  where
-    gone : (o : Option (Segment T)) → (IsSome o → ⊥) → segment_of o ≡ None
-    gone None h = refl
-    gone (Some v) h = absurd (h refl)

@@ -36,8 +36,8 @@ module _ {T : Type 0} (at : ℕ → Option (SegmentOf T)) where
         ∙ ap (λ l. slice_get l (length (line at front) + offset)) (sym (line-append at front (key ∷ [])));
   }
 
-  line_len : (front : List ℕ) (key : ℕ) → length (line at (front ++ key ∷ [])) ≡ length (line at front) + length (slots_of (at key))
-  line_len front key =
+  length-line_last : (front : List ℕ) (key : ℕ) → length (line at (front ++ key ∷ [])) ≡ length (line at front) + length (slots_of (at key))
+  length-line_last front key =
       ap length (line-append at front (key ∷ [])) ∙ length-append (line at front) (slots_of (at key) ++ [])
       ∙ ap (λ l. length (line at front) + length l) (append-nil (slots_of (at key)))
 
@@ -68,11 +68,11 @@ module _ {T : Type 0} (c : TrieOf T) (name : List ℕ) (index : ℕ) (found : in
   }
 
   -- the last segment of a branch has the cell before the branch's length
-  pub ends_before : (key place : ℕ) → IsEnd c index key → length (slots_in (forest c).branches index) ≡ place → HoldsCellBefore c name place key
-  ends_before key place end all =
+  pub end_holds_before : (key place : ℕ) → IsEnd c index key → length (slots_in (forest c).branches index) ≡ place → HoldsCellBefore c name place key
+  end_holds_before key place end all =
       let some = end.some in
       let sum : length (slots_in (forest c).branches index) ≡ length (line at end.front) + length (slots_of (at key)) =
-      ap length (slots_in_on at c.branches index ∙ ap (line at) end.last) ∙ line_len at end.front key in
+      ap length (slots_in_on at c.branches index ∙ ap (line at) end.last) ∙ length-line_last at end.front key in
       record {
         before = length (line at end.front) + (length (slots_of (at key)) - 1);
         next = omega arith;

@@ -13,46 +13,9 @@ use branch_terms::slot::Slot;
 use lineage::lineage::Above;
 
 impl<T: Drop> Trie<T> {
-    /// The number of cells of the branch at an index; 0 if there is no such branch. The contract
-    /// also states that the trie is cut correctly and within its limits (`IsWhole`), as each trie
-    /// is.
-    pub fn len_at(&self, index: usize) -> u32
-        ensures len { result ≡ length (slots_in (forest self.now).branches index) }
-        ensures whole { IsWhole self.now }
-    {
-        match self.branches.cached_len(index) {
-            Some(len) => len,
-            None => self.counted_len(index),
-        }
-    }
-
-    /// The number of cells of the branch at an index, whose length isn't cached. If the branch
-    /// whose length was cached last ends with the same segment, both are equally long, and no
-    /// cell is counted.
-    fn counted_len(&self, index: usize) -> u32
-        ensures { result ≡ length (slots_in (forest self.now).branches index) }
-    {
-        match self.len_by_same_end(index) {
-            Some(len) => len,
-            None => self.len_to(index, self.segments.tip(index)),
-        }
-    }
-
-    /// The cached length of the branch whose length was cached last, if it's still cached and that
-    /// branch ends with the same segment as the branch at an index.
-    fn len_by_same_end(&self, index: usize) -> Option<u32>
-        ensures { IfSome result (λ len. len ≡ length (slots_in (forest self.now).branches index)) }
-    {
-        if self.segments.last(self.last_cached) == self.segments.last(index) {
-            self.branches.cached_len(self.last_cached)
-        } else {
-            None
-        }
-    }
-
     /// The number of cells of the branch at `index` down to the end of its segment `last`; 0 if
     /// `last` is `None`.
-    fn len_to(&self, index: usize, last: Above) -> u32
+    pub(super) fn len_to(&self, index: usize, last: Above) -> u32
         requires { HasClimbedTo (keys_in self.now.branches index) last }
         ensures { result ≡ length (line (segment_at self.now.segments)
             (keys_to (keys_in self.now.branches index) last)) }

@@ -13,6 +13,7 @@ ghost use Rattle.schedule_trie.specs.changes.Forks.{IsBranchForked, IsForkedWhol
 use super::Trie;
 use crate::branch_list::BranchList;
 use crate::edit::Edited;
+use crate::note::Note;
 use crate::segment::{SegKey, Segment};
 use branch_terms::name::Name;
 use branch_terms::refusal::Refusal;
@@ -145,7 +146,7 @@ impl<T: Drop> Trie<T> {
         let (above, below) = parts_at(alloc, self.slots_at(key), count)?;
         let above = Segment {
             slots: above,
-            note: None,
+            note: Note::none(),
         };
         self.branches.reserve(1)?;
         self.segments.fork_above(key, above)?;

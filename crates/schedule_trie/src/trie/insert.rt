@@ -9,6 +9,7 @@ ghost use Rattle.schedule_trie.specs.Trie.{forest, segment_at, slots_of, IsPutBe
 
 use super::Trie;
 use crate::edit::Edited;
+use crate::note::Note;
 use crate::segment::{MOST_SLOTS, SegKey, Segment};
 use branch_terms::name::Name;
 use branch_terms::refusal::Refusal;
@@ -83,7 +84,7 @@ impl<T: Drop> Trie<T> {
         ensures err { OnErr result (self.new ≡ self.old) }
     {
         if self.slots_at(key).len() < MOST_SLOTS {
-            return self.put_in(key, offset, step);
+            return self.insert_within(key, offset, step);
         }
         let slot = Slot {
             cell: self.made,
@@ -92,7 +93,7 @@ impl<T: Drop> Trie<T> {
         let (above, below) = parts_with(alloc, self.slots_at(key), offset, slot)?;
         let above = Segment {
             slots: above,
-            note: None,
+            note: Note::none(),
         };
         self.segments.divide(key, above)?;
         self.segments.item_mut(key).set_slots(below);
@@ -102,7 +103,7 @@ impl<T: Drop> Trie<T> {
     }
 
     /// Inserts a new cell before the cell at an offset of a segment that isn't full.
-    fn put_in(&mut self, key: SegKey, offset: usize, step: Step) -> Result<(), AllocError>
+    fn insert_within(&mut self, key: SegKey, offset: usize, step: Step) -> Result<(), AllocError>
         requires offset { offset < length (slots_of (segment_at self.old.segments key)) }
         requires few { length (slots_of (segment_at self.old.segments key)) < MOST_SLOTS }
         requires room { self.old.made < self.old.limits.cells }
@@ -135,7 +136,7 @@ fn parts_with(
     ensures least { IfOk result (λ r. 64 ≤ length r.0.items) }
     ensures most { IfOk result (λ r. length r.0.items ≤ 65) }
 {
-    // (slices of a known length are copied faster)
+    // slices of a known length are copied faster
     let (front, back) = (&slots[..UPPER_SLOTS], &slots[UPPER_SLOTS..]);
     if offset < UPPER_SLOTS {
         let above = with_slot(alloc, front, offset, slot)?;

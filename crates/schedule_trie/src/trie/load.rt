@@ -4,7 +4,7 @@ ghost use Rattle.std.specs.Prelude.{◌≡◌, ◌<◌, ◌≤◌, length, nat_l
 ghost use Rattle.branch_terms.specs.Forest.{IsRefused};
 ghost use Rattle.schedule_trie.specs.Trie.{AreLimits, forest, IsBlank, IsCut};
 ghost use Rattle.branch_terms.specs.Limbs as spec;
-ghost use Rattle.branch_terms.specs.Limbs.{AreLawfulLimbs, cells_of, forest_of, loaded};
+ghost use Rattle.branch_terms.specs.Limbs.{AreLawfulLimbs, own_cell_count, forest_of, loaded};
 ghost use Rattle.schedule_trie.specs.changes.Loads.{CanGrow, IsGrown};
 
 use super::Trie;
@@ -32,7 +32,7 @@ impl<T: Drop> Trie<T> {
         requires some { 0 < length limbs.now }
         ensures ok { IfOk result (λ t. loaded limits limbs.now ≡ Ok (forest t)) }
         ensures again { IfOk result (λ t. spec.limbs (forest t) ≡ limbs.now) }
-        ensures made { IfOk result (λ t. t.made ≡ cells_of limbs.now) }
+        ensures made { IfOk result (λ t. t.made ≡ own_cell_count limbs.now) }
         ensures count { IfOk result (λ t. length (forest t).branches ≡ length limbs.now) }
         ensures limits { IfOk result (λ t. t.limits ≡ limits) }
         ensures cut { IfOk result IsCut }
@@ -54,7 +54,7 @@ impl<T: Drop> Trie<T> {
         requires limits { AreLimits limits }
         requires lawful { AreLawfulLimbs limbs.now }
         requires some { 0 < length limbs.now }
-        requires cells { cells_of limbs.now ≤ limits.cells }
+        requires cells { own_cell_count limbs.now ≤ limits.cells }
         requires count { length limbs.now ≤ limits.branches }
         ensures forest { IfOk result (λ t. forest t ≡ forest_of limbs.now) }
         ensures limits { IfOk result (λ t. t.limits ≡ limits) }
@@ -92,7 +92,7 @@ impl<T: Drop> Trie<T> {
 /// Whether these limbs have more than `most` own cells in total. A limb has an own cell for each of
 /// its steps.
 fn bring_more(limbs: &[Limb], most: u32) -> bool
-    ensures { result ≡ nat_lt most (spec.cells_of limbs.now) }
+    ensures { result ≡ nat_lt most (spec.own_cell_count limbs.now) }
 {
     let mut room = most as usize;
     for limb in limbs {

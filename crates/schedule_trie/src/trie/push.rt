@@ -24,7 +24,7 @@ impl<T: Drop> Trie<T> {
         ensures err { OnErr result (self.new ≡ self.old) }
     {
         match self.own_end(index) {
-            Some(key) => self.push_in(index, key, step),
+            Some(key) => self.push_within(index, key, step),
             None => self.push_segment(alloc, index, step),
         }
     }
@@ -49,7 +49,7 @@ impl<T: Drop> Trie<T> {
     }
 
     /// Adds a new cell to the last segment of a branch. No other branch has that segment.
-    fn push_in(&mut self, index: usize, key: SegKey, step: Step) -> Result<(), AllocError>
+    fn push_within(&mut self, index: usize, key: SegKey, step: Step) -> Result<(), AllocError>
         requires index { index < length self.old.branches }
         requires end { IsOwnEnd self.old index key }
         requires room { self.old.made < self.old.limits.cells }

@@ -3,7 +3,7 @@
 ghost use Rattle.std.specs.Prelude.{◌≡◌, ℕ, ◌<◌, IfOk, length};
 ghost use Rattle.schedule_trie.specs.Trie.{forest};
 ghost use Rattle.sessions.specs.Cursors as spec;
-ghost use Rattle.sessions.specs.Books.{Does, IsCarriedOut, seek_command, stored, world_of};
+ghost use Rattle.sessions.specs.Books.{IsResult, IsCarriedOut, seek_command, stored, world_of};
 ghost use Rattle.sessions.specs.Bounds.{CanAct};
 ghost use Rattle.std.specs.Option.{option_map};
 ghost use Rattle.sessions.specs.Acts.{hit_of, hit_reply};
@@ -59,8 +59,8 @@ impl<R: Register> Workspace<R> {
     pub(super) fn go(&mut self, who: u32, branch: &Name, place: u32) -> Result<Reply, Refusal>
         requires can { CanAct self.old }
         requires session { who < 16 }
-        ensures { (n : ℕ) → Does R.behaviour who (Command.Go branch.now place) (stored self.old n)
-            (stored self.new n) result }
+        ensures { (n : ℕ) → IsResult R.behaviour who (Command.Go branch.now place)
+            (stored self.old n) (stored self.new n) result }
     {
         let Some(len) = self.chart.len(branch) else {
             return Err(Refusal::NoBranch);
@@ -84,7 +84,7 @@ impl<R: Register> Workspace<R> {
     pub(super) fn seek(&mut self, alloc: Global, who: u32, way: Way) -> Result<Reply, Refusal>
         requires can { CanAct self.old }
         requires session { who < 16 }
-        ensures { (n : ℕ) → Does R.behaviour who (seek_command way) (stored self.old n)
+        ensures { (n : ℕ) → IsResult R.behaviour who (seek_command way) (stored self.old n)
             (stored self.new n) result }
     {
         let hit = self.hit_of(alloc, who, way)?;
@@ -120,7 +120,7 @@ impl<R: Register> Workspace<R> {
     pub(super) fn set_break(&mut self, who: u32, added: Break) -> Result<Reply, Refusal>
         requires can { CanAct self.old }
         requires session { who < 16 }
-        ensures { (n : ℕ) → Does R.behaviour who (Command.Break added) (stored self.old n)
+        ensures { (n : ℕ) → IsResult R.behaviour who (Command.Break added) (stored self.old n)
             (stored self.new n) result }
     {
         self.breaks[who as usize].add(added)?;
@@ -135,7 +135,7 @@ impl<R: Register> Workspace<R> {
     pub(super) fn clear_break(&mut self, who: u32, gone: Break) -> Result<Reply, Refusal>
         requires can { CanAct self.old }
         requires session { who < 16 }
-        ensures { (n : ℕ) → Does R.behaviour who (Command.Clear gone) (stored self.old n)
+        ensures { (n : ℕ) → IsResult R.behaviour who (Command.Clear gone) (stored self.old n)
             (stored self.new n) result }
     {
         if !self.breaks[who as usize].has(gone) {

@@ -4,7 +4,7 @@ ghost use Rattle.std.specs.Prelude.{◌≡◌, ℕ, true, false, Some, Err, OnOk
 ghost use Rattle.cutoff.specs.Edits.{Edits, FitsEdit};
 ghost use Rattle.sessions.specs.Bounds.{AreWithin, CanAct};
 ghost use Rattle.sessions.specs.Edits.{edit_of, is_held_up, moved_by};
-ghost use Rattle.sessions.specs.Books.{Does, stored};
+ghost use Rattle.sessions.specs.Books.{IsResult, stored};
 ghost use Rattle.sessions.specs.declared.command.Command.{Command};
 ghost use Rattle.schedule_trie.specs.Trie.{forest};
 ghost use Rattle.schedule_trie.specs.Edits.{Insert, Remove, Drop, edit_in};
@@ -34,7 +34,7 @@ impl<R: Register> Workspace<R> {
         requires can { CanAct self.old }
         requires fits { FitsEdit (R.behaviour self.old.chart.start.register) (edit_in edit.now) }
         ensures { (n who : ℕ) (c : Command) → edit_of c ≡ Some (edit_in edit.now)
-            → Does R.behaviour who c (stored self.old n) (stored self.new n) result }
+            → IsResult R.behaviour who c (stored self.old n) (stored self.new n) result }
     {
         change_and_move(alloc, &mut self.chart, &mut self.cursors, edit)?;
         self.edits += 1;

@@ -29,8 +29,8 @@ pub code_fits : (values last stamp v : ℕ) → stamp < last → v < values → 
 code_fits values last stamp v before lt = let h = mul-add-lt (stamp + 1) values v (last + 1) (omega arith) lt in omega (arith, h)
 
 -- a code with a stamp of 1 or more is at least `values`
-pub code_stamped : (values stamp v : ℕ) → values ≤ (stamp + 1) * values + v
-code_stamped values stamp v = omega (arith, add-mul stamp 1 values)
+pub stamped_code_at_least : (values stamp v : ℕ) → values ≤ (stamp + 1) * values + v
+stamped_code_at_least values stamp v = omega (arith, add-mul stamp 1 values)
 
 -- each value, taken as a code, is below the number of codes: it is the code of stamp 0 and this
 -- value
@@ -48,11 +48,11 @@ module _ (values last : ℕ) (some : LEAST_VALUES ≤ values) where
       by_test false e =
           let other : stamp ≢ last = eqb-false stamp last e in
           let before : stamp < last = omega arith in
-          (omega arith, (omega arith, ((zero, refl, mod-mul-add (stamp + 1) values v lt, code_stamped values stamp v, code_fits values last stamp v before lt), λ o. refl)))
+          (omega arith, (omega arith, ((zero, refl, mod-mul-add (stamp + 1) values v lt, stamped_code_at_least values stamp v, code_fits values last stamp v before lt), λ o. refl)))
 
   begins_sound : (who : ℕ) (o : Op) → one_writer values 2 who o ≡ true → IsSound (stamped_table values last) (StampedMayBeAt values last who o) (Answers values o) (stamped_program values last who o)
   begins_sound who (op.Write v) h = (omega arith, λ stamp low. write_sound who v stamp (writer.writer_zero values 2 who v h) (writer.no_other_value values 2 who v h) low)
-  begins_sound who op.Read h = (let above = writer.reader_some values 2 who h in let below = writer.reader_few values 2 who h in omega arith, λ o. refl)
+  begins_sound who op.Read h = (let above = writer.reader_is_not_zero values 2 who h in let below = writer.reader_below_processes values 2 who h in omega arith, λ o. refl)
 
   greater_fits : (best code : ℕ) → best < stamped_code_count values last → code < stamped_code_count values last → max best code < stamped_code_count values last
   greater_fits best code p q = let n = stamped_code_count values last in omega arith

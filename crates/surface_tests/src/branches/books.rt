@@ -1,7 +1,7 @@
 //! Books over `Switch`. Each call that promises much is in a function without `ensures` clauses, so
 //! that no later proof carries what it promises.
 
-use super::jobs::installed;
+use super::jobs::install_plan;
 use super::shown::{both_texts, is_text, page_of};
 use super::{limits, name};
 use crate::registers::switch::Switch;
@@ -14,7 +14,7 @@ use std::test::Fail;
 use views::{Break, Page, Query, Slip};
 
 /// Each command once, by session 0, and the expected reply.
-fn calls(rt: &impl Abort) -> [(Command, Reply); 13] {
+fn commands(rt: &impl Abort) -> [(Command, Reply); 13] {
     let (branch, a) = (name(rt, b"main"), name(rt, b"a"));
     [
         (Command::Join, Reply::Joined),
@@ -64,10 +64,10 @@ fn replies(alloc: Global, book: &mut Book<Switch>, command: &Command, reply: &Re
     book.act(alloc, 0, 0, None, command) == *reply
 }
 
-/// Makes the calls of `calls`. Returns whether each reply was the expected one.
-fn call_all(rt: &impl Abort, alloc: Global, book: &mut Book<Switch>) -> bool {
+/// Makes the calls of `commands`. Returns whether each reply was the expected one.
+fn all_reply_as_expected(rt: &impl Abort, alloc: Global, book: &mut Book<Switch>) -> bool {
     let mut all = true;
-    for (command, reply) in &calls(rt) {
+    for (command, reply) in &commands(rt) {
         all &= replies(alloc, book, command, reply);
     }
     all
@@ -86,7 +86,7 @@ fn page(alloc: Global, book: &mut Book<Switch>, query: Query) -> Result<Page, Re
 
 /// Runs and installs all jobs of `main`'s plan. Returns whether each run was installed.
 fn fill_main(rt: &impl Abort, alloc: Global, book: &mut Book<Switch>) -> Result<bool, Refusal> {
-    Ok(installed(alloc, book, &name(rt, b"main"))?.is_some())
+    Ok(install_plan(alloc, book, &name(rt, b"main"))?.is_some())
 }
 
 /// A book that is loaded from this book's limbs.
@@ -96,7 +96,7 @@ fn reloaded(alloc: Global, book: &Book<Switch>) -> Result<Book<Switch>, Refusal>
 }
 
 /// The length of the log of a book that is loaded from this book's limbs.
-fn calls_of_loaded(alloc: Global, book: &Book<Switch>) -> Result<u32, Refusal> {
+fn loaded_log_len(alloc: Global, book: &Book<Switch>) -> Result<u32, Refusal> {
     let loaded = reloaded(alloc, book)?;
     Ok(loaded.len())
 }
@@ -129,11 +129,11 @@ fn counts(book: &Book<Switch>) -> (u32, u64) {
 #[test]
 fn each_call_of_a_book(rt: HostRuntime) -> Result<(), Fail> {
     let mut book = opened(rt.alloc())?;
-    assert!(rt; call_all(&rt, rt.alloc(), &mut book) && counts(&book) == (13, 6));
+    assert!(rt; all_reply_as_expected(&rt, rt.alloc(), &mut book) && counts(&book) == (13, 6));
     let text = b"0: branches 1 edits 6 made 4\n  main 2\n".as_slice();
     assert!(rt; shows_branches(rt.alloc(), &mut book, text) == Ok(true));
     assert!(rt; fill_main(&rt, rt.alloc(), &mut book) == Ok(true));
-    assert!(rt; calls_of_loaded(rt.alloc(), &book) == Ok(0));
+    assert!(rt; loaded_log_len(rt.alloc(), &book) == Ok(0));
     assert!(rt; begins_with_join(book));
     Ok(())
 }

@@ -1,7 +1,7 @@
 //! Charts of `Switch`, and pages of their places. Each call that promises much is in a function
 //! without `ensures` clauses, so that no later proof carries what it promises.
 
-use super::jobs::installed;
+use super::jobs::install_plan;
 use super::shown::text_of_slip;
 use super::{are_edited, edits, limits, name, names};
 use crate::registers::READ;
@@ -58,7 +58,7 @@ fn begins_at_0(alloc: Global, chart: &Chart<Switch>) -> Result<bool, AllocError>
 }
 
 /// Compares what is read of branches after all edits.
-fn check(rt: &impl Abort, chart: &Chart<Switch>, main: &Name, a: &Name) {
+fn check_branches(rt: &impl Abort, chart: &Chart<Switch>, main: &Name, a: &Name) {
     assert_eq!(rt; (chart.value(), chart.branches(), chart.made()), (0, 2, 5));
     assert_eq!(rt; (chart.len(main), chart.len(a)), (Some(3), Some(1)));
     assert!(rt; chart.cell_at(main, 0) == Some(4) && chart.place_of(main, 4) == Some(0));
@@ -75,7 +75,7 @@ fn each_reading_of_a_chart(rt: HostRuntime) -> Result<(), Fail> {
     let names = names(&rt);
     let [main, a, _] = &names;
     let chart = edited(rt.alloc(), &names)?;
-    check(&rt, &chart, main, a);
+    check_branches(&rt, &chart, main, a);
     assert!(rt; has_steps(rt.alloc(), &chart, main));
     assert!(rt; begins_at_0(rt.alloc(), &chart)?);
     Ok(())
@@ -98,7 +98,7 @@ fn jobs_of_a_plan_are_installed(rt: HostRuntime) -> Result<(), Fail> {
     let [main, a, _] = &names;
     let mut chart = edited(rt.alloc(), &names)?;
     assert!(rt; settled(rt.alloc(), &mut chart, main) == Ok((3, true)));
-    assert!(rt; installed(rt.alloc(), &mut chart, a) == Ok(Some(1)));
+    assert!(rt; install_plan(rt.alloc(), &mut chart, a) == Ok(Some(1)));
     Ok(())
 }
 

@@ -40,7 +40,7 @@ fn has_lengths(trie: &Trie<u32>, main: &Name, a: &Name) -> bool {
 }
 
 /// Compares what is read of branches after all edits.
-fn check(rt: &impl Abort, trie: &Trie<u32>, main: &Name, a: &Name) {
+fn check_branches(rt: &impl Abort, trie: &Trie<u32>, main: &Name, a: &Name) {
     assert_eq!(rt; (trie.branches(), trie.made()), (2, 5));
     assert!(rt; has_lengths(trie, main, a));
     assert!(rt; trie.cell_at(main, 0) == Some(4) && trie.place_of(main, 4) == Some(0));
@@ -77,7 +77,7 @@ fn each_call_of_a_forest(rt: HostRuntime) -> Result<(), Fail> {
     let names = names(&rt);
     let [main, a, _] = &names;
     let mut trie = edited(rt.alloc(), &names)?;
-    check(&rt, &trie, main, a);
+    check_branches(&rt, &trie, main, a);
     assert!(rt; has_steps(rt.alloc(), &trie, main));
     assert!(rt; has_notes(rt.alloc(), &mut trie, main) == Ok(true));
     Ok(())

@@ -9,7 +9,7 @@ use std::alloc::{AllocError, Global};
 use std::sync::Arc;
 
 /// A chart or a book: it plans jobs, and is offered their runs.
-pub(crate) trait Planned {
+pub(crate) trait Planner {
     /// The jobs of a branch's plan.
     fn jobs(&self, alloc: Global, branch: &Name) -> Result<Vec<Job<Switch>>, Refusal>;
 
@@ -17,7 +17,7 @@ pub(crate) trait Planned {
     fn offer(&mut self, key: SegKey, run: Arc<Run<Switch>>) -> Installation;
 }
 
-impl Planned for Chart<Switch> {
+impl Planner for Chart<Switch> {
     fn jobs(&self, alloc: Global, branch: &Name) -> Result<Vec<Job<Switch>>, Refusal> {
         self.plan(alloc, branch)
     }
@@ -27,7 +27,7 @@ impl Planned for Chart<Switch> {
     }
 }
 
-impl Planned for Book<Switch> {
+impl Planner for Book<Switch> {
     fn jobs(&self, alloc: Global, branch: &Name) -> Result<Vec<Job<Switch>>, Refusal> {
         self.plan(alloc, branch)
     }
@@ -44,36 +44,36 @@ fn run_of(alloc: Global, job: &Job<Switch>) -> Result<Arc<Run<Switch>>, AllocErr
 }
 
 /// Runs a job, and returns whether its run was installed.
-fn is_installed(
+fn run_and_install(
     alloc: Global,
-    planned: &mut impl Planned,
+    planner: &mut impl Planner,
     job: &Job<Switch>,
 ) -> Result<bool, AllocError> {
     let run = run_of(alloc, job)?;
-    Ok(planned.offer(job.key, run) == Installation::Installed)
+    Ok(planner.offer(job.key, run) == Installation::Installed)
 }
 
 /// Runs these jobs and installs their runs. Returns how many jobs there are, or `None` if a run
 /// wasn't installed.
 fn install_all(
     alloc: Global,
-    planned: &mut impl Planned,
+    planner: &mut impl Planner,
     jobs: &[Job<Switch>],
 ) -> Result<Option<usize>, Refusal> {
     let mut all = true;
     for job in jobs {
-        all &= is_installed(alloc, planned, job)?;
+        all &= run_and_install(alloc, planner, job)?;
     }
     Ok(all.then_some(jobs.len()))
 }
 
 /// Runs all jobs of a branch's plan and installs their runs. Returns how many jobs there are, or
 /// `None` if a run wasn't installed.
-pub(crate) fn installed(
+pub(crate) fn install_plan(
     alloc: Global,
-    planned: &mut impl Planned,
+    planner: &mut impl Planner,
     branch: &Name,
 ) -> Result<Option<usize>, Refusal> {
-    let jobs = planned.jobs(alloc, branch)?;
-    install_all(alloc, planned, jobs.as_slice())
+    let jobs = planner.jobs(alloc, branch)?;
+    install_all(alloc, planner, jobs.as_slice())
 }

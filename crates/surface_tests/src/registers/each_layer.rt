@@ -18,7 +18,7 @@ use std::test::Fail;
 use unary_number::{NewUnary, Unary};
 
 /// The writer's next bit action, with choice 0.
-const GO_0: Step = Step::Go { p: 0, c: 0 };
+const WRITER_GO: Step = Step::Go { p: 0, c: 0 };
 
 /// A regular bit, each of whose copies is a `Switch`.
 fn bit() -> Result<RegularBit<Copies<Switch>>, LayerError> {
@@ -38,7 +38,7 @@ fn writes_and_reads<R: Register>(
         return Ok(false);
     }
     let mut config = Config::initial(alloc, register, 0)?;
-    let begun = repeat(&mut config, WRITE, 1) && repeat(&mut config, GO_0, write);
+    let begun = repeat(&mut config, WRITE, 1) && repeat(&mut config, WRITER_GO, write);
     let ended = repeat(&mut config, READ, 1) && repeat(&mut config, GO, read);
     Ok(begun && ended && config.op(0).is_none() && config.op(1).is_none())
 }

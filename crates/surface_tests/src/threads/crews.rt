@@ -3,7 +3,7 @@
 ghost use Rattle.std.specs.Prelude.{◌≤◌};
 
 use crate::branches::charts::opened;
-use crate::branches::jobs::Planned;
+use crate::branches::jobs::Planner;
 use crate::branches::name;
 use crate::registers::switch::Switch;
 use checkpoints::Run;

@@ -50,7 +50,7 @@ fn split(desk: &Desk<Switch>, chair: &mut Chair<Switch>) -> Chair<Switch>
 }
 
 /// Joins another chair to this one. This contract promises nothing about histories.
-fn joined(desk: &Desk<Switch>, chair: &mut Chair<Switch>, other: Chair<Switch>)
+fn join(desk: &Desk<Switch>, chair: &mut Chair<Switch>, other: Chair<Switch>)
     requires { IsChairOf (λ _. switch) desk.now chair.old
         × IsChairOf (λ _. switch) desk.now other }
     ensures { IsChairOf (λ _. switch) desk.now chair.new }
@@ -84,7 +84,7 @@ impl<'a, R> Office<'a, R> {
 
 impl<R: Abort + Wait> Office<'_, R> {
     /// Makes the insert, guarded by edit count 0.
-    fn acted(&self, chair: &mut Chair<Switch>, who: u32) -> Receipt
+    fn insert_guarded(&self, chair: &mut Chair<Switch>, who: u32) -> Receipt
         requires { IsChairOf (λ _. switch) self.now.desk.now chair.old }
         ensures { IsChairOf (λ _. switch) self.now.desk.now chair.new }
     {
@@ -94,15 +94,15 @@ impl<R: Abort + Wait> Office<'_, R> {
 
     /// Makes the same insert by each of two chairs, both guarded by edit count 0, and joins the
     /// chairs. Returns both receipts.
-    pub(crate) fn worked_by_two(&self, chair: &mut Chair<Switch>) -> (Receipt, Receipt)
+    pub(crate) fn insert_by_two(&self, chair: &mut Chair<Switch>) -> (Receipt, Receipt)
         requires at { IsChairOf (λ _. switch) self.now.desk.now chair.old }
         requires every { (view chair.old).shares ≡ every_share }
         ensures at { IsChairOf (λ _. switch) self.now.desk.now chair.new }
     {
         let mut other = split(self.desk, chair);
-        let first = self.acted(chair, 0);
-        let second = self.acted(&mut other, 1);
-        joined(self.desk, chair, other);
+        let first = self.insert_guarded(chair, 0);
+        let second = self.insert_guarded(&mut other, 1);
+        join(self.desk, chair, other);
         (first, second)
     }
 
@@ -147,7 +147,7 @@ impl<R: Abort + Wait> Office<'_, R> {
     }
 
     /// Looks at the branches twice, the second time by a slip.
-    fn looked(&self, chair: &mut Chair<Switch>) -> Result<(), Refusal>
+    fn look_twice(&self, chair: &mut Chair<Switch>) -> Result<(), Refusal>
         requires { IsChairOf (λ _. switch) self.now.desk.now chair.old }
         ensures { IsChairOf (λ _. switch) self.now.desk.now chair.new }
     {
@@ -161,7 +161,7 @@ impl<R: Abort + Wait> Office<'_, R> {
     }
 
     /// How many limbs are saved.
-    fn saved(&self, chair: &mut Chair<Switch>) -> Result<usize, Refusal>
+    fn count_limbs(&self, chair: &mut Chair<Switch>) -> Result<usize, Refusal>
         requires { IsChairOf (λ _. switch) self.now.desk.now chair.old }
         ensures { IsChairOf (λ _. switch) self.now.desk.now chair.new }
     {
@@ -172,7 +172,7 @@ impl<R: Abort + Wait> Office<'_, R> {
 
 impl<R: Abort + Threads + Wait + Sync> Office<'_, R> {
     /// Fills `main` with one thief.
-    fn filled(&self, chair: &mut Chair<Switch>) -> Result<Report, Refusal>
+    fn fill(&self, chair: &mut Chair<Switch>) -> Result<Report, Refusal>
         requires { IsChairOf (λ _. switch) self.now.desk.now chair.old }
         ensures { IsChairOf (λ _. switch) self.now.desk.now chair.new }
     {
@@ -181,7 +181,7 @@ impl<R: Abort + Threads + Wait + Sync> Office<'_, R> {
     }
 
     /// Fills `main` with no thief, through the gate that does nothing.
-    fn filled_with_gate(&self, chair: &mut Chair<Switch>) -> Result<Report, Refusal>
+    fn fill_with_gate(&self, chair: &mut Chair<Switch>) -> Result<Report, Refusal>
         requires { IsChairOf (λ _. switch) self.now.desk.now chair.old }
         ensures { IsChairOf (λ _. switch) self.now.desk.now chair.new }
     {
@@ -191,22 +191,22 @@ impl<R: Abort + Threads + Wait + Sync> Office<'_, R> {
     }
 
     /// Looks, fills twice, and saves.
-    fn used(&self, chair: &mut Chair<Switch>) -> Result<(), Refusal>
+    fn look_fill_and_save(&self, chair: &mut Chair<Switch>) -> Result<(), Refusal>
         requires { IsChairOf (λ _. switch) self.now.desk.now chair.old }
         ensures { IsChairOf (λ _. switch) self.now.desk.now chair.new }
     {
-        self.looked(chair)?;
-        let full = self.filled(chair)?;
+        self.look_twice(chair)?;
+        let full = self.fill(chair)?;
         assert_eq!(self.rt; (full.planned, full.installed), (1, 1));
-        let empty = self.filled_with_gate(chair)?;
+        let empty = self.fill_with_gate(chair)?;
         assert_eq!(self.rt; empty.planned, 0);
-        assert_eq!(self.rt; self.saved(chair)?, 1);
+        assert_eq!(self.rt; self.count_limbs(chair)?, 1);
         Ok(())
     }
 }
 
 /// Closes the desk and returns its log; `None` if the chair lacks a share.
-fn closed(desk: Desk<Switch>, chair: Chair<Switch>) -> Option<Log>
+fn close(desk: Desk<Switch>, chair: Chair<Switch>) -> Option<Log>
     requires { IsChairOf (λ _. switch) desk chair }
 {
     desk.close(chair).ok()
@@ -223,18 +223,18 @@ fn use_all<R: Abort + Threads + Wait + Sync>(office: &Office<'_, R>, chair: &mut
     requires every { (view chair.old).shares ≡ every_share }
     ensures { IsChairOf (λ _. switch) office.now.desk.now chair.new }
 {
-    let (first, second) = office.worked_by_two(chair);
+    let (first, second) = office.insert_by_two(chair);
     assert!(office.rt; first == receipt(1, Reply::Edited(1)));
     assert!(office.rt; second == receipt(2, Reply::No(Refusal::Newer(1))));
     assert_eq!(office.rt; news(office.desk, chair), 2);
-    assert!(office.rt; office.used(chair).is_ok());
+    assert!(office.rt; office.look_fill_and_save(chair).is_ok());
 }
 
 #[test]
 fn each_call_of_a_desk(rt: HostRuntime) -> Result<(), Fail> {
     let (desk, mut chair) = opened(rt.alloc())?;
     use_all(&Office::new(&rt, rt.alloc(), &desk), &mut chair);
-    let Some(log) = closed(desk, chair) else {
+    let Some(log) = close(desk, chair) else {
         panic!(rt; "a share is missing")
     };
     assert_eq!(rt; log.as_slice().len(), 2);
@@ -253,6 +253,6 @@ fn opened_from_limbs(alloc: Global) -> Result<(Desk<Switch>, Chair<Switch>), Ref
 #[test]
 fn desk_is_opened_from_limbs(rt: HostRuntime) -> Result<(), Fail> {
     let (desk, chair) = opened_from_limbs(rt.alloc())?;
-    assert!(rt; closed(desk, chair).is_some_and(|log| log.as_slice().is_empty()));
+    assert!(rt; close(desk, chair).is_some_and(|log| log.as_slice().is_empty()));
     Ok(())
 }

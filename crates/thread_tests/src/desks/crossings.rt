@@ -6,7 +6,7 @@ ghost use Rattle.turn.specs.Shares.{every_share};
 ghost use Rattle.turn.specs.Chairs.{view};
 ghost use Rattle.desk.specs.Chairs.{IsChairOf};
 
-use super::openings::{limits, thousand};
+use super::openings::{limits, opened_with_thousand};
 use super::{READ, Tester, halves, is_text, name};
 use desk::{Chair, Desk, Item, Journal, Report};
 use frames::register::Register;
@@ -89,7 +89,7 @@ impl<R: Register, W: Wait> Gate<W> for EditsOnce<'_, R> {
 }
 
 /// A desk of one read, and its chair.
-fn of_one_read(alloc: Global) -> Result<(Desk<Safe>, Chair<Safe>), Refusal>
+fn opened_with_read(alloc: Global) -> Result<(Desk<Safe>, Chair<Safe>), Refusal>
     ensures { IfOk result (λ r. IsChairOf (λ _. safe_behaviour) r.0 r.1
         × ((view r.1).shares ≡ every_share)) }
 {
@@ -97,7 +97,7 @@ fn of_one_read(alloc: Global) -> Result<(Desk<Safe>, Chair<Safe>), Refusal>
 }
 
 /// Fills `main` by one chair. At the first offer the other chair inserts a write at the beginning.
-fn filled_beside<R: Abort + Threads + Wait + Sync>(
+fn filled_while_edited<R: Abort + Threads + Wait + Sync>(
     rt: &R,
     alloc: Global,
     desk: &Desk<Safe>,
@@ -128,7 +128,7 @@ fn is_crossed(report: Report) -> bool {
 }
 
 /// The text of the page of the state after the write and the read.
-const STATE: &[u8] =
+const STATE_AFTER_BOTH: &[u8] =
     b"0: state main 2 of 2\n  p0 write 0 next ws 0\n  p1 read next rs 0\n  bits 0\n  words -\n";
 
 /// Fills by one chair while the other edits, and then looks.
@@ -140,11 +140,11 @@ fn cross_and_look<R: Abort + Threads + Wait + Sync>(
     requires { IsChairOf (λ _. safe_behaviour) tester.now.desk.now first.old
         × IsChairOf (λ _. safe_behaviour) tester.now.desk.now second }
 {
-    let report = filled_beside(tester.rt, tester.alloc, tester.desk, first, second)?;
+    let report = filled_while_edited(tester.rt, tester.alloc, tester.desk, first, second)?;
     assert!(tester.rt; is_crossed(report));
     let (at, text) = tester.text_at(first, &state_at(tester.rt, 2))?;
     assert_eq!(tester.rt; at, 1);
-    assert!(tester.rt; is_text(&text, STATE));
+    assert!(tester.rt; is_text(&text, STATE_AFTER_BOTH));
     Ok(())
 }
 
@@ -158,7 +158,7 @@ fn state_at(rt: &impl Abort, place: u32) -> Query {
 
 #[test]
 fn crossing_install(rt: HostRuntime) -> Result<(), Fail> {
-    let (desk, first) = of_one_read(rt.alloc())?;
+    let (desk, first) = opened_with_read(rt.alloc())?;
     let (mut first, second) = halves(&desk, first);
     cross_and_look(&Tester::new(&rt, rt.alloc(), &desk), &mut first, second)?;
     Ok(())
@@ -178,9 +178,9 @@ fn is_crossed_once(report: Report, least: u64) -> bool {
 /// installed.
 #[test]
 fn crossing_a_long_branch(rt: HostRuntime) -> Result<(), Fail> {
-    let (desk, first) = thousand(rt.alloc(), 1024)?;
+    let (desk, first) = opened_with_thousand(rt.alloc(), 1024)?;
     let (mut first, second) = halves(&desk, first);
-    let report = filled_beside(&rt, rt.alloc(), &desk, &mut first, second)?;
+    let report = filled_while_edited(&rt, rt.alloc(), &desk, &mut first, second)?;
     assert!(rt; is_crossed_once(report, 8));
     Ok(())
 }
@@ -195,7 +195,7 @@ fn cross<R: Abort + Threads + Wait + Sync>(
         × IsChairOf (λ _. safe_behaviour) tester.now.desk.now second }
     ensures { IsChairOf (λ _. safe_behaviour) tester.now.desk.now first.new }
 {
-    match filled_beside(tester.rt, tester.alloc, tester.desk, first, second) {
+    match filled_while_edited(tester.rt, tester.alloc, tester.desk, first, second) {
         Ok(report) => assert!(tester.rt; report.memory <= 1),
         Err(refusal) => assert!(tester.rt; refusal == Refusal::Memory),
     }
@@ -216,7 +216,7 @@ fn cross_at<R: Abort + Threads + Wait + Sync>(tester: &Tester<'_, R>, chair: Cha
 /// still works after that.
 #[test]
 fn crossing_out_of_memory(rt: HostRuntime) {
-    if let Ok((desk, chair)) = of_one_read(rt.alloc()) {
+    if let Ok((desk, chair)) = opened_with_read(rt.alloc()) {
         cross_at(&Tester::new(&rt, rt.alloc(), &desk), chair);
     }
 }

@@ -7,7 +7,7 @@ ghost use Rattle.frames.specs.Recorded.{AllFit};
 ghost use Rattle.schedule_trie.specs.Trie.{AreLimits};
 ghost use Rattle.desk.specs.Chairs.{IsChairOf};
 
-use super::openings::{thousand, writes, written};
+use super::openings::{opened_with_thousand, opened_with_writes, writes};
 use super::side_by_side::Work;
 use super::{Tester, book_of, is_text, log_and_text, name, replies_to, text_of};
 use desk::{Chair, Report};
@@ -108,7 +108,7 @@ fn fill_thousand<R: Abort + Threads + Wait + Sync>(
 ) -> Result<(), Refusal>
     requires { thieves ≤ 4 }
 {
-    let (desk, mut chair) = thousand(alloc, 1024)?;
+    let (desk, mut chair) = opened_with_thousand(alloc, 1024)?;
     fill_at(&Tester::new(rt, alloc, &desk), &mut chair, thieves)
 }
 
@@ -123,7 +123,7 @@ fn thousand_steps(rt: HostRuntime) -> Result<(), Fail> {
 }
 
 /// Limits that allow 66 full segments.
-fn long() -> Limits
+fn long_limits() -> Limits
     ensures { AreLimits result }
 {
     Limits {
@@ -149,7 +149,7 @@ fn fill_long<R: Abort + Threads + Wait + Sync>(
 /// A fill ends after 64 rounds, though some segments have no run yet.
 #[test]
 fn sixty_four_rounds(rt: HostRuntime) -> Result<(), Fail> {
-    let (desk, mut chair) = written(rt.alloc(), 66 * 128, long())?;
+    let (desk, mut chair) = opened_with_writes(rt.alloc(), 66 * 128, long_limits())?;
     fill_long(&Tester::new(&rt, rt.alloc(), &desk), &mut chair)?;
     Ok(())
 }
@@ -292,7 +292,7 @@ fn fill_and_edit<R: Abort + Threads + Wait + Sync>(
 ) -> Result<(), Refusal> {
     let fork = [fork_in_the_middle(rt)];
     let works = (Work::InsertsAndDrop(INSERTS), Work::Fills);
-    let desk = thousand(alloc, 1024)?;
+    let desk = opened_with_thousand(alloc, 1024)?;
     let Some((log, text)) = log_and_text(rt, alloc, desk, &fork, works, query)? else {
         panic!(rt; "a report, an edit or the log is missing")
     };

@@ -8,7 +8,7 @@ ghost use Rattle.schedule_trie.specs.Trie.{AreLimits};
 ghost use Rattle.desk.specs.Chairs.{IsChairOf};
 
 use super::fills::all_installed;
-use super::openings::written;
+use super::openings::opened_with_writes;
 use super::rounds::Offers;
 use super::{READ, Tester, name};
 use desk::Chair;
@@ -41,7 +41,7 @@ const ROUNDS: usize = 64;
 const NAMES: &[u8] = b"abcdefgh";
 
 /// Limits for each of these forests.
-fn wide() -> Limits
+fn wide_limits() -> Limits
     ensures { AreLimits result }
 {
     Limits {
@@ -83,7 +83,7 @@ impl Forest {
     fn new(alloc: Global) -> Result<Forest, Refusal> {
         Ok(Forest {
             alloc,
-            trie: Trie::new(alloc, wide(), &[])?,
+            trie: Trie::new(alloc, wide_limits(), &[])?,
             commands: Vec::new(alloc),
         })
     }
@@ -121,7 +121,7 @@ impl Forest {
     }
 
     /// One of the branches and a place of it, chosen by the next two numbers.
-    fn chosen(&self, sequence: &mut Sequence) -> Option<(Name, u32)> {
+    fn choose(&self, sequence: &mut Sequence) -> Option<(Name, u32)> {
         let index = sequence.below(self.trie.branches());
         let branch = self.trie.name_at(index)?;
         let len = self.trie.len(&branch)?;
@@ -149,10 +149,10 @@ impl Forest {
         main: &Name,
         fresh: Name,
     ) -> Result<(), AllocError> {
-        if let Some((branch, place)) = self.chosen(sequence) {
+        if let Some((branch, place)) = self.choose(sequence) {
             self.insert_reads(branch, place, sequence.below(INSERTS))?;
         }
-        let Some((branch, place)) = self.chosen(sequence) else {
+        let Some((branch, place)) = self.choose(sequence) else {
             return Ok(());
         };
         let name = fresh;
@@ -353,7 +353,7 @@ fn is_filled_by<R: Abort + Threads + Wait + Sync, G: Gate<R> + Tally + Sync>(
 ) -> Result<bool, Refusal>
     requires { thieves ≤ 4 }
 {
-    let (desk, mut chair) = written(alloc, 0, wide())?;
+    let (desk, mut chair) = opened_with_writes(alloc, 0, wide_limits())?;
     let tester = Tester::new(rt, alloc, &desk);
     is_filled_at(&tester, &mut chair, commands, counts, thieves, offers)
 }

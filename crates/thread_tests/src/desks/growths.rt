@@ -9,7 +9,7 @@ ghost use Rattle.turn.specs.Shares.{every_share};
 ghost use Rattle.turn.specs.Chairs.{view};
 ghost use Rattle.desk.specs.Chairs.{IsChairOf};
 
-use super::openings::{opened, thousand};
+use super::openings::{opened, opened_with_thousand};
 use super::rows::{STATE, insert_by_both, state_after_one};
 use super::{Tester, asked, halves, insert_at, is_text, name};
 use desk::{Chair, Receipt};
@@ -25,7 +25,7 @@ use views::query::Query;
 
 /// Whether two inserts, both guarded by edit count 0, have allowed receipts. At most one of them
 /// may have run out of memory.
-fn are_allowed(first: Receipt, second: Receipt) -> bool {
+fn are_allowed_receipts(first: Receipt, second: Receipt) -> bool {
     match (first.at, first.reply, second.at, second.reply) {
         (1, Reply::Edited(1), 2, Reply::No(Refusal::Newer(1))) => true,
         (1, Reply::Edited(1), 1, Reply::No(Refusal::Memory)) => true,
@@ -60,7 +60,7 @@ fn insert_once_each<R: Abort + Wait>(
     let done = tester.act(first, (0, Some(0), &insert));
     let late = tester.act(second, (1, Some(0), &insert));
     let at = late.at;
-    assert!(tester.rt; are_allowed(done, late));
+    assert!(tester.rt; are_allowed_receipts(done, late));
     at
 }
 
@@ -187,7 +187,7 @@ impl<R: Abort + Threads + Wait + Sync> Tester<'_, R> {
 }
 
 /// The text of the page of the state after the thousand steps.
-const FILLED: &[u8] =
+const LAST_STATE: &[u8] =
     b"0: state main 1000 of 1000\n  p0 write 0 next ws 0\n  p1 idle\n  bits 1\n  words -\n";
 
 /// Fills a desk of the thousand steps, counts the installed runs, and looks at the state at the end
@@ -206,24 +206,24 @@ fn fill_and_look<R: Abort + Threads + Wait + Sync>(
         b: name(tester.rt, b"main"),
         k: 1000,
     };
-    look_again(tester, chair, &state, (0, FILLED));
+    look_again(tester, chair, &state, (0, LAST_STATE));
 }
 
 /// Fills and looks at a new desk of a thousand steps.
-fn thousand_with<R: Abort + Threads + Wait + Sync>(rt: &R, alloc: Global, thieves: u32)
+fn fill_thousand_and_look<R: Abort + Threads + Wait + Sync>(rt: &R, alloc: Global, thieves: u32)
     requires { thieves ≤ 4 }
 {
-    if let Ok((desk, mut chair)) = thousand(alloc, 1024) {
+    if let Ok((desk, mut chair)) = opened_with_thousand(alloc, 1024) {
         fill_and_look(&Tester::new(rt, alloc, &desk), &mut chair, thieves);
     }
 }
 
 #[test]
 fn thousand_steps_out_of_memory(rt: HostRuntime) {
-    thousand_with(&rt, rt.alloc(), 0);
+    fill_thousand_and_look(&rt, rt.alloc(), 0);
 }
 
 #[test]
 fn thousand_steps_by_four_out_of_memory(rt: HostRuntime) {
-    thousand_with(&rt, rt.alloc(), 4);
+    fill_thousand_and_look(&rt, rt.alloc(), 4);
 }

@@ -116,7 +116,7 @@ impl Branching for Book<Safe> {
 }
 
 /// Whether what was loaded from limbs has the same limbs.
-fn keeps<T: Branching + Drop>(
+fn keeps_limbs<T: Branching + Drop>(
     alloc: Global,
     loaded: Result<T, Refusal>,
     limbs: &[Limb],
@@ -135,7 +135,7 @@ fn loaded_desk(alloc: Global, limbs: &[Limb]) -> Result<(Desk<Safe>, Chair<Safe>
 }
 
 /// Whether a save was made before the first call, and has these limbs.
-fn is_first_with(saved: &Saved, limbs: &[Limb]) -> bool {
+fn is_saved_at_opening(saved: &Saved, limbs: &[Limb]) -> bool {
     saved.at == 0 && are_same(saved.limbs.as_slice(), limbs)
 }
 
@@ -155,12 +155,12 @@ impl<R: Wait> Tester<'_, R> {
         ensures { IsChairOf (λ _. safe_behaviour) self.now.desk.now chair.new }
     {
         let saved = self.saved(chair)?;
-        Ok(is_first_with(&saved, limbs))
+        Ok(is_saved_at_opening(&saved, limbs))
     }
 }
 
 /// Whether a desk that is opened from limbs has the same limbs before its first call.
-fn desk_keeps<R: Wait>(rt: &R, alloc: Global, limbs: &[Limb]) -> Result<bool, Refusal>
+fn desk_keeps_limbs<R: Wait>(rt: &R, alloc: Global, limbs: &[Limb]) -> Result<bool, Refusal>
     requires { AreLawfulLimbs limbs.now × (0 < length limbs.now)
         × LimbsFit safe_behaviour limbs.now }
 {
@@ -169,29 +169,29 @@ fn desk_keeps<R: Wait>(rt: &R, alloc: Global, limbs: &[Limb]) -> Result<bool, Re
 }
 
 /// Whether a chart, a book and a desk that are loaded from limbs have the same limbs.
-fn are_kept<R: Wait>(rt: &R, alloc: Global, limbs: &[Limb]) -> Result<bool, Refusal>
+fn all_keep_limbs<R: Wait>(rt: &R, alloc: Global, limbs: &[Limb]) -> Result<bool, Refusal>
     requires { AreLawfulLimbs limbs.now × (0 < length limbs.now)
         × LimbsFit safe_behaviour limbs.now }
 {
-    let by_chart = keeps(alloc, loaded_chart(alloc, limbs), limbs)?;
-    let by_book = keeps(alloc, loaded_book(alloc, limbs), limbs)?;
-    Ok(by_chart && by_book && desk_keeps(rt, alloc, limbs)?)
+    let by_chart = keeps_limbs(alloc, loaded_chart(alloc, limbs), limbs)?;
+    let by_book = keeps_limbs(alloc, loaded_book(alloc, limbs), limbs)?;
+    Ok(by_chart && by_book && desk_keeps_limbs(rt, alloc, limbs)?)
 }
 
 /// Whether a chart, a book and a desk that are loaded from three branches have the same limbs.
-fn all_keep<R: Abort + Wait>(rt: &R, alloc: Global) -> Result<bool, Refusal> {
+fn all_keep_three_branches<R: Abort + Wait>(rt: &R, alloc: Global) -> Result<bool, Refusal> {
     let limbs = three_branches(rt, alloc)?;
-    are_kept(rt, alloc, &limbs)
+    all_keep_limbs(rt, alloc, &limbs)
 }
 
 #[test]
 fn limbs_are_reported_again(rt: HostRuntime) {
-    assert_eq!(rt; all_keep(&rt, rt.alloc()), Ok(true));
+    assert_eq!(rt; all_keep_three_branches(&rt, rt.alloc()), Ok(true));
 }
 
 /// If memory runs out, the refusal is always Memory.
 #[test]
 fn limbs_out_of_memory(rt: HostRuntime) {
-    let reported = all_keep(&rt, rt.alloc());
+    let reported = all_keep_three_branches(&rt, rt.alloc());
     assert!(rt; reported == Ok(true) || reported == Err(Refusal::Memory));
 }

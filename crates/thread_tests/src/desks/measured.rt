@@ -25,7 +25,7 @@ use std::test::Fail;
 const EDITS: u32 = 20_000;
 
 /// Limits that allow `EDITS` edits by each of two threads.
-fn wide() -> Limits
+fn wide_limits() -> Limits
     ensures { AreLimits result }
 {
     Limits {
@@ -40,7 +40,7 @@ fn opened_wide(alloc: Global) -> Result<(Desk<Safe>, Chair<Safe>), Refusal>
     ensures { IfOk result (λ r. IsChairOf (λ _. safe_behaviour) r.0 r.1
         × ((view r.1).shares ≡ every_share)) }
 {
-    Desk::open(alloc, Safe, 0, wide(), &[])
+    Desk::open(alloc, Safe, 0, wide_limits(), &[])
 }
 
 /// Inserts a read at a place of `main`, and returns whether it was accepted.
@@ -61,7 +61,7 @@ fn insert_all_on(rt: &impl Abort, alloc: Global, book: &mut Book<Safe>) -> bool 
 
 /// A book with no steps. Unlike that of `Book::new`, this contract promises nothing about the book.
 fn wide_book(alloc: Global) -> Result<Book<Safe>, Refusal> {
-    Book::new(alloc, Safe, 0, wide(), &[])
+    Book::new(alloc, Safe, 0, wide_limits(), &[])
 }
 
 /// Makes `EDITS` inserts on a new book, and returns whether each was accepted.

@@ -3,7 +3,7 @@
 ghost use Rattle.frames.specs.SafeBit.{safe_behaviour};
 ghost use Rattle.desk.specs.Chairs.{IsChairOf};
 
-use super::openings::thousand;
+use super::openings::opened_with_thousand;
 use super::{Tester, asked, halves, take_in};
 use crate::flags::Flags;
 use desk::{Chair, Desk};
@@ -73,7 +73,7 @@ fn ask_often(desk: &Desk<Safe>, chair: &mut Chair<Safe>, flags: &Flags) -> Optio
 
 /// One thread seeks while another asks for news; then the chairs join. Returns the chair, whether
 /// the seeks ended by the signal, and the last news.
-fn news_beside_seeks<R: Threads + Wait + Sync>(
+fn news_while_seeking<R: Threads + Wait + Sync>(
     tester: &Tester<'_, R>,
     mut first: Chair<Safe>,
     mut second: Chair<Safe>,
@@ -117,7 +117,7 @@ fn news_of_two<R: Abort + Threads + Wait + Sync>(
 {
     let flags = Flags::new();
     tester.set_break(&mut first);
-    let (mut chair, released, news) = news_beside_seeks(tester, first, second, &flags);
+    let (mut chair, released, news) = news_while_seeking(tester, first, second, &flags);
     (released, news, asked(tester.desk, &mut chair))
 }
 
@@ -126,7 +126,7 @@ fn news_at_a_desk<R: Abort + Threads + Wait + Sync>(
     rt: &R,
     alloc: Global,
 ) -> Result<(bool, Option<u64>, u64), Refusal> {
-    let (desk, chair) = thousand(alloc, 65_536)?;
+    let (desk, chair) = opened_with_thousand(alloc, 65_536)?;
     let (first, second) = halves(&desk, chair);
     Ok(news_of_two(&Tester::new(rt, alloc, &desk), first, second))
 }

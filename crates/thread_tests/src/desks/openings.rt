@@ -60,16 +60,19 @@ fn write_at(index: u32) -> Step
 }
 
 /// A desk with the first 1,000 steps of `writes`, and its first chair.
-pub(super) fn thousand(alloc: Global, log: u32) -> Result<(Desk<Safe>, Chair<Safe>), Refusal>
+pub(super) fn opened_with_thousand(
+    alloc: Global,
+    log: u32,
+) -> Result<(Desk<Safe>, Chair<Safe>), Refusal>
     requires { (0 < log) × (log ≤ 1048576) }
     ensures { IfOk result (λ r. IsChairOf (λ _. safe_behaviour) r.0 r.1
         × ((view r.1).shares ≡ every_share)) }
 {
-    written(alloc, 1000, limits(log))
+    opened_with_writes(alloc, 1000, limits(log))
 }
 
 /// A desk with the first `count` steps of `writes`, and its first chair.
-pub(super) fn written(
+pub(super) fn opened_with_writes(
     alloc: Global,
     count: u32,
     limits: Limits,

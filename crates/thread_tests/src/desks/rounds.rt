@@ -7,7 +7,7 @@ ghost use Rattle.schedule_trie.specs.Trie.{AreLimits};
 ghost use Rattle.desk.specs.Chairs.{IsChairOf};
 
 use super::fills::all_installed;
-use super::openings::written;
+use super::openings::opened_with_writes;
 use super::{READ, Tester, name};
 use desk::{Chair, Report};
 use frames::safe::Safe;
@@ -55,11 +55,11 @@ impl<W: Wait> Gate<W> for Offers {
 }
 
 /// The number of cells in a full segment.
-const FULL: u32 = 128;
+const FULL_SEGMENT: u32 = 128;
 
 /// Limits that allow two branches of 41 full segments each, which share one, and a logged call for
 /// each step of the second branch.
-fn two_long() -> Limits
+fn two_branch_limits() -> Limits
     ensures { AreLimits result }
 {
     Limits {
@@ -79,11 +79,11 @@ impl<R: Abort + Threads + Wait + Sync> Tester<'_, R> {
         let branch = name(self.rt, b"a");
         let fork = Command::Fork {
             b: name(self.rt, b"main"),
-            k: FULL,
+            k: FULL_SEGMENT,
             name: branch,
         };
         let mut all = self.accepts(chair, &fork);
-        for place in FULL..41 * FULL {
+        for place in FULL_SEGMENT..41 * FULL_SEGMENT {
             let insert = Command::Insert {
                 b: branch,
                 k: place,
@@ -138,7 +138,7 @@ fn filled_by<R: Abort + Threads + Wait + Sync>(
 ) -> Result<(bool, (u64, u64)), Refusal>
     requires { thieves ≤ 4 }
 {
-    let (desk, mut chair) = written(alloc, 41 * FULL, two_long())?;
+    let (desk, mut chair) = opened_with_writes(alloc, 41 * FULL_SEGMENT, two_branch_limits())?;
     grown_and_filled(&Tester::new(rt, alloc, &desk), &mut chair, thieves)
 }
 

@@ -29,7 +29,7 @@ pub(super) enum Work {
 
 impl<R: Abort + Threads + Wait + Sync> Tester<'_, R> {
     /// Does a thread's work with its chair. Returns the chair, and whether everything went well.
-    fn done(&self, task: (Chair<Safe>, Work)) -> (Chair<Safe>, bool)
+    fn do_work(&self, task: (Chair<Safe>, Work)) -> (Chair<Safe>, bool)
         requires { IsChairOf (λ _. safe_behaviour) self.now.desk.now task.0 }
         ensures { IsChairOf (λ _. safe_behaviour) self.now.desk.now result.0 }
     {
@@ -62,12 +62,12 @@ impl<R: Abort + Threads + Wait + Sync> Tester<'_, R> {
                 requires sync { IsSync R.row }
                 requires chair { IsChairOf (λ _. safe_behaviour) desk.now first.0 }
                 ensures { IsChairOf (λ _. safe_behaviour) desk.entry.now result.0 }
-            { Tester::new(rt, alloc, desk).done(first) },
+            { Tester::new(rt, alloc, desk).do_work(first) },
             move || -> (Chair<Safe>, bool)
                 requires sync { IsSync R.row }
                 requires chair { IsChairOf (λ _. safe_behaviour) desk.now second.0 }
                 ensures { IsChairOf (λ _. safe_behaviour) desk.entry.now result.0 }
-            { Tester::new(rt, alloc, desk).done(second) },
+            { Tester::new(rt, alloc, desk).do_work(second) },
         );
         take_in(desk, &mut first, second);
         (first, one && other)

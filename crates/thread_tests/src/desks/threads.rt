@@ -122,7 +122,7 @@ fn split_off(desk: &Desk<Safe>, chair: &mut Chair<Safe>, shares: u32) -> Option<
 
 impl<R: Abort + Wait> Tester<'_, R> {
     /// Looks at the steps of `main`, and returns the length of the history.
-    fn looked(&self, chair: &mut Chair<Safe>, lens: &mut Lens<Safe>) -> u64
+    fn look_at_steps(&self, chair: &mut Chair<Safe>, lens: &mut Lens<Safe>) -> u64
         requires { IsChairOf (λ _. safe_behaviour) self.now.desk.now chair.old }
         ensures { IsChairOf (λ _. safe_behaviour) self.now.desk.now chair.new }
     {
@@ -148,7 +148,7 @@ impl<R: Abort + Wait> Tester<'_, R> {
         let insert = insert_at(self.rt, 0);
         let edited = self.act(other, (who, None, &insert)).at;
         let news = asked(self.desk, other);
-        let seen = self.looked(chair, lens);
+        let seen = self.look_at_steps(chair, lens);
         let later = asked(self.desk, chair);
         let insert = insert_at(self.rt, 1);
         let guarded = self.act(chair, (who, Some(later), &insert)).at;
@@ -194,13 +194,13 @@ impl<R: Abort + Wait> Tester<'_, R> {
 }
 
 /// Two chairs of a desk.
-type Two = (Chair<Safe>, Chair<Safe>);
+type TwoChairs = (Chair<Safe>, Chair<Safe>);
 
 /// Two chairs make the rounds of two sessions, each on a thread. Returns the chair joined from
 /// them, and whether everything went well.
 fn rounds_of_two<R: Abort + Threads + Wait + Sync>(
     tester: &Tester<'_, R>,
-    chairs: Two,
+    chairs: TwoChairs,
     sessions: (u32, u32),
 ) -> (Chair<Safe>, bool)
     requires { AreChairsOf tester.now.desk.now chairs }
@@ -218,8 +218,8 @@ fn rounds_of_four<R: Abort + Threads + Wait + Sync>(
     rt: &R,
     alloc: Global,
     desk: Desk<Safe>,
-    one: Two,
-    other: Two,
+    one: TwoChairs,
+    other: TwoChairs,
 ) -> Option<Log>
     requires one { AreChairsOf desk one }
     requires other { AreChairsOf desk other }
@@ -243,7 +243,7 @@ fn rounds_of_four<R: Abort + Threads + Wait + Sync>(
 }
 
 /// Splits a chair into two, each with half its shares; `None` if the chair has only one share.
-fn halved(desk: &Desk<Safe>, mut chair: Chair<Safe>) -> Option<Two>
+fn halved(desk: &Desk<Safe>, mut chair: Chair<Safe>) -> Option<TwoChairs>
     requires { IsChairOf (λ _. safe_behaviour) desk.now chair }
     ensures { IfSome result (AreChairsOf desk.now) }
 {
@@ -254,7 +254,7 @@ fn halved(desk: &Desk<Safe>, mut chair: Chair<Safe>) -> Option<Two>
 
 /// Splits a chair into four, each with a quarter of its shares; `None` if the chair has fewer than
 /// four shares.
-fn quarters(desk: &Desk<Safe>, chair: Chair<Safe>) -> Option<(Two, Two)>
+fn quarters(desk: &Desk<Safe>, chair: Chair<Safe>) -> Option<(TwoChairs, TwoChairs)>
     requires { IsChairOf (λ _. safe_behaviour) desk.now chair }
     ensures one { IfSome result (λ r. AreChairsOf desk.now r.0) }
     ensures other { IfSome result (λ r. AreChairsOf desk.now r.1) }

@@ -33,22 +33,22 @@ module _ (not_found : Outcome) (values processes : ℕ) (two : LEAST_VALUES ≤ 
   clears_sound who w x zero writer same below low = tt
   clears_sound who w x (suc i) writer same below low = ((writer, same, omega arith, low), λ o. refl)
 
-  looks_sound : (who reader i left : ℕ) → reader ≡ who → 1 ≤ who → who < processes → i + left + 1 ≡ values
+  looks_above_sound : (who reader i left : ℕ) → reader ≡ who → 1 ≤ who → who < processes → i + left + 1 ≡ values
       → IsSound (unary_table_with not_found values processes) (UnaryMayBeAt values processes who op.Read) (Answers values op.Read) (looks_above not_found reader i left)
-  looks_sound who reader i zero same above below all = answered
-  looks_sound who reader i (suc left) same above below all = ((same, above, below, omega arith), λ o. refl)
+  looks_above_sound who reader i zero same above below all = answered
+  looks_above_sound who reader i (suc left) same above below all = ((same, above, below, omega arith), λ o. refl)
 
   -- after a scan has read a bit, the rest of its program is sound: it next reaches a task that the
   -- reader can be in, or ends with an outcome that suits a read. x, which the scan gives if the bit
   -- is 1, may be any value below `values`
-  looked_sound : (who reader i left bit x : ℕ) → reader ≡ who → 1 ≤ who → who < processes → i + left + 1 ≡ values → x < values
+  after_look_sound : (who reader i left bit x : ℕ) → reader ≡ who → 1 ≤ who → who < processes → i + left + 1 ≡ values → x < values
       → IsSound (unary_table_with not_found values processes) (UnaryMayBeAt values processes who op.Read) (Answers values op.Read) (after_look x (looks_above not_found reader i left) (Value bit))
-  looked_sound who reader i left bit x same above below all small = by_test (bit == 1)
+  after_look_sound who reader i left bit x same above below all small = by_test (bit == 1)
     where
       by_test : (found : Bool) → IsSound (unary_table_with not_found values processes) (UnaryMayBeAt values processes who op.Read) (Answers values op.Read)
           (if found then Ends (Value x) else looks_above not_found reader i left)
       by_test true = small
-      by_test false = looks_sound who reader i left same above below all
+      by_test false = looks_above_sound who reader i left same above below all
 
   same_bit : (x : ℕ) → (x == x) ≡ true
   same_bit x = grind (arith, nat_tests)
@@ -60,21 +60,21 @@ module _ (not_found : Outcome) (values processes : ℕ) (two : LEAST_VALUES ≤ 
   clears_fall w zero n le = tt
   clears_fall w (suc i) n le = omega arith
 
-  looks_fall : (who i left : ℕ) → Falls unary_left left (looks_above not_found who i left)
-  looks_fall who i zero = tt
-  looks_fall who i (suc left) = omega arith
+  looks_above_fall : (who i left : ℕ) → Falls unary_left left (looks_above not_found who i left)
+  looks_above_fall who i zero = tt
+  looks_above_fall who i (suc left) = omega arith
 
-  look_falls : (who i left bit x : ℕ) → Falls unary_left left (after_look x (looks_above not_found who i left) (Value bit))
-  look_falls who i left bit x = by_test (bit == 1)
+  after_look_falls : (who i left bit x : ℕ) → Falls unary_left left (after_look x (looks_above not_found who i left) (Value bit))
+  after_look_falls who i left bit x = by_test (bit == 1)
     where
       by_test : (found : Bool) → Falls unary_left left (if found then Ends (Value x) else looks_above not_found who i left)
       by_test true = tt
-      by_test false = looks_fall who i left
+      by_test false = looks_above_fall who i left
 
   begins_sound : (who : ℕ) (o : Op) → one_writer values processes who o ≡ true
       → IsSound (unary_table_with not_found values processes) (UnaryMayBeAt values processes who o) (Answers values o) (unary_program not_found values who o)
   begins_sound who (op.Write x) h = ((writer.writer_zero values processes who x h, refl, writer.no_other_value values processes who x h), λ o. refl)
-  begins_sound who op.Read h = ((refl, writer.reader_some values processes who h, writer.reader_few values processes who h, omega arith), λ o. refl)
+  begins_sound who op.Read h = ((refl, writer.reader_is_not_zero values processes who h, writer.reader_below_processes values processes who h, omega arith), λ o. refl)
 
   asks_fit : (who : ℕ) (o : Op) (task : UnaryTask) → UnaryMayBeAt values processes who o task
       → ((unary_asks task).part < values) × FitsPart 2 processes (unary_asks task).who (unary_asks task).op
@@ -88,7 +88,7 @@ module _ (not_found : Outcome) (values processes : ℕ) (two : LEAST_VALUES ≤ 
   rest_sound who (op.Write w) (Setting x) outcome at_task answers on = clears_sound who w x x at_task.0 at_task.1 (omega (arith, at_task.1)) at_task.2
   rest_sound who (op.Write w) (Clearing x i) outcome at_task answers on = clears_sound who w x i at_task.0 at_task.1 (omega (arith, at_task.2)) at_task.3
   rest_sound who op.Read (Looking reader i left) (Value bit) at_task answers on =
-      looked_sound who reader i left bit _ at_task.0 at_task.1 at_task.2 at_task.3 (omega (arith, at_task.3))
+      after_look_sound who reader i left bit _ at_task.0 at_task.1 at_task.2 at_task.3 (omega (arith, at_task.3))
   rest_sound who op.Read (Looking reader i left) Written at_task answers on = absurd answers
   rest_sound who op.Read (Looking reader i left) (Spent layer) at_task answers on = absurd on
   rest_sound who _ _ outcome at_task answers on = absurd at_task
@@ -97,7 +97,7 @@ module _ (not_found : Outcome) (values processes : ℕ) (two : LEAST_VALUES ≤ 
       → Falls unary_left (unary_left task) (unary_rest not_found task outcome)
   rest_falls who o (Setting x) outcome at_task answers on = clears_fall x x x (omega arith)
   rest_falls who o (Clearing x i) outcome at_task answers on = clears_fall x i i (omega arith)
-  rest_falls who o (Looking reader i left) (Value bit) at_task answers on = look_falls reader i left bit _
+  rest_falls who o (Looking reader i left) (Value bit) at_task answers on = after_look_falls reader i left bit _
   rest_falls who o (Looking reader i left) Written at_task answers on = tt
   rest_falls who o (Looking reader i left) (Spent layer) at_task answers on = tt
 

@@ -14,7 +14,7 @@ use Rattle.frames.specs.declared.types.Step.TheVariants as step
 use Rattle.frames.specs.Equality.{configuration_eq, configuration_per, configuration_decides, SameConfiguration}
 use Rattle.cutoff.specs.Fitting.{RunPart}
 use Rattle.views.specs.Digests.{digest}
-use Rattle.views.specs.Places.{last_made, last_steps}
+use Rattle.views.specs.Places.{hashed_steps, last_steps}
 
 -- whether two steps are equal
 abbrev pub step_eq : Step → Step → Bool
@@ -79,8 +79,8 @@ module _ {R P : Type 0} (E : R → R → Bool) (F : P → P → Bool) where
         and_per (on_per (λ a. a.count) (per_from_decides nat_eq Decides-eqb))
         (and_per (on_per (λ a. a.run.steps) (per_from_decides (pointwise step_eq) steps_decide)) (on_per (λ a. a.run.entry) (configuration_per E F per d)))
 
-    same_itself : IsEquivalence E → (a : RunPart R P) → SamePlace E a a
-    same_itself e a = record {
+    same_place_refl : IsEquivalence E → (a : RunPart R P) → SamePlace E a a
+    same_place_refl e a = record {
       count = refl;
       steps = refl;
       entry = record { register = e.refl a.run.entry.register; memory = refl; running = refl; stopped = refl };
@@ -89,12 +89,12 @@ module _ {R P : Type 0} (E : R → R → Bool) (F : P → P → Bool) where
     -- `same_place` is an equivalence if E, which compares registers, is an equivalence, and F
     -- decides whether two points of pending operations are equal
     pub same_place_equivalence : IsEquivalence E → IsEquivalence same_place
-    same_place_equivalence e = equiv (same_place_per (partial_equiv_from_equiv e)) (λ a. (place_decides a a).1 (same_itself e a))
+    same_place_equivalence e = equiv (same_place_per (partial_equiv_from_equiv e)) (λ a. (place_decides a a).1 (same_place_refl e a))
 
     -- if `same_place` holds of two places, and F decides whether two points of pending operations
     -- are equal, the same numbers are hashed for both places
     pub places_hash_alike : (a b : RunPart R P) → same_place a b ≡ true
-        → fed.u64 (digest (last_made a)) ++ fed.u32 a.count ≡ fed.u64 (digest (last_made b)) ++ fed.u32 b.count
+        → fed.u64 (digest (hashed_steps a)) ++ fed.u32 a.count ≡ fed.u64 (digest (hashed_steps b)) ++ fed.u32 b.count
     places_hash_alike a b h =
         let same = (place_decides a b).0 h in
         λ i. fed.u64 (digest (last_steps (same.count i) (same.steps i))) ++ fed.u32 (same.count i)

@@ -4,7 +4,7 @@ use Rattle.frames.specs.declared.types.Outcome.{Outcome}
 use Rattle.frames.specs.declared.types.Outcome.TheVariants.{Written}
 use Rattle.answers.specs.Questions.{next_of, operations_of}
 use Rattle.answers.specs.States.{ended_counts}
-use Rattle.answers.proofs.Ranked.{IsRankedTo, decides_acyclic, fewer_missing, missing, more_few, more_ranked, nothing_ended, ranked_none}
+use Rattle.answers.proofs.Ranked.{IsRankedTo, decides_acyclic, fewer_missing, missing, few_with_one, ranked_with_one, nothing_ended, ranked_none}
 use Rattle.answers.proofs.cycles.is_acyclic.Goals as goal
 
 pub loop-p-init : goal.loop-p-init
@@ -39,8 +39,8 @@ loop-p-preserved c =
     let free : is_some (next_of q (ended_counts was) p) ≡ true = ap (λ a. is_some (next_of q (ended_counts a) p)) (sym c.deref.ensures.value) ∙ c.in-Some.ensures.free in
     record {
       each = ap length c.in-Ok.ensures ∙ (length-set was p (get_or was p [] ++ Written ∷ []) ∙ c.loop-p.invariant.each);
-      few = subst (λ (a : List (List Outcome)). (r : ℕ) → ended_counts a r ≤ length (operations_of q r)) (sym c.in-Ok.ensures) (more_few was p there q free c.loop-p.invariant.few);
-      ranked = subst (λ (a : List (List Outcome)). IsRankedTo q (ended_counts a)) (sym c.in-Ok.ensures) (more_ranked was p there q free c.loop-p.invariant.ranked);
+      few = subst (λ (a : List (List Outcome)). (r : ℕ) → ended_counts a r ≤ length (operations_of q r)) (sym c.in-Ok.ensures) (few_with_one was p there q free c.loop-p.invariant.few);
+      ranked = subst (λ (a : List (List Outcome)). IsRankedTo q (ended_counts a)) (sym c.in-Ok.ensures) (ranked_with_one was p there q free c.loop-p.invariant.ranked);
     }
 
 pub returns : goal.returns

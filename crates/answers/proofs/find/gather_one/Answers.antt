@@ -3,13 +3,13 @@ use Rattle.std.specs.List.{list_any}
 use Rattle.answers.specs.declared.found.Possible.{Possible}
 use Rattle.answers.specs.Gathered.{IsGathered}
 use Rattle.answers.specs.laws.StateLaws.{answers_eq}
-use Rattle.answers.proofs.Goals.{passed_over}
+use Rattle.answers.proofs.Goals.{gathered_not_done}
 use Rattle.answers.proofs.Listed.{listed_before, listed_now}
 use Rattle.answers.proofs.find.gather_one.Goals as goal
 
 pub returns-then-not-index : goal.returns-then-not-index
 returns-then-not-index g c s h =
-    passed_over (g.R.Behaves.behaviour c.args.moves.now.register) c.args.moves.now.question.now s.nodes c.args.reached.now.goals.items c.args.reached.now.marks.items s.all.trail.marked s.kept.by_goal
+    gathered_not_done (g.R.Behaves.behaviour c.args.moves.now.register) c.args.moves.now.question.now s.nodes c.args.reached.now.goals.items c.args.reached.now.marks.items s.all.trail.marked s.kept.by_goal
     c.args.index c.index.result.now c.index.ensures s.all.sorted c.args.found.now.items h c.requires.there c.if-not-index.true
 
 pub returns-then-is_listed : goal.returns-then-is_listed

@@ -7,7 +7,7 @@ use Rattle.answers.proofs.find.walk_along.Goals as goal
 
 pub loop-mark-init : goal.loop-mark-init
 loop-mark-init g c = record {
-  building = λ key h. subst (λ (s : List Step). IsBuilding g.R.Behaves.behaviour (g.R.Behaves.behaviour c.args.moves.now.register) c.args.moves.now.question.now key c.args.start s c.args.path.now)
+  building = λ end h. subst (λ (s : List Step). IsBuilding g.R.Behaves.behaviour (g.R.Behaves.behaviour c.args.moves.now.register) c.args.moves.now.question.now end c.args.start s c.args.path.now)
       (sym c.new-steps.ensures.items) h;
   long = ap length c.new-steps.ensures.items;
 }
@@ -40,14 +40,14 @@ loop-mark-preserved g c =
     let i = c.loop-mark.mark-index in
     let path = c.args.path.now in
     record {
-      building = λ key h. subst (λ (s : List Step). IsBuilding is (is r) q key c.in-Ok.next s (drop (i + 1) path)) (sym c.in-Ok-push.ensures.items)
-          (taken_step is (is r) q key c.loop-mark.state c.loop-mark.steps.items c.in-Some.step c.in-Ok.next (drop (i + 1) path) c.step_at.result
-          (taken_at is (is r) q key c.loop-mark.state (g.R.Register.Holds r) (g.R.Register.Reaches r) (g.met.R.Register.lawful r)
-          c.loop-mark.steps.items path i _ c.step_at.result c.loop-mark-test.true (c.loop-mark.invariant.building key h) c.step_at.ensures) c.in-Some.is c.in-Ok.ensures);
+      building = λ end h. subst (λ (s : List Step). IsBuilding is (is r) q end c.in-Ok.next s (drop (i + 1) path)) (sym c.in-Ok-push.ensures.items)
+          (taken_step is (is r) q end c.loop-mark.state c.loop-mark.steps.items c.in-Some.step c.in-Ok.next (drop (i + 1) path) c.step_at.result
+          (taken_at is (is r) q end c.loop-mark.state (g.R.Register.Holds r) (g.R.Register.Reaches r) (g.met.R.Register.lawful r)
+          c.loop-mark.steps.items path i _ c.step_at.result c.loop-mark-test.true (c.loop-mark.invariant.building end h) c.step_at.ensures) c.in-Some.is c.in-Ok.ensures);
       long = ap length c.in-Ok-push.ensures.items ∙ (length_push c.loop-mark.steps.items c.in-Some.step ∙ ap (λ n. n + 1) c.loop-mark.invariant.long);
     }
 
 pub returns-clause-led : goal.returns-clause-led
-returns-clause-led g c key h =
-    subst (IsBuilding g.R.Behaves.behaviour (g.R.Behaves.behaviour c.args.moves.now.register) c.args.moves.now.question.now key c.loop-mark.state c.loop-mark.steps.items)
-    (drop_all c.loop-mark.mark-index c.args.path.now c.loop-mark-test.false) (c.loop-mark.invariant.building key h)
+returns-clause-led g c end h =
+    subst (IsBuilding g.R.Behaves.behaviour (g.R.Behaves.behaviour c.args.moves.now.register) c.args.moves.now.question.now end c.loop-mark.state c.loop-mark.steps.items)
+    (drop_all c.loop-mark.mark-index c.args.path.now c.loop-mark-test.false) (c.loop-mark.invariant.building end h)

@@ -5,7 +5,7 @@ use Rattle.breadth_first.specs.Paths.{IsTrail, depth_at}
 use Rattle.answers.specs.Gathered.{IsBuilding}
 use Rattle.answers.specs.Graphs.{moves_of}
 use Rattle.answers.proofs.Building.{building_first}
-use Rattle.answers.proofs.Goals.{key_at}
+use Rattle.answers.proofs.Goals.{node_at}
 use Rattle.answers.proofs.find.walk_to.Goals as goal
 
 pub path_to-requires-clause-trail : goal.path_to-requires-clause-trail
@@ -21,7 +21,7 @@ walk_along-requires g c =
     let q = c.args.moves.now.question.now in
     let moves = moves_of is q r in
     let s = c.requires.searched in
-    let k = key_at s.nodes c.args.reached.now.marks.items c.args.index c.requires.there s.all.trail.marked in (
+    let k = node_at s.nodes c.args.reached.now.marks.items c.args.index c.requires.there s.all.trail.marked in (
       k.0,
       subst (λ (path : List Mark). IsBuilding is (is r) q k.0 c.in_ok-start.start [] path) (sym c.deref-2.ensures.value)
           (building_first is (is r) q r c.in_ok-start.start k.0 s.nodes c.args.index c.in_ok-path.path.items refl c.in_ok-start.ensures s.all.starts k.1

@@ -7,9 +7,9 @@ use Rattle.branch_terms.proofs.limb.may_share.Goals as goal
 use Rattle.branch_terms.proofs.limb.may_share.Goals.{else-limb-eq0-via-then-limb-eq0+else-limb-eq0-2, else-limb-eq0-via-else-limb-eq0}
 
 -- unless a limb's `from` and `shared` are both 0, the limb at index `from` decides the result
-stem_has_limb : (earlier : List Limb) (l : Limb) → (l.from ≡ 0 → l.shared ≡ 0 → ⊥)
+may_share_by_stem : (earlier : List Limb) (l : Limb) → (l.from ≡ 0 → l.shared ≡ 0 → ⊥)
     → is_own_of (slice_get earlier l.from) l.shared ≡ may_share earlier l
-stem_has_limb earlier l some =
+may_share_by_stem earlier l some =
     let not_none = false_from_ne_true (nat_eq l.from 0 && nat_eq l.shared 0)
     (λ e.
     let p = and_parts (nat_eq l.from 0) (nat_eq l.shared 0) e in
@@ -35,7 +35,7 @@ returns-in_default c =
       | else-limb-eq0-via-else-limb-eq0 w ↦ λ a b. w.if-limb-eq0.false a
     ] in
     let past = ltb-false l.from (length ls) (sym c.in_default.ensures.lookup.0) in
-    sym (ap (λ o. is_own_of o l.shared) (slice_get_past ls l.from past)) ∙ stem_has_limb ls l some
+    sym (ap (λ o. is_own_of o l.shared) (slice_get_past ls l.from past)) ∙ may_share_by_stem ls l some
 
 pub returns-then-parent-limb : goal.returns-then-parent-limb
 returns-then-parent-limb c =
@@ -51,4 +51,4 @@ returns-then-parent-limb c =
     ap (λ steps. nat_le (l.shared - p.shared) (length steps)) c.as_slice.ensures
     ∙ own_within p.shared l.shared (length p.steps) c.if-parent-limb.true
     ∙ sym (ap (λ o. is_own_of o l.shared) there)
-    ∙ stem_has_limb ls l some
+    ∙ may_share_by_stem ls l some

@@ -17,7 +17,7 @@ loop-preserved g c =
     }
 
 pub returns-clause-leads : goal.returns-clause-leads
-returns-clause-leads g c nodes t start key s k =
+returns-clause-leads g c nodes t start node s k =
     let shape = g.G.Graph.shape c.args.graph.now in
-    subst (λ (path : List Mark). LeadsBy shape.labels shape.move nodes start path key) (sym c.reverse.ensures.items)
-    (traced_all shape.labels shape.move nodes c.args.marks.now t c.args.index c.loop.at c.loop.counter c.loop.path.items (c.loop.invariant.traced nodes t) (omega (arith, c.loop-test.false)) start key s k)
+    subst (λ (path : List Mark). LeadsBy shape.labels shape.move nodes start path node) (sym c.reverse.ensures.items)
+    (traced_all shape.labels shape.move nodes c.args.marks.now t c.args.index c.loop.at c.loop.counter c.loop.path.items (c.loop.invariant.traced nodes t) (omega (arith, c.loop-test.false)) start node s k)

@@ -7,7 +7,7 @@ use Rattle.breadth_first.specs.declared.mark.Mark.{Mark}
 use Rattle.breadth_first.specs.declared.mark.Unreached.TheVariants.{TooMany}
 use Rattle.breadth_first.specs.Paths.{depth_at, mark_of_start}
 use Rattle.breadth_first.proofs.Expanded.{depth_low}
-use Rattle.breadth_first.proofs.Searched.{stepped, too_many_discovered}
+use Rattle.breadth_first.proofs.Searched.{search_after, too_many_discovered}
 use Rattle.breadth_first.proofs.reach.follow.Goals as goal
 
 pub overflow_add-depth : goal.overflow_add-depth
@@ -35,7 +35,7 @@ returns-in-Ok-discover-clause-followed g c nodes here searching =
     let within = slice_get_within s.nodes c.args.at c.args.node.now s.here in let marked = s.searching.expanding.trail.marked in omega (arith, within, marked) in
     let read : c.index.result.now.depth ≡ depth_at marks c.args.at = ap (λ (m : Mark). m.depth) (get_or_read marks c.args.at c.index.result.now there c.index.ensures mark_of_start) in
     let moves : shape.move c.args.node.now c.args.label ≡ Some c.in-Some.arrival.node = sym c.in-Ok.ensures.node ∙ ap (option_map (λ a. a.node)) c.in-Some.is in
-    stepped shape g.G.Node.PartialEq.eq g.G.Key.PartialEq.eq (g.G.Graph.Holds c.args.graph.now)
+    search_after shape g.G.Node.PartialEq.eq g.G.Key.PartialEq.eq (g.G.Graph.Holds c.args.graph.now)
     nodes c.args.search.now.reached.keys.keys c.args.search.now.reached.goals.items marks c.args.search.now.queue.items c.args.at searching
     (g.met.G.Graph.same_key c.args.graph.now) g.met.G.Node.Eq.laws (g.met.G.Graph.alike c.args.graph.now)
     c.args.node.now c.in-Some.arrival.node c.args.label (c.index.result.now.depth + 1) c.args.most

@@ -2,7 +2,7 @@ use Rattle.std.proofs.Common.{◌≡◌, ◌∷◌, [], Err, length, ap, sym, �
 use Rattle.std.proofs.lemmas.Result.{err_from_is_err_and}
 use Rattle.breadth_first.specs.declared.mark.Unreached.TheVariants.{TooMany}
 use Rattle.breadth_first.proofs.Expanded.{none_allowed}
-use Rattle.breadth_first.proofs.Searched.{search_begun, no_more_keys}
+use Rattle.breadth_first.proofs.Searched.{search_begun, not_too_many_keys}
 use Rattle.breadth_first.proofs.reach.reach.Goals as goal
 
 pub returns-in_err-discover-clause-too_many : goal.returns-in_err-discover-clause-too_many
@@ -30,7 +30,7 @@ expand_all-requires-clause-searching g c = record {
 
 pub returns-clause-few : goal.returns-clause-few
 returns-clause-few g c =
-    no_more_keys (g.G.Graph.shape c.args.graph.now) g.G.Node.PartialEq.eq g.G.Key.PartialEq.eq (g.G.Graph.Holds c.args.graph.now)
+    not_too_many_keys (g.G.Graph.shape c.args.graph.now) g.G.Node.PartialEq.eq g.G.Key.PartialEq.eq (g.G.Graph.Holds c.args.graph.now)
     g.met.G.Node.Eq.laws (g.met.G.Graph.alike c.args.graph.now)
     c.expand_all.new.search.reached.keys.keys c.expand_all.new.search.reached.goals.items c.expand_all.new.search.reached.marks.items
     c.args.most c.in_ok-expand_all.ensures.all c.in_ok-expand_all.ensures.fits

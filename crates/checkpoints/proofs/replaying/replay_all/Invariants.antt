@@ -1,7 +1,7 @@
 use Rattle.std.proofs.Common.{◌≡◌, length, take, drop, vec_len, vec_capacity}
-use Rattle.checkpoints.specs.Kept.{kept_events}
+use Rattle.checkpoints.specs.StoredEvents.{stored_events}
 use Rattle.checkpoints.specs.Reports.{reported_events}
-use Rattle.checkpoints.proofs.MarkedEvents.{AreFirst}
+use Rattle.checkpoints.proofs.MarkedEvents.{AreReadFirst}
 use Rattle.checkpoints.proofs.Replays.{IsUnderWay}
 use Rattle.checkpoints.proofs.replaying.replay_all.Given as goal
 
@@ -12,8 +12,8 @@ invariant-loop-item g l =
     let made = take l.item-index all in
     let left = drop l.item-index all in
     record {
-      under_way : IsUnderWay g.R.Behaves.behaviour l.fn.entry l.config all left (reported_events made l.marks.items (kept_events l.events.items));
-      are_reported : AreFirst made l.marks.items (kept_events l.events.items);
+      under_way : IsUnderWay g.R.Behaves.behaviour l.fn.entry l.config all left (reported_events made l.marks.items (stored_events l.events.items));
+      are_reported : AreReadFirst made l.marks.items (stored_events l.events.items);
       marks_room : vec_capacity l.marks ≡ length all;
       marked : vec_len l.marks ≡ l.item-index;
     }

@@ -1,8 +1,8 @@
 use Rattle.std.proofs.Common.{◌≡◌, ◌∙◌, ◌+◌, ◌∷◌, ◌++◌, true, map, drop, ap, sym, subst, append-nil}
 use Rattle.frames.specs.Configuration.{fits_step, replayed, history}
-use Rattle.checkpoints.specs.Kept.{kept_events}
+use Rattle.checkpoints.specs.StoredEvents.{stored_events}
 use Rattle.checkpoints.specs.Reports.{reported_events}
-use Rattle.checkpoints.proofs.Replays.{goes_on, left_at, none_left, step_fits, step_kept}
+use Rattle.checkpoints.proofs.Replays.{still_under_way, left_at, none_left, step_fits, still_all_steps}
 use Rattle.checkpoints.proofs.MarkedEvents.{reported_more}
 use Rattle.checkpoints.proofs.replaying.replay_from.Goals as goal
 
@@ -29,14 +29,14 @@ loop-item-preserved g c =
     let rest = map step_in (drop (at.item-index + 1) items) in
     let first = left_at step_in items at.item-index c.item-item.result c.loop-item-test.true c.item-item.is ∙ ap (λ s. s ∷ rest) (sym c.step-step.ensures) in
     let one = c.step-reported.result in
-    let more = reported_more at.steps.items c.push_reserved.new.self.items at.marks.items c.push_reported.new.marks.items (kept_events at.events.items) (kept_events c.push_reported.new.events.items) step one
+    let more = reported_more at.steps.items c.push_reserved.new.self.items at.marks.items c.push_reported.new.marks.items (stored_events at.events.items) (stored_events c.push_reported.new.events.items) step one
     so_far.are_reported c.push_reserved.ensures.items c.in_ok-push_reported.ensures.added in
     record {
-      under_way = goes_on g.R.Behaves.behaviour c.args.entry at.config c.step-reported.new.self step (map step_in items) left rest
-          (reported_events at.steps.items at.marks.items (kept_events at.events.items)) (reported_events c.push_reserved.new.self.items c.push_reported.new.marks.items (kept_events c.push_reported.new.events.items)) one
+      under_way = still_under_way g.R.Behaves.behaviour c.args.entry at.config c.step-reported.new.self step (map step_in items) left rest
+          (reported_events at.steps.items at.marks.items (stored_events at.events.items)) (reported_events c.push_reserved.new.self.items c.push_reported.new.marks.items (stored_events c.push_reported.new.events.items)) one
           first c.step-reported.ensures.after c.step-reported.ensures.events more.reports so_far.under_way;
-      steps = step_kept step left rest first at.steps.items c.push_reserved.new.self.items c.push_reserved.ensures.items ∙ so_far.steps;
-      are_reported = more.kept;
+      steps = still_all_steps step left rest first at.steps.items c.push_reserved.new.self.items c.push_reserved.ensures.items ∙ so_far.steps;
+      are_reported = more.read_first;
       steps_room = c.push_reserved.ensures.capacity ∙ so_far.steps_room;
       made = c.push_reserved.ensures.len ∙ ap (λ n. n + 1) so_far.made;
       marks_room = c.push_reported.ensures.marks_room ∙ so_far.marks_room;
@@ -60,6 +60,6 @@ pub returns-clause-events : goal.returns-clause-events
 returns-clause-events g c =
     let at = c.loop-item in
     let none = none_left g.S.HasStep.step_in c.args.items.now at.item-index c.loop-item-test.false in
-    let made = reported_events at.steps.items at.marks.items (kept_events at.events.items) in
+    let made = reported_events at.steps.items at.marks.items (stored_events at.events.items) in
     let later = history (g.R.Behaves.behaviour c.args.entry.register) at.config in
     c.new-reported.ensures.reported ∙ sym (append-nil made) ∙ ap (λ l. made ++ later l) (sym none) ∙ at.invariant.under_way.events

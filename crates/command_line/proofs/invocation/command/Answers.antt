@@ -16,8 +16,8 @@ numbered : (id : Text) (least most : ℕ) (default : Text) (parser : ValueParser
 numbered id least most default parser option is range = is ∙ ap (λ number. option_rule id number default) range
 
 -- an option isn't global if an equal one isn't
-local : {option like : Arg} → option ≡ like → like.global ≡ false → option.global ≡ false
-local same own = ap (λ (a : Arg). a.global) same ∙ own
+not_global : {option like : Arg} → option ≡ like → like.global ≡ false → option.global ≡ false
+not_global same own = ap (λ (a : Arg). a.global) same ∙ own
 
 pub returns : goal.returns
 returns c =
@@ -36,8 +36,8 @@ returns c =
     ap app_of_fields c.no_binary_name.ensures in
     let first : app_of c.no_binary_name.result ≡ on_top (λ s. record s { no_binary_name = true }) (new_app _) =
     bare ∙ ap (on_top (λ s. record s { no_binary_name = true })) (described ∙ c.new-5.ensures.app) in
-    let with_file = c.in_ok-arg.ensures.shape (local c.help-file.ensures c.new.ensures.optional.1) ∙ ap₂ with_rule first file_is in
-    let with_workers = c.in_ok-arg-2.ensures.shape (local c.help-workers.ensures c.number_option.ensures.own) ∙ ap₂ with_rule with_file workers_are in
-    let with_cells = c.in_ok-arg-3.ensures.shape (local c.help-cells.ensures c.number_option-2.ensures.own) ∙ ap₂ with_rule with_workers cells_are in
-    let with_branches = c.in_ok-arg-4.ensures.shape (local c.help-branches.ensures c.number_option-3.ensures.own) ∙ ap₂ with_rule with_cells branches_are in
-    IfOk-weaker c.arg-5.result _ _ (λ r h. h.shape (local c.help-save.ensures c.path_option.ensures.own) ∙ ap₂ with_rule with_branches (ap rule_of c.help-save.ensures ∙ c.path_option.ensures.rule)) c.arg-5.ensures
+    let with_file = c.in_ok-arg.ensures.shape (not_global c.help-file.ensures c.new.ensures.optional.1) ∙ ap₂ with_rule first file_is in
+    let with_workers = c.in_ok-arg-2.ensures.shape (not_global c.help-workers.ensures c.number_option.ensures.own) ∙ ap₂ with_rule with_file workers_are in
+    let with_cells = c.in_ok-arg-3.ensures.shape (not_global c.help-cells.ensures c.number_option-2.ensures.own) ∙ ap₂ with_rule with_workers cells_are in
+    let with_branches = c.in_ok-arg-4.ensures.shape (not_global c.help-branches.ensures c.number_option-3.ensures.own) ∙ ap₂ with_rule with_cells branches_are in
+    IfOk-weaker c.arg-5.result _ _ (λ r h. h.shape (not_global c.help-save.ensures c.path_option.ensures.own) ∙ ap₂ with_rule with_branches (ap rule_of c.help-save.ensures ∙ c.path_option.ensures.rule)) c.arg-5.ensures

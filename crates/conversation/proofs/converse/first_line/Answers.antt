@@ -19,8 +19,8 @@ none_at_all text none k d less =
     ap is_line_end (get_or_default text k d 0 less)
     ∙ false_from_ne_true (get_or text k 0 == 10) (none k (omega arith) less)
 
-first_kept : (back rest : List ℕ) → back ≡ 10 ∷ rest → back ≡ 10 ∷ take (length back - 1) (drop 1 back)
-first_kept back rest e = e ∙ ap (λ l. 10 ∷ l) (sym (take_rest back 1 ∙ ap (drop 1) e))
+rest_is_taken : (back rest : List ℕ) → back ≡ 10 ∷ rest → back ≡ 10 ∷ take (length back - 1) (drop 1 back)
+rest_is_taken back rest e = e ∙ ap (λ l. 10 ∷ l) (sym (take_rest back 1 ∙ ap (drop 1) e))
 
 -- a text is cut at its first line's end
 cut : (text front back : List ℕ) (end : ℕ) → end < length text → (get_or text end 0 == 10) ≡ true
@@ -30,7 +30,7 @@ cut text front back end less here f b =
     let byte : get_or text end 0 ≡ 10 = eqb-true (get_or text end 0) 10 here in
     let more = drop (end + 1) text in
     let whole : back ≡ 10 ∷ more = b ∙ drop_more text end 0 less ∙ ap (λ x. x ∷ more) byte in
-    sym (take-append-drop end text) ∙ (λ i. sym f i ++ sym b i) ∙ ap (λ l. front ++ l) (first_kept back more whole)
+    sym (take-append-drop end text) ∙ (λ i. sym f i ++ sym b i) ∙ ap (λ l. front ++ l) (rest_is_taken back more whole)
 
 pub returns-in_err-end : goal.returns-in_err-end
 returns-in_err-end c = rw c.from_residual.ensures (none_at_all c.args.text.now c.in_err-end.ensures)

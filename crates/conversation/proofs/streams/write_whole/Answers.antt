@@ -3,12 +3,12 @@ use Rattle.std.proofs.lemmas.List.{take_rest}
 use Rattle.std.proofs.KnownBytes.{Appends-trans}
 use Rattle.conversation.proofs.streams.write_whole.Goals as goal
 
-further : (bytes front rest : List ℕ) (n : ℕ) → bytes ≡ front ++ rest → bytes ≡ (front ++ take n rest) ++ take (length rest - n) (drop n rest)
-further bytes front rest n e =
+written_more : (bytes front rest : List ℕ) (n : ℕ) → bytes ≡ front ++ rest → bytes ≡ (front ++ take n rest) ++ take (length rest - n) (drop n rest)
+written_more bytes front rest n e =
     e ∙ ap (λ xs. front ++ xs) (sym (take-append-drop n rest)) ∙ sym (append_assoc front (take n rest) (drop n rest))
     ∙ ap (λ xs. (front ++ take n rest) ++ xs) (sym (take_rest rest n))
 
 pub writes-preserved : goal.writes-preserved
 writes-preserved g c =
     let so_far = c.writes.invariant in
-    (so_far.0 ++ take c.in-Ok.n c.writes.rest.now, further c.args.bytes.now so_far.0 c.writes.rest.now c.in-Ok.n so_far.1, Appends-trans _ _ _ _ _ so_far.2 c.in-Ok.ensures.bytes)
+    (so_far.0 ++ take c.in-Ok.n c.writes.rest.now, written_more c.args.bytes.now so_far.0 c.writes.rest.now c.in-Ok.n so_far.1, Appends-trans _ _ _ _ _ so_far.2 c.in-Ok.ensures.bytes)

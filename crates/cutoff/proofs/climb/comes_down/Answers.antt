@@ -6,10 +6,10 @@ use Rattle.schedule_trie.proofs.climbs.Climbs.{IsStepUp, step_up}
 use Rattle.cutoff.specs.Fitting.{steps_at}
 use Rattle.cutoff.specs.Links.{without_register, run_checked}
 use Rattle.cutoff.specs.Plans.{FitsDownTo}
-use Rattle.cutoff.proofs.Climbs.{climb_noted, link_same, link_came, climb_ends, climb_down, path_once, past_all, shorter}
+use Rattle.cutoff.proofs.Climbs.{climb_missing, link_same, linked_entry, climb_ends, climb_above, path_once, past_all, step_up_shorter}
 use Rattle.cutoff.specs.Prefixes.{AreFresh, RunsDown}
 use Rattle.cutoff.proofs.Fits.{stored_at}
-use Rattle.cutoff.proofs.Prefixes.{up_new, up_same}
+use Rattle.cutoff.proofs.Prefixes.{runs_to_next, runs_to_equal}
 use Rattle.cutoff.proofs.climb.comes_down.Goals as goal
 use Rattle.cutoff.proofs.climb.comes_down.Goals.{else-loop-test, then-loop-test+in_default}
 
@@ -17,7 +17,7 @@ pub returns-in_default-note : goal.returns-in_default-note
 returns-in_default-note g c = λ i h. (
   (λ e. absurd (true≢false (sym e))),
   (λ d.
-      absurd (climb_noted g.R.PartialEq.eq (g.R.Behaves.behaviour c.args.start.now.register) c.args.trie.now c.in-Some.key c.loop.entry.now c.args.start.now (keys_in c.args.trie.now.branches i) c.loop.at
+      absurd (climb_missing g.R.PartialEq.eq (g.R.Behaves.behaviour c.args.start.now.register) c.args.trie.now c.in-Some.key c.loop.entry.now c.args.start.now (keys_in c.args.trie.now.branches i) c.loop.at
       c.in-Some.is (c.loop.invariant.reached i h) (sym c.step_up-above.ensures.note ∙ ap option_copied c.in_default-note.is) (c.loop.invariant.down i h d))),
 )
 
@@ -63,7 +63,7 @@ loop-preserved g c =
       reached = λ i h. (step i h).reached;
       short = λ i h.
           let keys = keys_in trie.branches i in
-          let up = shorter keys c.in-Some.key c.step_up-above.result.1 (step i h) in
+          let up = step_up_shorter keys c.in-Some.key c.step_up-above.result.1 (step i h) in
           let at = ap (λ o. length (keys_to keys o)) c.in-Some.is in
           let old = was.short i h in
           omega (arith, up, at, old);
@@ -71,20 +71,20 @@ loop-preserved g c =
           let keys = keys_in trie.branches i in
           let here = subst (λ o. FitsDownTo E b trie start (keys_to keys o) c.loop.entry.now) c.in-Some.is (was.down i h d) in
           subst (FitsDownTo E b trie start (keys_to keys c.step_up-above.result.1)) (sym begun)
-          (climb_down E g.met.R.PartialEq.laws g.R.Behaves.behaviour g.met.R.Register.alike trie start c.loop.entry.now keys c.in-Some.key s noted c.entry-begun.ensures.kept
+          (climb_above E g.met.R.PartialEq.laws g.R.Behaves.behaviour g.met.R.Register.alike trie start c.loop.entry.now keys c.in-Some.key s noted c.entry-begun.ensures.kept
           c.step_up-above.result.1 (step i h) here);
       runs = λ i h d.
           let keys = keys_in trie.branches i in
           let links = c.requires.linked.1 in
           let covers = (stored_at E start.register links.exits trie c.in-Some.key s (links.each c.in-Some.key) noted).covers in
-          let to = up_new E g.met.R.PartialEq.laws g.R.Behaves.behaviour g.met.R.Register.alike trie c.in-Some.key s noted c.entry-begun.ensures.kept covers start keys
+          let to = runs_to_next E g.met.R.PartialEq.laws g.R.Behaves.behaviour g.met.R.Register.alike trie c.in-Some.key s noted c.entry-begun.ensures.kept covers start keys
           c.step_up-above.result.1 (step i h) (subst (RunsDown E g.R.Behaves.behaviour trie b start (keys_to keys c.step_up-above.result.1)) begun d) in
           was.runs i h (subst (λ o. RunsDown E g.R.Behaves.behaviour trie b start (keys_to keys o) c.loop.entry.now) (sym c.in-Some.is)
-          (up_same E g.met.R.PartialEq.laws g.R.Behaves.behaviour g.met.R.Register.alike trie c.in-Some.key s noted c.entry-begun.ensures.kept covers start keys
+          (runs_to_equal E g.met.R.PartialEq.laws g.R.Behaves.behaviour g.met.R.Register.alike trie c.in-Some.key s noted c.entry-begun.ensures.kept covers start keys
           c.step_up-above.result.1 (step i h) c.loop.entry.now (c.ends.ensures.0 c.if-not-ends.false) to));
       reached_exit = λ next links a link.
           subst (λ e. (slice_get links.exits a ≡ Some (without_register e)) × (E e.register start.register ≡ true)) (sym begun)
-          (link_came E start.register links.exits (steps_at trie c.in-Some.key) s
+          (linked_entry E start.register links.exits (steps_at trie c.in-Some.key) s
           (stored_at E start.register links.exits trie c.in-Some.key s (links.each c.in-Some.key) noted) a (sym c.link-link.ensures ∙ link));
     }
 
@@ -107,7 +107,7 @@ returns-then-is_from g c = λ i h. (
       let number : run_checked (note_of (segment_at trie.segments c.in-Some.key)) ≡ Some late.0 = ap run_checked noted ∙ sym c.checked.ensures ∙ late.2 in
       let marked = subst (AreFresh E g.R.Behaves.behaviour trie start) late.3 c.requires.fresh c.in-Some.key late.0 number late.4 in
       c.loop.invariant.runs i h (subst (λ o. RunsDown E g.R.Behaves.behaviour trie b start (keys_to keys o) c.loop.entry.now) (sym c.in-Some.is)
-      (up_same E g.met.R.PartialEq.laws g.R.Behaves.behaviour g.met.R.Register.alike trie c.in-Some.key s noted c.entry-begun.ensures.kept covers start keys
+      (runs_to_equal E g.met.R.PartialEq.laws g.R.Behaves.behaviour g.met.R.Register.alike trie c.in-Some.key s noted c.entry-begun.ensures.kept covers start keys
       c.step_up-above.result.1 step c.loop.entry.now (c.ends.ensures.0 c.if-not-ends.false) (marked i there)))),
   (λ d. refl),
 )

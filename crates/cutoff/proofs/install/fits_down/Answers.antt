@@ -4,8 +4,8 @@ use Rattle.schedule_trie.specs.Climbs.{keys_to}
 use Rattle.cutoff.specs.Links.{without_register, IsLinked}
 use Rattle.cutoff.specs.Plans.{FitsDownTo}
 use Rattle.cutoff.specs.Prefixes.{RunsDown}
-use Rattle.cutoff.proofs.Climbs.{above_step, fits_whole, fits_parts, down_steps, number_came}
-use Rattle.cutoff.proofs.Prefixes.{runs_come}
+use Rattle.cutoff.proofs.Climbs.{above_step, fits_whole, fits_parts, down_steps, number_linked}
+use Rattle.cutoff.proofs.Prefixes.{runs_fit}
 use Rattle.cutoff.proofs.install.fits_down.Goals as goal
 
 pub comes_down-requires : goal.comes_down-requires
@@ -52,7 +52,7 @@ returns-clause-fits g c = λ i h. (
       let step = above_step E g.met.R.PartialEq.laws g.R.Behaves.behaviour g.met.R.Register.alike trie c.requires.cut c.args.start.now c.args.key c.above-above.result
       c.above-above.ensures.each i h in
       let down = subst (FitsDownTo E (g.R.Behaves.behaviour c.args.start.now.register) trie c.args.start.now (keys_to (keys_in trie.branches i) c.above-above.result)) c.entry.ensures.entry
-      (runs_come E g.met.R.PartialEq.laws g.R.Behaves.behaviour g.met.R.Register.alike trie (g.R.Behaves.behaviour c.args.start.now.register) c.args.start.now
+      (runs_fit E g.met.R.PartialEq.laws g.R.Behaves.behaviour g.met.R.Register.alike trie (g.R.Behaves.behaviour c.args.start.now.register) c.args.start.now
       (keys_to (keys_in trie.branches i) c.above-above.result) c.entry.result.now ((c.comes_down.ensures i step.reached).0 c.if-not-comes_down.false)) in
       fits_whole E g.met.R.PartialEq.laws g.R.Behaves.behaviour g.met.R.Register.alike trie c.requires.cut c.args.start.now c.args.key c.above-above.result
       c.above-above.ensures.each c.args.run.now i h (sym c.steps.ensures.steps ∙ c.has_steps.ensures.0 c.if-not-has_steps.false) down),
@@ -67,10 +67,10 @@ returns-clause-moved g c = λ e next linked.
     let step = above_step E g.met.R.PartialEq.laws g.R.Behaves.behaviour g.met.R.Register.alike trie c.requires.cut c.args.start.now c.args.key c.above-above.result
     c.above-above.ensures.each live.0 live.1 in
     let down = subst (FitsDownTo E (g.R.Behaves.behaviour c.args.start.now.register) trie c.args.start.now (keys_to (keys_in trie.branches live.0) c.above-above.result)) c.entry.ensures.entry
-    (runs_come E g.met.R.PartialEq.laws g.R.Behaves.behaviour g.met.R.Register.alike trie (g.R.Behaves.behaviour c.args.start.now.register) c.args.start.now
+    (runs_fit E g.met.R.PartialEq.laws g.R.Behaves.behaviour g.met.R.Register.alike trie (g.R.Behaves.behaviour c.args.start.now.register) c.args.start.now
     (keys_to (keys_in trie.branches live.0) c.above-above.result) c.entry.result.now ((c.comes_down.ensures live.0 step.reached).0 c.if-not-comes_down.false)) in
     subst (λ n. IsLinked E c.args.start.now.register next n (without_register c.args.run.now.entry) trie) (sym c.entry_below-number.ensures.number)
-    (number_came E g.met.R.PartialEq.laws g.R.Behaves.behaviour g.met.R.Register.alike trie c.args.start.now c.args.run.now.entry (keys_in trie.branches live.0) c.above-above.result next _
+    (number_linked E g.met.R.PartialEq.laws g.R.Behaves.behaviour g.met.R.Register.alike trie c.args.start.now c.args.run.now.entry (keys_in trie.branches live.0) c.above-above.result next _
     step.reached (sym c.stored_at.ensures) c.entry_below-number.ensures.kept down linked)
 
 pub returns-clause-runs : goal.returns-clause-runs

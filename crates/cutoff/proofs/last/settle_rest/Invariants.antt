@@ -2,8 +2,8 @@ use Rattle.std.proofs.Common.{◌≡◌, ◌++◌, [], ℕ, List, Option, None, 
 use Rattle.schedule_trie.specs.Trie.{keys_in}
 use Rattle.frames.specs.Configuration.{Configuration}
 use Rattle.cutoff.specs.Links.{IsLinkedAt}
-use Rattle.cutoff.specs.Prefixes.{AreFresh, Hangs, IsLeft, note_named, run_named}
-use Rattle.cutoff.proofs.RestWalks.{IsGoing}
+use Rattle.cutoff.specs.Prefixes.{AreFresh, Hangs, IsLeftToSettle, note_named, run_named}
+use Rattle.cutoff.proofs.RestWalks.{IsRestWalk}
 use Rattle.cutoff.proofs.last.settle_rest.Given as goal
 
 abbrev pub invariant-loop-segment : goal.invariant-loop-segment
@@ -12,8 +12,8 @@ invariant-loop-segment g l =
     let is = g.R.Behaves.behaviour in
     (key : Option ℕ) × record {
       noted : note_named l.trie key ≡ l.above;
-      going : (i count place : ℕ) (left : IsLeft E is l.fn.trie l.start l.rest.front l.rest.keys.items l.rest.top l.key count place i)
-          → (back : List ℕ) × IsGoing E is l.fn.trie l.trie l.start l.key count (keys_in l.fn.trie.branches i) (drop l.segment-index l.segment-items ++ left.hanging.below) back place l.replayed key;
+      walks : (i count place : ℕ) (left : IsLeftToSettle E is l.fn.trie l.start l.rest.front l.rest.keys.items l.rest.top l.key count place i)
+          → (back : List ℕ) × IsRestWalk E is l.fn.trie l.trie l.start l.key count (keys_in l.fn.trie.branches i) (drop l.segment-index l.segment-items ++ left.hanging.below) back place l.replayed key;
       kept : l.last ≡ 0 → run_named l.trie key ≡ run_named l.fn.trie key;
       linked : IsLinkedAt E l.start l.next None l.trie;
       fresh : (first : Option ℕ) → AreFresh E is l.fn.trie l.start first → AreFresh E is l.trie l.start first;
@@ -25,9 +25,9 @@ invariant-loop-below g l =
     let is = g.R.Behaves.behaviour in
     (key : Option ℕ) × record {
       noted : note_named l.trie key ≡ l.above;
-      going : (i count place : ℕ) → IsLeft E is l.fn.trie l.start l.rest.front l.rest.keys.items l.rest.top l.key count place i
-          → (back : List ℕ) × IsGoing E is l.fn.trie l.trie l.start l.key count (keys_in l.fn.trie.branches i) (drop l.below-index l.below-items ++ []) back place l.replayed key;
-      hangs : (i count place : ℕ) → IsLeft E is l.fn.trie l.start l.rest.front l.rest.keys.items l.rest.top l.key count place i
+      walks : (i count place : ℕ) → IsLeftToSettle E is l.fn.trie l.start l.rest.front l.rest.keys.items l.rest.top l.key count place i
+          → (back : List ℕ) × IsRestWalk E is l.fn.trie l.trie l.start l.key count (keys_in l.fn.trie.branches i) (drop l.below-index l.below-items ++ []) back place l.replayed key;
+      hangs : (i count place : ℕ) → IsLeftToSettle E is l.fn.trie l.start l.rest.front l.rest.keys.items l.rest.top l.key count place i
           → (c : Configuration _ _) × Hangs E is l.fn.trie c (drop l.below-index l.below-items);
       linked : IsLinkedAt E l.start l.next None l.trie;
       fresh : (first : Option ℕ) → AreFresh E is l.fn.trie l.start first → AreFresh E is l.trie l.start first;

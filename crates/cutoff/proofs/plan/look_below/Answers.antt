@@ -4,7 +4,7 @@ use Rattle.std.specs.Option.{option_map}
 use Rattle.frames.specs.Recorded.{AllFit}
 use Rattle.cutoff.specs.Fitting.{Fits, RunFits, run_of, steps_at}
 use Rattle.cutoff.specs.Prefixes.{exit_or}
-use Rattle.cutoff.proofs.Prefixes.{entry_came}
+use Rattle.cutoff.proofs.Prefixes.{config_linked}
 use Rattle.cutoff.proofs.Sights.{job, job_is}
 use Rattle.cutoff.proofs.plan.look_below.Goals as goal
 
@@ -12,14 +12,14 @@ pub fitting-requires : goal.fitting-requires
 fitting-requires g c = record {
   linked = (
     c.requires.linked.0,
-    (entry_came g.R.PartialEq.eq g.met.R.Eq.laws g.met.R.PartialEq.laws g.R.Behaves.behaviour c.args.base.now.trie.now c.args.base.now.start.now c.requires.linked.0 c.requires.linked.1
+    (config_linked g.R.PartialEq.eq g.met.R.Eq.laws g.met.R.PartialEq.laws g.R.Behaves.behaviour c.args.base.now.trie.now c.args.base.now.start.now c.requires.linked.0 c.requires.linked.1
         c.args.above _ (sym c.stored_at-above.ensures) c.entry_below-number.ensures.kept _ _ c.entry_below-number.ensures.entry c.entry_below-number.ensures.number).0,
   );
 }
 
 pub job_at-requires : goal.job_at-requires
 job_at-requires g c =
-    let came = entry_came g.R.PartialEq.eq g.met.R.Eq.laws g.met.R.PartialEq.laws g.R.Behaves.behaviour c.args.base.now.trie.now c.args.base.now.start.now c.requires.linked.0 c.requires.linked.1
+    let came = config_linked g.R.PartialEq.eq g.met.R.Eq.laws g.met.R.PartialEq.laws g.R.Behaves.behaviour c.args.base.now.trie.now c.args.base.now.start.now c.requires.linked.0 c.requires.linked.1
     c.args.above _ (sym c.stored_at-above.ensures) c.entry_below-number.ensures.kept _ _ c.in_ok-entry.ensures c.entry_below-number.ensures.number in
     subst (λ b. AllFit b (steps_at c.args.base.now.trie.now c.args.key)) (sym (g.met.R.Register.alike _ _ came.1)) c.requires.fits
 

@@ -1,6 +1,6 @@
 use Rattle.std.proofs.Common.{drop}
 use Rattle.std.proofs.lemmas.List.{drop_all}
-use Rattle.cutoff.proofs.Sights.{planning_starts, planning_ends, at_fits, at_new, at_comes, at_on}
+use Rattle.cutoff.proofs.Sights.{planning_starts, planning_ends, next_fits, next_unseen, next_above, planning_next}
 use Rattle.cutoff.proofs.plan.plan_branch.Goals as goal
 
 pub loop-key-init : goal.loop-key-init
@@ -11,34 +11,34 @@ loop-key-init g c =
 
 pub visit-requires-clause-fits : goal.visit-requires-clause-fits
 visit-requires-clause-fits g c =
-    at_fits g.R.PartialEq.eq g.met.R.PartialEq.laws g.R.Behaves.behaviour g.met.R.Register.alike c.args.base.now.trie.now c.args.base.now.start.now c.args.planning.now.jobs.items c.args.index
+    next_fits g.R.PartialEq.eq g.met.R.PartialEq.laws g.R.Behaves.behaviour g.met.R.Register.alike c.args.base.now.trie.now c.args.base.now.start.now c.args.planning.now.jobs.items c.args.index
     c.as_slice-key-items.result.now c.loop-key.key-index c.loop-key.fits c.loop-key-test.true c.loop-key.invariant c.requires.known.fits
 
 pub visit-requires-clause-seen : goal.visit-requires-clause-seen
-visit-requires-clause-seen g c = c.loop-key.invariant.seen_so
+visit-requires-clause-seen g c = c.loop-key.invariant.are_seen
 
 pub visit-requires-clause-new : goal.visit-requires-clause-new
 visit-requires-clause-new g c =
-    at_new g.R.PartialEq.eq g.met.R.PartialEq.laws g.R.Behaves.behaviour g.met.R.Register.alike c.args.base.now.trie.now c.args.base.now.start.now c.args.planning.now.jobs.items c.args.index
+    next_unseen g.R.PartialEq.eq g.met.R.PartialEq.laws g.R.Behaves.behaviour g.met.R.Register.alike c.args.base.now.trie.now c.args.base.now.start.now c.args.planning.now.jobs.items c.args.index
     c.as_slice-key-items.result.now c.loop-key.key-index c.loop-key.fits c.loop-key-test.true c.loop-key.invariant
 
 pub visit-requires-clause-arrives : goal.visit-requires-clause-arrives
 visit-requires-clause-arrives g c = (
   c.args.planning.now.jobs.items,
-  at_comes g.R.PartialEq.eq g.met.R.PartialEq.laws g.R.Behaves.behaviour g.met.R.Register.alike c.args.base.now.trie.now c.args.base.now.start.now c.args.planning.now.jobs.items c.args.index
+  next_above g.R.PartialEq.eq g.met.R.PartialEq.laws g.R.Behaves.behaviour g.met.R.Register.alike c.args.base.now.trie.now c.args.base.now.start.now c.args.planning.now.jobs.items c.args.index
       c.as_slice-key-items.result.now c.loop-key.key-index c.loop-key.fits c.loop-key-test.true c.loop-key.invariant,
 )
 
 pub loop-key-preserved : goal.loop-key-preserved
 loop-key-preserved g c =
-    let comes = at_comes g.R.PartialEq.eq g.met.R.PartialEq.laws g.R.Behaves.behaviour g.met.R.Register.alike c.args.base.now.trie.now c.args.base.now.start.now c.args.planning.now.jobs.items c.args.index
+    let comes = next_above g.R.PartialEq.eq g.met.R.PartialEq.laws g.R.Behaves.behaviour g.met.R.Register.alike c.args.base.now.trie.now c.args.base.now.start.now c.args.planning.now.jobs.items c.args.index
     c.as_slice-key-items.result.now c.loop-key.key-index c.loop-key.fits c.loop-key-test.true c.loop-key.invariant in
-    at_on g.R.PartialEq.eq g.met.R.PartialEq.laws g.R.Behaves.behaviour g.met.R.Register.alike c.args.base.now.trie.now c.args.base.now.start.now c.args.planning.now.jobs.items c.args.index
+    planning_next g.R.PartialEq.eq g.met.R.PartialEq.laws g.R.Behaves.behaviour g.met.R.Register.alike c.args.base.now.trie.now c.args.base.now.start.now c.args.planning.now.jobs.items c.args.index
     c.as_slice-key-items.result.now c.loop-key.key-index c.loop-key.fits c.loop-key-test.true c.loop-key.invariant
     c.requires.known.cut c.in_ok-fits-2.ensures.seen c.in_ok-fits-2.ensures.others (c.in_ok-fits-2.ensures.arrives c.args.planning.now.jobs.items comes)
 
 pub returns-clause-seen : goal.returns-clause-seen
-returns-clause-seen g c = c.loop-key.invariant.seen_so
+returns-clause-seen g c = c.loop-key.invariant.are_seen
 
 pub returns-clause-adds : goal.returns-clause-adds
 returns-clause-adds g c =

@@ -3,10 +3,10 @@ use Rattle.schedule_trie.specs.Trie.{keys_in}
 use Rattle.schedule_trie.specs.Climbs.{keys_to, HasClimbedTo}
 use Rattle.schedule_trie.proofs.climbs.Climbs.{IsLast, last_is, step_up}
 use Rattle.schedule_trie.proofs.limbs.OwnParts.{climbing_first, climbing_up}
-use Rattle.cutoff.specs.Known.{IsDown}
+use Rattle.cutoff.specs.Known.{IsKnownDownTo}
 use Rattle.cutoff.specs.Prefixes.{IsMarked}
 use Rattle.cutoff.specs.Sights.{IsKnownAt}
-use Rattle.cutoff.proofs.Climbs.{path_once, shorter}
+use Rattle.cutoff.proofs.Climbs.{path_once, step_up_shorter}
 use Rattle.cutoff.proofs.Sights.{IsUnseen, known_at, unseen_part}
 use Rattle.cutoff.proofs.plan.unseen_keys.Goals as goal
 
@@ -21,7 +21,7 @@ loop-at-smaller g c =
     let keys = keys_in c.args.base.now.trie.now.branches c.args.index in
     let s = step_up keys c.in-Some.key c.step_up_from-above.result.1 (path_once c.args.base.now.trie.now c.requires.known.cut c.args.index) (subst (HasClimbedTo keys) c.in-Some.is c.loop-at.invariant.climbing.reached)
     (λ front back e. c.step_up_from-above.ensures.each c.args.index front back e) in
-    let fewer = shorter keys c.in-Some.key c.step_up_from-above.result.1 s in
+    let fewer = step_up_shorter keys c.in-Some.key c.step_up_from-above.result.1 s in
     let at = ap (λ o. length (keys_to keys o)) c.in-Some.is in
     omega (arith, fewer, at)
 
@@ -38,7 +38,7 @@ returns-in-Some-known g c =
     let keys = keys_in c.args.base.now.trie.now.branches c.args.index in
     let Marked = λ (k : ℕ). IsMarked g.R.PartialEq.eq g.R.Behaves.behaviour c.args.base.now.trie.now c.args.base.now.start.now (Some k) in
     unseen_part c.args.seen.now keys Marked c.loop-at.at c.loop-at.keys.items c.reverse.new.self.items c.in-Some-known.fits c.loop-at.invariant.climbing
-    (subst (λ o. IsKnownAt Marked c.args.seen.now o c.in-Some-known.fits) (sym c.in-Some.is) (known_at Marked c.args.seen.now c.in-Some.key c.is_down.result c.in-Some-known.fits (λ down. c.requires.known.down c.in-Some.key (subst (IsDown c.args.base.now.known c.in-Some.key) c.step_up_from-above.ensures.note (c.is_down.ensures down))) c.in-Some-known.ensures))
+    (subst (λ o. IsKnownAt Marked c.args.seen.now o c.in-Some-known.fits) (sym c.in-Some.is) (known_at Marked c.args.seen.now c.in-Some.key c.is_known_down_to.result c.in-Some-known.fits (λ down. c.requires.known.down c.in-Some.key (subst (IsKnownDownTo c.args.base.now.known c.in-Some.key) c.step_up_from-above.ensures.note (c.is_known_down_to.ensures down))) c.in-Some-known.ensures))
     c.reverse.ensures.items
 
 pub returns : goal.returns

@@ -3,10 +3,10 @@ use Rattle.std.proofs.lemmas.List.{length-append, reverse-append}
 use Rattle.schedule_trie.specs.Trie.{has, keys_in}
 use Rattle.schedule_trie.specs.Climbs.{keys_to, HasClimbedTo}
 use Rattle.schedule_trie.proofs.climbs.Climbs.{IsStepUp, step_up}
-use Rattle.cutoff.proofs.Climbs.{path_once, past_all, shorter}
-use Rattle.cutoff.proofs.Prefixes.{other_key, by_other}
+use Rattle.cutoff.proofs.Climbs.{path_once, past_all, step_up_shorter}
+use Rattle.cutoff.proofs.Prefixes.{climb_key_differs, has_unless_last}
 use Rattle.cutoff.proofs.prefix.keys_up_to.Goals as goal
-use Rattle.branch_terms.proofs.Lists.{same_key}
+use Rattle.branch_terms.proofs.Lists.{keys_from_eq}
 use Rattle.cutoff.proofs.prefix.keys_up_to.Given.{Over}
 
 pub loop-preserved : goal.loop-preserved
@@ -26,11 +26,11 @@ loop-preserved g c =
       ahead = λ i f h e there.
           let keys = keys_in trie.branches i in
           let on = subst (λ l. has f l ≡ true) (ap (keys_to keys) c.in-Some.is ∙ (step i h).is) (was.ahead i f h e there) in
-          by_other f c.in-Some.key (keys_to keys c.above-at.result) on (other_key f c.in-Some.key c.loop.at c.args.front e c.in-Some.is (sym c.if-eq.ensures));
+          has_unless_last f c.in-Some.key (keys_to keys c.above-at.result) on (climb_key_differs f c.in-Some.key c.loop.at c.args.front e c.in-Some.is (sym c.if-eq.ensures));
       more = let grown = ap length c.in_ok-push.ensures.items ∙ length-append c.loop.keys.items (c.in-Some.key ∷ []) in let old = was.more in omega (arith, grown, old);
       short = λ i h.
           let keys = keys_in trie.branches i in
-          let up = shorter keys c.in-Some.key c.above-at.result (step i h) in
+          let up = step_up_shorter keys c.in-Some.key c.above-at.result (step i h) in
           let at = ap (λ o. length (keys_to keys o)) c.in-Some.is in
           let old = was.short i h in
           omega (arith, up, at, old);
@@ -53,4 +53,4 @@ returns-after-loop-clause-stops g c = λ i f h e there.
 
 pub returns-then-eq-clause-following : goal.returns-then-eq-clause-following
 returns-then-eq-clause-following g c =
-    (inl (same_key c.loop.at c.args.front (sym c.if-eq.ensures)), λ i h. (c.loop.invariant.reached i h, c.loop.invariant.path i h))
+    (inl (keys_from_eq c.loop.at c.args.front (sym c.if-eq.ensures)), λ i h. (c.loop.invariant.reached i h, c.loop.invariant.path i h))

@@ -12,16 +12,16 @@ use Rattle.schedule_trie.specs.Climbs.{keys_to, keys_up_to, HasClimbedTo}
 use Rattle.schedule_trie.proofs.climbs.Climbs.{step_up}
 use Rattle.cutoff.specs.declared.known.Known.{Known}
 use Rattle.cutoff.specs.Fitting.{StoredRun}
-use Rattle.cutoff.specs.Known.{IsDown, AreKnown}
+use Rattle.cutoff.specs.Known.{IsKnownDownTo, AreKnown}
 use Rattle.cutoff.specs.Prefixes.{RunsDown, IsMarked, IsTop}
-use Rattle.cutoff.proofs.Climbs.{few_to, path_once, some_to}
+use Rattle.cutoff.proofs.Climbs.{keys_to_few, path_once, keys_up_to_some}
 use Rattle.cutoff.proofs.Fits.{stored_at}
 use Rattle.cutoff.proofs.HungRuns.{hung_here}
-use Rattle.cutoff.proofs.LeftToSettle.{known_front}
-use Rattle.cutoff.proofs.Prefixes.{up_new, none_known}
+use Rattle.cutoff.proofs.LeftToSettle.{known_bottom}
+use Rattle.cutoff.proofs.Prefixes.{runs_to_next, none_known}
 use Rattle.cutoff.proofs.prefix.known_prefix.Given.{Over}
 use Rattle.cutoff.proofs.prefix.known_prefix.Goals as goal
-use Rattle.cutoff.proofs.prefix.known_prefix.Goals.{then-is_down-via-then-is_down, then-is_down-via-else-is_down+then-begins_at}
+use Rattle.cutoff.proofs.prefix.known_prefix.Goals.{then-is_known_down_to-via-then-is_known_down_to, then-is_known_down_to-via-else-is_known_down_to+then-begins_at}
 
 pub loop-init : goal.loop-init
 loop-init g c = record {
@@ -43,27 +43,27 @@ first_down E per is alike trie start known all_known top (Some s) above t none m
     let keys = keys_in trie.branches i in
     let linked = all_known.linked.1 in
     let step = step_up keys top above (path_once trie all_known.cut i) h (λ front back e. t.each i front back e) in
-    up_new E per is alike trie top s (sym t.noted) m.1 (stored_at E start.register linked.exits trie top s (linked.each top) (sym t.noted)).covers start keys above step
+    runs_to_next E per is alike trie top s (sym t.noted) m.1 (stored_at E start.register linked.exits trie top s (linked.each top) (sym t.noted)).covers start keys above step
     (subst (λ o. RunsDown E is trie (is start.register) start (keys_to keys o) s.run.entry) (sym none) m.0)
 
 -- runs fit down to the segment at which the last climb ended
-down_to_top : (g : Over) (c : goal.Joined-then-is_down g) → IsMarked g.R.PartialEq.eq g.R.Behaves.behaviour c.args.trie.now c.args.start.now (Some c.loop.top.key)
+down_to_top : (g : Over) (c : goal.Joined-then-is_known_down_to g) → IsMarked g.R.PartialEq.eq g.R.Behaves.behaviour c.args.trie.now c.args.start.now (Some c.loop.top.key)
 down_to_top g c =
     let top = c.loop.top.key in
     let E = g.R.PartialEq.eq in
     let is = g.R.Behaves.behaviour in
     let trie = c.args.trie.now in
     let start = c.args.start.now in
-    elim c.then-is_down.branch [
-      | then-is_down-via-then-is_down w ↦ c.requires.known.down top (subst (IsDown c.args.known.now top) c.loop.invariant.top.noted (c.is_down.ensures w.if-is_down.true))
-      | then-is_down-via-else-is_down+then-begins_at w ↦
+    elim c.then-is_known_down_to.branch [
+      | then-is_known_down_to-via-then-is_known_down_to w ↦ c.requires.known.down top (subst (IsKnownDownTo c.args.known.now top) c.loop.invariant.top.noted (c.is_known_down_to.ensures w.if-is_known_down_to.true))
+      | then-is_known_down_to-via-else-is_known_down_to+then-begins_at w ↦
           let first = w.begins_at.ensures w.if-begins_at.true in
           first_down E g.met.R.PartialEq.laws is g.met.R.Register.alike trie start c.args.known.now c.requires.known top (option_copied c.loop.top.stored) c.loop.top.above c.loop.invariant.top first.0 first.1
     ]
 
-pub returns-then-is_down-clause-known : goal.returns-then-is_down-clause-known
-returns-then-is_down-clause-known g c =
-    known_front g.R.PartialEq.eq g.met.R.PartialEq.laws g.R.Behaves.behaviour g.met.R.Register.alike c.args.trie.now c.args.start.now c.args.first.key c.loop.top.key c.loop.front c.loop.invariant.there c.loop.invariant.hung
+pub returns-then-is_known_down_to-clause-known : goal.returns-then-is_known_down_to-clause-known
+returns-then-is_known_down_to-clause-known g c =
+    known_bottom g.R.PartialEq.eq g.met.R.PartialEq.laws g.R.Behaves.behaviour g.met.R.Register.alike c.args.trie.now c.args.start.now c.args.first.key c.loop.top.key c.loop.front c.loop.invariant.there c.loop.invariant.hung
     (down_to_top g c)
 
 -- the next segment, right above the one at which the climb ended, is on each branch with `first`
@@ -112,8 +112,8 @@ unreachable-requires g c =
     let keys = keys_in c.args.trie.now.branches i in
     let all = ap length (c.loop.invariant.path i h) ∙ length-append (keys_up_to c.loop.front keys) (reverse c.loop.keys.items) in
     let passed = length-reverse c.loop.keys.items in
-    let some = some_to keys c.loop.front (c.loop.invariant.there i h) in
-    let few = few_to keys (Some c.args.first.key) h in
+    let some = keys_up_to_some keys c.loop.front (c.loop.invariant.there i h) in
+    let few = keys_to_few keys (Some c.args.first.key) h in
     let made = c.made-end.ensures.few i in
     let short = c.loop.invariant.short in
     let end = c.loop-test.false in

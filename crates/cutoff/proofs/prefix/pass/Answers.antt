@@ -9,8 +9,8 @@ use Rattle.cutoff.proofs.Climbs.{path_once}
 use Rattle.cutoff.proofs.prefix.pass.Goals as goal
 
 -- moving `front` from the end of the keys above to the start of those below keeps the order
-put_before : (up below keys new : List ℕ) (front : ℕ) → keys ≡ up ++ front ∷ [] → new ≡ below ++ front ∷ [] → keys ++ reverse below ≡ up ++ reverse new
-put_before up below keys new front is pushed =
+order_kept : (up below keys new : List ℕ) (front : ℕ) → keys ≡ up ++ front ∷ [] → new ≡ below ++ front ∷ [] → keys ++ reverse below ≡ up ++ reverse new
+order_kept up below keys new front is pushed =
     ap (λ l. l ++ reverse below) is ∙ append_assoc up (front ∷ []) (reverse below) ∙ ap (λ l. up ++ l) (sym (ap reverse pushed ∙ reverse-append below (front ∷ [])))
 
 pub returns-then-top-front-clause-following : goal.returns-then-top-front-clause-following
@@ -22,7 +22,7 @@ returns-then-top-front-clause-following g c = (
       let there = subst (λ k. has k keys ≡ true) (sym same) h in
       let step = step_up keys c.args.top.now.key c.args.top.now.above (path_once c.args.trie.now c.requires.cut i) there (λ front back e. c.requires.top.each i front back e) in (
         step.reached,
-        put_before (keys_to keys c.args.top.now.above) c.args.keys.now.items (keys_up_to c.args.front keys) c.push.new.self.items c.args.front
+        order_kept (keys_to keys c.args.top.now.above) c.args.keys.now.items (keys_up_to c.args.front keys) c.push.new.self.items c.args.front
             (subst (λ k. keys_up_to k keys ≡ keys_to keys c.args.top.now.above ++ k ∷ []) same step.is) c.in_ok-push.ensures.items,
       ),
 )
@@ -44,5 +44,5 @@ returns-clause-following g c =
           let keys = keys_in trie.branches i in
           let step = step_up keys c.args.front c.above.result (path_once trie c.requires.cut i) h (λ front back e. c.above.ensures.each i front back e) in
           let passed = following.1 i step.reached in
-          (passed.0, put_before (keys_to keys c.above.result) c.args.keys.now.items (keys_up_to c.args.front keys) pushed c.args.front step.is c.in_ok-push.ensures.items ∙ passed.1),
+          (passed.0, order_kept (keys_to keys c.above.result) c.args.keys.now.items (keys_up_to c.args.front keys) pushed c.args.front step.is c.in_ok-push.ensures.items ∙ passed.1),
     )) c.keys_up_to.ensures.following

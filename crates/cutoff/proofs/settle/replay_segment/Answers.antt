@@ -4,7 +4,7 @@ use Rattle.std.specs.Arc.{arc_value}
 use Rattle.schedule_trie.specs.Forest.{step_of}
 use Rattle.checkpoints.specs.Segment.{IsRun}
 use Rattle.schedule_trie.specs.Trie.{segment_at, slots_of, IsNoted}
-use Rattle.schedule_trie.proofs.edits.PushSteps.{on_err}
+use Rattle.schedule_trie.proofs.edits.PushSteps.{always_on_err}
 use Rattle.cutoff.specs.Fitting.{steps_at}
 use Rattle.cutoff.specs.Links.{without_register}
 use Rattle.cutoff.proofs.Links.{linked_none}
@@ -43,16 +43,16 @@ returns-clause-linked g c =
     c.new-3.ensures.link c.new-3.ensures.checked c.new-3.ensures.id c.take_number-id.ensures)
 
 pub returns-in_err-made-clause-unchanged : goal.returns-in_err-made-clause-unchanged
-returns-in_err-made-clause-unchanged g c = on_err c.from_residual.result _ (refl, refl)
+returns-in_err-made-clause-unchanged g c = always_on_err c.from_residual.result _ (refl, refl)
 
 pub returns-in_err-run-clause-unchanged : goal.returns-in_err-run-clause-unchanged
-returns-in_err-run-clause-unchanged g c = on_err c.from_residual-in_err-run.result _ (refl, refl)
+returns-in_err-run-clause-unchanged g c = always_on_err c.from_residual-in_err-run.result _ (refl, refl)
 
-few_fit : (n m : ℕ) → n ≡ m → m ≤ 128 → n < 4294967296
-few_fit n m same few = omega arith
+fits_u32 : (n m : ℕ) → n ≡ m → m ≤ 128 → n < 4294967296
+fits_u32 n m same few = omega arith
 
 pub overflow_cast-replayed : goal.overflow_cast-replayed
 overflow_cast-replayed g c =
     let same : length c.segment_cells-cells.result.now ≡ length (steps_at c.args.trie.now c.args.key) =
     ap length c.segment_cells-cells.ensures ∙ sym (length-map (slots_of (segment_at c.args.trie.now.segments c.args.key)) step_of) in
-    record { fits = few_fit _ _ same c.requires.short }
+    record { fits = fits_u32 _ _ same c.requires.short }

@@ -1,7 +1,7 @@
 use Rattle.std.proofs.Common.{◌≡◌, List, [], ◌++◌, sym, ap, subst, ◌∙◌}
 use Rattle.safe_bit.specs.Parts.{origin, with_part}
 use Rattle.safe_bit.specs.laws.Parts.{part-whole, with_part-whole}
-use Rattle.frames.specs.Flat.{ended, left_frames}
+use Rattle.frames.specs.Flat.{outcome_of, left_frames}
 use Rattle.frames.proofs.own.begin_own.Goals as goal
 
 no_frames_left : {A : Type 0} (left front own same : List A)
@@ -26,7 +26,7 @@ returns g c =
     let inner = lawful.begins_well who op m c.requires.holds c.requires.fits in
     let lands = c.begin_on.ensures in
     record {
-      answer = lands.answer ∙ ap (λ q. ended (b.begins who op q).next) whole;
+      answer = lands.answer ∙ ap (λ q. outcome_of (b.begins who op q).next) whole;
       stack = no_frames_left _ _ _ _ lands.stack c.requires.idle
           (ap (λ q. left_frames b.frames (b.begins who op q).next) whole);
       memory = lands.memory ∙ ap (λ q. with_part origin (b.begins who op q).memory m) whole

@@ -1,7 +1,7 @@
 use Rattle.std.proofs.Common.{sym, subst, ap, ◌∙◌}
 use Rattle.safe_bit.specs.Parts.{origin, with_part}
 use Rattle.safe_bit.specs.laws.Parts.{part-whole, with_part-whole}
-use Rattle.frames.specs.Flat.{ended, left_frames}
+use Rattle.frames.specs.Flat.{outcome_of, left_frames}
 use Rattle.frames.specs.Placed.{placed_bit}
 use Rattle.frames.proofs.Stacks.{bit_at_origin}
 use Rattle.frames.proofs.own.go_own.Goals as goal
@@ -17,7 +17,7 @@ returns-clause-arrives g c =
     let lands = c.go_on.ensures.lands o p on in
     let inner = lawful.goes_well c.args.who o p c.args.choice m c.requires.holds on.reached in
     record {
-      answer = lands.answer ∙ ap (λ q. ended (b.goes p c.args.choice q).next) whole;
+      answer = lands.answer ∙ ap (λ q. outcome_of (b.goes p c.args.choice q).next) whole;
       stack = lands.stack ∙ ap (λ q. left_frames b.frames (b.goes p c.args.choice q).next) whole;
       memory = lands.memory ∙ ap (λ q. with_part origin (b.goes p c.args.choice q).memory m) whole
           ∙ with_part-whole b.size (b.goes p c.args.choice m).memory m (lawful.size_holds _ inner.holds) size;

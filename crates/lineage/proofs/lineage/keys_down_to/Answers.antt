@@ -2,18 +2,18 @@ use Rattle.std.proofs.Common.{ℕ, ◌<◌, List, [], ◌∷◌, ◌++◌, lengt
 use Rattle.std.proofs.lemmas.List.{append_assoc}
 use Rattle.lineage.specs.Climbs.{Ends}
 use Rattle.lineage.specs.Lineages.{above_node, keys_up}
-use Rattle.lineage.proofs.Walks.{onward, no_end}
+use Rattle.lineage.proofs.Walks.{steps_up, no_end}
 use Rattle.lineage.proofs.lineage.keys_down_to.Goals as goal
 
 pub loop-at-smaller-in-Some-get : goal.loop-at-smaller-in-Some-get
 loop-at-smaller-in-Some-get g c =
     subst (λ o. length (keys_up c.args.nodes.now.slots o) < length (keys_up c.args.nodes.now.slots c.loop-at.at)) (sym c.get-at.ensures)
-    (onward c.args.nodes.now.slots c.loop-at.at c.in-Some.key c.in-Some-get.node.now c.loop-at.invariant.ends c.in-Some.is (sym c.in-Some-get.ensures)).shorter
+    (steps_up c.args.nodes.now.slots c.loop-at.at c.in-Some.key c.in-Some-get.node.now c.loop-at.invariant.ends c.in-Some.is (sym c.in-Some-get.ensures)).shorter
 
 pub loop-at-preserved-in-Some-get : goal.loop-at-preserved-in-Some-get
 loop-at-preserved-in-Some-get g c =
     let s = c.args.nodes.now.slots in
-    let u = onward s c.loop-at.at c.in-Some.key c.in-Some-get.node.now c.loop-at.invariant.ends c.in-Some.is (sym c.in-Some-get.ensures) in
+    let u = steps_up s c.loop-at.at c.in-Some.key c.in-Some-get.node.now c.loop-at.invariant.ends c.in-Some.is (sym c.in-Some-get.ensures) in
     let rest = keys_up s c.get-at.result in
     record {
       ends = subst (Ends (above_node s)) (sym c.get-at.ensures) u.ends;

@@ -5,7 +5,7 @@ use Rattle.frames.specs.Configuration.{events_of, fits_step, replayed, stepped}
 use Rattle.cutoff.proofs.Fits.{register_kept}
 use Rattle.pages.specs.Breaks.{is_met}
 use Rattle.sessions.specs.Seeks.{next_place, places_with}
-use Rattle.sessions.proofs.Runs.{made_next, recorded_next}
+use Rattle.sessions.proofs.Runs.{replayed_next, events_next}
 use Rattle.sessions.proofs.seek.along_steps.Goals as goal
 
 pub step-events-requires : goal.step-events-requires
@@ -30,7 +30,7 @@ loop-i-preserved g c =
     let item : s ≡ get_or steps i s = get_or_default steps i (Write 0 0) s within in
     let own : is now.register ≡ b = ap (λ d. is d.register) c.loop-i.invariant.config ∙ ap is (register_kept b first (take i steps)) in
     let after : c.step-events.new.self ≡ replayed b first (take (i + 1) steps) =
-    c.step-events.ensures.after ∙ ap (λ d. stepped d now s) own ∙ ap (λ d. stepped b d s) c.loop-i.invariant.config ∙ sym (made_next b first steps i s within item) in
+    c.step-events.ensures.after ∙ ap (λ d. stepped d now s) own ∙ ap (λ d. stepped b d s) c.loop-i.invariant.config ∙ sym (replayed_next b first steps i s within item) in
     let events : c.step-events.result ≡ events_of b (replayed b first (take i steps)) s =
     c.step-events.ensures.events ∙ ap (λ d. events_of d now s) own ∙ ap (λ d. events_of b d s) c.loop-i.invariant.config in
     let here : (place + i) + 1 ≡ (place + 1) + i = omega arith in
@@ -39,7 +39,7 @@ loop-i-preserved g c =
       config = after;
       found = λ test each start.
           let tested : test ((place + 1) + i) ≡ c.is_met-hit.result =
-          each i within ∙ ap (λ es. is_met c.args.search.now.breaks.now es (replayed b first (take (i + 1) steps)).memory) (recorded_next b first steps i s within item ∙ sym events)
+          each i within ∙ ap (λ es. is_met c.args.search.now.breaks.now es (replayed b first (take (i + 1) steps)).memory) (events_next b first steps i s within item ∙ sym events)
           ∙ ap (λ d. is_met c.args.search.now.breaks.now c.step-events.result d.memory) (sym after) ∙ sym c.is_met-hit.ensures in
           subst (λ n. c.with_place-found.result ≡ next_place c.args.search.now.way c.args.search.now.from (places_with test n)) next
           (c.with_place-found.ensures test tested

@@ -5,7 +5,7 @@ use Rattle.cutoff.specs.Fitting.{counted, part_of}
 use Rattle.pages.specs.Breaks.{is_met}
 use Rattle.views.specs.Looks.{steps_in}
 use Rattle.sessions.specs.Seeks.{next_place, no_events, places_with, is_hit}
-use Rattle.sessions.specs.Bounds.{IsPlace}
+use Rattle.sessions.specs.Bounds.{FitsU32}
 use Rattle.sessions.specs.Walks.{ReportsParts}
 use Rattle.sessions.proofs.NextHits.{next_is_hit}
 use Rattle.sessions.proofs.seek.next_hit.Goals as goal
@@ -46,4 +46,4 @@ returns-clause-met g c =
     (found g c)
 
 pub along_runs-requires : goal.along_runs-requires
-along_runs-requires g c = record { room = subst (λ rs. IsPlace (counted rs)) (sym c.as_slice.ensures) c.in_ok-runs.ensures.room }
+along_runs-requires g c = record { room = subst (λ rs. FitsU32 (counted rs)) (sym c.as_slice.ensures) c.in_ok-runs.ensures.room }

@@ -1,4 +1,4 @@
-use Rattle.tower_file.specs.Said.{as_bench}
+use Rattle.tower_file.specs.Parsed.{as_bench}
 use Rattle.tower_file.specs.BenchSpelling.{SpellsFront}
 use Rattle.tower_file.proofs.Formats.{parses, plain_memory}
 use Rattle.tower_file.proofs.BenchAnswers.{bench_format}

@@ -5,7 +5,7 @@ use Rattle.words.specs.Steps.{step_of_words}
 use Rattle.tower_file.specs.declared.fault.FileFault.{FileFault}
 use Rattle.tower_file.specs.Faults.{Gives}
 use Rattle.tower_file.specs.BenchReading.{then_line, limbs_at_end, limbs_of}
-use Rattle.tower_file.proofs.BenchAnswers.{at_end, fewer, goes_on, fails, memory_on_line, is_then_step}
+use Rattle.tower_file.proofs.BenchAnswers.{at_end, fewer_after_line, so_far_after_line, fails, memory_on_line, is_then_step}
 use Rattle.tower_file.proofs.bench_reading.limbs_of.Goals as goal
 
 pub returns-then-is_end-clause-read : goal.returns-then-is_end-clause-read
@@ -40,8 +40,8 @@ reading-preserved c =
     let said = ap (then_line c.args.tower.now c.reading.number c.reading.limbs) (sym (c.next-line.ensures.part ∙ ap next kept)) ∙ c.in_ok-add_line.ensures.read in
     let left = c.next-line.ensures.left ∙ ap after_next kept in
     record {
-      few = omega (arith, c.reading.invariant.few, fewer c.reading.lines whole, ap length left);
-      so_far = goes_on c.reading.invariant.so_far whole c.add_line.new.limbs c.next-line.new.self said left;
+      few = omega (arith, c.reading.invariant.few, fewer_after_line c.reading.lines whole, ap length left);
+      so_far = so_far_after_line c.reading.invariant.so_far whole c.add_line.new.limbs c.next-line.new.self said left;
     }
 
 pub returns-in_err-add_step-clause-read : goal.returns-in_err-add_step-clause-read
@@ -68,6 +68,6 @@ reading-preserved-in-Some c =
     let left : c.next_step.new.self ≡ after_next c.reading.lines = search rules in
     let said = is_then_step c.args.tower.now c.reading.number c.reading.limbs line c.in-Some.step spelled ∙ c.in_ok-add_step.ensures.read line spelled in
     record {
-      few = omega (arith, c.reading.invariant.few, fewer c.reading.lines whole, ap length left);
-      so_far = goes_on c.reading.invariant.so_far whole c.add_step.new.limbs c.next_step.new.self said left;
+      few = omega (arith, c.reading.invariant.few, fewer_after_line c.reading.lines whole, ap length left);
+      so_far = so_far_after_line c.reading.invariant.so_far whole c.add_step.new.limbs c.next_step.new.self said left;
     }

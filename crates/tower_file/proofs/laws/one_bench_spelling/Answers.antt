@@ -6,4 +6,4 @@ pub returns-clause-file : goal.returns-clause-file
 returns-clause-file c = one_file bench_format
 
 pub returns-clause-reading : goal.returns-clause-reading
-returns-clause-reading c = λ bytes b. (reading_is bench_format bytes b, bench_format.again bytes b)
+returns-clause-reading c = λ bytes b. (reading_is bench_format bytes b, bench_format.reads_back bytes b)

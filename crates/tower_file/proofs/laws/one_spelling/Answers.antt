@@ -6,4 +6,4 @@ pub returns-clause-file : goal.returns-clause-file
 returns-clause-file c = one_file tower_format
 
 pub returns-clause-reading : goal.returns-clause-reading
-returns-clause-reading c = λ bytes f. (reading_is tower_format bytes f, tower_format.again bytes f)
+returns-clause-reading c = λ bytes f. (reading_is tower_format bytes f, tower_format.reads_back bytes f)

@@ -1,4 +1,4 @@
-use Rattle.tower_file.specs.Said.{as_file}
+use Rattle.tower_file.specs.Parsed.{as_file}
 use Rattle.tower_file.specs.Spelling.{SpellsSteps}
 use Rattle.tower_file.proofs.Formats.{parses, plain_memory}
 use Rattle.tower_file.proofs.CallResults.{tower_format}

@@ -1,7 +1,7 @@
 use Rattle.std.proofs.Common.{rules, ◌≡◌, ◌+◌, ◌++◌, ◌∷◌, [], true, false, length, List, Ok, Option, Some, sym, ap, ◌∙◌, arith, length-append}
 use Rattle.frames.specs.declared.types.Step.{Step}
 use Rattle.tower_file.specs.Reading.{next_step, steps_of}
-use Rattle.tower_file.proofs.StepLoop.{with_front, more_lines, ends, fails, goes_on, some_step, given_fault, known_fault, bad_step_is_known}
+use Rattle.tower_file.proofs.StepLoop.{with_front, fewer_after_step, ends, fails, so_far_after_step, has_some_step, given_fault, known_fault, bad_step_is_known}
 use Rattle.tower_file.proofs.reading.steps_of.Goals as goal
 
 pub returns-in_err-next-clause-read : goal.returns-in_err-next-clause-read
@@ -23,13 +23,13 @@ reading-preserved c =
     let total = steps_of c.args.version c.args.tower.now 3 c.args.lines.now in
     let has : next_step c.args.version c.args.tower.now c.reading.number c.reading.lines ≡ Ok (Some step) =
     sym c.next_step.ensures.step ∙ c.in_ok-next.was ∙ ap (λ (o : Option Step). Ok o) c.in-Some.is in
-    let more = more_lines c.args.version c.args.tower.now c.reading.number c.reading.lines step has in
+    let more = fewer_after_step c.args.version c.args.tower.now c.reading.number c.reading.lines step has in
     record {
       few = omega (arith, c.reading.invariant.few, more, ap length c.next_step.ensures.left);
       read = (
         i.0 ++ step ∷ [],
         ap (λ (ls : List (List _)). with_front (i.0 ++ step ∷ []) (steps_of c.args.version c.args.tower.now (c.reading.number + 1) ls)) c.next_step.ensures.left
-            ∙ goes_on c.args.version c.args.tower.now c.reading.number i.0 c.reading.lines total i.1 step has,
+            ∙ so_far_after_step c.args.version c.args.tower.now c.reading.number i.0 c.reading.lines total i.1 step has,
         λ h. c.keep-are_kept.ensures.kept h ∙ ap (λ (xs : List Step). xs ++ step ∷ []) (i.2 (c.keep-are_kept.ensures.were_kept h)),
         λ h. omega (arith, length-append i.0 (step ∷ [])),
       );
@@ -41,7 +41,7 @@ returns-then-not-are_kept-clause-memory c =
     let total = steps_of c.args.version c.args.tower.now 3 c.args.lines.now in
     let none = sym c.next_step.ensures.step ∙ c.in_ok-next.was ∙ ap (λ (o : Option Step). Ok o) c.in_default.is in
     let full : c.reading.are_kept ≡ false = search rules in
-    λ same. some_step total i.0 (ends c.args.version c.args.tower.now c.reading.number i.0 c.reading.lines total i.1 none) (i.3 full)
+    λ same. has_some_step total i.0 (ends c.args.version c.args.tower.now c.reading.number i.0 c.reading.lines total i.1 none) (i.3 full)
 
 pub returns-clause-read : goal.returns-clause-read
 returns-clause-read c =

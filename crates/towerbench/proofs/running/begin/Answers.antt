@@ -1,9 +1,9 @@
 use Rattle.std.proofs.Common.{refl, inl, inr}
 use Rattle.schedule_trie.specs.Limbs.{limbs}
 use Rattle.tower_file.specs.Benches.{bench_of}
-use Rattle.towerbench.specs.Openings.{CanOpen}
+use Rattle.towerbench.specs.DeskOpenings.{CanOpen}
 use Rattle.towerbench.specs.Seats.{world_at}
-use Rattle.towerbench.proofs.RunEndings.{ended_by_fault_at, ground_at, done_at, left_at}
+use Rattle.towerbench.proofs.RunEndings.{ended_by_fault_at, on_tower_at, done_at, left_at}
 use Rattle.towerbench.proofs.running.begin.Goals as goal
 
 pub returns-in-Err-serve_at : goal.returns-in-Err-serve_at
@@ -18,7 +18,7 @@ reported_bytes-requires-clause-ground g c =
     let is = g.B.Behaves.behaviour in
     let opened = c.in-Ok.ensures in
     let can : CanOpen is c.args.opening = record { value = c.requires.value; limits = c.requires.limits; builds = c.requires.builds } in
-    ground_at is c.args.opening can (world_at is c.in-Ok.seat) opened.opens _ _ opened.room (world_at is c.serve_at.new.seat) (c.in-Ok-serve_at.ensures.done opened.alone)
+    on_tower_at is c.args.opening can (world_at is c.in-Ok.seat) opened.opens _ _ opened.room (world_at is c.serve_at.new.seat) (c.in-Ok-serve_at.ensures.done opened.alone)
 
 pub reported_bytes-requires-clause-alone : goal.reported_bytes-requires-clause-alone
 reported_bytes-requires-clause-alone g c = c.in-Ok-serve_at.ensures.alone c.in-Ok.ensures.alone

@@ -1,5 +1,5 @@
 use Rattle.std.proofs.Common.{inl, inr, refl}
-use Rattle.tower_file.specs.Said.{as_bench}
+use Rattle.tower_file.specs.Parsed.{as_bench}
 use Rattle.towerbench.proofs.running.run.Goals as goal
 
 pub returns-in-Err-clause-fault : goal.returns-in-Err-clause-fault

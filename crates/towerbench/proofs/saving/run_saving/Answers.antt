@@ -1,6 +1,6 @@
 use Rattle.std.proofs.Common.{inl, inr, refl}
 use Rattle.std.proofs.lemmas.Result.{on_ok_weaker}
-use Rattle.tower_file.specs.Said.{as_bench}
+use Rattle.tower_file.specs.Parsed.{as_bench}
 use Rattle.towerbench.proofs.Endings.{leaving_by, saved_into}
 use Rattle.towerbench.proofs.saving.run_saving.Goals as goal
 

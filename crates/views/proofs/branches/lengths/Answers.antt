@@ -1,6 +1,6 @@
 use Rattle.std.proofs.Common.{◌∙◌, ◌≤◌, subst}
 use Rattle.schedule_trie.specs.Trie.{forest}
-use Rattle.pages.specs.page.Branches.{length_of}
+use Rattle.pages.specs.page.Branches.{name_and_length}
 use Rattle.views.proofs.BranchLengths.{lengths_more}
 use Rattle.pages.proofs.Ranges.{taken_all}
 use Rattle.views.proofs.branches.lengths.Goals as goal
@@ -13,5 +13,5 @@ returns g c =
     let branches = (forest c.args.chart.now.trie).branches in
     let i = c.loop-index.index in
     c.new.ensures
-    ∙ taken_all length_of branches i _ (subst (λ n. n ≤ i) c.branches-index-end.ensures.count c.loop-index-test.false)
+    ∙ taken_all name_and_length branches i _ (subst (λ n. n ≤ i) c.branches-index-end.ensures.count c.loop-index-test.false)
     c.loop-index.invariant

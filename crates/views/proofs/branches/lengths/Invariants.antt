@@ -1,7 +1,7 @@
 use Rattle.std.proofs.Common.{◌≡◌, map, take}
 use Rattle.schedule_trie.specs.Trie.{forest}
-use Rattle.pages.specs.page.Branches.{length_of}
+use Rattle.pages.specs.page.Branches.{name_and_length}
 use Rattle.views.proofs.branches.lengths.Given as goal
 
 abbrev pub invariant-loop-index : goal.invariant-loop-index
-invariant-loop-index g l = l.all.items ≡ map length_of (take l.index (forest l.chart.trie).branches)
+invariant-loop-index g l = l.all.items ≡ map name_and_length (take l.index (forest l.chart.trie).branches)

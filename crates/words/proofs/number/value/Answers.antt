@@ -1,6 +1,6 @@
 use Rattle.std.proofs.Common.{rules, ◌≡◌, true, get_or, arith}
 use Rattle.std.specs.Char.{is_ascii_digit}
-use Rattle.words.proofs.Digits.{digit_bounds, small_power, more_digits, next_digit, next_small}
+use Rattle.words.proofs.Digits.{digit_bounds, small_power, digits_with_next, next_digit, next_small}
 use Rattle.words.proofs.number.value.Goals as goal
 
 pub overflow_mul-value : goal.overflow_mul-value
@@ -22,7 +22,7 @@ loop-byte-preserved c =
     let digit : is_ascii_digit (get_or word i 0) ≡ true = search rules in
     let bounds = digit_bounds (get_or word i 0) digit in
     record {
-      digits = more_digits word i c.loop-byte-test.true c.loop-byte.invariant.digits digit;
+      digits = digits_with_next word i c.loop-byte-test.true c.loop-byte.invariant.digits digit;
       so_far = next_digit word i c.loop-byte.value c.from.result digit c.loop-byte-test.true c.from.ensures c.loop-byte.invariant.so_far;
       small = next_small i c.loop-byte.value c.from.result c.loop-byte.invariant.small (omega (arith, bounds.1, c.from.ensures));
     }

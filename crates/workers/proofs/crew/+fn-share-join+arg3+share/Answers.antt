@@ -3,7 +3,7 @@ use Rattle.crossbeam_deque.specs.Handles.{worker_view}
 use Rattle.workers.specs.Outcomes.{IsDoneOf}
 use Rattle.workers.specs.Slots.{IsAtWork}
 use Rattle.workers.proofs.DequeRule.{comes_back}
-use Rattle.workers.proofs.FilledSlots.{ran_slots, comes_over, slots_length}
+use Rattle.workers.proofs.FilledSlots.{ran_slots, takes_over, slots_length}
 use Rattle.workers.proofs.crew.+fn-share-join+arg3+share.Goals as goal
 
 pub hire-requires-clause-room : goal.hire-requires-clause-room
@@ -24,6 +24,6 @@ pub returns-clause-done : goal.returns-clause-done
 returns-clause-done g t c =
     let ends = IsDoneOf g.J.Runnable.named g.J.Runnable.gives in
     let jobs = (worker_view c.args.bench.0).jobs in
-    let over = comes_over ends jobs _ _ _ _ (worker_view c.absorb.new.self) c.join-thief.result.1.1.items c.join-thief.result.0.ran.items
+    let over = takes_over ends jobs _ _ _ _ (worker_view c.absorb.new.self) c.join-thief.result.1.1.items c.join-thief.result.0.ran.items
     (ap (λ v. v.jobs) c.in-Ok.ensures.left) c.in-Ok.ensures.knows c.join-thief.ensures.second.1 c.join-thief.ensures.first.1 c.absorb.ensures.rule in
     subst (IsAtWork ends jobs (worker_view c.absorb.new.self)) (sym c.put_all.ensures) over

@@ -3,7 +3,7 @@ use Rattle.std.specs.Prelude.{IsSome, Some}
 use Rattle.std.specs.Vec.Iter.{into_iter_items}
 use Rattle.std.proofs.lemmas.List.{nil_from_length}
 use Rattle.std.proofs.lemmas.List.Elements.{All-rest}
-use Rattle.workers.proofs.FilledSlots.{not_empty, outcomes_on, next_fits, rest_is_reserved}
+use Rattle.workers.proofs.FilledSlots.{not_empty, outcomes_more, next_fits, rest_is_reserved}
 use Rattle.workers.proofs.slots.into_outcomes.Goals as goal
 
 pub unreachable-requires : goal.unreachable-requires
@@ -14,7 +14,7 @@ push_reserved-requires g c = next_fits _ _ c.in-Some.slot _ _ _ c.in-Some.ensure
 
 pub loop-slot-preserved : goal.loop-slot-preserved
 loop-slot-preserved g c = record {
-  whole = outcomes_on _ _ _ c.in-Some.slot _ _ c.in-Some-slot.done c.in-Some.ensures.steps.0 c.in-Some-slot.is c.push_reserved.ensures.items c.loop-slot.invariant.whole;
+  whole = outcomes_more _ _ _ c.in-Some.slot _ _ c.in-Some-slot.done c.in-Some.ensures.steps.0 c.in-Some-slot.is c.push_reserved.ensures.items c.loop-slot.invariant.whole;
   full = All-rest IsSome c.in-Some.slot _ _ c.in-Some.ensures.steps.0 c.loop-slot.invariant.full;
   room = rest_is_reserved _ _ c.in-Some.slot _ _ _ c.in-Some.ensures.steps.0 c.loop-slot.invariant.room _ _ _ c.in-Some.ensures.steps.1 c.push_reserved.ensures.len c.push_reserved.ensures.capacity;
 }

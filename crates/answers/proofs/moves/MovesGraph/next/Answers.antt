@@ -3,7 +3,7 @@ use Rattle.std.proofs.lemmas.Bool.Decides.{Decides-eqb}
 use Rattle.frames.specs.Configuration.{fits_step, is_enabled}
 use Rattle.frames.specs.Parked.{IsConfiguration}
 use Rattle.answers.specs.States.{has_choice, step_by}
-use Rattle.answers.proofs.Unused.{moved_again, both_true, not_true}
+use Rattle.answers.proofs.UnusedChoices.{moved_again, both_true, not_true}
 use Rattle.answers.proofs.moves.MovesGraph.next.Goals.{then-label-eq0, else-label-eq0}
 use Rattle.answers.proofs.moves.MovesGraph.next.Goals as goal
 

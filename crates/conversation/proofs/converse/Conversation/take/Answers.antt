@@ -4,12 +4,12 @@ use Rattle.std.specs.declared.alloc.AllocError.{AllocError}
 use Rattle.std.proofs.lemmas.List.{length-append}
 use Rattle.std.proofs.lemmas.Result.{on_ok_weaker}
 use Rattle.conversation.specs.Answering.{HasAnswered, kept_with}
-use Rattle.conversation.proofs.AnsweredLines.{answered_on, answered_line, line_answer_append}
+use Rattle.conversation.proofs.AnsweredLines.{no_line_answered, answered_line, line_answer_append}
 use Rattle.conversation.proofs.converse.Conversation.take.Goals as goal
 
 -- the bytes `before` and `rest` are `before`, the first line of `rest`, its line end, and `later`
-joined : (before rest line later : List ℕ) → rest ≡ line ++ 10 ∷ later → before ++ rest ≡ ((before ++ line) ++ 10 ∷ []) ++ later
-joined before rest line later e =
+cut_first_line : (before rest line later : List ℕ) → rest ≡ line ++ 10 ∷ later → before ++ rest ≡ ((before ++ line) ++ 10 ∷ []) ++ later
+cut_first_line before rest line later e =
     ap (λ xs. before ++ xs) e ∙ sym (append_assoc before line (10 ∷ later)) ∙ sym (append_assoc (before ++ line) (10 ∷ []) later)
 
 shorter : (rest line later : List ℕ) → rest ≡ line ++ 10 ∷ later → length later + 1 ≤ length rest
@@ -59,11 +59,11 @@ lines-preserved g c =
             c.in_ok-answer_line.ensures.alone still.0,
             (
               (so_far.0 ++ line) ++ 10 ∷ [],
-              so_far.1 ∙ joined so_far.0 c.lines.rest.now line c.in-Some.following.now cut,
+              so_far.1 ∙ cut_first_line so_far.0 c.lines.rest.now line c.in-Some.following.now cut,
               λ start seen front t.
                   let before = so_far.2 start seen front t in
                   let whole = kept_with c.lines.self.line.items line in
-                  let kept = answered_on A.define start (seen ++ so_far.0) (A.world c.lines.answers) c.lines.self.lines c.lines.self.line.items (front ++ c.lines.self.out.items) before
+                  let kept = no_line_answered A.define start (seen ++ so_far.0) (A.world c.lines.answers) c.lines.self.lines c.lines.self.line.items (front ++ c.lines.self.out.items) before
                   line c.lines.self.lines whole (front ++ c.lines.self.out.items) c.in-Some.ensures.0 refl refl refl in
                   subst (λ xs. HasAnswered A.define start xs (A.world c.answer_line.new.answers) c.answer_line.new.self.lines c.answer_line.new.self.line.items (front ++ c.answer_line.new.self.out.items))
                   (ap (λ xs. xs ++ 10 ∷ []) (append_assoc seen so_far.0 line) ∙ append_assoc seen (so_far.0 ++ line) (10 ∷ []))
@@ -82,7 +82,7 @@ returns-clause-reported g c = λ alone.
     (λ kept start seen front t.
     subst (λ xs. HasAnswered A.define start xs (A.world c.lines.answers) c.keep.new.self.lines c.keep.new.self.line.items (front ++ c.keep.new.self.out.items))
     (append_assoc seen so_far.0 c.lines.rest.now ∙ ap (λ xs. seen ++ xs) (sym so_far.1))
-    (answered_on A.define start (seen ++ so_far.0) (A.world c.lines.answers) c.lines.self.lines c.lines.self.line.items (front ++ c.lines.self.out.items) (so_far.2 start seen front t)
+    (no_line_answered A.define start (seen ++ so_far.0) (A.world c.lines.answers) c.lines.self.lines c.lines.self.line.items (front ++ c.lines.self.out.items) (so_far.2 start seen front t)
     c.lines.rest.now c.keep.new.self.lines c.keep.new.self.line.items (front ++ c.keep.new.self.out.items) (rw c.in_default.is at c.first_line.ensures) c.keep.ensures.lines kept (ap (λ out. front ++ out.items) c.keep.ensures.out)))
     c.keep.ensures.line
 

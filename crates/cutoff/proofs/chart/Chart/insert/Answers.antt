@@ -1,11 +1,11 @@
 use Rattle.std.proofs.Common.{◌≡◌, true, sym, subst}
 use Rattle.frames.specs.Configuration.{fits_step}
 use Rattle.schedule_trie.specs.Edits.{Insert}
-use Rattle.cutoff.proofs.Edited.{charted}
+use Rattle.cutoff.proofs.Edited.{charted_edited}
 use Rattle.cutoff.proofs.chart.Chart.insert.Goals as goal
 
 pub invariant_of-self : goal.invariant_of-self
 invariant_of-self g c =
     rw c.none-self-inside.ensures
-    (charted g.R.PartialEq.eq g.R.Behaves.behaviour c.self.inside.next c.self.inside.fresh c.self.inside.mark _ c.insert.new.self (Insert c.args.branch.now c.args.place c.args.step) c.insert.result c.self.invariant
+    (charted_edited g.R.PartialEq.eq g.R.Behaves.behaviour c.self.inside.next c.self.inside.fresh c.self.inside.mark _ c.insert.new.self (Insert c.args.branch.now c.args.place c.args.step) c.insert.result c.self.invariant
     (subst (λ v. fits_step (g.R.Behaves.behaviour v.start.register) c.args.step ≡ true) (sym c.self.view_is) c.requires) c.insert.ensures.ok c.insert.ensures.err)

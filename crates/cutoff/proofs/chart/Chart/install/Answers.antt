@@ -23,11 +23,11 @@ returns-then-not-fits g c =
 pub check_above-requires : goal.check_above-requires
 check_above-requires g c =
     cut_kept c.self.inside.trie c.set_note.new.self (λ k. Unit {0})
-    (noted_keeps g.R.PartialEq.eq (g.R.Behaves.behaviour c.self.inside.start.register) c.self.inside.trie c.set_note.new.self c.args.key c.new.result c.set_note.ensures) c.self.invariant.whole
+    (noted_keeps g.R.PartialEq.eq (g.R.Behaves.behaviour c.self.inside.start.register) c.self.inside.trie c.set_note.new.self c.args.key c.new.result c.set_note.ensures) c.self.invariant.cut
 
 pub invariant_of-self : goal.invariant_of-self
 invariant_of-self g c =
-    let live = c.self.invariant.whole.live c.args.key (c.has_segment.ensures.yes c.if-not-has_segment.false) in
+    let live = c.self.invariant.cut.live c.args.key (c.has_segment.ensures.yes c.if-not-has_segment.false) in
     rw c.or-self-inside.ensures
     (charted_checked g.R.PartialEq.eq g.R.Behaves.behaviour g.met.R.Register.alike c.take_number-id.new.next c.args.key (record { trie = c.set_note.new.self; start = c.self.inside.start; value = c.self.inside.value }) c.check_above.new.trie c.new.result
     (noted_at c.new.result (segment_at c.self.inside.trie.segments c.args.key) (segment_at c.set_note.new.self.segments c.args.key) c.set_note.ensures.here (c.has_segment.ensures.yes c.if-not-has_segment.false))

@@ -6,7 +6,7 @@ use Rattle.cutoff.specs.Fitting.{part_of}
 use Rattle.cutoff.specs.Charts.{look}
 use Rattle.cutoff.specs.Settles.{IsSettledLast}
 use Rattle.cutoff.proofs.SameBranches.{chart_known, len_there, look_there, refused_still, out_of_memory, seen_begins, all_kept}
-use Rattle.cutoff.proofs.LastRuns.{charted_settled, marked_now, place_found, found_fits, none_settled, last_settled, keeps_named}
+use Rattle.cutoff.proofs.LastRuns.{charted_settled, marked_settled, place_found, offset_below, none_settled, last_settled, keeps_named}
 use Rattle.cutoff.proofs.chart.Chart.settle_last.Goals as goal
 
 pub returns-then-place-eq0-clause-ok : goal.returns-then-place-eq0-clause-ok
@@ -43,7 +43,7 @@ invariant_of-self-2 g c =
     let index = c.in_ok-index.index in
     let lies = place_found c.self.inside.trie index c.args.place c.in-Some.key c.in-Some.offset c.in-Some.ensures.lies c.if-place-eq0.false in
     let keeps = c.settle_rest.ensures.keeps index (c.in-Some.offset + 1) c.args.place (c.in_ok-rest.ensures index (c.in-Some.offset + 1) c.args.place lies) in
-    let marked = marked_now g.R.PartialEq.eq g.R.Behaves.behaviour c.self.inside.trie c.settle_rest.new.trie c.self.inside.start c.in-Some.key (c.in-Some.offset + 1) c.in_ok-stored.replayed lies.some lies.few keeps.branches
+    let marked = marked_settled g.R.PartialEq.eq g.R.Behaves.behaviour c.self.inside.trie c.settle_rest.new.trie c.self.inside.start c.in-Some.key (c.in-Some.offset + 1) c.in_ok-stored.replayed lies.positive lies.within keeps.branches
     (λ i m place lies. c.in_ok-stored.ensures.settles i m place (c.in_ok-rest.ensures i m place lies)) in
     rw c.or-self-inside.ensures (charted_settled g.R.PartialEq.eq g.R.Behaves.behaviour c.self.inside.next c.settle_rest.new.next c.self.inside.fresh c.self.inside.mark c.following.result (Some c.in-Some.key) _
     c.settle_rest.new.trie _ keeps c.settle_rest.ensures.linked c.following.ensures c.settle_rest.ensures.fresh marked c.self.invariant)
@@ -99,12 +99,12 @@ returns-clause-len g c = subst (λ v. len_of (forest v.trie) c.args.branch.now �
 
 pub overflow_cast-offset : goal.overflow_cast-offset
 overflow_cast-offset g c = record {
-  fits = (found_fits c.self.inside.trie c.in_ok-index.index c.args.place c.in-Some.key c.in-Some.offset _ c.in-Some.ensures.lies c.if-place-eq0.false c.ranges.place.fits).0;
+  fits = (offset_below c.self.inside.trie c.in_ok-index.index c.args.place c.in-Some.key c.in-Some.offset _ c.in-Some.ensures.lies c.if-place-eq0.false c.ranges.place.fits).0;
 }
 
 pub overflow_add-offset : goal.overflow_add-offset
 overflow_add-offset g c = record {
-  fits = (found_fits c.self.inside.trie c.in_ok-index.index c.args.place c.in-Some.key c.in-Some.offset _ c.in-Some.ensures.lies c.if-place-eq0.false c.ranges.place.fits).1;
+  fits = (offset_below c.self.inside.trie c.in_ok-index.index c.args.place c.in-Some.key c.in-Some.offset _ c.in-Some.ensures.lies c.if-place-eq0.false c.ranges.place.fits).1;
 }
 
 pub returns-in_err-index-clause-begins : goal.returns-in_err-index-clause-begins

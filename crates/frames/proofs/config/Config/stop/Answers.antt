@@ -2,7 +2,7 @@ use Rattle.std.proofs.Common.{true, slice_set, ◌<◌, length, sym, ap, subst, 
 use Rattle.std.proofs.lemmas.List.{length-map, with_items_is}
 use Rattle.frames.specs.declared.types.Event.TheVariants.{Stop}
 use Rattle.frames.specs.Parked.{IsFlat, parked_configuration, stacks_of, marks_of}
-use Rattle.frames.proofs.Stepped.{marked_flat, marked_shown}
+use Rattle.frames.proofs.Stepped.{marked_flat, mark_gives_effect}
 use Rattle.frames.proofs.config.Config.stop.Goals as goal
 
 pub mark_stopped-requires : goal.mark_stopped-requires
@@ -34,10 +34,10 @@ returns g c =
     let lt = subst (λ x. c.args.who < (g.R.Behaves.behaviour x.register).processes) (sym c.self.view_is) c.requires in
     rw (← c.self.view_is)
     (record {
-      events = c.alone.ensures;
+      events = c.one_event.ensures;
       after = ap (λ ps. parked_configuration (g.R.Register.point r) r t.store (stacks_of ps) (marks_of ps))
           (with_items_is t.processes marked (c.mark_stopped.auto.processes ∙ c.deref_mut.ensures.len))
-          ∙ marked_shown (g.met.R.Register.lawful r) (g.met.R.Register.reports r) t.processes.items c.self.invariant
+          ∙ mark_gives_effect (g.met.R.Register.lawful r) (g.met.R.Register.reports r) t.processes.items c.self.invariant
           c.args.who lt (Stop c.args.who) marked
           (c.mark_stopped.ensures.stacks ∙ ap stacks_of c.deref_mut.ensures.value)
           (c.mark_stopped.ensures.marks ∙ ap (λ ps. slice_set (marks_of ps) c.args.who true) c.deref_mut.ensures.value);

@@ -13,26 +13,26 @@ use Rattle.schedule_steps.specs.declared.types.Op.{Op}
 use Rattle.frames.specs.declared.types.Frame.{Frame}
 use Rattle.frames.specs.declared.safe.SafePoint.{SafePoint}
 use Rattle.frames.specs.Flat.{HasFramesFrom, Lands}
-use Rattle.frames.specs.laws.Safe.{on_own_cell, safe_size, byte_value, goes_on_reached, ends_there}
+use Rattle.frames.specs.laws.Safe.{on_own_cell, safe_size, byte_value, frame_replaced, frame_dropped}
 use Rattle.frames.proofs.safe.SafeRegister.go_on.Goals as goal
 
 pub returns-in-WriteStart-clause-lands : goal.returns-in-WriteStart-clause-lands
 returns-in-WriteStart-clause-lands c =
-    let there = goes_on_reached c.args.at c.args.store.now c.args._who c.args.first c.args.stack.now c.args.choice c.frame-frame.result (at.WriteStart c.in-WriteStart.bit)
+    let there = frame_replaced c.args.at c.args.store.now c.args._who c.args.first c.args.stack.now c.args.choice c.frame-frame.result (at.WriteStart c.in-WriteStart.bit)
     c.frame-frame.ensures (sym c.in-WriteStart.is ∙ c.point_of.ensures) (at.WriteEnd c.in-WriteStart.bit) c.start_write.new.self refl
     (c.start_write.ensures ∙ on_own_cell c.args.at (start_write c.in-WriteStart.bit) c.args.store.now c.requires.inside) in
     rw (c.set.ensures, c.frame_of.ensures) there
 
 pub returns-in-WriteEnd-clause-lands : goal.returns-in-WriteEnd-clause-lands
 returns-in-WriteEnd-clause-lands c =
-    let there = ends_there c.args.at c.args.store.now c.args._who c.args.first c.args.stack.now c.args.choice c.frame-frame.result (at.WriteEnd c.in-WriteEnd.field-0)
+    let there = frame_dropped c.args.at c.args.store.now c.args._who c.args.first c.args.stack.now c.args.choice c.frame-frame.result (at.WriteEnd c.in-WriteEnd.field-0)
     c.frame-frame.ensures (sym c.in-WriteEnd.is ∙ c.point_of.ensures) Written c.end_write.new.self refl
     (c.end_write.ensures ∙ on_own_cell c.args.at end_write c.args.store.now c.requires.inside) in
     rw c.truncate.ensures there
 
 pub returns-in-ReadStart-clause-lands : goal.returns-in-ReadStart-clause-lands
 returns-in-ReadStart-clause-lands c =
-    let there = goes_on_reached c.args.at c.args.store.now c.args._who c.args.first c.args.stack.now c.args.choice c.frame-frame.result at.ReadStart
+    let there = frame_replaced c.args.at c.args.store.now c.args._who c.args.first c.args.stack.now c.args.choice c.frame-frame.result at.ReadStart
     c.frame-frame.ensures (sym c.in-ReadStart.is ∙ c.point_of.ensures) at.ReadEnd c.start_read.new.self refl
     (c.start_read.ensures ∙ on_own_cell c.args.at start_read c.args.store.now c.requires.inside) in
     rw (c.set-in-ReadStart.ensures, c.frame_of-in-ReadStart.ensures) there
@@ -46,7 +46,7 @@ read_ended : (place : Place) (m : Memory) (who first : ℕ) (stack : List Frame)
 read_ended place m who first stack choice frame found is gave value m' value_is byte after inside =
     let given : value_of (read_gives choice (cell_at 0 (part place safe_size m))) ≡ value =
     ap value_of (ap (read_gives choice) (cell_at-part place safe_size 0 m (omega arith) ∙ ap (λ i. cell_at i m) (add-zero place.cell)) ∙ sym value_is) ∙ sym (byte ∙ byte_value gave) in
-    ends_there place m who first stack choice frame at.ReadEnd found is (Value value) m' (ap (λ v. Done (Value v)) given) (after ∙ on_own_cell place end_read m inside)
+    frame_dropped place m who first stack choice frame at.ReadEnd found is (Value value) m' (ap (λ v. Done (Value v)) given) (after ∙ on_own_cell place end_read m inside)
 
 pub returns-then-hit-clause-lands : goal.returns-then-hit-clause-lands
 returns-then-hit-clause-lands c =

@@ -1,7 +1,7 @@
 use Rattle.layers.specs.laws.Nested.{rest_sound}
 use Rattle.layers.specs.laws.Over.{over}
 use Rattle.layers.specs.Driver.{own_memory}
-use Rattle.layers.proofs.Runs.{follows_spent, settled_sound, settled_lies, settled_lands, advances}
+use Rattle.layers.proofs.Runs.{follows_spent, settled_sound, settled_lies, settled_lands, advance_follows}
 use Rattle.layers.proofs.layered.Layered.follow.Goals as goal
 
 pub returns-then-is_spent : goal.returns-then-is_spent
@@ -36,4 +36,4 @@ returns g c =
     let goes_on = c.is_spent.ensures.goes_on c.if-is_spent.false in
     let sound = rest_sound l c.requires.may_be_at.0 c.requires.may_be_at.1.0 c.args.task c.args.outcome c.requires.may_be_at.1.1 c.requires.answers goes_on in
     settled_lands l c.args.at _ _ _ c.args.store.now c.requires.lies sound c.after-continuation.result c.after-continuation.new.store c.after-continuation.ensures.continuation c.after-continuation.ensures.memory
-    _ (advances l c.args.at c.args.task c.args.outcome (own_memory r c.args.at c.args.store.now) goes_on) c.args.stack.now c.run.result c.run.new.stack c.run.new.store c.run.ensures
+    _ (advance_follows l c.args.at c.args.task c.args.outcome (own_memory r c.args.at c.args.store.now) goes_on) c.args.stack.now c.run.result c.run.new.stack c.run.new.store c.run.ensures

@@ -1,7 +1,7 @@
 use Rattle.std.proofs.Common.{◌≡◌, ◌+◌, suc, ap, subst, ◌∙◌, sym, arith}
 use Rattle.safe_bit.specs.Parts.{place_after, with_part, LiesIn}
 use Rattle.layers.specs.Nested.{first_parts, part_place}
-use Rattle.layers.specs.laws.Initial.{next_part, next_inside, no_part}
+use Rattle.layers.specs.laws.Initial.{next_part, next_inside, no_parts_set}
 use Rattle.layers.specs.laws.Over.{over}
 use Rattle.layers.proofs.layered.Layered.init_parts.Goals as goal
 
@@ -28,7 +28,7 @@ loop-part-init g c =
     let at = c.args.at in
     let m = c.args.store.now in
     let v = c.args.value in
-    no_part l v c.requires.value at m
+    no_parts_set l v c.requires.value at m
 
 pub init-requires-clause-inside : goal.init-requires-clause-inside
 init-requires-clause-inside g c =

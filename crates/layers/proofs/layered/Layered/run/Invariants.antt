@@ -1,7 +1,7 @@
 use Rattle.std.proofs.Common.{◌≡◌}
 use Rattle.layers.specs.Settled.{tasks_left}
 use Rattle.layers.specs.Driver.{table_of, below_of, own_memory, run_from}
-use Rattle.layers.proofs.Runs.{ComesTo}
+use Rattle.layers.proofs.Runs.{RunsOnTo}
 use Rattle.layers.proofs.layered.Layered.run.Given as goal
 
 -- a bound on the number of tasks that are left, which falls in each pass of the loop
@@ -12,5 +12,5 @@ decreases-loop-onward g l = tasks_left (g.L.Construction.left l.self.layer) l.on
 abbrev pub invariant-loop-onward : goal.invariant-loop-onward
 invariant-loop-onward g l =
     let aim = run_from l.self l.initial.onward (own_memory l.self l.at l.initial.store) in
-    ComesTo (table_of l.self) (below_of l.self) (g.S.Register.Holds l.self.below) (g.L.Construction.MayBeAt l.self.layer) l.at aim l.initial.store l.onward l.store
+    RunsOnTo (table_of l.self) (below_of l.self) (g.S.Register.Holds l.self.below) (g.L.Construction.MayBeAt l.self.layer) l.at aim l.initial.store l.onward l.store
     × (l.stack ≡ l.initial.stack)

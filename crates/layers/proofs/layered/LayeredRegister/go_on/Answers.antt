@@ -1,5 +1,5 @@
 use Rattle.std.proofs.Common.{rules, ◌≡◌, None, length, ap, arith, length-take}
-use Rattle.layers.specs.laws.Flat.{index_there}
+use Rattle.layers.specs.laws.Flat.{index_inside}
 use Rattle.layers.specs.laws.Over.{over}
 use Rattle.layers.proofs.Runs.{at_found_task, frame_still_there, found_again, chooses, waits, ended_lies, again_suits, ended_goes_on}
 use Rattle.layers.proofs.layered.LayeredRegister.go_on.Goals as goal
@@ -81,7 +81,7 @@ returns-clause-chosen g c =
     c.push-progress.result.chosen (c.push-progress.ensures.chosen c.args.who)
 
 pub frame-requires : goal.frame-requires
-frame-requires g c = index_there c.args.first c.args.stack.now _ _ c.requires.may_be_at.1.1.there
+frame-requires g c = index_inside c.args.first c.args.stack.now _ _ c.requires.may_be_at.1.1.there
 
 pub push-progress-requires-clause-lies : goal.push-progress-requires-clause-lies
 push-progress-requires-clause-lies g c = c.lemma_lies.ensures

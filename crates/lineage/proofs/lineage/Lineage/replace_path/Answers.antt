@@ -1,6 +1,6 @@
 use Rattle.std.proofs.Common.{◌<◌, None, length, sym, subst, arith}
 use Rattle.lineage.specs.Lineages.{IsSoundFamily}
-use Rattle.lineage.proofs.Exchanges.{within_now, freed_first, all_exchanged}
+use Rattle.lineage.proofs.Exchanges.{within_now, replaced_first, all_exchanged}
 use Rattle.lineage.proofs.lineage.Lineage.replace_path.Goals as goal
 
 pub invariant_of-self : goal.invariant_of-self
@@ -28,7 +28,7 @@ free_up-requires g c =
     let here = c.in_ok-reserve_path.ensures in
     let out = c.swap_remove-tip.ensures in (
       c.swap_remove-tip.new.self.items,
-      freed_first a.nodes.slots c.reserve_path.new.nodes.slots c.put_last.new.nodes.slots a.tips.items c.reserve_path.new.tips.items c.put_last.new.tips.items c.swap_remove-tip.new.self.items
+      replaced_first a.nodes.slots c.reserve_path.new.nodes.slots c.put_last.new.nodes.slots a.tips.items c.reserve_path.new.tips.items c.put_last.new.tips.items c.swap_remove-tip.new.self.items
           c.args.items.items c.args.path c.swap_remove-tip.result c.self.invariant (subst (λ f. c.args.path < length f.paths) (sym c.self.view_is) c.requires) here.slots here.items c.put_last.ensures
           out.value out.items,
     )
@@ -39,7 +39,7 @@ invariant_of-self-2 g c =
     let here = c.in_ok-reserve_path.ensures in
     let out = c.swap_remove-tip.ensures in
     c.free_up.ensures.sound c.swap_remove-tip.new.self.items
-    (freed_first a.nodes.slots c.reserve_path.new.nodes.slots c.put_last.new.nodes.slots a.tips.items c.reserve_path.new.tips.items c.put_last.new.tips.items c.swap_remove-tip.new.self.items
+    (replaced_first a.nodes.slots c.reserve_path.new.nodes.slots c.put_last.new.nodes.slots a.tips.items c.reserve_path.new.tips.items c.put_last.new.tips.items c.swap_remove-tip.new.self.items
     c.args.items.items c.args.path c.swap_remove-tip.result c.self.invariant (subst (λ f. c.args.path < length f.paths) (sym c.self.view_is) c.requires) here.slots here.items c.put_last.ensures
     out.value out.items)
 
@@ -50,7 +50,7 @@ returns-clause-ok g c =
     let out = c.swap_remove-tip.ensures in
     let inside = subst (λ f. c.args.path < length f.paths) (sym c.self.view_is) c.requires in
     let sound = c.free_up.ensures.sound c.swap_remove-tip.new.self.items
-    (freed_first a.nodes.slots c.reserve_path.new.nodes.slots c.put_last.new.nodes.slots a.tips.items c.reserve_path.new.tips.items c.put_last.new.tips.items c.swap_remove-tip.new.self.items
+    (replaced_first a.nodes.slots c.reserve_path.new.nodes.slots c.put_last.new.nodes.slots a.tips.items c.reserve_path.new.tips.items c.put_last.new.tips.items c.swap_remove-tip.new.self.items
     c.args.items.items c.args.path c.swap_remove-tip.result c.self.invariant inside here.slots here.items c.put_last.ensures out.value out.items) in
     rw (← c.self.view_is) (all_exchanged a.nodes.slots c.reserve_path.new.nodes.slots c.put_last.new.nodes.slots a.tips.items c.reserve_path.new.tips.items c.put_last.new.tips.items
     c.swap_remove-tip.new.self.items c.args.items.items c.args.path c.swap_remove-tip.result c.self.invariant inside here.slots here.items c.put_last.ensures out.value out.items

@@ -4,7 +4,7 @@ use Rattle.slab.specs.Slab.{Slab, get, slab_len, with_value, ContainsKey, Update
 use Rattle.slab.proofs.SlabLemmas.{Updates-with_value}
 use Rattle.lineage.specs.declared.node.Node.{Node}
 use Rattle.lineage.specs.Lineages.{node, node_over, node_under}
-use Rattle.lineage.proofs.Counts.{one, count_changed}
+use Rattle.lineage.proofs.Counts.{one_if, count_changed}
 use Rattle.lineage.proofs.lineage.divide.put_above.Goals as goal
 
 -- a new node is put at `fresh`, and then n replaces the node at `key`; `old` is the slab before,
@@ -32,8 +32,8 @@ module _ {X : Type 0} (old mid : Slab (Node X)) (key fresh : ℕ) (o n : Node X)
   same_len : slab_len (with_value mid key n) ≡ slab_len mid
   same_len =
       let e = count_changed is_some refl key mid.slots (with_value mid key n).slots (λ j ne. ap is_some (written.others j ne)) in
-      let before = ap one within in
-      let after = ap one (ap is_some written.changed) in
+      let before = ap one_if within in
+      let after = ap one_if (ap is_some written.changed) in
       omega (arith, e, before, after)
 
 pub returns-clause-fresh : goal.returns-clause-fresh

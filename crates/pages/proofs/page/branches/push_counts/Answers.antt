@@ -6,15 +6,15 @@ use Rattle.pages.specs.page.Head.{line_end}
 use Rattle.pages.proofs.page.branches.push_counts.Goals as goal
 
 -- if a text is `out` and `pieces`, the text and one more piece are `out`, `pieces` and that piece
-more : (out pieces piece text : List ℕ) → text ≡ out ++ pieces → text ++ piece ≡ out ++ (pieces ++ piece)
-more out pieces piece text e = ap (λ x. x ++ piece) e ∙ append_assoc out pieces piece
+one_more_piece : (out pieces piece text : List ℕ) → text ≡ out ++ pieces → text ++ piece ≡ out ++ (pieces ++ piece)
+one_more_piece out pieces piece text e = ap (λ x. x ++ piece) e ∙ append_assoc out pieces piece
 
-all : (out a b c d e f g h : List ℕ) → out ++ a ++ b ++ c ++ d ++ e ++ f ++ g ++ h ≡ out ++ (a ++ b ++ c ++ d ++ e ++ f ++ g ++ h)
-all out a b c d e f g h =
-    more out (a ++ b ++ c ++ d ++ e ++ f ++ g) h _
-    (more out (a ++ b ++ c ++ d ++ e ++ f) g _
-    (more out (a ++ b ++ c ++ d ++ e) f _
-    (more out (a ++ b ++ c ++ d) e _ (more out (a ++ b ++ c) d _ (more out (a ++ b) c _ (append_assoc out a b))))))
+eight_pieces : (out a b c d e f g h : List ℕ) → out ++ a ++ b ++ c ++ d ++ e ++ f ++ g ++ h ≡ out ++ (a ++ b ++ c ++ d ++ e ++ f ++ g ++ h)
+eight_pieces out a b c d e f g h =
+    one_more_piece out (a ++ b ++ c ++ d ++ e ++ f ++ g) h _
+    (one_more_piece out (a ++ b ++ c ++ d ++ e ++ f) g _
+    (one_more_piece out (a ++ b ++ c ++ d ++ e) f _
+    (one_more_piece out (a ++ b ++ c ++ d) e _ (one_more_piece out (a ++ b ++ c) d _ (one_more_piece out (a ++ b) c _ (append_assoc out a b))))))
 
 pub returns : goal.returns
 returns c =
@@ -25,5 +25,5 @@ returns c =
     (λ h. h
     ∙ ap (λ x. x ++ codes " edits " ++ edits ++ codes " made " ++ made ++ line_end)
     (c.in_ok-push_labelled.ensures ∙ ap (λ x. x ++ codes ": branches " ++ count) (c.in_ok-push_number.ensures ∙ ap (λ n. c.args.out.now.items ++ decimal n) c.from.ensures))
-    ∙ all c.args.out.now.items (decimal c.args.session) (codes ": branches ") count (codes " edits ") edits (codes " made ") made line_end)
+    ∙ eight_pieces c.args.out.now.items (decimal c.args.session) (codes ": branches ") count (codes " edits ") edits (codes " made ") made line_end)
     c.push_made.ensures

@@ -1,5 +1,5 @@
 use Rattle.std.proofs.Common.{◌+◌, sym, ◌∙◌, arith}
-use Rattle.schedule_trie.proofs.lengths.Editions.{names_known, forgotten, later}
+use Rattle.schedule_trie.proofs.lengths.Editions.{names_known, forgotten, AreEarlier-weaker}
 use Rattle.schedule_trie.proofs.branch_list.BranchList.forget_lengths.Goals as goal
 
 pub next_edition-self-inside-requires : goal.next_edition-self-inside-requires
@@ -8,7 +8,7 @@ next_edition-self-inside-requires c = c.self.invariant.earlier
 pub invariant_of-self : goal.invariant_of-self
 invariant_of-self c = record {
   some = c.next_edition-self-inside.ensures.some;
-  earlier = later c.next_edition-self-inside.result (c.next_edition-self-inside.result + 1) c.next_edition-self-inside.new.entries.entries (omega arith) c.next_edition-self-inside.ensures.earlier;
+  earlier = AreEarlier-weaker c.next_edition-self-inside.result (c.next_edition-self-inside.result + 1) c.next_edition-self-inside.new.entries.entries (omega arith) c.next_edition-self-inside.ensures.earlier;
 }
 
 pub returns-clause-names : goal.returns-clause-names

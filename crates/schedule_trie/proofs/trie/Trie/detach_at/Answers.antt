@@ -6,7 +6,7 @@ use Rattle.schedule_trie.specs.changes.Copies.{AreCopies}
 use Rattle.schedule_trie.proofs.detaches.Detaches.{detach_held, is_detached}
 use Rattle.schedule_trie.proofs.branches.Lines.{path_within}
 use Rattle.schedule_trie.proofs.lengths.LengthSteps.{detached_lengths}
-use Rattle.schedule_trie.proofs.edits.PushSteps.{roomed_held, roomed_err}
+use Rattle.schedule_trie.proofs.edits.PushSteps.{roomed_kept, roomed_err}
 use Rattle.schedule_trie.proofs.trie.Trie.detach_at.Goals as goal
 
 pub replace_path-requires : goal.replace_path-requires
@@ -15,7 +15,7 @@ replace_path-requires g c =
 
 pub invariant_of-self : goal.invariant_of-self
 invariant_of-self g c =
-    roomed_held c.self.inside (record c.self.inside { segments = c.replace_path.new.self })
+    roomed_kept c.self.inside (record c.self.inside { segments = c.replace_path.new.self })
     refl c.in_err-replace_path.ensures.err refl refl c.self.invariant
 
 pub returns-in_err-replace_path-clause-err : goal.returns-in_err-replace_path-clause-err

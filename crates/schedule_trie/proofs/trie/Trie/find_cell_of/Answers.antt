@@ -3,7 +3,7 @@ use Rattle.std.specs.Bool.{FalseIff}
 use Rattle.schedule_trie.specs.Trie.{segment_at, keys_in, line}
 use Rattle.schedule_trie.specs.Climbs.{keys_to}
 use Rattle.schedule_trie.proofs.climbs.Climbs.{lies_here, spot_has_cell}
-use Rattle.schedule_trie.proofs.climbs.ClimbSteps.{path_last, turn}
+use Rattle.schedule_trie.proofs.climbs.ClimbSteps.{path_last, climb_pass}
 use Rattle.schedule_trie.proofs.branches.Lines.{slots_in_on}
 use Rattle.schedule_trie.proofs.trie.Trie.find_cell_of.Goals as goal
 
@@ -35,13 +35,13 @@ returns-then-is_here-clause-found g c =
 pub loop-up-smaller : goal.loop-up-smaller
 loop-up-smaller g c =
     let up = c.in-Some.ensures in
-    (turn c.args.self.now up.whole c.args.index c.loop-up.at c.in-Some.up.0 c.in-Some.up.2 c.loop-up.invariant.reached up.key up.each).fewer
+    (climb_pass c.args.self.now up.whole c.args.index c.loop-up.at c.in-Some.up.0 c.in-Some.up.2 c.loop-up.invariant.reached up.key up.each).fewer
 
 pub loop-up-preserved : goal.loop-up-preserved
 loop-up-preserved g c =
     let was = c.loop-up.invariant in
     let up = c.in-Some.ensures in
-    let t = turn c.args.self.now up.whole c.args.index c.loop-up.at c.in-Some.up.0 c.in-Some.up.2 was.reached up.key up.each in
+    let t = climb_pass c.args.self.now up.whole c.args.index c.loop-up.at c.in-Some.up.0 c.in-Some.up.2 was.reached up.key up.each in
     let len = ap length up.slots in
     let above = subst (λ b. FalseIff b (length c.in-Some.up.1.now ≤ c.loop-up.following)) c.if-is_here.false c.overflowing_sub-left.ensures.overflow in
     record { reached = t.step.reached; cells = omega (arith, t.cells, len, was.cells, above, c.overflowing_sub-left.ensures.value) }

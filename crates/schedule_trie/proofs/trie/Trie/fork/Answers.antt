@@ -6,7 +6,7 @@ use Rattle.branch_terms.specs.Names.{is_well_formed}
 use Rattle.branch_terms.specs.Forest.{index_of, slots_in}
 use Rattle.schedule_trie.specs.Trie.{forest}
 use Rattle.schedule_trie.specs.changes.Forks.{IsBranchForked, IsForkedWhole}
-use Rattle.schedule_trie.proofs.forks.ForkAnswers.{name_taken, bad_name, no_place, too_many, is_forked, memory_alone, none_from}
+use Rattle.schedule_trie.proofs.forks.ForkAnswers.{name_taken, bad_name, no_place, too_many, fork_ok, memory_alone, none_from_is_some}
 use Rattle.schedule_trie.proofs.lengths.LengthsAfter.{branch_count, fork_last, fork_len}
 use Rattle.schedule_trie.proofs.trie.Trie.fork.Goals as goal
 
@@ -64,7 +64,7 @@ fork_at-requires-clause-place g c =
 pub fork_at-requires-clause-name : goal.fork_at-requires-clause-name
 fork_at-requires-clause-name g c =
     subst (λ z. index_of (forest z).branches c.args.name ≡ None) (sym c.cache_len.ensures.same)
-    (none_from _ (ap is_some (sym c.index-2.ensures.index) ∙ sym c.is_some.ensures ∙ c.if-is_some.false))
+    (none_from_is_some _ (ap is_some (sym c.index-2.ensures.index) ∙ sym c.is_some.ensures ∙ c.if-is_some.false))
 
 pub fork_at-requires-clause-form : goal.fork_at-requires-clause-form
 fork_at-requires-clause-form g c =
@@ -99,7 +99,7 @@ returns-clause-ok g c =
     let change = subst (λ z. IsBranchForked z c.fork_at.new.self c.in-Some.index c.args.place c.args.name) c.cache_len.ensures.same c.in_ok-fork_at.ensures.ok in
     subst (λ z. IsEdited c.args.self.now z (Fork c.args.branch.now c.args.place c.args.name)) (sym c.set_cached_len.ensures)
     (record {
-      forest = is_forked c.args.self.now.limits (forest c.args.self.now) c.args.branch.now c.args.name c.args.place c.in-Some.index (sym c.in-Some.ensures.index)
+      forest = fork_ok c.args.self.now.limits (forest c.args.self.now) c.args.branch.now c.args.name c.args.place c.in-Some.index (sym c.in-Some.ensures.index)
           (ap is_some (sym c.index-2.ensures.index) ∙ sym c.is_some.ensures ∙ c.if-is_some.false) (sym c.is_well_formed.ensures ∙ c.if-not-is_well_formed.false)
           (omega (arith, c.cache_len.ensures.len, c.if-cache_len-place.false)) (omega (arith, most, branches, c.if-count-self.false))
           ∙ sym (λ i. Ok (record { branches = change.branches i; made = change.made i }));

@@ -4,7 +4,7 @@ use Rattle.schedule_trie.specs.Trie.{segment_at, keys_in, line}
 use Rattle.schedule_trie.specs.Climbs.{keys_to}
 use Rattle.schedule_trie.specs.changes.Forks.{IsBranchForked}
 use Rattle.schedule_trie.proofs.climbs.Climbs.{cells_to, cells_within}
-use Rattle.schedule_trie.proofs.forks.ForkEnds.{on_ok, always_on_ok, have_cells, no_keys, all_to}
+use Rattle.schedule_trie.proofs.forks.ForkEnds.{map_on_ok, always_on_ok, have_cells, no_keys, all_to}
 use Rattle.schedule_trie.proofs.branches.Lines.{slots_in_on}
 use Rattle.schedule_trie.proofs.trie.Trie.fork_at.Goals as goal
 
@@ -22,7 +22,7 @@ pub returns-then-place-eq0-clause-end : goal.returns-then-place-eq0-clause-end
 returns-then-place-eq0-clause-end g c =
     let now = c.args.self.now in
     let all = ap length (slots_in_on (segment_at now.segments) now.branches c.args.index) in
-    on_ok c.fork_after.result
+    map_on_ok c.fork_after.result
     (λ change long. change (sym (no_keys (segment_at now.segments) (keys_in now.branches c.args.index) (have_cells now c.lemma_invariant.ensures.whole c.args.index) (omega (arith, all, long, c.if-place-eq0.true)))))
     c.fork_after.ensures.end
 
@@ -32,7 +32,7 @@ returns-then-count-slots_at-clause-end g c =
     let forked = c.fork_after-then-count-slots_at in
     let all = ap length (slots_in_on (segment_at now.segments) now.branches c.args.index) in
     let own = ap length c.slots_at.ensures in
-    on_ok forked.result
+    map_on_ok forked.result
     (λ change long. change (all_to (segment_at now.segments) (keys_in now.branches c.args.index) (have_cells now c.lemma_invariant.ensures.whole c.args.index) c.in-Some.key (c.args.place - 1) c.in-Some.offset c.in-Some.ensures.lies
     (omega (arith, own, c.if-count-slots_at.true)) (omega (arith, all, long, c.if-place-eq0.false))))
     forked.ensures.end

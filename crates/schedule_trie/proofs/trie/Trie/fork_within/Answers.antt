@@ -2,7 +2,7 @@ use Rattle.std.proofs.Common.{arith, ◌≡◌, ◌<◌, true, nat_eq, None, len
 use Rattle.std.proofs.lemmas.Result.{IfOk-from_err}
 use Rattle.std.specs.Cmp.Lexicographic.{pointwise}
 use Rattle.indexmap.specs.IndexMap.{insert_entry}
-use Rattle.lineage.specs.Family.{with_item}
+use Rattle.lineage.specs.Family.{with_item, IsForkedAbove}
 use Rattle.branch_terms.specs.Forest.{index_of}
 use Rattle.schedule_trie.specs.Trie.{forest, keys_in, line, segment_at, slots_of, has}
 use Rattle.schedule_trie.specs.changes.Forks.{IsBranchForked}
@@ -10,7 +10,7 @@ use Rattle.schedule_trie.specs.TrieFields.{trie_of, IsHeldTrie}
 use Rattle.schedule_trie.proofs.forks.DivisionSteps.{still_there}
 use Rattle.schedule_trie.proofs.forks.ForkCutSteps.{cut_fork}
 use Rattle.schedule_trie.proofs.lists.KeyPositions.{parting}
-use Rattle.schedule_trie.proofs.edits.PushSteps.{roomed_held, roomed_err}
+use Rattle.schedule_trie.proofs.edits.PushSteps.{roomed_kept, roomed_err}
 use Rattle.schedule_trie.proofs.segments.StepSet.{held_there}
 use Rattle.schedule_trie.proofs.lengths.LengthSteps.{forked_lengths}
 use Rattle.schedule_trie.proofs.branches.NamesKept.{forked_names}
@@ -23,7 +23,7 @@ parts_at-requires g c = omega (arith, c.requires.inside, ap length c.slots_at.en
 pub invariant_of-self : goal.invariant_of-self
 invariant_of-self g c =
     let t = c.self.inside in
-    roomed_held t (record t { branches = c.reserve.new.self }) c.in_err-reserve.ensures.entries refl refl refl
+    roomed_kept t (record t { branches = c.reserve.new.self }) c.in_err-reserve.ensures.entries refl refl refl
     c.self.invariant
 
 pub returns-in_err-reserve-clause-ok : goal.returns-in_err-reserve-clause-ok
@@ -37,7 +37,7 @@ returns-in_err-reserve-clause-err g c =
 pub invariant_of-self-in_err-fork_above : goal.invariant_of-self-in_err-fork_above
 invariant_of-self-in_err-fork_above g c =
     let t = c.self.inside in
-    roomed_held t (record t { segments = c.fork_above.new.self; branches = c.reserve.new.self })
+    roomed_kept t (record t { segments = c.fork_above.new.self; branches = c.reserve.new.self })
     c.in_ok-reserve.ensures.entries c.in_err-fork_above.ensures.err refl refl c.self.invariant
 
 pub returns-in_err-fork_above-clause-ok : goal.returns-in_err-fork_above-clause-ok
@@ -71,7 +71,8 @@ forked g c front back path =
     c.args.name c.args.index c.args.key _ c.args.count front back c.in_ok-above.above c.in_ok-above.below c.item_mut.result.now c.set_slots.new.self None c.self.invariant.held
     (subst (λ z. length z.branches < z.limits.branches) view c.requires.room) (subst (λ z. index_of (forest z).branches c.args.name ≡ None) view c.requires.name) refl refl
     path c.requires.some (subst (λ z. c.args.count < length (slots_of (segment_at z.segments c.args.key))) view c.requires.inside)
-    c.in_ok-fork_above.ensures.ok c.item_mut.ensures.value refl c.set_slots.ensures.slots c.set_slots.ensures.note refl
+    (subst (λ n. IsForkedAbove c.self.inside.segments c.fork_above.new.self c.args.key c.in_ok-fork_above.field-0 (record { slots = c.in_ok-above.above; note = n })) c.none.ensures c.in_ok-fork_above.ensures.ok)
+    c.item_mut.ensures.value refl c.set_slots.ensures.slots c.set_slots.ensures.note refl
     (c.in_ok-above.ensures.first ∙ ap (take c.args.count) slots) (c.in_ok-above.ensures.rest ∙ ap (drop c.args.count) slots) (entered g c)
 
 pub invariant_of-self-2 : goal.invariant_of-self-2

@@ -2,7 +2,7 @@ use Rattle.std.proofs.Common.{length, ap, arith}
 use Rattle.schedule_trie.specs.Trie.{segment_at, keys_in, line}
 use Rattle.schedule_trie.specs.Climbs.{keys_to}
 use Rattle.schedule_trie.proofs.climbs.Climbs.{cells_own, cells_within}
-use Rattle.schedule_trie.proofs.climbs.ClimbSteps.{branch_short, turn}
+use Rattle.schedule_trie.proofs.climbs.ClimbSteps.{branch_short, climb_pass}
 use Rattle.schedule_trie.proofs.trie.Trie.len_to.Goals as goal
 
 pub overflow_cast-len : goal.overflow_cast-len
@@ -30,12 +30,12 @@ overflow_add-len g c =
 
 pub loop-up-smaller : goal.loop-up-smaller
 loop-up-smaller g c =
-    (turn c.args.self.now c.in-Some.ensures.whole c.args.index c.loop-up.at c.in-Some.up.0 c.in-Some.up.2 c.loop-up.invariant.reached c.in-Some.ensures.key c.in-Some.ensures.each).fewer
+    (climb_pass c.args.self.now c.in-Some.ensures.whole c.args.index c.loop-up.at c.in-Some.up.0 c.in-Some.up.2 c.loop-up.invariant.reached c.in-Some.ensures.key c.in-Some.ensures.each).fewer
 
 pub loop-up-preserved : goal.loop-up-preserved
 loop-up-preserved g c =
     let up = c.in-Some.ensures in
-    let t = turn c.args.self.now up.whole c.args.index c.loop-up.at c.in-Some.up.0 c.in-Some.up.2 c.loop-up.invariant.reached up.key up.each in
+    let t = climb_pass c.args.self.now up.whole c.args.index c.loop-up.at c.in-Some.up.0 c.in-Some.up.2 c.loop-up.invariant.reached up.key up.each in
     let len = ap length up.slots in
     record { reached = t.step.reached; sum = omega (arith, t.cells, len, c.loop-up.invariant.sum) }
 

@@ -4,9 +4,9 @@ use Rattle.branch_terms.specs.Forest.{is_cell}
 use Rattle.schedule_trie.specs.Trie.{segment_at, keys_in, line}
 use Rattle.schedule_trie.specs.Climbs.{keys_to}
 use Rattle.schedule_trie.proofs.climbs.Climbs.{cells_within, place_up, place_above}
-use Rattle.schedule_trie.proofs.climbs.ClimbSteps.{path_last, branch_once, branch_short, turn}
+use Rattle.schedule_trie.proofs.climbs.ClimbSteps.{path_last, branch_once, branch_short, climb_pass}
 use Rattle.schedule_trie.proofs.branches.Lines.{slots_in_on}
-use Rattle.schedule_trie.proofs.climbs.CellPlaces.{first_within}
+use Rattle.schedule_trie.proofs.climbs.CellPlaces.{position-within}
 use Rattle.schedule_trie.proofs.trie.Trie.place_at.Goals as goal
 
 pub loop-up-init : goal.loop-up-init
@@ -17,7 +17,7 @@ loop-up-init g c =
 
 pub len_to-requires : goal.len_to-requires
 len_to-requires g c =
-    let t = turn c.args.self.now c.in-Some.ensures.whole c.args.index c.loop-up.at c.in-Some.up.0 c.in-Some.up.2 c.loop-up.invariant.reached c.in-Some.ensures.key
+    let t = climb_pass c.args.self.now c.in-Some.ensures.whole c.args.index c.loop-up.at c.in-Some.up.0 c.in-Some.up.2 c.loop-up.invariant.reached c.in-Some.ensures.key
     c.in-Some.ensures.each in
     t.step.reached
 
@@ -25,9 +25,9 @@ pub overflow_add-result : goal.overflow_add-result
 overflow_add-result g c =
     let now = c.args.self.now in
     let keys = keys_in now.branches c.args.index in
-    let t = turn c.args.self.now c.in-Some.ensures.whole c.args.index c.loop-up.at c.in-Some.up.0 c.in-Some.up.2 c.loop-up.invariant.reached c.in-Some.ensures.key
+    let t = climb_pass c.args.self.now c.in-Some.ensures.whole c.args.index c.loop-up.at c.in-Some.up.0 c.in-Some.up.2 c.loop-up.invariant.reached c.in-Some.ensures.key
     c.in-Some.ensures.each in
-    let inside = first_within (is_cell c.args.cell) c.in-Some.up.1.now c.in-Some-offset_of.offset c.in-Some-offset_of.ensures in
+    let inside = position-within (is_cell c.args.cell) c.in-Some.up.1.now c.in-Some-offset_of.offset c.in-Some-offset_of.ensures in
     let len = ap length c.in-Some.ensures.slots in
     let within = cells_within (segment_at now.segments) keys c.loop-up.at c.loop-up.invariant.reached in
     let short = branch_short now c.in-Some.ensures.whole c.args.index in
@@ -38,7 +38,7 @@ returns-in-Some-offset_of g c =
     let now = c.args.self.now in
     let keys = keys_in now.branches c.args.index in
     let sound = c.in-Some.ensures.whole.sound in
-    let t = turn c.args.self.now c.in-Some.ensures.whole c.args.index c.loop-up.at c.in-Some.up.0 c.in-Some.up.2 c.loop-up.invariant.reached c.in-Some.ensures.key
+    let t = climb_pass c.args.self.now c.in-Some.ensures.whole c.args.index c.loop-up.at c.in-Some.up.0 c.in-Some.up.2 c.loop-up.invariant.reached c.in-Some.ensures.key
     c.in-Some.ensures.each in
     let here = place_up (segment_at now.segments) c.args.cell keys c.in-Some.up.0 c.in-Some.up.2 t.step sound.apart
     (branch_once now c.in-Some.ensures.whole c.args.index) c.in-Some-offset_of.offset
@@ -49,7 +49,7 @@ returns-in-Some-offset_of g c =
 
 pub loop-up-smaller : goal.loop-up-smaller
 loop-up-smaller g c =
-    let t = turn c.args.self.now c.in-Some.ensures.whole c.args.index c.loop-up.at c.in-Some.up.0 c.in-Some.up.2 c.loop-up.invariant.reached c.in-Some.ensures.key
+    let t = climb_pass c.args.self.now c.in-Some.ensures.whole c.args.index c.loop-up.at c.in-Some.up.0 c.in-Some.up.2 c.loop-up.invariant.reached c.in-Some.ensures.key
     c.in-Some.ensures.each in
     t.fewer
 
@@ -57,7 +57,7 @@ pub loop-up-preserved : goal.loop-up-preserved
 loop-up-preserved g c =
     let now = c.args.self.now in
     let keys = keys_in now.branches c.args.index in
-    let t = turn c.args.self.now c.in-Some.ensures.whole c.args.index c.loop-up.at c.in-Some.up.0 c.in-Some.up.2 c.loop-up.invariant.reached c.in-Some.ensures.key
+    let t = climb_pass c.args.self.now c.in-Some.ensures.whole c.args.index c.loop-up.at c.in-Some.up.0 c.in-Some.up.2 c.loop-up.invariant.reached c.in-Some.ensures.key
     c.in-Some.ensures.each in
     let sound = c.in-Some.ensures.whole.sound in
     record {

@@ -5,7 +5,7 @@ use Rattle.std.proofs.Common.{◌+◌, ◌<◌, ◌∙◌, None, ap, length, ref
 use Rattle.schedule_trie.proofs.branches.Lines.{path_within}
 use Rattle.schedule_trie.proofs.edits.PushFresh.{segment_held, segment_pushed}
 use Rattle.schedule_trie.proofs.lengths.Lengths.{names_set, relength_seen}
-use Rattle.schedule_trie.proofs.lengths.LengthSteps.{entry_within, one_held, pushed_lengths}
+use Rattle.schedule_trie.proofs.lengths.LengthSteps.{entry_within, right_lengths_kept, pushed_lengths}
 use Rattle.schedule_trie.proofs.trie.Trie.push_segment.Goals as goal
 
 pub push-requires : goal.push-requires
@@ -22,7 +22,7 @@ invariant_of-self-2 g c =
     let room = subst (λ z. z.made < z.limits.cells) (sym c.self.view_is) c.requires.room in
     let p = record t { segments = c.push.new.self; made = t.made + 1 } in
     let names = ap keys_of c.set_cached_len.ensures ∙ names_set t.branches.entries c.args.index None in
-    one_held p (record p { branches = c.set_cached_len.new.self }) names refl refl refl _
+    right_lengths_kept p (record p { branches = c.set_cached_len.new.self }) names refl refl refl _
     (segment_held t p c.args.index _ c.in_ok-segment.segment c.args.step c.self.invariant.held index_in room
     c.in_ok-push.ensures.item c.in_ok-push.ensures.paths refl refl refl c.in_ok-segment.ensures.slots c.in_ok-segment.ensures.note)
     c.self.invariant.names

@@ -2,7 +2,7 @@ use Rattle.std.proofs.Common.{◌≡◌, ◌<◌, Some, length, sym, subst, arit
 use Rattle.branch_terms.specs.Forest.{index_of, slots_in}
 use Rattle.schedule_trie.specs.Trie.{forest, IsWhole}
 use Rattle.schedule_trie.specs.Edits.{Remove, IsEdited}
-use Rattle.schedule_trie.proofs.lengths.LengthsAfter.{place_inside, shorter, still_removed}
+use Rattle.schedule_trie.proofs.lengths.LengthsAfter.{place_inside, shorter, inside_after_removal}
 use Rattle.schedule_trie.proofs.edits.RemoveSteps.{remove_ok}
 use Rattle.schedule_trie.proofs.segments.CellHolders.{notes_here}
 use Rattle.schedule_trie.proofs.trie.Trie.remove.Goals as goal
@@ -15,7 +15,7 @@ overflow_sub-len g c =
 
 pub set_cached_len-requires-clause-index : goal.set_cached_len-requires-clause-index
 set_cached_len-requires-clause-index g c =
-    still_removed c.cache_len-len.new.self c.remove_slot.new.self (subst IsWhole (sym c.cache_len-len.ensures.same) c.cache_len-len.ensures.whole) c.in-Some.index (subst (λ z. c.in-Some.index < length z.branches) (sym c.cache_len-len.ensures.same) c.in-Some.ensures.within)
+    inside_after_removal c.cache_len-len.new.self c.remove_slot.new.self (subst IsWhole (sym c.cache_len-len.ensures.same) c.cache_len-len.ensures.whole) c.in-Some.index (subst (λ z. c.in-Some.index < length z.branches) (sym c.cache_len-len.ensures.same) c.in-Some.ensures.within)
     c.in-Some-find_cell.key c.in-Some-find_cell.offset c.in-Some-find_cell.ensures.found.within c.remove_slot.ensures
 
 pub set_cached_len-requires-clause-len : goal.set_cached_len-requires-clause-len

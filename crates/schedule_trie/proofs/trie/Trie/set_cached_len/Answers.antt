@@ -4,7 +4,7 @@ use Rattle.branch_terms.specs.Forest.{slots_in}
 use Rattle.schedule_trie.specs.Trie.{forest}
 use Rattle.schedule_trie.specs.TrieFields.{trie_of}
 use Rattle.schedule_trie.proofs.lengths.Lengths.{names_set, relength_seen, one_cached}
-use Rattle.schedule_trie.proofs.lengths.LengthSteps.{entry_within, one_held}
+use Rattle.schedule_trie.proofs.lengths.LengthSteps.{entry_within, right_lengths_kept}
 use Rattle.schedule_trie.proofs.trie.Trie.set_cached_len.Goals as goal
 
 pub set_cached_len-requires : goal.set_cached_len-requires
@@ -15,7 +15,7 @@ invariant_of-self g c =
     let t = c.self.inside in
     let names = ap keys_of c.set_cached_len.ensures ∙ names_set t.branches.entries c.args.index (Some c.args.len) in
     let len = subst (λ z. c.args.len ≡ length (slots_in (forest z).branches c.args.index)) (sym c.self.view_is) c.requires.len in
-    one_held t (record t { branches = c.set_cached_len.new.self; last_cached = c.args.index }) names refl refl refl _ c.self.invariant.held c.self.invariant.names
+    right_lengths_kept t (record t { branches = c.set_cached_len.new.self; last_cached = c.args.index }) names refl refl refl _ c.self.invariant.held c.self.invariant.names
     (one_cached t.branches.entries (forest (trie_of t)).branches c.args.index c.args.len len c.self.invariant.lengths) c.set_cached_len.ensures
 
 pub returns : goal.returns

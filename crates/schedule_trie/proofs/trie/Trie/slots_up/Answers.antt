@@ -1,7 +1,7 @@
 use Rattle.std.proofs.Common.{sym, ap, ◌∙◌}
 use Rattle.schedule_trie.specs.Trie.{slots_of}
 use Rattle.schedule_trie.specs.TrieFields.{segment_of}
-use Rattle.schedule_trie.proofs.climbs.ClimbSteps.{each_up, ends_up}
+use Rattle.schedule_trie.proofs.climbs.ClimbSteps.{each_up, climb_has_ended}
 use Rattle.schedule_trie.proofs.segments.StepSet.{segment_seen}
 use Rattle.schedule_trie.proofs.trie.Trie.slots_up.Goals as goal
 
@@ -11,7 +11,7 @@ returns-in-Some-clause-each g c i front back e =
     cc
 
 pub returns-in-None-clause-end : goal.returns-in-None-clause-end
-returns-in-None-clause-end g c = ends_up c.self.inside c.args.self.now c.self.view_is c.self.invariant.held c.args.at c.in-None.ensures.end
+returns-in-None-clause-end g c = climb_has_ended c.self.inside c.args.self.now c.self.view_is c.self.invariant.held c.args.at c.in-None.ensures.end
 
 pub returns-in-Some-clause-slots : goal.returns-in-Some-clause-slots
 returns-in-Some-clause-slots g c =

@@ -2,7 +2,7 @@ use Rattle.std.proofs.Common.{◌+◌, ◌≤◌, ◌≡◌, length, take, sym, 
 use Rattle.std.proofs.lemmas.List.{take_all}
 use Rattle.branch_terms.specs.Forest.{lone_branch}
 use Rattle.schedule_trie.specs.Trie.{forest}
-use Rattle.branch_terms.specs.Limbs.{cells_of, forest_of}
+use Rattle.branch_terms.specs.Limbs.{own_cell_count, forest_of}
 use Rattle.branch_terms.proofs.Lists.{item_of_rest, rest_ends}
 use Rattle.schedule_trie.proofs.limbs.LoadSteps.{first_grown, can_grow, grown_next}
 use Rattle.schedule_trie.proofs.trie.Trie.with_limbs.Goals as goal
@@ -25,7 +25,7 @@ grow-requires g c =
     let ls = c.args.limbs.now in
     let item = item_of_rest ls c.loop-limb.limb-index c.limb-item.result c.requires.some c.loop-limb-test.true c.limb-item.is in
     can_grow ls c.requires.lawful (c.loop-limb.limb-index + 1) c.limb-item.result item.0 item.1 c.loop-limb.trie i.grown (omega arith)
-    (subst (λ l. cells_of ls ≤ l.cells) (sym i.limits) c.requires.cells) (subst (λ l. length ls ≤ l.branches) (sym i.limits) c.requires.count)
+    (subst (λ l. own_cell_count ls ≤ l.cells) (sym i.limits) c.requires.cells) (subst (λ l. length ls ≤ l.branches) (sym i.limits) c.requires.count)
 
 pub loop-limb-preserved : goal.loop-limb-preserved
 loop-limb-preserved g c =

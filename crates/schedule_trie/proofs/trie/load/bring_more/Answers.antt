@@ -1,5 +1,5 @@
 use Rattle.std.proofs.Common.{◌<◌, ◌≤◌, length, sym, subst, arith, ◌+◌, ◌-◌, ◌≡◌, take}
-use Rattle.branch_terms.specs.Limbs.{cells_of}
+use Rattle.branch_terms.specs.Limbs.{own_cell_count}
 use Rattle.schedule_trie.proofs.limbs.LimbCounts.{too_many_here, room_left, not_too_many}
 use Rattle.schedule_trie.proofs.trie.load.bring_more.Goals as goal
 
@@ -17,7 +17,7 @@ loop-limb-preserved c =
     let left = c.if-room-count.false in
     let same = c.as_slice-count.ensures in
     record {
-      brought = subst (λ s. cells_of (take (c.loop-limb.limb-index + 1) ls) + (c.loop-limb.room - length s) ≡ c.args.most) (sym same)
+      brought = subst (λ s. own_cell_count (take (c.loop-limb.limb-index + 1) ls) + (c.loop-limb.room - length s) ≡ c.args.most) (sym same)
           (room_left ls c.loop-limb.limb-index c.limb-item.result c.loop-limb-test.true (sym c.limb-item.is) c.loop-limb.room c.args.most c.loop-limb.invariant.brought
           (subst (λ s. length s ≤ c.loop-limb.room) same left));
     }

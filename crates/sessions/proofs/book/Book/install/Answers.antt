@@ -1,7 +1,7 @@
 use Rattle.std.proofs.Common.{length, refl}
 use Rattle.std.specs.Arc.{arc_value}
 use Rattle.sessions.specs.Books.{book_of}
-use Rattle.sessions.proofs.Books.{book_same, opens_same}
+use Rattle.sessions.proofs.Books.{book_same, same_opening}
 use Rattle.sessions.proofs.KeptBranches.{install_kept, kept_world}
 use Rattle.sessions.proofs.book.Book.install.Goals as goal
 
@@ -17,7 +17,7 @@ returns-clause-kept g c =
     c.install.result c.install.ensures) in
     rw (← c.self.view_is) (record {
       world = world;
-      opening = opens_same is (book_of i.first.value i.workspace i.log) (book_of i.first.value (record i.workspace { chart = c.install.new.self }) i.log) refl world;
+      opening = same_opening is (book_of i.first.value i.workspace i.log) (book_of i.first.value (record i.workspace { chart = c.install.new.self }) i.log) refl world;
       log = refl;
     })
 

@@ -2,7 +2,7 @@ use Rattle.std.proofs.Common.{subst}
 use Rattle.schedule_trie.specs.Trie.{IsCut}
 use Rattle.sessions.specs.Books.{BeginsAtOpening}
 use Rattle.sessions.specs.Books.{book_of}
-use Rattle.sessions.proofs.Openings.{begins_so}
+use Rattle.sessions.proofs.Openings.{begins_at_opening}
 use Rattle.sessions.proofs.book.Book.lemma_invariant.Goals as goal
 
 pub returns-clause-cut : goal.returns-clause-cut
@@ -12,4 +12,4 @@ pub returns-clause-begins : goal.returns-clause-begins
 returns-clause-begins g c =
     let is = g.R.Behaves.behaviour in
     let i = c.self.inside in
-    subst (BeginsAtOpening is) c.self.view_is (begins_so is (book_of i.first.value i.workspace i.log) c.self.invariant.held c.lemma_invariant.ensures.initial)
+    subst (BeginsAtOpening is) c.self.view_is (begins_at_opening is (book_of i.first.value i.workspace i.log) c.self.invariant.held c.lemma_invariant.ensures.initial)

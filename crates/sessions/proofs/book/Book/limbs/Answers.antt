@@ -1,9 +1,9 @@
 use Rattle.std.proofs.Common.{length}
-use Rattle.sessions.proofs.Loads.{saved_so}
+use Rattle.sessions.proofs.Loads.{limbs_are_saved}
 use Rattle.sessions.proofs.book.Book.limbs.Goals as goal
 
 pub returns : goal.returns
 returns g c =
     let i = c.self.inside in
     let limbs = c.limbs.ensures in
-    rw (← c.self.view_is) (saved_so g.R.Behaves.behaviour i.workspace (length i.log.items) (λ r. r.items) c.limbs.result limbs.limbs limbs.lawful limbs.some limbs.near limbs.fit)
+    rw (← c.self.view_is) (limbs_are_saved g.R.Behaves.behaviour i.workspace (length i.log.items) (λ r. r.items) c.limbs.result limbs.limbs limbs.lawful limbs.some limbs.near limbs.fit)

@@ -1,40 +1,40 @@
 use Rattle.std.proofs.Common.{◌∙◌, sym}
 use Rattle.sessions.specs.Books.{stored, world_of}
-use Rattle.sessions.proofs.Answered.{done_so, early_none, early_refused, lacks_some, late_none, late_refused, not_early}
+use Rattle.sessions.proofs.Answered.{carried_out_result, early_none, early_refused_result, none_if_never_some, none_if_memory, late_refused_result, not_early}
 use Rattle.sessions.proofs.workspace.Workspace.answer.Goals as goal
 
 pub returns-in-Some : goal.returns-in-Some
 returns-in-Some g c = λ n room.
-    early_refused c.args.who c.args.if_at c.args.command.now (world_of g.R.Behaves.behaviour (stored c.args.self.now n)) room c.in-Some.refusal
-    (c.in-Some.ensures n c.args.command.now c.sorted-session.ensures.session c.sorted-session.ensures.step)
+    early_refused_result c.args.who c.args.if_at c.args.command.now (world_of g.R.Behaves.behaviour (stored c.args.self.now n)) room c.in-Some.refusal
+    (c.in-Some.ensures n c.args.command.now c.parts_of_command-session.ensures.session c.parts_of_command-session.ensures.step)
 
 pub work-requires-clause-session : goal.work-requires-clause-session
 work-requires-clause-session g c =
-    let early = lacks_some c.early_refusal.result c.in_default.not-Some ∙ c.early_refusal.ensures 0 c.args.command.now c.sorted-session.ensures.session c.sorted-session.ensures.step in
+    let early = none_if_never_some c.early_refusal.result c.in_default.not-Some ∙ c.early_refusal.ensures 0 c.args.command.now c.parts_of_command-session.ensures.session c.parts_of_command-session.ensures.step in
     (early_none c.args.who c.args.if_at c.args.command.now (world_of g.R.Behaves.behaviour (stored c.args.self.now 0)) (sym early)).0
 
 pub work-requires-clause-fits : goal.work-requires-clause-fits
 work-requires-clause-fits g c =
-    let early = lacks_some c.early_refusal.result c.in_default.not-Some ∙ c.early_refusal.ensures 0 c.args.command.now c.sorted-session.ensures.session c.sorted-session.ensures.step in
+    let early = none_if_never_some c.early_refusal.result c.in_default.not-Some ∙ c.early_refusal.ensures 0 c.args.command.now c.parts_of_command-session.ensures.session c.parts_of_command-session.ensures.step in
     (early_none c.args.who c.args.if_at c.args.command.now (world_of g.R.Behaves.behaviour (stored c.args.self.now 0)) (sym early)).1
 
 pub returns-in-Ok : goal.returns-in-Ok
 returns-in-Ok g c = λ n room.
     let w = world_of g.R.Behaves.behaviour (stored c.args.self.now n) in
-    let early = lacks_some c.early_refusal.result c.in_default.not-Some ∙ c.early_refusal.ensures n c.args.command.now c.sorted-session.ensures.session c.sorted-session.ensures.step in
+    let early = none_if_never_some c.early_refusal.result c.in_default.not-Some ∙ c.early_refusal.ensures n c.args.command.now c.parts_of_command-session.ensures.session c.parts_of_command-session.ensures.step in
     let done = c.in-Ok.ensures n in
-    done_so c.args.who c.args.if_at c.args.command.now w room _ c.in-Ok.reply (not_early c.args.who c.args.if_at c.args.command.now w room early ∙ done.fine) done.leaves done.replies
+    carried_out_result c.args.who c.args.if_at c.args.command.now w room _ c.in-Ok.reply (not_early c.args.who c.args.if_at c.args.command.now w room early ∙ done.not_refused) done.leaves done.replies
 
 pub returns-in-Memory : goal.returns-in-Memory
 returns-in-Memory g c = λ n room.
     let w = world_of g.R.Behaves.behaviour (stored c.args.self.now n) in
-    let early = lacks_some c.early_refusal.result c.in_default.not-Some ∙ c.early_refusal.ensures n c.args.command.now c.sorted-session.ensures.session c.sorted-session.ensures.step in
+    let early = none_if_never_some c.early_refusal.result c.in_default.not-Some ∙ c.early_refusal.ensures n c.args.command.now c.parts_of_command-session.ensures.session c.parts_of_command-session.ensures.step in
     let undone = c.in-Err.ensures n in
-    (late_none c.args.who c.args.if_at c.args.command.now w room early c.in-Err.refusal c.in-Memory.is undone.why, undone.same)
+    (none_if_memory c.args.who c.args.if_at c.args.command.now w room early c.in-Err.refusal c.in-Memory.is undone.why, undone.same)
 
 pub returns-in_default-refusal : goal.returns-in_default-refusal
 returns-in_default-refusal g c = λ n room.
     let w = world_of g.R.Behaves.behaviour (stored c.args.self.now n) in
-    let early = lacks_some c.early_refusal.result c.in_default.not-Some ∙ c.early_refusal.ensures n c.args.command.now c.sorted-session.ensures.session c.sorted-session.ensures.step in
+    let early = none_if_never_some c.early_refusal.result c.in_default.not-Some ∙ c.early_refusal.ensures n c.args.command.now c.parts_of_command-session.ensures.session c.parts_of_command-session.ensures.step in
     let undone = c.in-Err.ensures n in
-    late_refused c.args.who c.args.if_at c.args.command.now w room early c.in-Err.refusal c.in_default-refusal.not-Memory undone.why _ undone.same
+    late_refused_result c.args.who c.args.if_at c.args.command.now w room early c.in-Err.refusal c.in_default-refusal.not-Memory undone.why _ undone.same

@@ -2,7 +2,7 @@ use Rattle.std.proofs.Common.{◌∙◌, ◌<◌, [], length, sym, ap, arith}
 use Rattle.std.proofs.lemmas.List.{get_or_default}
 use Rattle.sessions.specs.BreakLists.{has_break, without_break}
 use Rattle.sessions.specs.Books.{stored}
-use Rattle.sessions.proofs.BreakAnswers.{break_cleared, break_lacks}
+use Rattle.sessions.proofs.BreakAnswers.{break_cleared, clear_refused}
 use Rattle.sessions.proofs.workspace.Workspace.clear_break.Goals as goal
 
 pub returns : goal.returns
@@ -22,4 +22,4 @@ returns-then-not-has g c = λ n.
     let who = c.args.who in
     let within : who < length s.breaks.items = omega (arith, c.requires.session, c.requires.can.breaks) in
     let was = c.index.ensures ∙ get_or_default s.breaks.items who _ [] within in
-    break_lacks g.R.Behaves.behaviour (stored s n) who c.args.gone (ap (has_break c.args.gone) (sym was) ∙ sym c.if-not-has.ensures)
+    clear_refused g.R.Behaves.behaviour (stored s n) who c.args.gone (ap (has_break c.args.gone) (sym was) ∙ sym c.if-not-has.ensures)

@@ -3,7 +3,7 @@ use Rattle.std.proofs.lemmas.List.{get_or_default, set-get_or}
 use Rattle.std.specs.Prelude.{slice_set}
 use Rattle.sessions.specs.BreakLists.{with_break}
 use Rattle.sessions.specs.Books.{stored}
-use Rattle.sessions.proofs.BreakAnswers.{break_set, break_unset}
+use Rattle.sessions.proofs.BreakAnswers.{break_set, set_lacks_memory}
 use Rattle.sessions.proofs.workspace.Workspace.set_break.Goals as goal
 
 pub returns : goal.returns
@@ -18,4 +18,4 @@ pub returns-in_err-add : goal.returns-in_err-add
 returns-in_err-add g c = λ n.
     let s = c.args.self.now in
     let same = ap (slice_set s.breaks.items c.args.who) (c.in_err-add.ensures.err ∙ c.index_mut.ensures.value) ∙ set-get_or s.breaks.items c.args.who _ in
-    break_unset g.R.Behaves.behaviour (stored s n) c.args.who c.args.added c.add.new.self c.from_residual.result _ c.from_residual.ensures.1 (λ x h. h) same
+    set_lacks_memory g.R.Behaves.behaviour (stored s n) c.args.who c.args.added c.add.new.self c.from_residual.result _ c.from_residual.ensures.1 (λ x h. h) same

@@ -5,9 +5,9 @@ use Rattle.sessions.specs.Books.{opening_of}
 use Rattle.sessions.specs.Logs.{world_after}
 use Rattle.desk.specs.Histories.{seen}
 use Rattle.desk.specs.Works.{IsAnswer, answer_by, answer_at}
-use Rattle.desk.proofs.Works.{paged_so}
+use Rattle.desk.proofs.Works.{page_answers}
 use Rattle.towerbench.specs.Seats.{Seated, IsAlone, world_at}
-use Rattle.towerbench.proofs.Replies.{looked_answers, looked_sees, shown, found, refused}
+use Rattle.towerbench.proofs.Replies.{looked_answers, looked_sees, shown, page_found, refused}
 use Rattle.towerbench.proofs.seat.Seat.look.Given.{Over}
 use Rattle.towerbench.proofs.seat.Seat.look.Goals as goal
 
@@ -15,7 +15,7 @@ use Rattle.towerbench.proofs.seat.Seat.look.Goals as goal
 answers : (g : Over) (c : goal.After-paged g) → IsAlone c.args.self.now → IsAnswer (world_at g.R.Behaves.behaviour c.args.self.now) c.args.query c.paged.result
 answers g c alone =
     let slip = c.slip-slip.result in
-    paged_so (world_at g.R.Behaves.behaviour c.args.self.now) c.args.query (answer_by slip.1) c.paged.result c.paged.ensures
+    page_answers (world_at g.R.Behaves.behaviour c.args.self.now) c.args.query (answer_by slip.1) c.paged.result c.paged.ensures
     (subst (λ (s : Seated g.row.R.Denot g.row.R-Pending.Denot). IsAlone s → IsAnswer (world_at g.R.Behaves.behaviour s) c.args.query (answer_by slip.1)) c.self.view_is
     (looked_answers g.R.Behaves.behaviour c.self.inside.desk.first.value (view c.self.inside.chair) (view c.slip-slip.new.chair) c.args.query (answer_at slip.0 slip.1) c.slip-slip.ensures.looked) alone)
 
@@ -23,7 +23,7 @@ pub returns-clause-page : goal.returns-clause-page
 returns-clause-page g c = λ alone. shown (world_at g.R.Behaves.behaviour c.args.self.now) c.args.query c.paged.result (answers g c alone)
 
 pub returns-clause-found : goal.returns-clause-found
-returns-clause-found g c = λ alone. found (world_at g.R.Behaves.behaviour c.args.self.now) c.args.query c.paged.result (answers g c alone)
+returns-clause-found g c = λ alone. page_found (world_at g.R.Behaves.behaviour c.args.self.now) c.args.query c.paged.result (answers g c alone)
 
 pub returns-clause-err : goal.returns-clause-err
 returns-clause-err g c = λ alone. refused (world_at g.R.Behaves.behaviour c.args.self.now) c.args.query c.paged.result (answers g c alone)

@@ -5,7 +5,7 @@ use Rattle.turn.specs.declared.view.View.{View}
 use Rattle.turn.specs.Shares.{has_share, chair_number}
 use Rattle.turn.specs.laws.Shares.{number_held}
 use Rattle.turn.specs.Histories.{joined}
-use Rattle.turn.proofs.Calls.{joined_chair, meets}
+use Rattle.turn.proofs.Calls.{joined_chair, joined_with_news}
 use Rattle.turn.proofs.chair.Chair.take_in.Goals as goal
 
 pub join-requires-clause-some : goal.join-requires-clause-some
@@ -29,4 +29,4 @@ invariant_of-self g c =
 pub returns-clause-joined : goal.returns-clause-joined
 returns-clause-joined g c =
     let is = ap (λ (m : Me _ (View _)). m.0) c.join.ensures.joined ∙ ap (λ (p : Seat _ (View _)). joined c.args.self.now.access.me.0 p.me.0) c.into_access.ensures in
-    meets g.T.Counted.by g.T.Counted.entries c.args.self.now.access.me.0 c.args.other.access.me.0 c.join.new.access.me c.news.new.access.me _ is c.news.ensures.reports
+    joined_with_news g.T.Counted.by g.T.Counted.entries c.args.self.now.access.me.0 c.args.other.access.me.0 c.join.new.access.me c.news.new.access.me _ is c.news.ensures.reports

@@ -4,14 +4,14 @@ use Rattle.turn.specs.declared.view.View.{View}
 use Rattle.turn.specs.Shares.{count, every_share}
 use Rattle.turn.specs.laws.Shares.{count_some}
 use Rattle.turn.specs.Histories.{first_view, OwnsItsCalls}
-use Rattle.turn.proofs.Calls.{starts_as, owns_first}
+use Rattle.turn.proofs.Calls.{invariant_at_start, owns_first}
 use Rattle.turn.proofs.turn.Turn.new.Goals as goal
 
 pub new-requires : goal.new-requires
 new-requires g c =
     let items : c.push.new.self.items ≡ Some c.args.value ∷ [] = search rules in
     let same : c.of-about.result.value ≡ c.args.value = search rules in
-    starts_as g.T.Counted.by g.T.Counted.entries c.args.value _ _ _ c.requires c.len-length.ensures items same
+    invariant_at_start g.T.Counted.by g.T.Counted.entries c.args.value _ _ _ c.requires c.len-length.ensures items same
 
 pub invariant_of-chair : goal.invariant_of-chair
 invariant_of-chair g c =

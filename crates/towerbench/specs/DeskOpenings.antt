@@ -11,7 +11,7 @@ use Rattle.branch_terms.specs.declared.limits.TheConstants.{MOST_CELLS_MADE}
 use Rattle.sessions.specs.World.{World, opening_of_limbs}
 use Rattle.conversation.specs.Moments.{Streams}
 use Rattle.tower_file.specs.declared.tower.TowerSpec.{TowerSpec}
-use Rattle.tower_file.specs.Said.{as_bench}
+use Rattle.tower_file.specs.Parsed.{as_bench}
 use Rattle.tower_file.specs.Towers.{fits, is_lawful_tower}
 use Rattle.command_line.specs.Ranges.{AreOptionsInRange, limits_of}
 use Rattle.towerbench.specs.declared.fault.Fault.{Fault}
@@ -47,11 +47,11 @@ abbrev pub opening_world : {R P : Type 0} → (R → Behaviour P) → Opening R 
 opening_world is o = opening_of_limbs (is o.register) o.value (limits_of o.setup.options) o.setup.bench.limbs
 
 -- whether the branches that a run of the program left are to be reported
-abbrev pub is_reported : Reporting → Bool
-is_reported Nothing = false
-is_reported Branches = true
+abbrev pub reports_branches : Reporting → Bool
+reports_branches Nothing = false
+reports_branches Branches = true
 
 -- A run of the program with this setup, and with this choice of what is returned about the branches
 -- that it left, ended with this result.
 abbrev pub EndsFrom : Setup → Reporting → Streams → Streams → Result (Vec ℕ Global) Fault → Type 0
-EndsFrom setup reporting before after result = EndsOver (is_reported reporting) (limits_of setup.options) (as_bench setup.bench) before after result
+EndsFrom setup reporting before after result = EndsOver (reports_branches reporting) (limits_of setup.options) (as_bench setup.bench) before after result

@@ -1,4 +1,4 @@
--- What the frames of a pending operation determine, and what they don't.
+-- Which frames describe a point of an operation on a safe bit.
 use Rattle.std.proofs.Common.{◌≡◌, ℕ, ◌+◌, ◌-◌, ◌<◌, Bool, true, false, List, [], ◌∷◌, length, drop, Some, None, refl, ap, ◌∙◌, arith, length-drop}
 use Rattle.std.specs.Prelude.{◌≢◌, ◌==◌, if◌then◌else◌}
 use Rattle.std.proofs.lemmas.Bool.Decides.{nat_tests}
@@ -29,12 +29,12 @@ reaches_at who i op.Read fits = at_test (i == 0)
 module _ (who first : ℕ) (stack : List Frame) where
   -- a list of frames whose length isn't 1 describes no point, since a safe bit's operation has
   -- exactly one frame
-  pub not_one : length (drop first stack) ≢ 1 → IsPointByFrames safe_behaviour.frames SafeReaches who (drop first stack) None
-  not_one other o p there e = other (ap length e)
+  pub no_point_unless_one_frame : length (drop first stack) ≢ 1 → IsPointByFrames safe_behaviour.frames SafeReaches who (drop first stack) None
+  no_point_unless_one_frame other o p there e = other (ap length e)
 
   module _ (frame : Frame) (found : drop first stack ≡ frame ∷ drop (first + 1) stack) where
-    pub one_frame : length stack - first ≡ 1 → safe_suits who frame.op ≡ true → frame ≡ safe_frame (point_at frame.op frame.i)
+    pub point_of_one_frame : length stack - first ≡ 1 → safe_suits who frame.op ≡ true → frame ≡ safe_frame (point_at frame.op frame.i)
         → IsPointByFrames safe_behaviour.frames SafeReaches who (drop first stack) (Some (point_at frame.op frame.i))
-    one_frame one fits same =
+    point_of_one_frame one fits same =
         let none : drop (first + 1) stack ≡ [] = nil_from_length (drop (first + 1) stack) (length-drop (first + 1) stack ∙ omega (arith, one)) in
         (frame.op, (reaches_at who frame.i frame.op fits, found ∙ ap (λ xs. frame ∷ xs) none ∙ ap (λ x. x ∷ []) same))

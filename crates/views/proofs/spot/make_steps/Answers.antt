@@ -3,7 +3,7 @@ use Rattle.std.proofs.lemmas.List.{drop_all, drop_more}
 use Rattle.frames.specs.declared.types.Step.{Step}
 use Rattle.frames.specs.Behaviour.{Behaviour}
 use Rattle.frames.specs.Configuration.{Configuration, replayed, stepped}
-use Rattle.views.proofs.spot.make.Goals as goal
+use Rattle.views.proofs.spot.make_steps.Goals as goal
 
 -- after one more step, the remaining steps lead to the same configuration
 more : {R P : Type 0} (is : R → Behaviour P) (register : R) (c next whole : Configuration R P) (steps : List Step)

@@ -19,5 +19,5 @@ event_of (kept.ChosenZero p bit) = event.Chosen p bit false
 event_of (kept.ChosenOne p bit) = event.Chosen p bit true
 
 -- the events with these stored forms, in order
-abbrev pub kept_events : List Kept → List Event
-kept_events events = map event_of events
+abbrev pub stored_events : List Kept → List Event
+stored_events events = map event_of events

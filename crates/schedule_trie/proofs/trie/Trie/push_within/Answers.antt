@@ -3,10 +3,10 @@ use Rattle.lineage.specs.Family.{with_item}
 use Rattle.schedule_trie.specs.TrieFields.{trie_of}
 use Rattle.std.proofs.Common.{sym, subst, ap, refl, None, ◌∙◌, ◌+◌, ◌<◌, length}
 use Rattle.schedule_trie.specs.Trie.{IsOwnEnd, IsPushed}
-use Rattle.schedule_trie.proofs.edits.PushSteps.{on_err, kept_held, own_there, cut_kept, in_held, in_pushed}
+use Rattle.schedule_trie.proofs.edits.PushSteps.{always_on_err, equal_item_kept, own_there, failed_push_seen, in_held, in_pushed}
 use Rattle.schedule_trie.proofs.lengths.Lengths.{names_set, relength_seen}
-use Rattle.schedule_trie.proofs.lengths.LengthSteps.{entry_within, one_held, pushed_lengths}
-use Rattle.schedule_trie.proofs.trie.Trie.push_in.Goals as goal
+use Rattle.schedule_trie.proofs.lengths.LengthSteps.{entry_within, right_lengths_kept, pushed_lengths}
+use Rattle.schedule_trie.proofs.trie.Trie.push_within.Goals as goal
 
 pub item_mut-requires : goal.item_mut-requires
 item_mut-requires g c =
@@ -15,13 +15,13 @@ item_mut-requires g c =
 pub invariant_of-self : goal.invariant_of-self
 invariant_of-self g c =
     let end = subst (λ z. IsOwnEnd z c.args.index c.args.key) (sym c.self.view_is) c.requires.end in
-    kept_held c.self.inside c.args.key c.push.new.self c.self.invariant (cut_kept c.self.inside c.args.index c.args.key c.self.invariant.held end c.item_mut.result.now c.push.new.self c.item_mut.ensures.value
+    equal_item_kept c.self.inside c.args.key c.push.new.self c.self.invariant (failed_push_seen c.self.inside c.args.index c.args.key c.self.invariant.held end c.item_mut.result.now c.push.new.self c.item_mut.ensures.value
     c.in_err-push.ensures.err_slots c.in_err-push.ensures.err_note)
 
 pub returns-in_err-push-clause-err : goal.returns-in_err-push-clause-err
 returns-in_err-push-clause-err g c =
     let end = subst (λ z. IsOwnEnd z c.args.index c.args.key) (sym c.self.view_is) c.requires.end in
-    on_err c.from_residual.result _ (cut_kept c.self.inside c.args.index c.args.key c.self.invariant.held end c.item_mut.result.now c.push.new.self c.item_mut.ensures.value
+    always_on_err c.from_residual.result _ (failed_push_seen c.self.inside c.args.index c.args.key c.self.invariant.held end c.item_mut.result.now c.push.new.self c.item_mut.ensures.value
     c.in_err-push.ensures.err_slots c.in_err-push.ensures.err_note ∙ c.self.view_is)
 
 pub set_cached_len-requires : goal.set_cached_len-requires
@@ -35,7 +35,7 @@ invariant_of-self-2 g c =
     let room = subst (λ z. z.made < z.limits.cells) (sym c.self.view_is) c.requires.room in
     let p = record t { segments = with_item t.segments c.args.key c.push.new.self; made = t.made + 1 } in
     let names = ap keys_of c.set_cached_len.ensures ∙ names_set t.branches.entries c.args.index None in
-    one_held p (record p { branches = c.set_cached_len.new.self }) names refl refl refl _
+    right_lengths_kept p (record p { branches = c.set_cached_len.new.self }) names refl refl refl _
     (in_held t c.args.index c.args.key c.self.invariant.held end c.item_mut.result.now c.push.new.self c.item_mut.ensures.value c.args.step index_in room
     c.in_ok-push.ensures.slots c.in_ok-push.ensures.note)
     c.self.invariant.names

@@ -1,6 +1,6 @@
 use Rattle.std.proofs.Common.{◌≡◌, drop}
 use Rattle.frames.specs.Configuration.{replayed}
-use Rattle.views.proofs.spot.make.Given as goal
+use Rattle.views.proofs.spot.make_steps.Given as goal
 
 -- the remaining steps complete the replay
 abbrev pub invariant-loop-step : goal.invariant-loop-step
