@@ -58,8 +58,8 @@ pub save_refused_as_memory : {P : Type 0} (n : ℕ) (w : World P) (r : Result Sa
 save_refused_as_memory n w (Ok saved) Is k same = absurd k
 save_refused_as_memory n w (Err x) Is k same = same x k
 
--- a result that is Ok only if the branch is there, and else has the error that `query_refusal` gives, is
--- as `NeedsBranch` says
+-- a result that is Ok only if the branch is there, and else has the error that `query_refusal`
+-- gives, is as `NeedsBranch` says
 needs_branch : {P A : Type 0} (w : World P) (branch : List ℕ) (r : Result A Refusal) → OnOk r (IsSome (index_of w.forest.branches branch))
     → IfErr r (λ e. query_refusal (index_of w.forest.branches branch) ≡ e) → NeedsBranch branch w r
 needs_branch w branch (Ok x) found refused = found

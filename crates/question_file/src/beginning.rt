@@ -55,7 +55,6 @@ fn initial_value(tower: TowerSpec) -> u32
 }
 
 /// An empty list of operations for each of `processes` processes.
-#[tactic(auto, using(crate::proofs::NoLists::no_lists_more))]
 fn no_operations(alloc: Global, processes: u64) -> Result<Vec<Vec<Op>>, AllocError>
     ensures { IfOk result (λ all. spec.lists_of all.items ≡ spec.no_lists processes) }
 {

@@ -2,4 +2,4 @@ pub mod Lines
 pub mod Spelling
 pub mod Texts
 pub mod Answers
-pub mod LineFronts
+pub mod laws

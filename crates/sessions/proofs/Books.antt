@@ -1,6 +1,5 @@
 -- What a book is after a command.
-use Rattle.std.proofs.Common.{◌≡◌, ℕ, ◌+◌, ◌<◌, true, false, [], ◌∷◌, ◌++◌, Option, cond, nat_le, length, refl, sym, ap, subst, ◌∙◌, arith}
-use Rattle.std.proofs.lemmas.Bool.Decides.{nat_tests}
+use Rattle.std.proofs.Common.{◌≡◌, ℕ, ◌+◌, ◌<◌, true, false, [], ◌∷◌, ◌++◌, Option, cond, length, refl, sym, ap, subst, ◌∙◌, arith}
 use Rattle.std.proofs.lemmas.List.{length_push}
 use Rattle.frames.specs.Behaviour.{Behaviour}
 use Rattle.schedule_trie.specs.Trie.{forest}
@@ -15,14 +14,11 @@ use Rattle.sessions.specs.Logs.{IsLegal, is_logged, world_after, acted_by}
 use Rattle.sessions.specs.Books.{BookOf, IsBook, IsLawfulWorld, HasNoRefusal, ActsOnBook, book_of, opening_of, opening_over, stored, world_of}
 use Rattle.sessions.specs.declared.workspace.Workspace.{Workspace}
 use Rattle.std.specs.Global.{Vec}
+use Rattle.std.proofs.lemmas.Bool.{leb-false, lt-leb}
 use Rattle.cutoff.specs.Charts.{Charted}
-use Rattle.sessions.proofs.General.{lt_from_not_le}
 use Rattle.sessions.proofs.LegalLogs.{legal_more, world_after_more}
 use Rattle.sessions.proofs.LoggedReplies.{acted_logged, never_memory}
 use Rattle.sessions.proofs.Sound.{command_sound}
-
-le_false : (a b : ℕ) → b < a → nat_le a b ≡ false
-le_false a b h = grind (arith, nat_tests)
 
 -- a book keeps the chart that it opened with, and its world: so its opening stays the same; and if
 -- its log does too, the book still has what its type guarantees
@@ -59,7 +55,7 @@ module _ {R P : Type 0} (is : R → Behaviour P) (first : Charted R P) (s t : Wo
   old = book_of first s log
 
   pub log_not_full : is_full (world_of is old.now) ≡ false
-  log_not_full = let most = b.same_limit in le_false s.chart.trie.limits.log (length log.items) (omega (arith, most, count, less))
+  log_not_full = let most = b.same_limit in lt-leb s.chart.trie.limits.log (length log.items) (omega (arith, most, count, less))
 
   -- memory runs out for a command: the opening stays the same, and the book's invariant holds
   module _ (who : ℕ) (guard : Option ℕ) (c : Command) (has : (n : ℕ) → is_full (world_of is (stored s n)) ≡ false → HasNoRefusal who guard c (world_of is (stored s n)) × (world_of is (stored t n) ≡ world_of is (stored s n))) where
@@ -103,7 +99,7 @@ module _ {R P : Type 0} (is : R → Behaviour P) (first : Charted R P) (s t : Wo
     book_after before after =
         let h = b.held in
         let w = opening_of is old in
-        let few : length log.items < old.now.limits.log = lt_from_not_le old.now.limits.log (length log.items) log_not_full in
+        let few : length log.items < old.now.limits.log = leb-false old.now.limits.log (length log.items) log_not_full in
         let log_limit : new.now.limits.log ≡ old.now.limits.log = ap (λ l. l.log) limits_same in
         let count = length_log_after in
         let replied : (acted_by e (world_after w old.log)).reply ≡ e.reply = ap (λ v. (acted_by e v).reply) (sym h.after) ∙ ap (λ a. a.reply) acts in

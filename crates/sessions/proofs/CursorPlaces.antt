@@ -13,7 +13,7 @@ use Rattle.std.proofs.Math.ListN.{get_or-map}
 use Rattle.std.proofs.lemmas.List.Quantifiers.{position-Some}
 use Rattle.std.proofs.lemmas.List.Sums.{fails_before_first}
 use Rattle.std.proofs.lemmas.Option.{slice_get-get_or, slice_get_within, slice_get_past, get_or_from_slice_get}
-use Rattle.std.proofs.lemmas.Bool.{and_parts}
+use Rattle.std.proofs.lemmas.Bool.{and_parts, leb-false, ltb-false, ltb-true}
 use Rattle.branch_terms.proofs.Lists.{cell_in_at}
 use Rattle.schedule_trie.proofs.branches.NamesApart.{found_apart}
 use Rattle.frames.specs.declared.types.Step.{Step}
@@ -34,7 +34,6 @@ use Rattle.sessions.specs.Edits.{moved_by, drops_occupied}
 use Rattle.sessions.specs.Bounds.{AreWithin}
 use Rattle.sessions.specs.Cursors.{AreAtPlaces, first_cursor, IsAtPlace, cursor_at, each_cursor, is_occupied, is_on_branch, cursor, acts_in, is_shifted_by, shifted, shifted_place}
 use Rattle.branch_terms.specs.declared.limits.TheConstants.{MOST_CELLS_MADE}
-use Rattle.sessions.proofs.General.{le_from_not_lt, lt_from_not_le, lt_from_true}
 use Rattle.sessions.proofs.EditCases.{tested_ok, found_ok, from_ok}
 
 lt_false : (a b : ℕ) → b ≤ a → nat_lt a b ≡ false
@@ -77,7 +76,7 @@ found_if_looked f place (Some i) e = (i, refl, by (nat_lt (length (slots_in f.br
   where
     by : (b : Bool) → nat_lt (length (slots_in f.branches i)) place ≡ b → cond b (Err NoPlace) (Ok f) ≡ Ok f → place ≤ length (slots_in f.branches i)
     by true h g = absurd (cc)
-    by false h g = le_from_not_lt (length (slots_in f.branches i)) place h
+    by false h g = ltb-false (length (slots_in f.branches i)) place h
 
 pub within_branch : (f : Forest) (c : Cursor) → IsAtPlace f c → IsWithinBranch f.branches c
 within_branch f c e =
@@ -187,7 +186,7 @@ cell_lacked x slots e k s at c = by (nat_lt (position_or_len (is_cell x) slots) 
     by : (b : Bool) → nat_lt (position_or_len (is_cell x) slots) (length slots) ≡ b → cond b (Some (position_or_len (is_cell x) slots)) None ≡ None → ⊥
     by true h g = absurd (cc)
     by false h g =
-        let past : length slots ≤ position_or_len (is_cell x) slots = le_from_not_lt (position_or_len (is_cell x) slots) (length slots) h in
+        let past : length slots ≤ position_or_len (is_cell x) slots = ltb-false (position_or_len (is_cell x) slots) (length slots) h in
         let other : is_cell x (get_or slots k s) ≡ false = fails_before_first (is_cell x) slots k s (omega (arith, inside)) in
         other_number s.cell x (ap (is_cell x) (sym here) ∙ other) c
 
@@ -237,7 +236,7 @@ module _ (f : Forest) (held : IsForest f) (name : List ℕ) (place i : ℕ) (fou
       let index : Some i ≡ Some s.index = sym found ∙ ap (index_of f.branches) same ∙ found_apart f.branches s.index c.branch held.apart s.named in
       let one : i ≡ s.index = cc in
       let lengths : length here ≡ length there = ap (λ j. length (slots_in f.branches j)) one in
-      let ahead : place < c.place = lt_from_true place c.place p.1 in
+      let ahead : place < c.place = ltb-true place c.place p.1 in
       omega (arith, s.within)
 
   -- if an edit at a cell moves the cursor, the cursor's branch has the cell, and the cursor is
@@ -245,7 +244,7 @@ module _ (f : Forest) (held : IsForest f) (name : List ℕ) (place i : ℕ) (fou
   shifted_after : (t : Slot) → slice_get here place ≡ Some t → is_shifted_by f name place c ≡ true → ((k : ℕ) × (position (is_cell t.cell) there ≡ Some k)) × (place < c.place)
   shifted_after t at e =
       let p = and_parts (is_some (place_of f c.branch t.cell)) (nat_lt place c.place) (ap (λ o. acts_in o f name c.branch && nat_lt place c.place) (sym (cell_is t at)) ∙ e) in
-      (value_if_some (position (is_cell t.cell) there) (ap is_some (sym (place_of_is t.cell)) ∙ p.0), lt_from_true place c.place p.1)
+      (value_if_some (position (is_cell t.cell) there) (ap is_some (sym (place_of_is t.cell)) ∙ p.0), ltb-true place c.place p.1)
 
   shifted_within_branch : (cs : List Branch) (sh : Shift) → (is_shifted_by f name place c ≡ true → IsWithinBranch cs (cursor c.branch (shifted_place sh c.place)))
       → (is_shifted_by f name place c ≡ false → IsWithinBranch cs c) → IsWithinBranch cs (shifted sh f name place c)
@@ -299,7 +298,7 @@ module _ (f : Forest) (held : IsForest f) (name : List ℕ) (place i : ℕ) (fou
       let one = one_place t at k h in
       let acts : (true && nat_lt place c.place) ≡ false =
       ap (λ o. is_some o && nat_lt place c.place) (sym (place_of_is t.cell ∙ h)) ∙ ap (λ o. acts_in o f name c.branch && nat_lt place c.place) (sym (cell_is t at)) ∙ e in
-      let before : c.place ≤ place = le_from_not_lt place c.place acts in
+      let before : c.place ≤ place = ltb-false place c.place acts in
       omega (arith, one)
 
   remove_at : (t : Slot) → slice_get here place ≡ Some t → IsWithinBranch (everywhere (without t.cell) f.branches) (shifted shift.Down f name place c)
@@ -343,8 +342,8 @@ lt_from_le : (a b : ℕ) → a ≤ b → (a ≡ b → ⊥) → a < b
 lt_from_le a b h apart = by (nat_lt a b) refl
   where
     by : (t : Bool) → nat_lt a b ≡ t → a < b
-    by true e = lt_from_true a b e
-    by false e = let past : b ≤ a = le_from_not_lt a b e in absurd (apart (omega arith))
+    by true e = ltb-true a b e
+    by false e = let past : b ≤ a = ltb-false a b e in absurd (apart (omega arith))
 
 other_name : (xs ys : List ℕ) → pointwise nat_eq xs ys ≡ false → xs ≡ ys → ⊥
 other_name xs ys e same = true≢false (sym (nat_list_eq_equiv.refl xs) ∙ ap (pointwise nat_eq xs) same ∙ e)
@@ -395,7 +394,7 @@ module _ (limits : Limits) (f : Forest) (held : IsForest f) (c : Cursor) (s : Is
       found_ok goes (index_of f.branches name) (forests.insert_at limits f place step)
       (λ i found. tested_ok goes (nat_lt (length (slots_in f.branches i)) place) NoPlace _
       (λ fits. tested_ok goes (nat_le limits.cells f.made) Full (Ok (forests.inserted f i place step))
-      (λ room. by i found (le_from_not_lt (length (slots_in f.branches i)) place fits) (nat_eq place (length (slots_in f.branches i))) refl)))
+      (λ room. by i found (ltb-false (length (slots_in f.branches i)) place fits) (nat_eq place (length (slots_in f.branches i))) refl)))
     where
       by : (i : ℕ) → index_of f.branches name ≡ Some i → place ≤ length (slots_in f.branches i) → (b : Bool) → nat_eq place (length (slots_in f.branches i)) ≡ b
           → IsWithinBranch
@@ -414,7 +413,7 @@ module _ (limits : Limits) (f : Forest) (held : IsForest f) (c : Cursor) (s : Is
       found_ok goes (index_of f.branches name) (forests.at_cell f place without)
       (λ i found. tested_ok goes (nat_le (length (slots_in f.branches i)) place) NoPlace _ (λ fits.
       let here = slots_in f.branches i in
-      let t = slot_at_place here place (lt_from_not_le (length here) place fits) in
+      let t = slot_at_place here place (leb-false (length here) place fits) in
       subst (λ x. IsWithinBranch (everywhere (without x) f.branches) (shifted shift.Down f name place c)) (sym (cell_in_at here place t.0 t.1)) (remove_at f held name place i found c s t.0 t.1)))
   edited_one (Replace name place step) h =
       let goes = IsWithinBranchAfter (Replace name place step) in

@@ -1,16 +1,6 @@
--- General lemmas: on numbers, on truth values and on ranges.
-use Rattle.std.proofs.Common.{◌≡◌, ℕ, zero, suc, ◌+◌, ◌<◌, ◌≤◌, Bool, true, false, ◌||◌, nat_le, nat_lt, [], ◌∷◌, ◌++◌, refl, ap, ◌∙◌, arith}
+-- General lemmas: on truth values and on ranges.
+use Rattle.std.proofs.Common.{◌≡◌, ℕ, zero, suc, ◌+◌, Bool, true, false, ◌||◌, [], ◌∷◌, ◌++◌, refl, ap, ◌∙◌, arith}
 use Rattle.std.specs.List.{range_with_len}
-use Rattle.std.proofs.lemmas.Bool.Decides.{nat_tests}
-
-pub le_from_not_lt : (a b : ℕ) → nat_lt a b ≡ false → b ≤ a
-le_from_not_lt a b e = grind (arith, nat_tests)
-
-pub lt_from_not_le : (a b : ℕ) → nat_le a b ≡ false → b < a
-lt_from_not_le a b e = grind (arith, nat_tests)
-
-pub lt_from_true : (a b : ℕ) → nat_lt a b ≡ true → a < b
-lt_from_true a b e = grind (arith, nat_tests)
 
 pub or_regrouped : (x xs y ys : Bool) → ((x || xs) || (y || ys)) ≡ ((x || y) || (xs || ys))
 or_regrouped true xs y ys = refl

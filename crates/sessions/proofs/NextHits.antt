@@ -2,12 +2,11 @@
 use Rattle.std.proofs.Common.{◌≡◌, ℕ, zero, suc, ◌+◌, ◌<◌, Bool, true, false, ◌&&◌, cond, nat_lt, [], ◌∷◌, Option, Some, None, MatchOption, IfSome, inl, inr, refl, sym, ap, subst, ◌∙◌, arith, reverse}
 use Rattle.std.specs.List.{find}
 use Rattle.std.specs.Option.{option_or}
-use Rattle.std.proofs.lemmas.Bool.{cases_lt, and_parts}
+use Rattle.std.proofs.lemmas.Bool.{and_parts, cases_lt, ltb-true}
 use Rattle.std.proofs.lemmas.List.Folds.{find-append}
 use Rattle.sessions.specs.declared.way.Way.{Way}
 use Rattle.sessions.specs.declared.way.Way.TheVariants.{Forth, Back}
 use Rattle.sessions.specs.Seeks.{places_with, next_place, is_ahead, IsNextHit}
-use Rattle.sessions.proofs.General.{lt_from_true}
 use Rattle.sessions.proofs.Searches.{places_more, find_one, find_last}
 
 left_false : (a b : Bool) → (a && b) ≡ false → b ≡ true → a ≡ false
@@ -32,7 +31,7 @@ module _ (test : ℕ → Bool) (from : ℕ) where
     within = omega (arith, h.within);
     hit = h.hit;
     ahead = h.ahead;
-    first = λ j within ahead before. h.first j (omega (arith, h.within, lt_from_true j k before)) ahead before;
+    first = λ j within ahead before. h.first j (omega (arith, h.within, ltb-true j k before)) ahead before;
   }
 
   forth_one_more_if_none : (n : ℕ) (t : Bool) → (test n && nat_lt from n) ≡ t → ((j : ℕ) → j < n → (test j && nat_lt from j) ≡ false) → IsNearest Forth (suc n) (cond t (Some n) None)
@@ -42,7 +41,7 @@ module _ (test : ℕ → Bool) (from : ℕ) where
         within = omega arith;
         hit = here.0;
         ahead = here.1;
-        first = λ j within ahead before. left_false (test j) (nat_lt from j) (none j (lt_from_true j n before)) ahead;
+        first = λ j within ahead before. left_false (test j) (nat_lt from j) (none j (ltb-true j n before)) ahead;
       }
   forth_one_more_if_none n false e none = still_none Forth n e none
 
@@ -82,7 +81,7 @@ module _ (test : ℕ → Bool) (from : ℕ) where
         within = omega arith;
         hit = here.0;
         ahead = here.1;
-        first = λ j within ahead before. absurd (omega (arith, within, lt_from_true n j before));
+        first = λ j within ahead before. absurd (omega (arith, within, ltb-true n j before));
       }
   back_one_more n false o e h = kept_back n o e h
 

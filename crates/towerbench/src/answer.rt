@@ -29,7 +29,7 @@ impl<R: Register, W: Wait> Answers for Seat<'_, R, W> {
     ghost use Rattle.sessions.specs.World.{World};
     ghost use Rattle.towerbench.specs.Seats.{IsAlone, world_at};
     ghost use Rattle.script.specs.Answers.{answer_line};
-    ghost use Rattle.script.specs.LineFronts.{answer_line-front};
+    ghost use Rattle.script.specs.laws.LineFronts.{answer_line-front};
 
     ghost Worlds = { World R.Pending };
 

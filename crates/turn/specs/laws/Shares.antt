@@ -12,6 +12,7 @@ use Rattle.std.specs.Prelude.{nat_lt, nat_le, cond, take, unwrap_or, Some, None}
 use Rattle.std.specs.List.{position_or_len}
 use Rattle.std.proofs.lemmas.List.Sums.{sum_by-cons}
 use Rattle.std.proofs.Common.{lt-ltb, le-leb}
+use Rattle.std.proofs.lemmas.Bool.{or_cases}
 
 -- there are 16 marks, and for each k below n, mark k is what the test gives for k
 pub record MarkedBelow (test : ℕ → Bool) (n : ℕ) (marks : List Bool) : Type 0 where
@@ -90,12 +91,7 @@ module _ (shares others : List Bool) where
 
   -- a share in the union of two sets is in one of them
   pub has_together : (share : ℕ) → has_share (together shares others) share ≡ true → (has_share shares share ≡ true) ⊎ (has_share others share ≡ true)
-  has_together share held = one (has_share shares share) (has_share others share) (sym (has_where _ share (below_where _ share held)) ∙ held)
-    where
-      one : (a b : Bool) → (a || b) ≡ true → (a ≡ true) ⊎ (b ≡ true)
-      one true b e = inl refl
-      one false true e = inr refl
-      one false false e = absurd (cc)
+  has_together share held = or_cases (has_share shares share) (has_share others share) (sym (has_where _ share (below_where _ share held)) ∙ held)
 
   -- a share below 16 that isn't in the union of two sets is in neither
   pub not_together : (share : ℕ) → share < 16 → has_share (together shares others) share ≡ false → (has_share shares share ≡ false) × (has_share others share ≡ false)
