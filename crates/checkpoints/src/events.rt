@@ -9,8 +9,8 @@ ghost use Rattle.checkpoints.specs.Reports as spec;
 
 use crate::kept::{Kept, event_of, kept_of};
 use crate::mark::{Mark, own_event, own_mark};
-use crate::slices::front;
 use frames::types::{Event, Step, StepEvents};
+use slices::front;
 use std::alloc::{AllocError, Global};
 use std::marker::Model;
 

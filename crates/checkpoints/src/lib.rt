@@ -7,7 +7,6 @@ mod kept;
 mod mark;
 mod replaying;
 pub mod run;
-pub mod slices;
 
 pub use events::{EventWalk, Events};
 pub use replaying::{Replayed, replay};

@@ -10,10 +10,10 @@ ghost use Rattle.pages.specs.LawWords.{IsAtomicInWords, IsRegularInWords, IsSafe
 ghost use Rattle.pages.specs.Linearizability.{IsLinearizable};
 ghost use Rattle.pages.specs.VerdictWords.{IsOneWriterHistory, AreJudged, RecordsHistories, RecordsJudged, RecordsWellFormed};
 
-use checkpoints::slices::following;
 use frames::register::Register;
 use frames::types::{Event, Op};
 use frames::verdict::{ReadVerdict, Reading, Verdict};
+use slices::following;
 use std::alloc::{AllocError, Global};
 use std::marker::Model;
 

@@ -8,9 +8,9 @@ ghost use Rattle.views.specs.Places.{hashed_steps};
 
 use crate::digest::digest;
 use checkpoints::run::Run;
-use checkpoints::slices::{following, front};
 use frames::register::Register;
 use frames::types::Step;
+use slices::{following, front};
 use std::alloc::AllocError;
 use std::hash::{Hash, Hasher};
 use std::marker::Model;

@@ -1,4 +1,5 @@
 //! The first items of a slice, and those after them.
+#![tactic(auto)]
 
 ghost use Rattle.std.specs.Prelude.{◌≡◌, drop, take};
 
